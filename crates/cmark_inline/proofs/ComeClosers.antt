@@ -29,9 +29,9 @@ use Rattle.cmark_inline.specs.BracketViews.{ArePlaced}
 use Rattle.cmark_inline.specs.Closers as closers
 use Rattle.cmark_inline.specs.Closers.{ShowsState, left_of}
 use Rattle.cmark_inline.specs.Sound.{AreEnded}
-use Rattle.cmark_inline.specs.Come.{HasReached}
+use Rattle.cmark_inline.specs.CursorProgress.{HasReached}
 use Rattle.cmark_inline.specs.Decided.{AsksThis, ComesTo, ReadsSame}
-use Rattle.cmark_inline.specs.Marked.{places_of}
+use Rattle.cmark_inline.specs.MarkedSlots.{places_of}
 use Rattle.cmark_inline.specs.Reached.{HasRead, ReadsPlaces, bracket_place, quotes_of, runs_of}
 use Rattle.cmark_inline.specs.Resolved.{Answered}
 use Rattle.cmark_inline.specs.Stands.{Flushes}

@@ -25,7 +25,7 @@ use Rattle.cmark_inline_model.specs.RowPasses.{has_own_slot}
 use Rattle.cmark_inline_model.specs.SlotRows.{ItemSlot}
 use Rattle.cmark_inline_model.proofs.PlacedTokens as places
 use Rattle.cmark_inline_model.proofs.PlacedTokens.{from-place}
-use Rattle.cmark_inline.specs.Come.{HasReached}
+use Rattle.cmark_inline.specs.CursorProgress.{HasReached}
 use Rattle.cmark_inline.specs.MarkupInSource.{AppendsMarkup, AppendsUnclosed, source_from}
 use Rattle.cmark_inline.specs.Reached.{ReadsPlaces}
 use Rattle.cmark_inline.specs.SlotViews.{shown_slot, shown_slots}

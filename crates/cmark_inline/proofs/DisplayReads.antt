@@ -30,13 +30,13 @@ use Rattle.cmark_inline.specs.Closers.{ReadsOn}
 use Rattle.cmark_inline.specs.Decided.{IsCloser}
 use Rattle.cmark_inline.specs.Doubled.{nearest}
 use Rattle.cmark_inline.specs.Hiding.{WritesWikilink}
-use Rattle.cmark_inline.specs.Marked.{siblings_from}
+use Rattle.cmark_inline.specs.MarkedSlots.{siblings_from}
 use Rattle.cmark_inline.specs.Reached.{ReadsPlaces}
 use Rattle.cmark_inline.specs.SlotViews.{first_of, shown_slot, shown_slots}
 use Rattle.cmark_inline.specs.Sound.{AreEnded, IsSound, IsTakenPair}
 use Rattle.cmark_inline.specs.Stands.{AreSlots, Stands}
 use Rattle.cmark_inline.specs.Wikilinks.{Hides, IsFirstBehind, Shows, ShowsFrom, cut_at, cut_slot, display_place, ends_by, has_pothole, hidden, shown_name, wiki_start, wiki_text}
-use Rattle.cmark_inline.specs.Written.{dressed_behind, wrapped}
+use Rattle.cmark_inline.specs.FormedSlots.{dressed_behind, wrapped}
 use Rattle.cmark_inline.specs.declared.bracket.Bracket.{Bracket}
 use Rattle.cmark_inline.specs.declared.slot.Slot.{Slot}
 use Rattle.cmark_inline.specs.declared.state.InlineState.{InlineState}

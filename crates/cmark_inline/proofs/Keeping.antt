@@ -9,7 +9,7 @@ use Rattle.cmark_grammar.specs.Answers.{Lookup}
 use Rattle.cmark_grammar.specs.Options.{Options}
 use Rattle.cmark_leaf_text.specs.Reads.{place_of}
 use Rattle.cmark_inline.specs.MarkupInSource.{IsFound}
-use Rattle.cmark_inline.specs.Marked.{last_in}
+use Rattle.cmark_inline.specs.MarkedSlots.{last_in}
 use Rattle.cmark_inline.specs.SlotViews.{link_named, text_named}
 use Rattle.cmark_inline.specs.Sound.{AreEnded, AreSound, IsSound, IsTaken, IsTakenFrom, KeepsSound, StandsAlone, source_end, EndsIn}
 use Rattle.cmark_inline.specs.Stands.{AreSlots, PushesText, SameSpans}

@@ -5,7 +5,7 @@ use Rattle.std.proofs.lemmas.Bool.{cases_eq, cases_lt}
 use Rattle.std.proofs.lemmas.List.{length_push, get_or_append_left, get_or_push, get_or-set_same, get_or-set_other, length-set}
 use Rattle.std.proofs.lemmas.Option.{same_Some}
 use Rattle.cmark_leaf_text.specs.declared.leaf_text.LeafText.{LeafText}
-use Rattle.cmark_inline.specs.Marked.{Merges, whole_to}
+use Rattle.cmark_inline.specs.MarkedSlots.{Merges, whole_to}
 use Rattle.cmark_inline.specs.SlotViews.{AreOnce, Differ, IsThere, link_named, text_named}
 use Rattle.cmark_inline.specs.Sound.{AreEnded, AreNamed, EndsIn, IsPlain, NamesAs, NamesNoMore, source_end}
 use Rattle.cmark_inline.specs.Wikilinks.{Hides}

@@ -7,7 +7,7 @@ use Rattle.std.proofs.lemmas.List.Elements.{All-push, All-take}
 use Rattle.std.proofs.lemmas.Option.{get_or_from_slice_get}
 use Rattle.cmark_grammar.specs.Options.{Options}
 use Rattle.cmark_inline.specs.Doubled.{doubles, if_ends, nearest, nearest_of, touching, with_double}
-use Rattle.cmark_inline.specs.Marked.{last_in}
+use Rattle.cmark_inline.specs.MarkedSlots.{last_in}
 use Rattle.cmark_inline.specs.SlotViews.{link_named, text_named}
 use Rattle.cmark_inline.specs.Sound.{AreInOrder, AreSound, BeginsBefore, EndInOrder, IsPlaced, IsTaken, IsTakenPair}
 use Rattle.cmark_inline.specs.Stands.{AreBrackets}

@@ -18,7 +18,7 @@ use Rattle.cmark_inline_model.specs.SlotRows.{ItemSlot}
 use Rattle.cmark_inline_model.proofs.PlainTokens.{NotPlain, goes-stop, markup-not, token-at}
 use Rattle.cmark_inline_model.proofs.TogetherTokens.{text-together}
 use Rattle.cmark_inline_model.proofs.TokenLaws.{Onward, begins-at-onward}
-use Rattle.cmark_inline.specs.Come.{HasBegun, HasReached}
+use Rattle.cmark_inline.specs.CursorProgress.{HasBegun, HasReached}
 use Rattle.cmark_inline.specs.Reached.{ReadsPlaces}
 use Rattle.cmark_inline.specs.SlotViews.{shown_slot, shown_slots}
 use Rattle.cmark_inline.specs.Stands.{PushesText}

@@ -19,7 +19,7 @@ use Rattle.cmark_grammar.proofs.EmphasisSound.{sound as emphasis}
 use Rattle.cmark_grammar.proofs.SpanEntries.{pairs-marked}
 use Rattle.cmark_inline_model.specs.SlotRows.{Mark, Stays, opening, closing, marks_by, run_places}
 use Rattle.cmark_inline_model.proofs.SlotLaws.{entries-say}
-use Rattle.cmark_inline.specs.Marked.{AreAhead, AreReady, AreWhole, HaveBytes, places_of, shown_mark, siblings_from, SameBefore}
+use Rattle.cmark_inline.specs.MarkedSlots.{AreAhead, AreReady, AreWhole, HaveBytes, places_of, shown_mark, siblings_from, SameBefore}
 use Rattle.cmark_inline.specs.Tokens.{byte_slots}
 use Rattle.cmark_inline.specs.declared.delimiter.PlacedRun.{PlacedRun}
 use Rattle.cmark_inline.specs.declared.slot.Slot.{Slot}

@@ -5,7 +5,7 @@ use Rattle.std.proofs.lemmas.Bool.{cases_lt, ltb-true}
 use Rattle.std.proofs.lemmas.List.{length-drop, get_or-drop}
 use Rattle.cmark_grammar.specs.InlineHtml.{takes_lines}
 use Rattle.cmark_grammar.specs.Tokens.{slice}
-use Rattle.cmark_inline.specs.Marked.{EndWithin, HaveBytes, SameBefore, last_in}
+use Rattle.cmark_inline.specs.MarkedSlots.{EndWithin, HaveBytes, SameBefore, last_in}
 use Rattle.cmark_inline.specs.SlotViews.{link_named, text_named}
 use Rattle.cmark_inline.specs.Sound.{AreSound, CanSettle, HaveSizes, IsPlain, NamesAs, NamesNoMore, source_end}
 use Rattle.cmark_inline.specs.Wikilinks.{Hides, cut_at, cut_kind, cut_slot}

@@ -5,7 +5,7 @@ use Rattle.std.proofs.Math.Seq.{drop-append_seam}
 use Rattle.std.proofs.lemmas.Bool.{cases_lt}
 use Rattle.std.proofs.lemmas.List.{length_push, length-take, length-drop, get_or_append_left, get_or_push, get_or-take, get_or-drop, take_all}
 use Rattle.std.proofs.lemmas.List.Elements.{All-push, All-take}
-use Rattle.cmark_inline.specs.Marked.{AreWhole, EndWithin, SameBefore, last_in}
+use Rattle.cmark_inline.specs.MarkedSlots.{AreWhole, EndWithin, SameBefore, last_in}
 use Rattle.cmark_inline.specs.SlotViews.{link_named, text_named}
 use Rattle.cmark_inline.specs.Sound.{AreNamed, AreSound, BeginsBefore, EndInOrder, CanSettle, HaveSizes, IsPlaced}
 use Rattle.cmark_inline.specs.Stands.{PushesText}

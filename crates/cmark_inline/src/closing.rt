@@ -15,11 +15,11 @@ ghost use Rattle.cmark_inline.specs.BracketViews.{StandFor, TakenAs};
 ghost use Rattle.cmark_inline.specs.declared.bracket.Bracket.{Bracket as Opening};
 ghost use Rattle.cmark_inline.specs.Decided.{EndsWithin, TargetDecides};
 ghost use Rattle.cmark_inline.specs.Doubled.{DropsBehind};
-ghost use Rattle.cmark_inline.specs.Written.{WritesElement, dressed_behind, end_slot};
+ghost use Rattle.cmark_inline.specs.FormedSlots.{WritesElement, dressed_behind, end_slot};
 ghost use Rattle.cmark_grammar.specs.Spans.{Spans};
 ghost use Rattle.cmark_text.specs.declared.text.CowStr.{CowStr as Texts};
 ghost use Rattle.cmark_grammar.specs.Emphasis.{IsEmphasis, Pair};
-ghost use Rattle.cmark_inline.specs.Marked.{siblings_from};
+ghost use Rattle.cmark_inline.specs.MarkedSlots.{siblings_from};
 ghost use Rattle.cmark_inline.specs.SlotViews.{shown_slots};
 ghost use Rattle.cmark_inline.specs.declared.link.LinkParts.{LinkParts as Parts};
 

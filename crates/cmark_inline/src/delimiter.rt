@@ -11,7 +11,7 @@ ghost use Rattle.cmark_leaf_text.specs.declared.leaf_text.LeafText.{LeafText};
 ghost use Rattle.cmark_text.specs.Shown.{shown_options};
 ghost use Rattle.cmark_text.specs.declared.text.CowStr.{CowStr};
 ghost use Rattle.cmark_inline.specs.Elements.{IsElementOf};
-ghost use Rattle.cmark_inline.specs.Marked.{AreReady, AreWhole, BeganFrom, EndWithin, HaveBytes, Merges, SameBefore, begun_as, ended, places_of, shown_mark, siblings_from};
+ghost use Rattle.cmark_inline.specs.MarkedSlots.{AreReady, AreWhole, BeganFrom, EndWithin, HaveBytes, Merges, SameBefore, begun_as, ended, places_of, shown_mark, siblings_from};
 ghost use Rattle.cmark_inline.specs.SlotViews.{link_of, shown_element, shown_slots};
 ghost use Rattle.cmark_inline.specs.Sound.{NamesNoMore};
 ghost use Rattle.cmark_inline.specs.Stands.{AreSlots, NoNewLink, bytes_of, is_link};

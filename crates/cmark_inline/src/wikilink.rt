@@ -8,7 +8,7 @@ ghost use Rattle.cmark_text.specs.Shown.{shown_options};
 ghost use Rattle.cmark_grammar.specs.Letters.{first_is};
 ghost use Rattle.cmark_inline.specs.Closers.{LeavesWikilink, TriesDoubled};
 ghost use Rattle.cmark_inline.specs.Doubled.{DropsBehind, nearest};
-ghost use Rattle.cmark_inline.specs.Marked.{SameBefore};
+ghost use Rattle.cmark_inline.specs.MarkedSlots.{SameBefore};
 ghost use Rattle.cmark_inline.specs.SlotViews.{link_of};
 ghost use Rattle.cmark_inline.specs.declared.slot.Element.TheVariants as element;
 ghost use Rattle.cmark_inline.specs.Hiding.{AreLeft, WritesShown, WritesWikilink};

@@ -1,4 +1,4 @@
-use Rattle.std.proofs.Common.{◌≡◌, ℕ, ◌<◌, arith, refl}
+use Rattle.std.proofs.Common.{ℕ, ◌<◌, arith}
 use Rattle.cmark_inline.specs.Stands.{bytes_of}
 use Rattle.cmark_inline.specs.declared.bracket.Brackets.{Brackets}
 use Rattle.cmark_inline.proofs.Steps.{Keeps, keeps-on}

@@ -5,7 +5,7 @@ use Rattle.cmark_emphasis.specs.Slots.{AreBalanced}
 use Rattle.cmark_grammar.specs.Emphasis.{places_taken, runs_of}
 use Rattle.cmark_inline_model.specs.SlotRows.{marked, marks_by}
 use Rattle.cmark_text.specs.Shown.{shown_options}
-use Rattle.cmark_inline.specs.Marked.{AreReady, BeganFrom, places_of, shown_mark, siblings_from}
+use Rattle.cmark_inline.specs.MarkedSlots.{AreReady, BeganFrom, places_of, shown_mark, siblings_from}
 use Rattle.cmark_inline.specs.SlotViews.{shown_slots}
 use Rattle.cmark_inline.specs.declared.delimiter.PlacedRun.{PlacedRun}
 use Rattle.cmark_inline.proofs.Naming.{no-more-on, no-more-same}
