@@ -29,29 +29,18 @@ pub fn append_start<'a>(
     ensures ok { OnOk result (string_bytes out.new ≡ string_bytes out.old ++ start_piece (writing writer.now) (shown_tag tag.now)) }
     ensures err { OnErr result (AppendsFront (string_bytes out.old) (string_bytes out.new) (start_piece (writing writer.now) (shown_tag tag.now))) }
 {
+    if let Some(plain) = tag.plain() {
+        return append_plain_start(out, writer, plain);
+    }
     let line_start = writer.line_start;
     match tag {
-        Tag::Paragraph => append_plain_start(out, writer, PlainTag::Paragraph),
         Tag::Heading {
             level,
             id,
             classes,
             attrs,
         } => append_heading(out, line_start, *level, id, classes, attrs),
-        Tag::BlockQuote(kind) => append_plain_start(out, writer, PlainTag::BlockQuote(*kind)),
         Tag::CodeBlock(kind) => append_code_block(out, line_start, kind),
-        Tag::List(first) => append_plain_start(out, writer, PlainTag::List(*first)),
-        Tag::Item => append_plain_start(out, writer, PlainTag::Item),
-        Tag::DefinitionList => append_plain_start(out, writer, PlainTag::DefinitionList),
-        Tag::DefinitionListTitle => append_plain_start(out, writer, PlainTag::DefinitionListTitle),
-        Tag::DefinitionListDefinition => {
-            append_plain_start(out, writer, PlainTag::DefinitionListDefinition)
-        }
-        Tag::Emphasis => append_plain_start(out, writer, PlainTag::Emphasis),
-        Tag::Strong => append_plain_start(out, writer, PlainTag::Strong),
-        Tag::Strikethrough => append_plain_start(out, writer, PlainTag::Strikethrough),
-        Tag::Superscript => append_plain_start(out, writer, PlainTag::Superscript),
-        Tag::Subscript => append_plain_start(out, writer, PlainTag::Subscript),
         Tag::Link {
             link_type,
             dest_url,
@@ -60,16 +49,13 @@ pub fn append_start<'a>(
         } => append_link(out, *link_type, dest_url.as_str(), title.as_str()),
         Tag::Image { dest_url, .. } => append_image_start(out, dest_url.as_str()),
         Tag::Table(_) => append(out, "<table>"),
-        Tag::TableHead => append_plain_start(out, writer, PlainTag::TableHead),
-        Tag::TableRow => append_plain_start(out, writer, PlainTag::TableRow),
-        Tag::TableCell => append_plain_start(out, writer, PlainTag::TableCell),
         Tag::FootnoteDefinition(name) => append_numbered_start(
             out,
             line_start,
             &writer.names,
             name,
         ),
-        Tag::HtmlBlock | Tag::MetadataBlock(_) => Ok(()),
+        _ => unreachable!(),
     }
 }
 
@@ -160,27 +146,9 @@ pub fn line_start_after_plain(line_start: bool, tag: PlainTag) -> bool
 pub fn line_start_after_start(line_start: bool, tag: &Tag<'_>) -> bool
     ensures { result ≡ line_start_after_start line_start (shown_tag tag.now) }
 {
-    match tag {
-        Tag::BlockQuote(_) | Tag::List(_) | Tag::DefinitionList => true,
-        Tag::Paragraph
-        | Tag::Heading { .. }
-        | Tag::CodeBlock(_)
-        | Tag::Item
-        | Tag::FootnoteDefinition(_)
-        | Tag::DefinitionListTitle
-        | Tag::DefinitionListDefinition
-        | Tag::Table(_)
-        | Tag::TableHead
-        | Tag::TableRow
-        | Tag::TableCell
-        | Tag::Emphasis
-        | Tag::Strong
-        | Tag::Strikethrough
-        | Tag::Superscript
-        | Tag::Subscript
-        | Tag::Link { .. }
-        | Tag::Image { .. } => false,
-        Tag::HtmlBlock | Tag::MetadataBlock(_) => line_start,
+    match tag.plain() {
+        Some(plain) => line_start_after_plain(line_start, plain),
+        None => false,
     }
 }
 

@@ -1,13 +1,15 @@
 //! Tags and their ends as JSON.
 
-ghost use Rattle.std.specs.Prelude.{◌≡◌, IfOk};
-ghost use Rattle.cmark_text.specs.Shown.{level_number, shown_attributes, shown_end, shown_linked, shown_tag};
-ghost use Rattle.cmark_json.specs.EventData.{end_data, heading, linked, named, tag_data};
+ghost use Rattle.std.specs.Prelude.{◌≡◌, IfOk, codes, option_map};
+ghost use Rattle.cmark_text.specs.Short.{shown_plain};
+ghost use Rattle.cmark_text.specs.Shown.{level_number, shown_attributes, shown_block_quote_kind, shown_code_block_kind, shown_end, shown_linked, shown_tag};
+ghost use Rattle.cmark_json.specs.EventData.{code_kind_data, end_data, heading, linked, named, quote_kind_data, tag_data, with_one};
 ghost use Rattle.serde_json.specs.View.{view};
-ghost use Rattle.std.specs.Prelude.{codes};
 
 use crate::leaf;
-use cmark_text::{CowStr, HeadingLevel, LinkType, Tag, TagEnd};
+use cmark_text::{
+    BlockQuoteKind, CodeBlockKind, CowStr, HeadingLevel, LinkType, PlainTag, Tag, TagEnd,
+};
 use serde_json::{Value, json};
 use std::alloc::{AllocError, Global};
 
@@ -15,43 +17,24 @@ use std::alloc::{AllocError, Global};
 pub fn tag_value(alloc: Global, tag: &Tag<'_>) -> Result<Value, AllocError>
     ensures { IfOk result (λ v. view v ≡ tag_data (shown_tag tag.now)) }
 {
+    if let Some(plain) = tag.plain() {
+        return plain_value(alloc, plain);
+    }
     match tag {
-        Tag::Paragraph => leaf::alone(alloc, "Paragraph"),
         Tag::Heading {
             level,
             id,
             classes,
             attrs,
         } => heading_value(alloc, *level, id, classes.as_slice(), attrs.as_slice()),
-        Tag::BlockQuote(kind) => {
-            let kind = leaf::quote_kind(alloc, *kind)?;
-            leaf::with_one(alloc, "BlockQuote", kind)
-        }
-        Tag::CodeBlock(kind) => {
-            let kind = leaf::code_kind(alloc, kind)?;
-            leaf::with_one(alloc, "CodeBlock", kind)
-        }
-        Tag::HtmlBlock => leaf::alone(alloc, "HtmlBlock"),
-        Tag::List(first) => leaf::with_one(alloc, "List", leaf::number_or_null(*first)),
-        Tag::Item => leaf::alone(alloc, "Item"),
+        Tag::CodeBlock(kind) => code_block_value(alloc, kind),
         Tag::FootnoteDefinition(label) => {
             leaf::with_text(alloc, "FootnoteDefinition", label.as_str())
         }
-        Tag::DefinitionList => leaf::alone(alloc, "DefinitionList"),
-        Tag::DefinitionListTitle => leaf::alone(alloc, "DefinitionListTitle"),
-        Tag::DefinitionListDefinition => leaf::alone(alloc, "DefinitionListDefinition"),
         Tag::Table(columns) => {
             let columns = leaf::alignments(alloc, columns.as_slice())?;
             leaf::with_one(alloc, "Table", columns)
         }
-        Tag::TableHead => leaf::alone(alloc, "TableHead"),
-        Tag::TableRow => leaf::alone(alloc, "TableRow"),
-        Tag::TableCell => leaf::alone(alloc, "TableCell"),
-        Tag::Emphasis => leaf::alone(alloc, "Emphasis"),
-        Tag::Strong => leaf::alone(alloc, "Strong"),
-        Tag::Strikethrough => leaf::alone(alloc, "Strikethrough"),
-        Tag::Superscript => leaf::alone(alloc, "Superscript"),
-        Tag::Subscript => leaf::alone(alloc, "Subscript"),
         Tag::Link {
             link_type,
             dest_url,
@@ -64,10 +47,53 @@ pub fn tag_value(alloc: Global, tag: &Tag<'_>) -> Result<Value, AllocError>
             title,
             id,
         } => linked_value(alloc, "Image", *link_type, dest_url, title, id),
-        Tag::MetadataBlock(kind) => {
-            leaf::with_text(alloc, "MetadataBlock", leaf::metadata_kind_name(*kind))
+        _ => unreachable!(),
+    }
+}
+
+/// The tag of an element that has no text of its own.
+fn plain_value(alloc: Global, tag: PlainTag) -> Result<Value, AllocError>
+    ensures { IfOk result (λ v. view v ≡ tag_data (shown_plain tag)) }
+{
+    match tag {
+        PlainTag::Paragraph => leaf::alone(alloc, "Paragraph"),
+        PlainTag::Heading(level) => heading_value(alloc, level, &None, &[], &[]),
+        PlainTag::BlockQuote(kind) => block_quote_value(alloc, kind),
+        PlainTag::IndentedCode => code_block_value(alloc, &CodeBlockKind::Indented),
+        PlainTag::HtmlBlock => leaf::alone(alloc, "HtmlBlock"),
+        PlainTag::List(first) => leaf::with_one(alloc, "List", leaf::number_or_null(first)),
+        PlainTag::Item => leaf::alone(alloc, "Item"),
+        PlainTag::DefinitionList => leaf::alone(alloc, "DefinitionList"),
+        PlainTag::DefinitionListTitle => leaf::alone(alloc, "DefinitionListTitle"),
+        PlainTag::DefinitionListDefinition => leaf::alone(alloc, "DefinitionListDefinition"),
+        PlainTag::TableHead => leaf::alone(alloc, "TableHead"),
+        PlainTag::TableRow => leaf::alone(alloc, "TableRow"),
+        PlainTag::TableCell => leaf::alone(alloc, "TableCell"),
+        PlainTag::Emphasis => leaf::alone(alloc, "Emphasis"),
+        PlainTag::Strong => leaf::alone(alloc, "Strong"),
+        PlainTag::Strikethrough => leaf::alone(alloc, "Strikethrough"),
+        PlainTag::Superscript => leaf::alone(alloc, "Superscript"),
+        PlainTag::Subscript => leaf::alone(alloc, "Subscript"),
+        PlainTag::MetadataBlock(kind) => {
+            leaf::with_text(alloc, "MetadataBlock", leaf::metadata_kind_name(kind))
         }
     }
+}
+
+/// The tag of a block quote, or its end.
+fn block_quote_value(alloc: Global, kind: Option<BlockQuoteKind>) -> Result<Value, AllocError>
+    ensures { IfOk result (λ v. view v ≡ with_one (codes "BlockQuote") (quote_kind_data (option_map shown_block_quote_kind kind))) }
+{
+    let kind = leaf::quote_kind(alloc, kind)?;
+    leaf::with_one(alloc, "BlockQuote", kind)
+}
+
+/// The tag of a code block.
+fn code_block_value(alloc: Global, kind: &CodeBlockKind<'_>) -> Result<Value, AllocError>
+    ensures { IfOk result (λ v. view v ≡ with_one (codes "CodeBlock") (code_kind_data (shown_code_block_kind kind.now))) }
+{
+    let kind = leaf::code_kind(alloc, kind)?;
+    leaf::with_one(alloc, "CodeBlock", kind)
 }
 
 /// The tag of a heading.
@@ -128,10 +154,7 @@ pub fn end_value(alloc: Global, tag: TagEnd) -> Result<Value, AllocError>
         TagEnd::Heading(level) => {
             leaf::with_one(alloc, "Heading", Value::from(level_value(level)))
         }
-        TagEnd::BlockQuote(kind) => {
-            let kind = leaf::quote_kind(alloc, kind)?;
-            leaf::with_one(alloc, "BlockQuote", kind)
-        }
+        TagEnd::BlockQuote(kind) => block_quote_value(alloc, kind),
         TagEnd::CodeBlock => leaf::alone(alloc, "CodeBlock"),
         TagEnd::HtmlBlock => leaf::alone(alloc, "HtmlBlock"),
         TagEnd::List(is_ordered) => leaf::with_one(alloc, "List", Value::Bool(is_ordered)),

@@ -5,6 +5,8 @@ use Rattle.cmark_grammar.specs.CodeBlockKind as code_kind
 use Rattle.cmark_grammar.specs.Event as event
 use Rattle.cmark_grammar.specs.Tag as tag
 use Rattle.cmark_grammar.specs.Tokens.{slice}
+use Rattle.cmark_text.specs.declared.event.Tag.{Tag}
+use Rattle.cmark_text.specs.declared.event.Tag.TheVariants as declared_tag
 use Rattle.cmark_text.specs.declared.short.PlainTag.{PlainTag}
 use Rattle.cmark_text.specs.declared.short.PlainTag.TheVariants as plain
 use Rattle.cmark_text.specs.declared.short.Short.{Short}
@@ -32,6 +34,16 @@ shown_plain plain.Strikethrough = tag.Strikethrough
 shown_plain plain.Superscript = tag.Superscript
 shown_plain plain.Subscript = tag.Subscript
 shown_plain (plain.MetadataBlock kind) = tag.MetadataBlock (shown_metadata_block_kind kind)
+
+-- the element may have a text or a list of its own
+abbrev pub MayOwn : Tag → Type 0
+MayOwn (declared_tag.Heading level id classes attrs) = Unit {0}
+MayOwn (declared_tag.CodeBlock kind) = Unit {0}
+MayOwn (declared_tag.FootnoteDefinition label) = Unit {0}
+MayOwn (declared_tag.Table alignments) = Unit {0}
+MayOwn (declared_tag.Link link_type dest_url title id) = Unit {0}
+MayOwn (declared_tag.Image link_type dest_url title id) = Unit {0}
+MayOwn _ = ⊥
 
 abbrev pub shown_short : Short → event.Event
 shown_short (short.Start tag) = event.Start (shown_plain tag)

@@ -1,10 +1,12 @@
 //! Copies of tags and events, and what they are in values that borrow nothing.
 
 ghost use Rattle.std.specs.Prelude.{◌≡◌, length, IfOk, IsOk, IfSome, map, option_map};
+ghost use Rattle.cmark_grammar.specs.Tag as tag;
 ghost use Rattle.cmark_text.specs.InPlace.{CopiesInPlace, TagCopiesInPlace, EventCopiesInPlace, StaysInPlace, TagStaysInPlace, EventStaysInPlace};
-ghost use Rattle.cmark_text.specs.Shown.{shown, shown_tag, shown_attribute, text_bytes};
+ghost use Rattle.cmark_text.specs.Shown.{level_number, shown, shown_tag, shown_attribute, shown_attributes, shown_linked, text_bytes};
 
 use crate::event::{Event, Tag};
+use crate::kind::{HeadingLevel, LinkType};
 use crate::text::CowStr;
 use std::alloc::{AllocError, Global};
 
@@ -14,53 +16,30 @@ impl<'a> Tag<'a> {
         ensures value { IfOk result (λ copy. shown_tag copy ≡ shown_tag self.now) }
         ensures succeeds { TagCopiesInPlace self.now → IsOk result }
     {
+        if let Some(plain) = self.plain() {
+            return Ok(plain.tag(alloc));
+        }
         match self {
-            Tag::Paragraph => Ok(Tag::Paragraph),
             Tag::Heading {
                 level,
                 id,
                 classes,
                 attrs,
             } => {
-                let (id, classes, attrs) = clone_heading_parts(alloc, id, classes, attrs)?;
-                Ok(Tag::Heading {
-                    level: *level,
-                    id,
-                    classes,
-                    attrs,
-                })
+                let parts = clone_heading_parts(alloc, id, classes, attrs)?;
+                Ok(heading_tag(*level, parts))
             }
-            Tag::BlockQuote(kind) => Ok(Tag::BlockQuote(*kind)),
             Tag::CodeBlock(kind) => kind.clone(alloc).map(Tag::CodeBlock),
-            Tag::HtmlBlock => Ok(Tag::HtmlBlock),
-            Tag::List(first) => Ok(Tag::List(*first)),
-            Tag::Item => Ok(Tag::Item),
             Tag::FootnoteDefinition(label) => label.clone(alloc).map(Tag::FootnoteDefinition),
-            Tag::DefinitionList => Ok(Tag::DefinitionList),
-            Tag::DefinitionListTitle => Ok(Tag::DefinitionListTitle),
-            Tag::DefinitionListDefinition => Ok(Tag::DefinitionListDefinition),
             Tag::Table(alignments) => Ok(Tag::Table(Vec::from_slice(alloc, alignments)?)),
-            Tag::TableHead => Ok(Tag::TableHead),
-            Tag::TableRow => Ok(Tag::TableRow),
-            Tag::TableCell => Ok(Tag::TableCell),
-            Tag::Emphasis => Ok(Tag::Emphasis),
-            Tag::Strong => Ok(Tag::Strong),
-            Tag::Strikethrough => Ok(Tag::Strikethrough),
-            Tag::Superscript => Ok(Tag::Superscript),
-            Tag::Subscript => Ok(Tag::Subscript),
             Tag::Link {
                 link_type,
                 dest_url,
                 title,
                 id,
             } => {
-                let (dest_url, title, id) = clone_link_texts(alloc, dest_url, title, id)?;
-                Ok(Tag::Link {
-                    link_type: *link_type,
-                    dest_url,
-                    title,
-                    id,
-                })
+                let texts = clone_link_texts(alloc, dest_url, title, id)?;
+                Ok(link_tag(*link_type, texts))
             }
             Tag::Image {
                 link_type,
@@ -68,15 +47,10 @@ impl<'a> Tag<'a> {
                 title,
                 id,
             } => {
-                let (dest_url, title, id) = clone_link_texts(alloc, dest_url, title, id)?;
-                Ok(Tag::Image {
-                    link_type: *link_type,
-                    dest_url,
-                    title,
-                    id,
-                })
+                let texts = clone_link_texts(alloc, dest_url, title, id)?;
+                Ok(image_tag(*link_type, texts))
             }
-            Tag::MetadataBlock(kind) => Ok(Tag::MetadataBlock(*kind)),
+            _ => unreachable!(),
         }
     }
 
@@ -85,53 +59,30 @@ impl<'a> Tag<'a> {
         ensures value { IfOk result (λ made. shown_tag made ≡ shown_tag self.entry) }
         ensures succeeds { TagStaysInPlace self.entry → IsOk result }
     {
+        if let Some(plain) = self.plain() {
+            return Ok(plain.tag(alloc));
+        }
         match self {
-            Tag::Paragraph => Ok(Tag::Paragraph),
             Tag::Heading {
                 level,
                 id,
                 classes,
                 attrs,
             } => {
-                let (id, classes, attrs) = static_heading_parts(alloc, id, classes, attrs)?;
-                Ok(Tag::Heading {
-                    level,
-                    id,
-                    classes,
-                    attrs,
-                })
+                let parts = static_heading_parts(alloc, id, classes, attrs)?;
+                Ok(heading_tag(level, parts))
             }
-            Tag::BlockQuote(kind) => Ok(Tag::BlockQuote(kind)),
             Tag::CodeBlock(kind) => kind.into_static(alloc).map(Tag::CodeBlock),
-            Tag::HtmlBlock => Ok(Tag::HtmlBlock),
-            Tag::List(first) => Ok(Tag::List(first)),
-            Tag::Item => Ok(Tag::Item),
             Tag::FootnoteDefinition(label) => label.into_static(alloc).map(Tag::FootnoteDefinition),
-            Tag::DefinitionList => Ok(Tag::DefinitionList),
-            Tag::DefinitionListTitle => Ok(Tag::DefinitionListTitle),
-            Tag::DefinitionListDefinition => Ok(Tag::DefinitionListDefinition),
             Tag::Table(alignments) => Ok(Tag::Table(alignments)),
-            Tag::TableHead => Ok(Tag::TableHead),
-            Tag::TableRow => Ok(Tag::TableRow),
-            Tag::TableCell => Ok(Tag::TableCell),
-            Tag::Emphasis => Ok(Tag::Emphasis),
-            Tag::Strong => Ok(Tag::Strong),
-            Tag::Strikethrough => Ok(Tag::Strikethrough),
-            Tag::Superscript => Ok(Tag::Superscript),
-            Tag::Subscript => Ok(Tag::Subscript),
             Tag::Link {
                 link_type,
                 dest_url,
                 title,
                 id,
             } => {
-                let (dest_url, title, id) = static_link_texts(alloc, dest_url, title, id)?;
-                Ok(Tag::Link {
-                    link_type,
-                    dest_url,
-                    title,
-                    id,
-                })
+                let texts = static_link_texts(alloc, dest_url, title, id)?;
+                Ok(link_tag(link_type, texts))
             }
             Tag::Image {
                 link_type,
@@ -139,15 +90,10 @@ impl<'a> Tag<'a> {
                 title,
                 id,
             } => {
-                let (dest_url, title, id) = static_link_texts(alloc, dest_url, title, id)?;
-                Ok(Tag::Image {
-                    link_type,
-                    dest_url,
-                    title,
-                    id,
-                })
+                let texts = static_link_texts(alloc, dest_url, title, id)?;
+                Ok(image_tag(link_type, texts))
             }
-            Tag::MetadataBlock(kind) => Ok(Tag::MetadataBlock(kind)),
+            _ => unreachable!(),
         }
     }
 }
@@ -204,6 +150,32 @@ type Attribute<'a> = (CowStr<'a>, Option<CowStr<'a>>);
 /// The destination, the title and the label of a link or an image.
 type LinkTexts<'a> = (CowStr<'a>, CowStr<'a>, CowStr<'a>);
 
+/// The tag of a link that has these texts.
+fn link_tag<'a>(link_type: LinkType, texts: LinkTexts<'a>) -> Tag<'a>
+    ensures { shown_tag result ≡ tag.Link (shown_linked link_type texts.entry.0 texts.entry.1 texts.entry.2) }
+{
+    let (dest_url, title, id) = texts;
+    Tag::Link {
+        link_type,
+        dest_url,
+        title,
+        id,
+    }
+}
+
+/// The tag of an image that has these texts.
+fn image_tag<'a>(link_type: LinkType, texts: LinkTexts<'a>) -> Tag<'a>
+    ensures { shown_tag result ≡ tag.Image (shown_linked link_type texts.entry.0 texts.entry.1 texts.entry.2) }
+{
+    let (dest_url, title, id) = texts;
+    Tag::Image {
+        link_type,
+        dest_url,
+        title,
+        id,
+    }
+}
+
 fn clone_link_texts<'a>(
     alloc: Global,
     dest_url: &CowStr<'a>,
@@ -238,6 +210,19 @@ fn static_link_texts(
 
 /// What the braces of a heading say: its anchor, its classes and its other attributes.
 type HeadingParts<'a> = (Option<CowStr<'a>>, Vec<CowStr<'a>>, Vec<Attribute<'a>>);
+
+/// The tag of a heading that says this in braces.
+fn heading_tag<'a>(level: HeadingLevel, parts: HeadingParts<'a>) -> Tag<'a>
+    ensures { shown_tag result ≡ tag.Heading (level_number level) (shown_attributes parts.entry.0 parts.entry.1.items parts.entry.2.items) }
+{
+    let (id, classes, attrs) = parts;
+    Tag::Heading {
+        level,
+        id,
+        classes,
+        attrs,
+    }
+}
 
 fn clone_heading_parts<'a>(
     alloc: Global,

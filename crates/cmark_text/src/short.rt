@@ -86,6 +86,43 @@ impl PlainTag {
     }
 }
 
+impl<'a> Tag<'a> {
+    ghost use Rattle.std.specs.Prelude.{MatchOption};
+    ghost use Rattle.cmark_text.specs.Short.{MayOwn};
+
+    /// The tag as one of an element that has no text of its own. None where the element may have a text or a list of its own, as a
+    /// heading has its attributes.
+    pub fn plain(&self) -> Option<PlainTag>
+        ensures { MatchOption result (MayOwn self.now) (λ plain. shown_plain plain ≡ shown_tag self.now) }
+    {
+        match self {
+            Tag::Paragraph => Some(PlainTag::Paragraph),
+            Tag::BlockQuote(kind) => Some(PlainTag::BlockQuote(*kind)),
+            Tag::HtmlBlock => Some(PlainTag::HtmlBlock),
+            Tag::List(first) => Some(PlainTag::List(*first)),
+            Tag::Item => Some(PlainTag::Item),
+            Tag::DefinitionList => Some(PlainTag::DefinitionList),
+            Tag::DefinitionListTitle => Some(PlainTag::DefinitionListTitle),
+            Tag::DefinitionListDefinition => Some(PlainTag::DefinitionListDefinition),
+            Tag::TableHead => Some(PlainTag::TableHead),
+            Tag::TableRow => Some(PlainTag::TableRow),
+            Tag::TableCell => Some(PlainTag::TableCell),
+            Tag::Emphasis => Some(PlainTag::Emphasis),
+            Tag::Strong => Some(PlainTag::Strong),
+            Tag::Strikethrough => Some(PlainTag::Strikethrough),
+            Tag::Superscript => Some(PlainTag::Superscript),
+            Tag::Subscript => Some(PlainTag::Subscript),
+            Tag::MetadataBlock(kind) => Some(PlainTag::MetadataBlock(*kind)),
+            Tag::Heading { .. }
+            | Tag::CodeBlock(_)
+            | Tag::FootnoteDefinition(_)
+            | Tag::Table(_)
+            | Tag::Link { .. }
+            | Tag::Image { .. } => None,
+        }
+    }
+}
+
 /// An event that owns nothing. A value has 32 bytes, where one of any kind has 136.
 #[derive(Clone, Copy, Debug)]
 pub enum Short<'a> {
