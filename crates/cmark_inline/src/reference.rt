@@ -141,7 +141,7 @@ pub fn defined<'a>(
 
 impl<'a> InlineState<'a> {
     // The bracket that closes the label of a full reference closes no other reference.
-    fn remember_label(&mut self, asked: Asked<'_>)
+    pub(crate) fn remember_label(&mut self, asked: Asked<'_>)
         requires { 0 < asked.end }
         ensures label { self.new.shut_close ≡ (if is_full (shown_link_type asked.entry.link_type) then Some (asked.entry.end - 1) else self.old.shut_close) }
         ensures others { self.new ≡ record self.old { shut_close = self.new.shut_close } }
@@ -152,7 +152,7 @@ impl<'a> InlineState<'a> {
     }
 
     // What a reference leads to, and what it takes off the expansion.
-    fn reference<E: EntityLookup, F: BrokenLinkCallback<'a>>(
+    pub(crate) fn reference<E: EntityLookup, F: BrokenLinkCallback<'a>>(
         &mut self,
         leaf: &LeafText<'a>,
         reader: &Reader<'_, 'a, E>,
