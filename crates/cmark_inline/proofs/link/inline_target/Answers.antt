@@ -1,5 +1,5 @@
 use Rattle.std.specs.Prelude.{option_map}
-use Rattle.std.proofs.Common.{drop, sym, ap, ◌∙◌, tt}
+use Rattle.std.proofs.Common.{drop, sym, ap, ◌∙◌}
 use Rattle.cmark_leaf_text.specs.Reads.{is_cell_of}
 use Rattle.cmark_inline.specs.Linked.{inline_link}
 use Rattle.cmark_inline.proofs.NoTails.{no_tail}

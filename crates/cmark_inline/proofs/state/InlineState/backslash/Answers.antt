@@ -35,7 +35,7 @@ returns-then-is_lone_backtick-clause-token c = λ o l is.
     let e = c.behind-escaped.ensures.value in
     let f = c.behind-end.ensures.value in
     let lone : backticks (drop c.behind-escaped.result text) ≡ 1 = eqb-true (backticks (drop c.behind-escaped.result text)) 1 (sym c.if-is_lone_backtick.ensures) in
-    inr (inl (own-appends o l c.args.is_cell text c.args.here c.args.self.now c.put-2.new.self c.in_ok-next-2.next c.behind-escaped.result c.behind-end.result c.requires.byte.cursor.ordered (at-byte text c.args.here 92 is refl refl refl)
+    inr (inl (own-appends o l c.args.is_cell text c.args.here c.args.self.now c.put-then-is_lone_backtick.new.self c.in_ok-next-2.next c.behind-escaped.result c.behind-end.result c.requires.byte.cursor.ordered (at-byte text c.args.here 92 is refl refl refl)
     (slash-lone o l c.args.is_cell text at c.requires.byte.within is (sym (c.in_default.ensures.value ∙ line-at-slash text at c.requires.byte.within is)) (ap (λ (k : ℕ). backticks (drop k text)) (sym e) ∙ lone)
     ∙ ap (λ (s : ℕ). item_at Own s (at + 2)) (sym e) ∙ ap (item_at Own c.behind-escaped.result) (let q : at + 2 ≡ c.behind-end.result = omega (arith, e, f) in q))
     next.at (next.end ∙ sym next.at) next.slots next.others))
@@ -66,10 +66,13 @@ pub returns-then-not-is_escape-clause-keeps : goal.returns-then-not-is_escape-cl
 returns-then-not-is_escape-clause-keeps c = keeps-same c.args.self.now
 
 pub returns-then-is_lone_backtick-clause-keeps : goal.returns-then-is_lone_backtick-clause-keeps
-returns-then-is_lone_backtick-clause-keeps c = keeps-puts c.args.self.now c.put-2.new.self c.in_ok-next-2.ensures.others c.args.here.pending c.args.here.at _ c.in_ok-next-2.ensures.slots ((refl, refl, refl), λ i. refl)
+returns-then-is_lone_backtick-clause-keeps c = keeps-puts c.args.self.now c.put-then-is_lone_backtick.new.self c.in_ok-next-2.ensures.others c.args.here.pending c.args.here.at _ c.in_ok-next-2.ensures.slots ((refl, refl, refl), λ i. refl)
 
 pub returns-then-is_pipe_escape-clause-keeps : goal.returns-then-is_pipe_escape-clause-keeps
 returns-then-is_pipe_escape-clause-keeps c = keeps-pending c.args.self.now c.flush.new.self c.in_ok-flush.ensures.others c.args.here.pending c.args.here.at c.in_ok-flush.ensures.slots
 
 pub returns-clause-keeps : goal.returns-clause-keeps
 returns-clause-keeps c = keeps-pending c.args.self.now c.flush.new.self c.in_ok-flush.ensures.others c.args.here.pending c.args.here.at c.in_ok-flush.ensures.slots
+
+pub returns-in-Some-clause-moves : goal.returns-in-Some-clause-moves
+returns-in-Some-clause-moves c = c.onto_words.ensures.moves c.args.here.at c.put.new.self c.in_ok-next.ensures.moves

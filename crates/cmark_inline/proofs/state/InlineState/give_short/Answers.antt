@@ -1,34 +1,7 @@
-use Rattle.std.proofs.Common.{sym, subst}
 use Rattle.cmark_leaf_text.specs.Reads.{source_of}
-use Rattle.cmark_text.specs.declared.short.Short.TheVariants as short
-use Rattle.cmark_inline.specs.Shorts.{GivesShort}
-use Rattle.cmark_inline.proofs.ShortFirst.{begin-short-now, begin-some}
-use Rattle.cmark_inline.proofs.ShortSteps.{begin-gives}
-use Rattle.cmark_inline.proofs.NoEnds.{begin-no-end, on-err}
 use Rattle.cmark_inline.proofs.ShortFirst.{alone, ended-first, nothing-first}
 use Rattle.cmark_inline.proofs.ShortSteps.{passes}
 use Rattle.cmark_inline.proofs.state.InlineState.give_short.Goals as goal
-
-pub returns-clause-gives : goal.returns-clause-gives
-returns-clause-gives c =
-    let source = source_of c.args.leaf.now in
-    let opened = c.args.self.now.walk.opened.items in
-    subst (GivesShort source opened (short.Start c.in-Some.tag)) (sym c.in_ok-push.ensures.items)
-    (begin-gives source c.range-range.result.start c.range-range.result.end c.in-Some.tag c.in-Some.end opened c.range-range.ensures.part c.in-Some.ensures.span c.in-Some.ensures.end)
-
-pub returns-in_default-clause-first : goal.returns-in_default-clause-first
-returns-in_default-clause-first c = λ texts links behind. begin-some c.args.leaf.now texts links c.args.slot behind c.args.self.now.walk.opened.items c.in-Begin.element c.in-Begin.is
-
-pub returns-clause-first : goal.returns-clause-first
-returns-clause-first c = λ texts links behind.
-    let leaf = c.args.leaf.now in
-    let opened = c.args.self.now.walk.opened.items in
-    begin-short-now leaf texts links c.args.slot behind opened c.push.new.self.items c.in-Some.tag c.in-Some.end c.in-Begin.element c.range-range.result.start c.range-range.result.end c.requires.read c.requires.slot.part c.in-Begin.is
-    c.in-Some.ensures.value c.in-Some.ensures.span c.in-Some.ensures.end c.range-range.ensures.start c.range-range.ensures.end c.in_ok-push.ensures.items
-
-pub returns-in_err-push-clause-ends : goal.returns-in_err-push-clause-ends
-returns-in_err-push-clause-ends c =
-    on-err c.from_residual.result _ (λ texts links behind. begin-no-end c.args.leaf.now texts links c.args.slot behind c.args.self.now.walk.opened.items c.in-Begin.element c.in-Begin.is)
 
 pub returns-in-End-clause-opened : goal.returns-in-End-clause-opened
 returns-in-End-clause-opened c = c.end_short.ensures.opened (source_of c.args.leaf.now) c.requires.opened

@@ -56,3 +56,6 @@ pub returns-clause-ends : goal.returns-clause-ends
 returns-clause-ends c = λ e.
     let next = c.in_ok-next-3.ensures in
     (keeps-puts c.args.self.now c.put-2.new.self next.others c.args.here.pending c.args.here.at _ next.slots ((refl, refl, refl), λ i. refl)).ends c.args.leaf.now e
+
+pub returns-in-Some-inline_html-clause-moves : goal.returns-in-Some-inline_html-clause-moves
+returns-in-Some-inline_html-clause-moves c = c.onto_words.ensures.moves c.args.here.at c.put.new.self c.in_ok-next-2.ensures.moves

@@ -20,3 +20,6 @@ returns-in_default-clause-keeps c = keeps-same c.args.self.now
 
 pub returns-clause-keeps : goal.returns-clause-keeps
 returns-clause-keeps c = keeps-puts c.args.self.now c.put.new.self c.in_ok-next.ensures.others c.args.here.pending c.before_blanks-stop.result c.break_slot-slot.result c.in_ok-next.ensures.slots (subst (λ (s : Slot). StandsAlone s.kind) (sym c.break_slot-slot.ensures) (break-alone c.ends_with_two_spaces-is_hard.result))
+
+pub returns-clause-moves : goal.returns-clause-moves
+returns-clause-moves c = c.onto_words.ensures.moves c.args.here.at c.put.new.self c.in_ok-next.ensures.moves
