@@ -20,8 +20,9 @@ pub struct HeadingAttributes<'a> {
     pub attrs: Vec<(CowStr<'a>, Option<CowStr<'a>>)>,
 }
 
-/// White space between words: tab, line feed, form feed, carriage return and space.
-fn is_white_space(byte: u8) -> bool
+/// Whether a byte is white space between words: a tab, a line feed, a form feed, a carriage return or a space.
+#[inline]
+pub fn is_white_space(byte: u8) -> bool
     ensures { result ≡ is_white_space byte }
 {
     matches!(byte, b'\t' | b'\n' | 12 | b'\r' | b' ')

@@ -12,4 +12,5 @@ pub mod PipeEscapes
 pub mod PipeSteps
 pub mod TagSteps
 pub mod TagTexts
+pub mod TrailingSteps
 pub mod Unescaping

@@ -1,8 +1,8 @@
 -- Steps of a scanner from byte to byte.
 use Rattle.std.specs.Prelude.{ℕ, List, [], ◌∷◌, Option, Some, None}
 use Rattle.cmark_grammar.specs.LinkDefinitions.{Found, put}
-use Rattle.cmark_scan_parts.specs.declared.destination.Step.{Step}
-use Rattle.cmark_scan_parts.specs.declared.destination.Step.TheVariants.{Ends, Fails, GoesOn}
+use Rattle.cmark_scan_parts.specs.declared.closed.Step.{Step}
+use Rattle.cmark_scan_parts.specs.declared.closed.Step.TheVariants.{Ends, Fails, GoesOn}
 
 -- what is read from a byte on, if this is what the byte does, and that is read behind it: one that ends a part is its
 -- closer, or stands behind it

@@ -1,14 +1,16 @@
-//! Bytes by their class.
+//! Tests of bytes, and what stands in front of bytes or at their end: the one place for each test that several crates make.
 
 ghost use Rattle.std.specs.Prelude.{◌≡◌, ◌<◌, ◌≤◌, length, option_copied, IfSome};
-ghost use Rattle.cmark_grammar.specs.Columns.{is_blank_byte};
+ghost use Rattle.cmark_grammar.specs.Columns.{is_blank_byte, drop_end};
 ghost use Rattle.std.specs.List.{prefix_len};
 ghost use Rattle.cmark_grammar.specs.Letters.{is_letter, behind_all};
+ghost use Rattle.cmark_grammar.specs.LinkDefinitions.{is_white, escapes_next};
+ghost use Rattle.cmark_grammar.specs.Lines.{ending_len};
 ghost use Rattle.cmark_grammar.specs.Tags.{is_attribute_start, is_space_byte, ends_value, behind_ending, behind_line_feed};
 
 /// A class of bytes, all of them ASCII but for `BareValue` and `Uri`.
 #[derive(Clone, Copy, Debug)]
-pub enum Class {
+pub(crate) enum Class {
     /// Spaces and tabs.
     Blank,
     /// What follows the first letter of a tag's name: letters, digits and `-` (CommonMark 6.6).
@@ -69,15 +71,46 @@ impl Class {
     }
 }
 
-/// Whether a byte is a space or a tab.
-fn is_blank(byte: u8) -> bool
+/// Whether a byte is a blank: a space or a tab (CommonMark 2.1).
+#[inline]
+pub fn is_blank(byte: u8) -> bool
     ensures { result ≡ is_blank_byte byte }
 {
     byte == b' ' || byte == b'\t'
 }
 
+/// How many blanks stand in front.
+#[inline]
+pub fn count_blanks(bytes: &[u8]) -> usize
+    ensures value { result ≡ prefix_len is_blank_byte bytes.now }
+    ensures within { result ≤ length bytes.now }
+{
+    bytes.iter().take_while(|byte| is_blank(**byte)).count()
+}
+
+/// The bytes without the blanks at their end.
+#[inline]
+pub fn without_trailing_blanks(bytes: &[u8]) -> &[u8]
+    ensures value { result.now ≡ drop_end is_blank_byte bytes.now }
+    ensures within { length result.now ≤ length bytes.now }
+{
+    let mut len = bytes.len();
+    while len > 0 && is_blank(bytes[len - 1]) {
+        len -= 1;
+    }
+    &bytes[..len]
+}
+
+/// Whether a byte is white space: a tab, a line feed, a form feed, a carriage return or a space.
+#[inline]
+pub fn is_white(byte: u8) -> bool
+    ensures { result ≡ is_white byte }
+{
+    matches!(byte, b'\t' | b'\n' | 12 | b'\r' | b' ')
+}
+
 /// Whether a byte is a blank or a part of a line ending.
-pub fn is_space(byte: u8) -> bool
+pub(crate) fn is_space(byte: u8) -> bool
     ensures { result ≡ is_space_byte byte }
 {
     matches!(byte, b' ' | b'\t' | b'\n' | b'\r')
@@ -91,6 +124,7 @@ fn ends_value(byte: u8) -> bool
 }
 
 /// Whether a byte is an ASCII letter.
+#[inline]
 pub fn is_letter(byte: u8) -> bool
     ensures { result ≡ is_letter byte }
 {
@@ -98,10 +132,32 @@ pub fn is_letter(byte: u8) -> bool
 }
 
 /// Whether an attribute's name may begin with this byte: a letter, `_` or `:`.
-pub fn is_attribute_start(byte: u8) -> bool
+pub(crate) fn is_attribute_start(byte: u8) -> bool
     ensures { result ≡ is_attribute_start byte }
 {
-    byte.is_ascii_alphabetic() || byte == b'_' || byte == b':'
+    is_letter(byte) || byte == b'_' || byte == b':'
+}
+
+/// Whether the byte behind this one is escaped: this one is a backslash, and no backslash escapes it (CommonMark 2.4).
+#[inline]
+pub fn escapes_next(escaped: bool, byte: u8) -> bool
+    ensures { result ≡ escapes_next escaped byte }
+{
+    !escaped && byte == b'\\'
+}
+
+/// How many bytes the line ending has that these bytes begin with: a line feed or a carriage return has one, and both in this order
+/// have two (CommonMark 2.1). Nothing has none.
+#[inline]
+pub fn ending_len(bytes: &[u8]) -> usize
+    ensures value { result ≡ ending_len bytes.now }
+    ensures within { result ≤ length bytes.now }
+{
+    match bytes {
+        [] => 0,
+        [b'\r', b'\n', ..] => 2,
+        [_, ..] => 1,
+    }
 }
 
 /// The bytes behind a line ending, if one stands in front: a line feed, a carriage return, or both in this order.

@@ -1,66 +1,16 @@
 //! Destinations of links (CommonMark 6.3).
 
-ghost use Rattle.std.specs.Prelude.{◌≡◌, ◌<◌, ◌≤◌, ◌+◌, ℕ, List, Option, suc, false, length, drop, take, slice_index, IfSome, option_map};
+ghost use Rattle.std.specs.Prelude.{◌≡◌, ◌<◌, ◌≤◌, ◌+◌, ℕ, List, Option, false, length, drop, take, slice_index, IfSome, option_map};
 ghost use Rattle.std.specs.Str.{IsCharBoundary};
-ghost use Rattle.cmark_grammar.specs.LinkDefinitions.{Found, up_to_byte, up_to, bare_byte, bare_in, depth_after, escapes_next};
+ghost use Rattle.cmark_grammar.specs.LinkDefinitions.{Found, up_to, bare_byte, bare_in, depth_after};
 ghost use Rattle.cmark_grammar.specs.Destinations.{link_destination_in};
 ghost use Rattle.cmark_scan_parts.specs.Shown.{shown_cut, cut_behind};
-ghost use Rattle.cmark_scan_parts.specs.Steps.{read_closed, read_bare, OnEnds, OnGoesOn};
+ghost use Rattle.cmark_scan_parts.specs.Steps.{read_bare, OnEnds, OnGoesOn};
 
+use crate::bytes::escapes_next;
+use crate::closed::{Step, closed_size};
 use crate::find::begins_with;
 use crate::link::Cut;
-
-/// What a byte does to the part that is read.
-#[derive(Clone, Copy, Debug)]
-pub enum Step {
-    /// The part ends there.
-    Ends,
-    /// There is no such part.
-    Fails,
-    /// The byte belongs to the part.
-    GoesOn,
-}
-
-/// Whether the byte behind this one is escaped.
-pub fn escapes_next(escaped: bool, byte: u8) -> bool
-    ensures { result ≡ escapes_next escaped byte }
-{
-    !escaped && byte == b'\\'
-}
-
-/// What a byte does to a destination in pointed brackets: `>` ends it, and a line ending or `<` refuses it, but for escaped
-/// brackets.
-fn pointed_step(escaped: bool, byte: u8) -> Step
-    ensures value { (bs : List ℕ) (found : Option Found) → up_to_byte escaped 62 60 false byte bs found ≡ read_closed result byte bs found }
-    ensures ends { OnEnds result (byte ≡ 62) }
-{
-    match byte {
-        b'\n' | b'\r' => Step::Fails,
-        b'>' if !escaped => Step::Ends,
-        b'<' if !escaped => Step::Fails,
-        _ => Step::GoesOn,
-    }
-}
-
-/// How many bytes of a destination stand in front of the `>` that closes it, if it does.
-fn pointed_size(bytes: &[u8]) -> Option<usize>
-    ensures value { option_map (λ size. record { bytes = take size bytes.now; behind = drop (suc size) bytes.now }) result ≡ up_to false 62 60 false bytes.now }
-    ensures within { IfSome result (λ size. size < length bytes.now) }
-    ensures closed { IfSome result (λ size. slice_index bytes.now size ≡ 62) }
-{
-    let mut escaped = false;
-    let mut rest = bytes;
-    while let Some((first, others)) = rest.split_first() {
-        match pointed_step(escaped, *first) {
-            Step::Ends => return Some(bytes.len() - rest.len()),
-            Step::Fails => return None,
-            Step::GoesOn => {}
-        }
-        escaped = escapes_next(escaped, *first);
-        rest = others;
-    }
-    None
-}
 
 /// How deep the parentheses are behind a byte of a bare destination.
 fn depth_after(escaped: bool, depth: usize, byte: u8) -> usize
@@ -124,7 +74,7 @@ fn pointed_dest(text: &str, start_ix: usize) -> Option<Cut<'_>>
     ensures boundary { IfSome result (λ dest. IsCharBoundary text.entry.now dest.end) }
 {
     let start = start_ix + 1;
-    let size = pointed_size(&text.as_bytes()[start..])?;
+    let size = closed_size(&text.as_bytes()[start..], b'>', b'<', false)?;
     Some(Cut {
         end: start + size + 1,
         part: &text[start..start + size],

@@ -2,15 +2,16 @@
 
 ghost use Rattle.std.specs.Prelude.{◌≡◌, ◌<◌, ◌≤◌, ◌&&◌, ◌||◌, ◌++◌, [], Ok, true, false, ℕ, length, List, Option, not, nat_lt, nat_le, IfOk, IfSome, option_map, if◌then◌else◌, string_bytes};
 ghost use Rattle.std.specs.Str.{IsUtf8, IsCharBoundary};
-ghost use Rattle.cmark_grammar.specs.LinkDefinitions.{Found, up_to_byte, is_white};
+ghost use Rattle.cmark_grammar.specs.LinkDefinitions.{is_white};
 ghost use Rattle.cmark_grammar.specs.LabelsOverLines.{label_prefix, label_over_lines};
 ghost use Rattle.cmark_text.specs.Shown.{text_bytes};
 ghost use Rattle.cmark_text.specs.declared.text.CowStr.TheVariants.{Borrowed};
 ghost use Rattle.cmark_scan_parts.specs.Handled.{LabelsWithin, ForLabels};
 ghost use Rattle.cmark_scan_parts.specs.Shown.{shown_label, cut_behind, IsBorrowed, IsWhole};
-ghost use Rattle.cmark_scan_parts.specs.Steps.{read_closed, OnEnds};
 
-use crate::destination::{Step, escapes_next};
+use crate::bytes::{escapes_next, is_white};
+use crate::closed::{Step, closed_step};
+use crate::label_text::begins_character;
 use crate::owned::ends_line;
 use crate::pipes::with_literal_pipes;
 use cmark_text::CowStr;
@@ -25,31 +26,12 @@ pub struct LinkLabelRest<'t> {
     pub text: CowStr<'t>,
 }
 
-/// What a byte does to a label: `]` ends it and `[` refuses it, but for escaped brackets.
-fn label_step(escaped: bool, byte: u8) -> Step
-    ensures value { (bs : List ℕ) (found : Option Found) → up_to_byte escaped 93 91 true byte bs found ≡ read_closed result byte bs found }
-    ensures ends { OnEnds result (byte ≡ 93) }
-{
-    match byte {
-        b']' if !escaped => Step::Ends,
-        b'[' if !escaped => Step::Fails,
-        _ => Step::GoesOn,
-    }
-}
-
-/// Whether a byte is white space: a tab, a line feed, a form feed, a carriage return or a space.
-fn is_white(byte: u8) -> bool
-    ensures { result ≡ is_white byte }
-{
-    matches!(byte, b'\t' | b'\n' | 12 | b'\r' | b' ')
-}
-
 /// 1 if a character begins with this byte, else 0.
 fn begun(byte: u8) -> usize
     ensures value { result ≡ (if nat_lt byte 128 || nat_le 192 byte then 1 else 0) }
     ensures small { result ≤ 1 }
 {
-    if byte < 128 || 192 <= byte { 1 } else { 0 }
+    if begins_character(byte) { 1 } else { 0 }
 }
 
 /// Whether one of the bytes before is no white space, or this one is none.
@@ -117,7 +99,7 @@ fn read_label<'t, H: Fn(&[u8]) -> Option<usize>>(
     let mut at = 0;
     while at < bytes.len() {
         let byte = bytes[at];
-        match label_step(escaped, byte) {
+        match closed_step(escaped, b']', b'[', true, byte) {
             Step::Ends => {
                 if !is_label(count, has_words) {
                     return Ok(None);

@@ -1,13 +1,15 @@
 -- Sets of ASCII bytes, asked for sixteen lanes at once.
-use Rattle.std.proofs.Common.{◌≡◌, ℕ, zero, suc, ◌+◌, ◌*◌, ◌/◌, ◌%◌, ◌^◌, ◌<◌, ◌≤◌, Bool, true, false, not, ◌==◌, ◌&&◌, nat_lt, if◌then◌else◌, pow_pos, cond, eqb, List, [], ◌∷◌, ◌++◌, length, min, get_or, map, replicate, drop, take, length-append, refl, sym, ap, subst, ◌∙◌, arith, w8, bit_and, Fits, inl, inr, Option, Some, None}
+use borrow.Rule.Slice.PartMut.{put_mid, post_of}
+use Rattle.std.proofs.Common.{◌≡◌, ℕ, zero, suc, ◌+◌, ◌-◌, ◌*◌, ◌/◌, ◌%◌, ◌^◌, ◌<◌, ◌≤◌, Bool, true, false, not, ◌==◌, ◌&&◌, nat_lt, if◌then◌else◌, pow_pos, cond, eqb, List, [], ◌∷◌, ◌++◌, length, min, get_or, map, replicate, drop, take, append_assoc, drop-drop, take-append-drop, length-append, refl, sym, ap, subst, ◌∙◌, arith, w8, bit_and, Fits, inl, inr, Option, Some, None}
 use Rattle.std.specs.Int.{bit_at}
 use Rattle.std.specs.List.{position_or_len}
 use Rattle.std.specs.Simd.Lanes.{zip2, mask_l, top, Each1}
 use Rattle.std.proofs.lemmas.Bool.{agree_below_at, and_parts, both_ways, cases_lt, eqb-true, ltb-true, lt-ltb, ne_eqb}
-use Rattle.std.proofs.lemmas.List.{get_or_append_left, length-map, map-id}
+use Rattle.std.proofs.lemmas.List.{get_or_append_left, length-map, length-take-le, map-id, take-append-le}
 use Rattle.std.proofs.lemmas.List.Sums.{fails_before_first, passes_at_first, position_or_len_is}
 use Rattle.std.proofs.lemmas.Nat.{and_mask, and_le_r}
 use Rattle.std.proofs.lemmas.Nat.Bits.{and_pow, bit_at-lt}
+use Rattle.std.proofs.lemmas.Slice.{drop-append-drop}
 use Rattle.std.proofs.lemmas.Simd.{swz_l, SwzOk, SwzOk-from_below, get_or-swz_l_below, zip2_splat, zip2_of_maps, bitmask_splat, bit_mask_l, mask_l-mod, tops_compared, map-map, run_in_chunk_le, run_in_chunk_fails, run_in_chunk_stops}
 use Rattle.memchr.specs.Find.{IsFirstByte, Passes}
 use Rattle.memchr.proofs.lemmas.FindLemmas.{IsFirst-agree}
@@ -166,6 +168,15 @@ in_rows-of_table table rows made byte small =
 
 -- ---- searches
 
+marked_step : (b : Bool) (n m l : ℕ) → 0 < cond b 1 0 + 2 * n → (0 < n → m < l) → cond (not b) (1 + m) 0 < suc l
+marked_step true n m l some within = omega arith
+marked_step false n m l some within = omega (arith, within (omega arith))
+
+-- where a lane is marked, the first that is in the set is one of them
+pub first-within : (p : ℕ → Bool) (xs : List ℕ) → 0 < mask_l (map p xs) → position_or_len p xs < length xs
+first-within p [] some = absurd (omega arith)
+first-within p (x ∷ xs) some = marked_step (p x) (mask_l (map p xs)) (position_or_len p xs) (length xs) some (first-within p xs)
+
 -- sixteen bytes from a place on were looked at, and this many stand before the first of the set
 module _ (p : ℕ → Bool) (bs : List ℕ) (at passed : ℕ) (room : at + 16 ≤ length bs) (is : passed ≡ position_or_len p (take 16 (drop at bs))) (before : (k : ℕ) → k < at → p (get_or bs k 0) ≡ false) where
   pub step-le : passed ≤ 16
@@ -202,6 +213,29 @@ front-place p bs more = sym (position_or_len_is p bs at 0 (omega arith) before h
     here : at < length bs → p (get_or bs at 0) ≡ true
     here below = let is : at ≡ position_or_len p (bs ++ more) = omega arith in
         ap p (sym (get_or_append_left bs more 0 at below)) ∙ ap (λ n. p (get_or (bs ++ more) n 0)) is ∙ passes_at_first p (bs ++ more) 0 (omega (arith, length-append bs more, is))
+
+-- bytes whose first `size` and last `size`, which are all, were written over the front of a row
+pub ends-written : (bytes row : List ℕ) (size : ℕ) → size ≤ length bytes → length bytes ≤ size + size
+    → put_mid (length bytes - size) (length bytes - (length bytes - size)) (take size bytes ++ post_of 0 size row) (drop (length bytes - size) bytes) ≡ bytes ++ drop (length bytes) row
+ends-written bytes row size fits all = (λ i. front i ++ (drop at bytes ++ behind i)) ∙ whole
+  where
+    at : ℕ
+    at = length bytes - size
+
+    written : List ℕ
+    written = take size bytes ++ drop size row
+
+    within : at ≤ length (take size bytes)
+    within = omega (arith, length-take-le size bytes fits)
+
+    front : take at written ≡ take at bytes
+    front = take-append-le at (take size bytes) (drop size row) within ∙ sym (take-append-le at (take size bytes) (drop size bytes) within) ∙ ap (take at) (take-append-drop size bytes)
+
+    behind : drop (length bytes - at) (drop at written) ≡ drop (length bytes) row
+    behind = drop-drop (length bytes - at) at written ∙ ap (λ n. drop n written) (omega arith) ∙ drop-append-drop size row (take size bytes) (length bytes) fits (length-take-le size bytes fits)
+
+    whole : take at bytes ++ (drop at bytes ++ drop (length bytes) row) ≡ bytes ++ drop (length bytes) row
+    whole = sym (append_assoc (take at bytes) (drop at bytes) (drop (length bytes) row)) ∙ ap (λ l. l ++ drop (length bytes) row) (take-append-drop at bytes)
 
 -- the number of bytes before the first of the set says where it stands
 pub first-place : (p : ℕ → Bool) (bs : List ℕ) (at : ℕ) → at ≡ position_or_len p bs → at < length bs → IsFirstByte p bs (Some at)

@@ -1,6 +1,6 @@
 //! Searches for the first byte of a set, sixteen bytes a step. They are made for short ways: a line has some sixty bytes.
 
-ghost use Rattle.std.specs.Prelude.{◌≡◌, ◌+◌, ◌<◌, ◌≤◌, if◌then◌else◌, ℕ, Bool, List, false, length, map, drop, take, slice_index, slice_index_or};
+ghost use Rattle.std.specs.Prelude.{◌≡◌, ◌+◌, ◌<◌, ◌≤◌, if◌then◌else◌, ℕ, Bool, List, ◌++◌, None, IfSome, false, length, map, drop, replicate, take, slice_index, slice_index_or};
 ghost use Rattle.std.specs.List.{position_or_len};
 ghost use Rattle.std.specs.Simd.Lanes.{mask_l};
 ghost use Rattle.memchr.specs.Find.{IsFirstByte, is_byte, is_byte2};
@@ -138,20 +138,41 @@ impl<'k> LaneSet for Keys<'k> {
     }
 }
 
+/// The first lane that is in the set, if one is.
+#[inline(always)]
+fn first_lane<S: LaneSet>(set: &S, lanes: u8x16) -> Option<usize>
+    ensures value { IfSome result (λ lane. lane ≡ position_or_len (S.has set.now) lanes) }
+    ensures small { IfSome result (λ lane. lane < 16) }
+    ensures none { result ≡ None → position_or_len (S.has set.now) lanes ≡ 16 }
+{
+    let hits = set.marks(lanes);
+    if hits == 0 {
+        return None;
+    }
+    Some(hits.trailing_zeros() as usize)
+}
+
 /// How many lanes stand in front of the first that is in the set; 16, where none is.
 #[inline(always)]
 fn lanes_before<S: LaneSet>(set: &S, lanes: u8x16) -> usize
     ensures value { result ≡ position_or_len (S.has set.now) lanes }
     ensures small { result ≤ 16 }
 {
-    let hits = set.marks(lanes);
-    if hits == 0 {
-        return 16;
-    }
-    hits.trailing_zeros() as usize
+    first_lane(set, lanes).unwrap_or(16)
 }
 
-/// How many of the sixteen bytes from `at` on stand in front of the first that is in the set; 16, where none is.
+/// How many of the sixteen bytes from `at` on stand in front of the first that is in the set, if one is.
+#[inline(always)]
+fn first_from<S: LaneSet>(set: &S, bytes: &[u8], at: usize) -> Option<usize>
+    requires { at + 16 ≤ length bytes.now }
+    ensures value { IfSome result (λ passed. passed ≡ position_or_len (S.has set.now) (take 16 (drop at bytes.now))) }
+    ensures small { IfSome result (λ passed. passed < 16) }
+    ensures none { result ≡ None → position_or_len (S.has set.now) (take 16 (drop at bytes.now)) ≡ 16 }
+{
+    first_lane(set, u8x16::from_slice(&bytes[at..]))
+}
+
+/// The same as `first_from`, with 16 where none is.
 #[inline(always)]
 fn bytes_before<S: LaneSet>(set: &S, bytes: &[u8], at: usize) -> usize
     requires { at + 16 ≤ length bytes.now }
@@ -161,8 +182,8 @@ fn bytes_before<S: LaneSet>(set: &S, bytes: &[u8], at: usize) -> usize
     lanes_before(set, u8x16::from_slice(&bytes[at..]))
 }
 
-/// The first place whose byte is in the set; the length, where there is none. The last step looks at the last sixteen bytes
-/// once more.
+/// The first place whose byte is in the set; the length, where there is none. The last step looks at the last sixteen bytes, some of
+/// them for the second time.
 #[inline(always)]
 fn find<S: LaneSet>(set: &S, bytes: &[u8]) -> usize
     ensures value { result ≡ position_or_len (S.has set.now) bytes.now }
@@ -172,15 +193,15 @@ fn find<S: LaneSet>(set: &S, bytes: &[u8]) -> usize
     if len < 16 {
         return find_in_few(set, bytes);
     }
+    let last = len - 16;
     let mut at = 0;
-    while len - at >= 16 {
-        let passed = bytes_before(set, bytes, at);
-        if passed < 16 {
+    while at < last {
+        if let Some(passed) = first_from(set, bytes, at) {
             return at + passed;
         }
         at += 16;
     }
-    len - 16 + bytes_before(set, bytes, len - 16)
+    last + bytes_before(set, bytes, last)
 }
 
 /// The same as `find`, of fewer than sixteen bytes: they are looked at in one step, with zeros behind them.
@@ -190,10 +211,41 @@ fn find_in_few<S: LaneSet>(set: &S, bytes: &[u8]) -> usize
     ensures value { result ≡ position_or_len (S.has set.now) bytes.now }
     ensures within { result ≤ length bytes.now }
 {
+    let lanes = padded(bytes);
+    lanes_before(set, u8x16::from_slice(&lanes)).min(bytes.len())
+}
+
+/// Fewer than sixteen bytes with zeros behind them. They are copied in two pieces of a size that is known, which may overlap, since a call
+/// that copies any number of bytes costs more.
+#[inline(always)]
+fn padded(bytes: &[u8]) -> [u8; 16]
+    requires { length bytes.now < 16 }
+    ensures { result ≡ bytes.now ++ drop (length bytes.now) (replicate 16 0) }
+{
     let mut lanes = [0u8; 16];
+    if bytes.len() >= 8 {
+        copy_ends(&mut lanes, bytes, 8);
+    } else if bytes.len() >= 4 {
+        copy_ends(&mut lanes, bytes, 4);
+    } else if bytes.len() >= 2 {
+        copy_ends(&mut lanes, bytes, 2);
+    } else if bytes.len() == 1 {
+        copy_ends(&mut lanes, bytes, 1);
+    }
+    lanes
+}
+
+/// Copies bytes to the front of the lanes: the first `size` of them and the last `size`, which are all.
+#[inline(always)]
+fn copy_ends(lanes: &mut [u8; 16], bytes: &[u8], size: usize)
+    requires size { size ≤ length bytes.now }
+    requires all { length bytes.now ≤ size + size }
+    requires room { length bytes.now ≤ 16 }
+    ensures { lanes.new ≡ bytes.now ++ drop (length bytes.now) lanes.old }
+{
     let len = bytes.len();
-    lanes[..len].copy_from_slice(bytes);
-    lanes_before(set, u8x16::from_slice(&lanes)).min(len)
+    lanes[..size].copy_from_slice(&bytes[..size]);
+    lanes[len - size..len].copy_from_slice(&bytes[len - size..]);
 }
 
 /// The same; and where such a byte stands, it is ASCII.

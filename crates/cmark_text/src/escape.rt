@@ -12,15 +12,32 @@ use std::alloc::AllocError;
 /// Appends the text as body text of HTML: `&`, `<` and `>` are written as entities.
 ///
 /// Where there is no memory, the old text stands with a beginning of the escaped one.
+#[inline(always)]
 pub fn escape_html_body_text(out: &mut String, text: &str) -> Result<(), AllocError>
     ensures ok { OnOk result (string_bytes out.new ≡ string_bytes out.old ++ escaped_body_text text.now) }
     ensures err { OnErr result (AppendsFront (string_bytes out.old) (string_bytes out.new) (escaped_body_text text.now)) }
 {
+    match find_body_text_mark(text) {
+        None => out.push_str(text),
+        Some(at) => escape_from(out, text, at),
+    }
+}
+
+/// The same of a text whose first byte that is not kept stands at a place. It is apart, so that most texts, which have none, are appended
+/// where they are given.
+#[inline(never)]
+fn escape_from(out: &mut String, text: &str, first: usize) -> Result<(), AllocError>
+    requires { IsFirstByte is_body_text_mark text.now (Some first) }
+    ensures ok { OnOk result (string_bytes out.new ≡ string_bytes out.old ++ escaped_body_text text.now) }
+    ensures err { OnErr result (AppendsFront (string_bytes out.old) (string_bytes out.new) (escaped_body_text text.now)) }
+{
     let mut rest = text;
-    while let Some(at) = find_body_text_mark(rest) {
+    let mut found = Some(first);
+    while let Some(at) = found {
         out.push_str(&rest[..at])?;
         out.push_str(body_text_entity(rest.as_bytes()[at]))?;
         rest = &rest[at + 1..];
+        found = find_body_text_mark(rest);
     }
     out.push_str(rest)
 }

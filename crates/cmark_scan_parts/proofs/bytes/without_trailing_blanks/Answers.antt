@@ -1,8 +1,8 @@
 use Rattle.std.proofs.Common.{◌≡◌, take, sym, ◌∙◌, arith}
 use Rattle.cmark_grammar.specs.Columns.{is_blank_byte, drop_end}
-use Rattle.cmark_scan.proofs.ByteSteps.{drop_end-less, drop_end-stays, drop_end-none}
-use Rattle.cmark_scan.proofs.bytes.without_trailing.Goals as goal
-use Rattle.cmark_scan.proofs.bytes.without_trailing.Goals.{then-loop-len-test+else-is_blank, else-loop-len-test}
+use Rattle.cmark_scan_parts.proofs.TrailingSteps.{drop_end-less, drop_end-stays, drop_end-none}
+use Rattle.cmark_scan_parts.proofs.bytes.without_trailing_blanks.Goals as goal
+use Rattle.cmark_scan_parts.proofs.bytes.without_trailing_blanks.Goals.{then-loop-len-test+else-is_blank, else-loop-len-test}
 
 pub loop-len-preserved : goal.loop-len-preserved
 loop-len-preserved c =

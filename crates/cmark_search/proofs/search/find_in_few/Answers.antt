@@ -11,4 +11,4 @@ returns-clause-value g c =
     let zeroes : List ℕ = replicate 16 0 in
     let zeros = drop (length bytes) zeroes in
     let sixteen = take_all 16 (bytes ++ zeros) (omega (arith, length-append bytes zeros, length-drop (length bytes) zeroes, c.requires)) in
-    c.min.ensures ∙ ap (λ n. min n (length bytes)) (c.lanes_before.ensures.value ∙ ap (λ l. position_or_len p (take 16 (l ++ zeros))) c.copy_from_slice.ensures.after ∙ ap (position_or_len p) sixteen) ∙ front-place p bytes zeros
+    c.min.ensures ∙ ap (λ n. min n (length bytes)) (c.lanes_before.ensures.value ∙ ap (λ l. position_or_len p (take 16 l)) c.padded-lanes.ensures ∙ ap (position_or_len p) sixteen) ∙ front-place p bytes zeros

@@ -1,46 +1,16 @@
-use Rattle.std.proofs.Common.{◌≡◌, ◌++◌, string_bytes, get_or, take, subst, sym, ap, ◌∙◌, arith}
-use Rattle.std.proofs.lemmas.Str.{IsCharBoundary-after_ascii}
+use Rattle.std.proofs.Common.{◌++◌, string_bytes, sym, ap, ◌∙◌}
 use Rattle.cmark_grammar.specs.Escapes.{body_text_byte}
 use Rattle.cmark_text.specs.Marks.{is_body_text_mark}
-use Rattle.cmark_text.proofs.Escaping.{IsFirstMark, first_mark-byte, all_kept-byte, Written, written_front, written_to_mark, written_past_mark, written_to_end, on_err, at_ok, at_err}
-use Rattle.cmark_text.proofs.Marks.{keeps-body_text_byte, ascii-body_text_mark}
+use Rattle.cmark_text.proofs.Escaping.{all_kept-byte, at_ok, at_err, kept_whole, written_front, written_none}
+use Rattle.cmark_text.proofs.Marks.{keeps-body_text_byte}
 use Rattle.cmark_text.proofs.escape.escape_html_body_text.Goals as goal
 
-pub returns-in_err-push_str-clause-err : goal.returns-in_err-push_str-clause-err
-returns-in_err-push_str-clause-err c =
-    on_err c.from_residual.result (written_front body_text_byte _ _ _ _ _ c.loop-at.invariant.written c.in_err-push_str.ensures.bytes)
+pub returns-in-None-clause-ok : goal.returns-in-None-clause-ok
+returns-in-None-clause-ok c =
+    at_ok c.push_str.result _ _ _ c.push_str.ensures.bytes (λ ok.
+    ok ∙ ap (λ l. string_bytes c.args.out.now ++ l) (sym (kept_whole body_text_byte is_body_text_mark keeps-body_text_byte c.args.text.now (all_kept-byte is_body_text_mark c.args.text.now c.in-None.ensures))))
 
-pub returns-in_err-push_str-2-clause-err : goal.returns-in_err-push_str-2-clause-err
-returns-in_err-push_str-2-clause-err c =
-    let first : IsFirstMark is_body_text_mark c.loop-at.rest.now c.in-Some.at = first_mark-byte is_body_text_mark c.loop-at.rest.now c.in-Some.at c.in-Some.ensures in
-    let front : c.range.result.now ≡ take c.in-Some.at c.loop-at.rest.now = grind (arith, c.range.ensures.value) in
-    on_err c.from_residual-in_err-push_str-2.result (written_front body_text_byte _ _ _ _ _
-    (written_to_mark body_text_byte is_body_text_mark keeps-body_text_byte _ _ _ _ c.loop-at.rest.now c.in-Some.at (omega (arith, first.below)) first.before c.loop-at.invariant.written (c.in_ok-push_str.ensures.bytes ∙ ap (λ l. string_bytes c.loop-at.out ++ l) front))
-    c.in_err-push_str-2.ensures.bytes)
-
-pub range_from-rest-requires : goal.range_from-rest-requires
-range_from-rest-requires c =
-    let first : IsFirstMark is_body_text_mark c.loop-at.rest.now c.in-Some.at = first_mark-byte is_body_text_mark c.loop-at.rest.now c.in-Some.at c.in-Some.ensures in
-    λ _. IsCharBoundary-after_ascii c.loop-at.rest.now c.in-Some.at c.loop-at.invariant.text first.below (ascii-body_text_mark (get_or c.loop-at.rest.now c.in-Some.at 0) first.here)
-
-pub loop-at-preserved : goal.loop-at-preserved
-loop-at-preserved c =
-    let first : IsFirstMark is_body_text_mark c.loop-at.rest.now c.in-Some.at = first_mark-byte is_body_text_mark c.loop-at.rest.now c.in-Some.at c.in-Some.ensures in
-    let front : c.range.result.now ≡ take c.in-Some.at c.loop-at.rest.now = grind (arith, c.range.ensures.value) in
-    let to_mark = written_to_mark body_text_byte is_body_text_mark keeps-body_text_byte _ _ _ _ c.loop-at.rest.now c.in-Some.at (omega (arith, first.below)) first.before c.loop-at.invariant.written (c.in_ok-push_str.ensures.bytes ∙ ap (λ l. string_bytes c.loop-at.out ++ l) front) in
-    let entity : c.body_text_entity.result.now ≡ body_text_byte (get_or c.loop-at.rest.now c.in-Some.at 0) = c.body_text_entity.ensures ∙ ap (λ l. body_text_byte (get_or l c.in-Some.at 0)) c.as_bytes.ensures.value in
-    record {
-      text = c.range_from-rest.utf8;
-      written = subst (λ l. Written body_text_byte (string_bytes c.args.out.now) (string_bytes c.push_str-in-Some.new.self) c.args.text.now l) (sym c.range_from-rest.ensures.value)
-          (written_past_mark body_text_byte is_body_text_mark keeps-body_text_byte _ _ _ _ c.loop-at.rest.now c.in-Some.at first.below to_mark
-          (c.in_ok-push_str-2.ensures.bytes ∙ ap (λ l. string_bytes c.push_str.new.self ++ l) entity));
-    }
-
-pub returns-clause-ok : goal.returns-clause-ok
-returns-clause-ok c =
-    at_ok c.push_str-2.result _ _ _ c.push_str-2.ensures.bytes (λ ok.
-    written_to_end body_text_byte is_body_text_mark keeps-body_text_byte _ _ _ _ c.loop-at.rest.now (all_kept-byte is_body_text_mark c.loop-at.rest.now c.in_default.ensures) c.loop-at.invariant.written
-    ok)
-
-pub returns-clause-err : goal.returns-clause-err
-returns-clause-err c = at_err c.push_str-2.result _ _ _ c.push_str-2.ensures.bytes (λ err. written_front body_text_byte _ _ _ _ _ c.loop-at.invariant.written err)
+pub returns-in-None-clause-err : goal.returns-in-None-clause-err
+returns-in-None-clause-err c =
+    at_err c.push_str.result _ _ _ c.push_str.ensures.bytes (λ err.
+    written_front body_text_byte (string_bytes c.args.out.now) (string_bytes c.args.out.now) _ c.args.text.now c.args.text.now (written_none body_text_byte (string_bytes c.args.out.now) c.args.text.now) err)

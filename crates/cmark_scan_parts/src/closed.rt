@@ -1,0 +1,68 @@
+//! Parts of a text that a closer ends: labels, titles, and destinations in pointed brackets (CommonMark 6.3).
+
+ghost use Rattle.std.specs.Prelude.{◌≡◌, ◌<◌, ◌==◌, ◌&&◌, ◌||◌, ℕ, List, Option, suc, not, false, length, drop, take, slice_index, IfSome, option_map};
+ghost use Rattle.cmark_grammar.specs.LinkDefinitions.{Found, up_to_byte, up_to};
+ghost use Rattle.cmark_scan_parts.specs.Steps.{read_closed, OnEnds};
+
+use crate::bytes::escapes_next;
+
+/// What a byte does to the part that is read.
+#[derive(Clone, Copy, Debug)]
+pub(crate) enum Step {
+    /// The part ends there.
+    Ends,
+    /// There is no such part.
+    Fails,
+    /// The byte belongs to the part.
+    GoesOn,
+}
+
+/// Whether a byte refuses a part: an unescaped one that may not stand in it, or one of a line ending, where lines may not end.
+fn refuses(escaped: bool, refused: u8, over_lines: bool, byte: u8) -> bool
+    ensures { result ≡ ((not escaped && (byte == refused)) || (not over_lines && ((byte == 10) || (byte == 13)))) }
+{
+    (!escaped && byte == refused) || (!over_lines && (byte == b'\n' || byte == b'\r'))
+}
+
+/// What a byte does to a part up to its closer: the closer ends it and the refused byte refuses it, unless a backslash escapes them,
+/// and a line ending refuses it where the part may not take several lines.
+#[inline]
+pub(crate) fn closed_step(
+    escaped: bool,
+    closer: u8,
+    refused: u8,
+    over_lines: bool,
+    byte: u8,
+) -> Step
+    ensures value { (bs : List ℕ) (found : Option Found) → up_to_byte escaped closer refused over_lines byte bs found ≡ read_closed result byte bs found }
+    ensures ends { OnEnds result (byte ≡ closer) }
+{
+    if !escaped && byte == closer {
+        Step::Ends
+    } else if refuses(escaped, refused, over_lines, byte) {
+        Step::Fails
+    } else {
+        Step::GoesOn
+    }
+}
+
+/// How many bytes stand in front of the closer, which no backslash escapes; none where the refused byte comes before it, or a line
+/// ending where the part may not take several lines.
+pub fn closed_size(bytes: &[u8], closer: u8, refused: u8, over_lines: bool) -> Option<usize>
+    ensures value { option_map (λ size. record { bytes = take size bytes.now; behind = drop (suc size) bytes.now }) result ≡ up_to false closer refused over_lines bytes.now }
+    ensures within { IfSome result (λ size. size < length bytes.now) }
+    ensures closed { IfSome result (λ size. slice_index bytes.now size ≡ closer) }
+{
+    let mut escaped = false;
+    let mut rest = bytes;
+    while let Some((first, others)) = rest.split_first() {
+        match closed_step(escaped, closer, refused, over_lines, *first) {
+            Step::Ends => return Some(bytes.len() - rest.len()),
+            Step::Fails => return None,
+            Step::GoesOn => {}
+        }
+        escaped = escapes_next(escaped, *first);
+        rest = others;
+    }
+    None
+}

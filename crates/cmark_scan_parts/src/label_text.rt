@@ -1,0 +1,35 @@
+//! Which bytes are the text of a label (CommonMark 6.3).
+
+ghost use Rattle.std.specs.Prelude.{◌≡◌, ◌||◌, not, nat_lt, nat_le, count_by};
+ghost use Rattle.cmark_grammar.specs.LinkDefinitions.{is_white, characters, is_label};
+
+use crate::bytes::is_white;
+
+/// Whether a character begins with this byte.
+#[inline]
+pub(crate) fn begins_character(byte: u8) -> bool
+    ensures { result ≡ (nat_lt byte 128 || nat_le 192 byte) }
+{
+    byte < 128 || 192 <= byte
+}
+
+/// How many characters these bytes have.
+fn characters(bytes: &[u8]) -> usize
+    ensures { result ≡ characters bytes.now }
+{
+    bytes.iter().filter(|byte| begins_character(**byte)).count()
+}
+
+/// Whether some byte is no white space.
+fn has_words(bytes: &[u8]) -> bool
+    ensures { result ≡ nat_lt 0 (count_by (λ b. not (is_white b)) bytes.now) }
+{
+    0 < bytes.iter().filter(|byte| !is_white(**byte)).count()
+}
+
+/// Whether these bytes are the text of a label: 1 to 999 characters, at least one of them no white space.
+pub fn is_label(bytes: &[u8]) -> bool
+    ensures { result ≡ is_label bytes.now }
+{
+    characters(bytes) <= 999 && has_words(bytes)
+}
