@@ -1,5 +1,5 @@
 -- Rests of a text.
-use Rattle.std.proofs.Common.{◌≡◌, ℕ, zero, suc, ◌+◌, ◌-◌, ◌<◌, ◌≤◌, true, List, length, drop, get_or, Option, None, Some, refl, sym, ap, subst, ◌∙◌, arith, drop-drop, length-drop}
+use Rattle.std.proofs.Common.{◌≡◌, ℕ, zero, suc, ◌+◌, ◌-◌, ◌<◌, ◌≤◌, Bool, true, false, ◌==◌, if◌then◌else◌, List, [], ◌∷◌, length, drop, get_or, Option, None, Some, refl, sym, ap, subst, ◌∙◌, arith, eqb-true, drop-drop, length-drop}
 use Rattle.std.specs.List.{prefix_len}
 use Rattle.std.specs.Option.{IfSome}
 use Rattle.std.specs.Str.{IsCharBoundary, IsUtf8}
@@ -8,6 +8,7 @@ use Rattle.std.proofs.lemmas.List.Sums.{prefix_len-le-length, prefix_len_passes}
 use Rattle.std.proofs.lemmas.Str.{IsCharBoundary-start, IsCharBoundary-after_ascii, IsCharBoundary-from_drop}
 use Rattle.cmark_grammar.specs.Columns.{is_blank_byte}
 use Rattle.cmark_grammar.specs.LinkDefinitions.{behind_blanks}
+use Rattle.cmark_grammar.specs.Tags.{behind_line_feed, behind_ending}
 use Rattle.cmark_grammar.proofs.RowEdges.{blank-ascii}
 use Rattle.cmark_definitions.specs.declared.part.Part.{Part}
 use Rattle.cmark_definitions.specs.Rests.{IsRest}
@@ -61,6 +62,49 @@ after_blanks text bytes n e utf8 is = blanks_end text n utf8 (is ∙ ap (prefix_
 
 pub behind_is : (text bytes rest : List ℕ) (n : ℕ) → bytes ≡ text → n ≡ prefix_len is_blank_byte bytes → rest ≡ drop n text → rest ≡ behind_blanks text
 behind_is text bytes rest n e is cut = cut ∙ blanks_value text n (is ∙ ap (prefix_len is_blank_byte) e)
+
+-- behind a line ending in front
+pub record EndsAt (bs r : List ℕ) : Type 0 where
+  pub size : ℕ
+  pub boundary : IsCharBoundary bs size
+  pub within : size ≤ length bs
+  pub some : 0 < size
+  pub is : r ≡ drop size bs
+
+same : (x r : List ℕ) → Some x ≡ Some r → r ≡ x
+same x r e = cc
+
+pub ending_at : (bs r : List ℕ) → IsUtf8 bs → behind_ending bs ≡ Some r → EndsAt bs r
+ending_at [] r utf8 e = cc
+ending_at (b ∷ bs) r utf8 e = line_feed (b == 10) refl e
+  where
+    first : b < 128 → r ≡ bs → EndsAt (b ∷ bs) r
+    first small is = record { size = 1; boundary = after_first (b ∷ bs) (b ∷ bs) refl utf8 (omega arith) small; within = omega arith; some = omega arith; is = is }
+
+    second : (cs : List ℕ) → bs ≡ cs → b < 128 → r ≡ behind_line_feed cs → EndsAt (b ∷ bs) r
+    second [] q small is = first small (is ∙ sym q)
+    second (c ∷ cs) q small is = go (c == 10) refl is
+      where
+        go : (z : Bool) → (c == 10) ≡ z → r ≡ (if z then cs else c ∷ cs) → EndsAt (b ∷ bs) r
+        go true f is = record {
+          size = 2;
+          boundary = after_second (b ∷ bs) (b ∷ c ∷ cs) (ap (λ (l : List ℕ). b ∷ l) (sym q)) utf8 (omega arith) (let t = eqb-true c 10 f in omega (arith, t));
+          within = let n = ap length q in omega (arith, n);
+          some = omega arith;
+          is = is ∙ ap (drop 1) (sym q);
+        }
+        go false f is = first small (is ∙ sym q)
+
+    carriage_return : (z : Bool) → (b == 13) ≡ z → (if z then Some (behind_line_feed bs) else None) ≡ Some r → EndsAt (b ∷ bs) r
+    carriage_return true f e = second bs refl (let t = eqb-true b 13 f in omega (arith, t)) (same (behind_line_feed bs) r e)
+    carriage_return false f e = cc
+
+    line_feed : (z : Bool) → (b == 10) ≡ z → (if z then Some bs else if b == 13 then Some (behind_line_feed bs) else None) ≡ Some r → EndsAt (b ∷ bs) r
+    line_feed true f e = first (let t = eqb-true b 10 f in omega (arith, t)) (same bs r e)
+    line_feed false f e = carriage_return (b == 13) refl e
+
+pub ending_place : (bs r : List ℕ) (e : EndsAt bs r) → e.size ≡ length bs - length r
+ending_place bs r e = let l = length-drop e.size bs in let n = ap length e.is in let w = e.within in omega (arith, l, n, w)
 
 pub behind_opening : (r : Option Part) (text start : List ℕ) → 1 ≤ length text → start ≡ drop 1 text → IfSome r (λ part. IsRest start part.behind.now) → IfSome r (λ part. IsRest text part.behind.now)
 behind_opening None text start some is h = tt

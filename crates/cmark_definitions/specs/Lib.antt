@@ -1,4 +1,3 @@
 pub mod Rests
 pub mod Settled
 pub mod Shown
-pub mod Steps

@@ -1,44 +1,19 @@
 //! Blanks and line endings in front of a text.
 
 ghost use Rattle.std.specs.Prelude.{◌≡◌, ◌<◌, ◌==◌, length, IfSome, option_copied};
-ghost use Rattle.std.specs.List.{prefix_len};
-ghost use Rattle.cmark_grammar.specs.Columns.{is_blank_byte};
 ghost use Rattle.cmark_grammar.specs.Letters.{behind_if};
 ghost use Rattle.cmark_grammar.specs.LinkDefinitions.{behind_blanks, behind_separator, is_line_done};
-ghost use Rattle.cmark_grammar.specs.Tags.{behind_ending, behind_line_feed};
+ghost use Rattle.cmark_grammar.specs.Tags.{behind_ending};
 ghost use Rattle.cmark_definitions.specs.Rests.{IsRest};
 
-/// Whether a byte is a space or a tab.
-fn is_blank(byte: u8) -> bool
-    ensures { result ≡ is_blank_byte byte }
-{
-    byte == b' ' || byte == b'\t'
-}
-
-/// How many blanks stand in front.
-fn blanks(bytes: &[u8]) -> usize
-    ensures { result ≡ prefix_len is_blank_byte bytes.now }
-{
-    bytes.iter().take_while(|byte| is_blank(**byte)).count()
-}
+use cmark_scan_parts::bytes;
 
 /// The text behind the blanks in front.
 pub fn behind_blanks(text: &str) -> &str
     ensures value { result.now ≡ behind_blanks text.entry.now }
     ensures rest { IsRest text.entry.now result.now }
 {
-    &text[blanks(text.as_bytes())..]
-}
-
-/// The text without the line feed in front, if one stands there.
-fn without_line_feed(text: &str) -> &str
-    ensures value { result.now ≡ behind_line_feed text.entry.now }
-    ensures rest { IsRest text.entry.now result.now }
-{
-    match behind_byte(b'\n', text) {
-        Some(rest) => rest,
-        None => text,
-    }
+    &text[bytes::count_blanks(text.as_bytes())..]
 }
 
 /// The text behind the line ending in front, if one stands there: a line feed, a carriage return, or both in this order
@@ -48,11 +23,8 @@ pub fn behind_ending(text: &str) -> Option<&str>
     ensures rest { IfSome result (λ rest. IsRest text.entry.now rest.now) }
     ensures shorter { IfSome result (λ rest. length rest.now < length text.entry.now) }
 {
-    if let Some(rest) = behind_byte(b'\n', text) {
-        return Some(rest);
-    }
-    let rest = behind_byte(b'\r', text)?;
-    Some(without_line_feed(rest))
+    let rest = bytes::behind_ending(text.as_bytes())?;
+    Some(&text[text.len() - rest.len()..])
 }
 
 /// The text behind blanks with at most one line ending.

@@ -11,7 +11,7 @@ mod settled;
 
 pub use blank::{behind_blanks, behind_byte, behind_ending, behind_separator};
 pub use definition::{Definition, scan_definition};
-pub use label::{is_label, label_in};
+pub use label::label_in;
 pub use part::{Part, title_in};
 pub use reference::{link_definition, title_lines};
 pub use settled::is_settled;

@@ -10,7 +10,8 @@ ghost use Rattle.cmark_definitions.specs.Shown.{shown_definition, shown_part};
 use crate::blank::{behind_blanks, behind_byte, behind_separator};
 use crate::definition::scan_definition;
 use crate::label::label_in;
-use crate::part::{Part, escapes_next};
+use crate::part::Part;
+use cmark_scan_parts::bytes::escapes_next;
 
 /// Whether a closer or a refused byte stands in these bytes that no backslash escapes.
 fn ends_in(bytes: &[u8], closer: u8, refused: u8) -> bool

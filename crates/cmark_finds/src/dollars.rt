@@ -5,11 +5,11 @@ ghost use Rattle.std.specs.List.{prefix_len};
 ghost use Rattle.std.specs.Str.{IsCharBoundary};
 ghost use Rattle.cmark_grammar.specs.Formulas.{is_dollar, is_ink, context_of, closes_formula};
 ghost use Rattle.cmark_grammar.specs.Letters.{first_is};
-ghost use Rattle.cmark_grammar.specs.LinkDefinitions.{escapes_next};
 ghost use Rattle.cmark_grammar.specs.Tokens.{slice};
 ghost use Rattle.cmark_finds.specs.Dollars.{AreDollarsOf, IsFormulaAt, braces_at, closing, dollar_here, dollars_in, formula_at, shown_braces, shown_formula, signs_of};
 
 use crate::braces::Braces;
+use cmark_scan_parts::bytes::{escapes_next, is_white};
 use std::alloc::{AllocError, Global};
 
 /// Where a formula lies in its text.
@@ -196,13 +196,6 @@ fn list_dollar(
     Ok(())
 }
 
-/// Whether a byte is a backslash that escapes the next one.
-fn escapes_next(is_escaped: bool, byte: u8) -> bool
-    ensures { result ≡ escapes_next is_escaped byte }
-{
-    !is_escaped && byte == b'\\'
-}
-
 /// Whether the dollar sign at a place may open a formula: a display, or one in front of a byte that is no white space.
 fn opens(bytes: &[u8], at: usize, is_display: bool) -> bool
     requires { at < length bytes.now }
@@ -229,7 +222,7 @@ fn is_ink_at(bytes: &[u8], at: usize) -> bool
 fn is_ink(byte: u8) -> bool
     ensures { result ≡ is_ink byte }
 {
-    !matches!(byte, b'\t' | b'\n' | 0x0C | b'\r' | b' ')
+    !is_white(byte)
 }
 
 /// How many dollar signs stand at each end.

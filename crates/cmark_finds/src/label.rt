@@ -2,12 +2,13 @@
 
 ghost use Rattle.std.specs.Prelude.{◌≡◌, ◌<◌, ◌==◌, ◌&&◌, ◌||◌, not, false, drop, IfSome, option_map};
 ghost use Rattle.std.specs.Str.{IsCharBoundary};
-ghost use Rattle.cmark_grammar.specs.LinkDefinitions.{escapes_next};
 ghost use Rattle.cmark_grammar.specs.LinkTails.{reference_label_in, behind_collapsed, has_bracket, is_bracketed_label};
 ghost use Rattle.cmark_finds.specs.Shown.{shown_label};
 
 use crate::place::place_of;
-use cmark_definitions::{behind_byte, is_label, label_in};
+use cmark_definitions::{behind_byte, label_in};
+use cmark_scan_parts::bytes::escapes_next;
+use cmark_scan_parts::is_label;
 
 /// The label of a full reference.
 #[derive(Clone, Copy, Debug, PartialEq, Eq)]
@@ -52,13 +53,6 @@ fn is_bracket(escaped: bool, byte: u8) -> bool
     ensures { result ≡ (not escaped && ((byte == 91) || (byte == 93))) }
 {
     !escaped && (byte == b'[' || byte == b']')
-}
-
-/// Whether the byte behind this one is escaped.
-fn escapes_next(escaped: bool, byte: u8) -> bool
-    ensures { result ≡ escapes_next escaped byte }
-{
-    !escaped && byte == b'\\'
 }
 
 /// Whether a bracket stands in these bytes that no backslash escapes.

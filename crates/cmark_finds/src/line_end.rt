@@ -3,9 +3,9 @@
 ghost use Rattle.std.specs.Prelude.{◌≡◌, ◌++◌, string_bytes, IfOk, MatchOption};
 ghost use Rattle.cmark_grammar.specs.CodeSpans.{with_line_ends};
 ghost use Rattle.cmark_grammar.specs.InlineHtml.{takes_lines};
-ghost use Rattle.cmark_grammar.specs.Lines.{ending_len};
 ghost use Rattle.cmark_finds.specs.Ends.{HasNoEnd, EndsLine};
 
+use cmark_scan_parts::bytes::ending_len;
 use cmark_search::find_line_end;
 use std::alloc::{AllocError, Global};
 
@@ -23,17 +23,6 @@ struct LineEnding {
     start: usize,
     /// The place behind it.
     end: usize,
-}
-
-/// How many bytes the line ending in front has.
-fn ending_len(bytes: &[u8]) -> usize
-    ensures { result ≡ ending_len bytes.now }
-{
-    match bytes {
-        [] => 0,
-        [b'\r', b'\n', ..] => 2,
-        _ => 1,
-    }
 }
 
 /// The first line ending.

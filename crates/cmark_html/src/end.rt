@@ -60,6 +60,10 @@ pub fn append_end(out: &mut String, in_head: bool, tag: TagEnd) -> Result<(), Al
     ensures ok { OnOk result (string_bytes out.new ≡ string_bytes out.old ++ end_piece in_head (shown_end tag)) }
     ensures err { OnErr result (AppendsFront (string_bytes out.old) (string_bytes out.new) (end_piece in_head (shown_end tag))) }
 {
+    // Most ends are those of paragraphs, whose text has a length that is known here.
+    if let TagEnd::Paragraph = tag {
+        return append(out, "</p>\n");
+    }
     append(out, end_text(in_head, tag))
 }
 

@@ -31,8 +31,24 @@ pub fn write_short<'a>(
     if writer.image.is_none() {
         write_short_outside(out, writer, short)
     } else {
-        write_short_in_image(out, writer, short)
+        write_short_inside(out, writer, short)
     }
+}
+
+/// Appends the piece of such an event inside of an image. The value that it lends stands in a function of its own, so that its room is
+/// cleared for events inside of images alone.
+#[inline(always)]
+fn write_short_inside<'a>(
+    out: &mut String,
+    writer: &mut Writer<'a>,
+    short: Short<'a>,
+) -> Result<(), AllocError>
+    requires { is_some writer.old.image ≡ true }
+    ensures ok { OnOk result (string_bytes out.new ≡ string_bytes out.old ++ piece (writing writer.old) (shown_short short.entry)) }
+    ensures state { OnOk result (writing writer.new ≡ moved (writing writer.old) (shown_short short.entry)) }
+    ensures err { OnErr result (AppendsFront (string_bytes out.old) (string_bytes out.new) (piece (writing writer.old) (shown_short short.entry))) }
+{
+    write_short_in_image(out, writer, short)
 }
 
 /// Appends the piece of such an event inside of an image. It is apart, so that no other piece waits for the room that an event takes.

@@ -109,6 +109,12 @@ pub fn append_plain_start(
     ensures err { OnErr result (AppendsFront (string_bytes out.old) (string_bytes out.new) (start_piece (writing writer.now) (shown_plain tag))) }
 {
     let line_start = writer.line_start;
+    // Most starts are those of paragraphs, whose text has a length that is known here.
+    if let PlainTag::Paragraph = tag {
+        if line_start {
+            return append(out, "<p>");
+        }
+    }
     match start_of(tag) {
         Start::OnLine(text) if !line_start => append_on_line(out, line_start, text),
         Start::OnLine(text) | Start::Here(text) => append(out, text),

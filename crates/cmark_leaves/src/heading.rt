@@ -14,10 +14,11 @@ ghost use Rattle.cmark_builder.specs.Drawn.{Draws};
 ghost use Rattle.cmark_lines.specs.Rests.{row_of};
 ghost use Rattle.cmark_leaves.specs.Closings.{behind_opening, without_closing_bytes, without_attributes_bytes, Finds};
 
-use crate::trailing::{count_blanks, without_trailing, without_trailing_blanks};
+use crate::trailing::without_trailing;
 use crate::words::draw_words;
 use cmark_builder::Builder;
 use cmark_lines::LineRest;
+use cmark_scan_parts::bytes::{count_blanks, without_trailing_blanks};
 use std::alloc::AllocError;
 
 /// How many `#` stand in front.

@@ -10,10 +10,10 @@ ghost use Rattle.cmark_block_model.specs.Drawing.{Drawing, drawn, texts_cut};
 ghost use Rattle.cmark_builder.specs.Drawn.{Draws};
 ghost use Rattle.cmark_lines.specs.Rests.{row_of};
 
-use crate::trailing::without_trailing_blanks;
 use crate::words::draw_words;
 use cmark_builder::Builder;
 use cmark_lines::LineRest;
+use cmark_scan_parts::bytes::without_trailing_blanks;
 use std::alloc::AllocError;
 
 /// Where the words of a line end, without the blanks behind them.

@@ -7,8 +7,9 @@ ghost use Rattle.cmark_leaves.specs.Contents.{AreRead, gathered_bytes, place_in,
 ghost use Rattle.cmark_leaves.specs.TextColumns.{IsRead};
 
 use crate::heading::count_before_braces;
-use crate::trailing::{without_trailing_blanks, without_trailing_white_space};
+use crate::trailing::without_trailing_white_space;
 use cmark_lines::LineRest;
+use cmark_scan_parts::bytes::without_trailing_blanks;
 use std::alloc::{AllocError, Global};
 
 /// The attributes at the end of a setext heading's content.

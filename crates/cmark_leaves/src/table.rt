@@ -12,12 +12,12 @@ ghost use Rattle.cmark_builder.specs.Drawn.{Draws};
 ghost use Rattle.cmark_lines.specs.Rests.{row_of};
 ghost use Rattle.cmark_scan.specs.TableCells.{cells_behind};
 
-use crate::trailing::{count_blanks, without_trailing_blanks};
 use crate::words::draw_words;
 use cmark_builder::Builder;
 use cmark_items::ItemBody;
 use cmark_lines::LineRest;
 use cmark_scan::{cells_in_row, next_cell};
+use cmark_scan_parts::bytes::{count_blanks, without_trailing_blanks};
 use std::alloc::AllocError;
 
 /// A cell of these bytes, which stand at a byte offset of the text, as a node behind the last sibling. Its text is what stands in it

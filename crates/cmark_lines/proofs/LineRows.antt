@@ -15,7 +15,7 @@ use Rattle.cmark_grammar.proofs.BoundaryLaws.{text-good}
 use Rattle.cmark_grammar.proofs.ColumnSteps.{bytes_of-expand}
 use Rattle.cmark_scan.specs.LineStart.{columns_from, row_from, line_of}
 use Rattle.cmark_scan.specs.declared.line_start.LineStart.{LineStart}
-use Rattle.cmark_scan.proofs.ByteSteps.{rest_of}
+use Rattle.cmark_scan_parts.proofs.Lists.{rest_of}
 use Rattle.cmark_lines.specs.Rests.{no_row}
 
 -- the front of the line that begins at a place of the text

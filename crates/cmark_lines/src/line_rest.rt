@@ -1,14 +1,14 @@
 //! What is left of a line (CommonMark 2.1 and 2.2).
 #![tactic(auto, unfolding(crate::specs::Rests::row_of))]
 
-ghost use Rattle.std.specs.Prelude.{◌≡◌, ◌+◌, ◌≤◌, drop, length};
-ghost use Rattle.cmark_grammar.specs.Lines.{ending_len};
+ghost use Rattle.std.specs.Prelude.{◌≡◌, ◌≤◌, drop, length};
 ghost use Rattle.cmark_scan.specs.LineStart.{row_from};
 
 mod prefixes;
 
 use crate::interrupt::begins_with_letter;
 use cmark_scan::LineStart;
+use cmark_scan_parts::bytes::ending_len;
 
 /// What is left of a line behind the prefixes of the containers around it. Places are byte offsets of the text; columns are
 /// those of the whole line, in which a tab reaches to the next tab stop, four columns apart.
@@ -49,7 +49,7 @@ impl<'a> LineRest<'a> {
         let len = front.remaining_bytes().len();
         LineRest {
             start,
-            past: start + len + ending_len(bytes, len),
+            past: start + len + ending_len(&bytes[len..]),
             front,
         }
     }
@@ -186,19 +186,5 @@ impl<'a> LineRest<'a> {
         let mut front = self.front;
         front.scan_all_space();
         self.with_front(front)
-    }
-}
-
-/// How many bytes the line ending has that stands behind so many of the bytes: LF and CR have one, CR LF two.
-#[inline]
-fn ending_len(bytes: &[u8], len: usize) -> usize
-    requires { len ≤ length bytes.now }
-    ensures value { result ≡ ending_len (drop len bytes.now) }
-    ensures within { len + result ≤ length bytes.now }
-{
-    match &bytes[len..] {
-        [] => 0,
-        [b'\r', b'\n', ..] => 2,
-        [_, ..] => 1,
     }
 }

@@ -1,27 +1,10 @@
-//! Tests and cuts of bytes that the scanners share.
+//! Tests and cuts of bytes that the scanners of lines share.
 
 ghost use Rattle.std.specs.Prelude.{◌≡◌, ℕ, ◌+◌, ◌<◌, ◌≤◌, ◌==◌, ◌&&◌, ◌||◌, not, length, take, drop, map, IsTrue};
-ghost use Rattle.std.specs.List.{prefix_len};
-ghost use Rattle.cmark_grammar.specs.Columns.{is_blank_byte, drop_end};
 ghost use Rattle.cmark_grammar.specs.Leaves.{are_blank, is_parted, run, trimmed};
-ghost use Rattle.cmark_grammar.specs.HtmlBlocks.{lower, is_letter, is_number, is_alphanumeric, starts};
+ghost use Rattle.cmark_grammar.specs.HtmlBlocks.{lower, is_alphanumeric, starts};
 
-/// Whether a byte is a space or a tab.
-#[inline]
-pub(crate) fn is_blank(byte: u8) -> bool
-    ensures { result ≡ is_blank_byte byte }
-{
-    byte == b' ' || byte == b'\t'
-}
-
-/// How many blanks stand in front.
-#[inline]
-pub(crate) fn count_blanks(bytes: &[u8]) -> usize
-    ensures value { result ≡ prefix_len is_blank_byte bytes.now }
-    ensures within { result ≤ length bytes.now }
-{
-    bytes.iter().take_while(|byte| is_blank(**byte)).count()
-}
+use cmark_scan_parts::bytes::{count_blanks, is_blank, is_letter, without_trailing_blanks};
 
 /// How many times this byte stands in front.
 #[inline]
@@ -57,20 +40,7 @@ pub(crate) fn trimmed(bytes: &[u8]) -> &[u8]
     ensures value { result.now ≡ trimmed bytes.now }
     ensures within { length result.now ≤ length bytes.now }
 {
-    without_trailing(&bytes[count_blanks(bytes)..])
-}
-
-/// The bytes without blanks at their end.
-#[inline]
-fn without_trailing(bytes: &[u8]) -> &[u8]
-    ensures value { result.now ≡ drop_end is_blank_byte bytes.now }
-    ensures within { length result.now ≤ length bytes.now }
-{
-    let mut len = bytes.len();
-    while len > 0 && is_blank(bytes[len - 1]) {
-        len -= 1;
-    }
-    &bytes[..len]
+    without_trailing_blanks(&bytes[count_blanks(bytes)..])
 }
 
 /// An ASCII letter in its lower case, other bytes as they are.
@@ -83,15 +53,6 @@ pub(crate) fn lower(byte: u8) -> u8
     } else {
         byte
     }
-}
-
-/// Whether a byte is an ASCII letter.
-#[inline]
-pub(crate) fn is_letter(byte: u8) -> bool
-    ensures { result ≡ is_letter byte }
-{
-    let small = lower(byte);
-    small >= b'a' && small <= b'z'
 }
 
 /// Whether a byte is an ASCII letter or digit.

@@ -6,7 +6,8 @@ ghost use Rattle.cmark_grammar.specs.HtmlBlocks.{lower, is_alphanumeric, is_amon
 ghost use Rattle.cmark_grammar.specs.Tags.{is_name_byte};
 ghost use Rattle.cmark_scan.specs.HtmlLines.{kind_number, names_from, ends_name, ends_block_name, begins_declaration, ends_verbatim, closes_verbatim};
 
-use crate::bytes::{are_blank, is_alphanumeric, is_letter, is_parted, lower, starts, starts_lower};
+use crate::bytes::{are_blank, is_alphanumeric, is_parted, lower, starts, starts_lower};
+use cmark_scan_parts::bytes::is_letter;
 use cmark_scan_parts::scan_tag;
 use memchr::{memchr, memmem};
 

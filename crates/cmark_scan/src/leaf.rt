@@ -7,7 +7,8 @@ ghost use Rattle.cmark_grammar.specs.Leaves.{run, is_break_of, is_thematic_break
 ghost use Rattle.cmark_text.specs.Shown.{level_number};
 ghost use Rattle.cmark_scan.specs.LeafLines.{is_break_mark, stops_break, level_at, atx_level, shown_fence, HasPlace, long_fence, backtick_fence, closes_with};
 
-use crate::bytes::{are_blank, count_blanks, count_leading, is_blank, is_parted, trimmed};
+use crate::bytes::{are_blank, count_leading, is_parted, trimmed};
+use cmark_scan_parts::bytes::{count_blanks, is_blank};
 use cmark_text::HeadingLevel;
 use memchr::memchr;
 

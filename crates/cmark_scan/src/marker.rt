@@ -10,7 +10,8 @@ ghost use Rattle.cmark_grammar.specs.TaskMarkers.{is_parted_text, task_of};
 ghost use Rattle.cmark_text.specs.Shown.{shown_block_quote_kind};
 ghost use Rattle.cmark_scan.specs.Markers.{shown_marker, parted};
 
-use crate::bytes::{are_blank, is_blank, is_parted, starts_lower};
+use crate::bytes::{are_blank, is_parted, starts_lower};
+use cmark_scan_parts::bytes::is_blank;
 use cmark_text::BlockQuoteKind;
 
 /// The marker of a list item.

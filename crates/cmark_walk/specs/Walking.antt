@@ -40,6 +40,8 @@ use Rattle.cmark_walk.specs.declared.reading.Met.{Met}
 use Rattle.cmark_walk.specs.declared.reading.Met.TheVariants as met
 use Rattle.cmark_walk.specs.declared.reading.Brief.{Brief}
 use Rattle.cmark_walk.specs.declared.reading.Brief.TheVariants as brief
+use Rattle.cmark_walk.specs.declared.reading.BriefStep.{BriefStep}
+use Rattle.cmark_walk.specs.declared.reading.BriefStep.TheVariants as brief_step
 use Rattle.cmark_walk.specs.declared.reading.Glance.{Glance}
 use Rattle.cmark_walk.specs.declared.reading.Glance.TheVariants as glance
 use Rattle.cmark_walk.specs.declared.reading.Stage.{Stage}
@@ -302,13 +304,16 @@ GivesBrief old brief.Long lines new = (left : List Segment) → Remains old left
 GivesBrief old brief.Over lines new = (left : List Segment) → Remains old left → Gives left met.Over lines new
 
 -- the same of a step, which may give nothing
-abbrev pub GivesShortStep : Walk → Option Brief → List LeafLine → Walk → Type 0
-GivesShortStep old None lines new = (left : List Segment) → Remains old left → Remains new left
-GivesShortStep old (Some brief) lines new = GivesBrief old brief lines new
+abbrev pub GivesShortStep : Walk → BriefStep → List LeafLine → Walk → Type 0
+GivesShortStep old (brief_step.Short short) lines new = GivesBrief old (brief.Short short) lines new
+GivesShortStep old (brief_step.Leaf is_cell) lines new = GivesBrief old (brief.Leaf is_cell) lines new
+GivesShortStep old brief_step.Long lines new = GivesBrief old brief.Long lines new
+GivesShortStep old brief_step.Silent lines new = (left : List Segment) → Remains old left → Remains new left
+GivesShortStep old brief_step.Over lines new = GivesBrief old brief.Over lines new
 
-abbrev pub ComesNearerShort : Walk → Option Brief → Walk → Type 0
-ComesNearerShort old None new = silent_steps new.stage < silent_steps old.stage
-ComesNearerShort old (Some brief) new = Unit {0}
+abbrev pub ComesNearerShort : Walk → BriefStep → Walk → Type 0
+ComesNearerShort old brief_step.Silent new = silent_steps new.stage < silent_steps old.stage
+ComesNearerShort old _ new = Unit {0}
 
 -- an item is read so, or has a text of its own
 abbrev pub ReadsAs : Glance → Reads → Type 0

@@ -112,3 +112,21 @@ pub(crate) enum Step<'a> {
     /// Neither, and nothing is left.
     Over,
 }
+
+/// What a step of a walk gives, of which no event is made.
+#[derive(Clone, Copy)]
+pub(crate) enum BriefStep<'a> {
+    /// An event that owns nothing.
+    Short(Short<'a>),
+    /// The lines of a leaf.
+    Leaf {
+        /// Whether it is the cell of a table.
+        is_cell: bool,
+    },
+    /// An event of another kind, which was not met yet.
+    Long,
+    /// Nothing: a paragraph of a tight list begins or ends.
+    Silent,
+    /// Nothing: the document is over.
+    Over,
+}

@@ -13,7 +13,7 @@ ghost use Rattle.cmark_walk.specs.Walking.{GoesOn, LeavesTheSame, ComesNearerSho
 
 use crate::item::first_number;
 use crate::kind::is_leaf;
-use crate::reading::{Brief, Glance, Stage};
+use crate::reading::{Brief, BriefStep, Glance, Stage};
 use crate::walk::Walk;
 use cmark_items::{Item, ItemBody};
 use cmark_leaf_text::LeafLine;
@@ -36,15 +36,19 @@ impl<'a> Walk<'a> {
     {
         // Only paragraphs of tight lists give nothing, each at its begin and at its end.
         loop {
-            if let Some(brief) = self.short_step(lines)? {
-                return Ok(brief);
+            match self.short_step(lines)? {
+                BriefStep::Short(short) => return Ok(Brief::Short(short)),
+                BriefStep::Leaf { is_cell } => return Ok(Brief::Leaf { is_cell }),
+                BriefStep::Long => return Ok(Brief::Long),
+                BriefStep::Silent => {}
+                BriefStep::Over => return Ok(Brief::Over),
             }
         }
     }
 
     // Into the focus or past it, or up from behind the last sibling; nothing where a paragraph of a tight list begins or ends.
     #[inline(always)]
-    fn short_step(&mut self, lines: &mut Vec<LeafLine>) -> Result<Option<Brief<'a>>, AllocError>
+    fn short_step(&mut self, lines: &mut Vec<LeafLine>) -> Result<BriefStep<'a>, AllocError>
         requires { Goes self.old }
         ensures given { IfOk result (λ brief. GivesShortStep self.old brief lines.new.items self.new) }
         ensures refused { OnErr result (LeavesTheSame self.old self.new) }
@@ -52,22 +56,22 @@ impl<'a> Walk<'a> {
         ensures goes_on { GoesOn self.old self.new }
     {
         let Some(ix) = self.tree.cur() else {
-            return Ok(Some(self.leave_short()));
+            return Ok(self.leave_short());
         };
         match self.stage {
             Stage::Before => self.enter_short(ix),
             Stage::Lines => {
                 let is_cell = self.meet_leaf(ix, lines)?;
-                Ok(Some(Brief::Leaf { is_cell }))
+                Ok(BriefStep::Leaf { is_cell })
             }
             Stage::Behind => Ok(self.leave_leaf_short(ix)),
-            Stage::Marked { .. } | Stage::Listed { .. } => Ok(Some(Brief::Long)),
+            Stage::Marked { .. } | Stage::Listed { .. } => Ok(BriefStep::Long),
         }
     }
 
     // Into the focus, or past it if it is one event.
     #[inline(always)]
-    fn enter_short(&mut self, ix: TreeIndex) -> Result<Option<Brief<'a>>, AllocError>
+    fn enter_short(&mut self, ix: TreeIndex) -> Result<BriefStep<'a>, AllocError>
         requires at { IsAt self.old ix }
         requires before { self.old.stage ≡ stage.Before }
         ensures given { IfOk result (λ brief. (lines : List LeafLines) → GivesShortStep self.old brief lines self.new) }
@@ -80,26 +84,26 @@ impl<'a> Walk<'a> {
             Glance::Around(tag) => {
                 if is_leaf(item) {
                     self.stage = Stage::Lines;
-                    return Ok(Some(Brief::Short(Short::Start(tag))));
+                    return Ok(BriefStep::Short(Short::Start(tag)));
                 }
                 self.tree.push()?;
-                Ok(Some(Brief::Short(Short::Start(tag))))
+                Ok(BriefStep::Short(Short::Start(tag)))
             }
             Glance::Alone(short) => {
                 self.tree.next_sibling(ix);
-                Ok(Some(Brief::Short(short)))
+                Ok(BriefStep::Short(short))
             }
             Glance::Inside => {
                 self.stage = Stage::Lines;
-                Ok(None)
+                Ok(BriefStep::Silent)
             }
-            Glance::Long => Ok(Some(Brief::Long)),
+            Glance::Long => Ok(BriefStep::Long),
         }
     }
 
     // Out of the leaf in the focus, and past it.
     #[inline(always)]
-    fn leave_leaf_short(&mut self, ix: TreeIndex) -> Option<Brief<'a>>
+    fn leave_leaf_short(&mut self, ix: TreeIndex) -> BriefStep<'a>
         requires at { IsAt self.old ix }
         requires behind { self.old.stage ≡ stage.Behind }
         ensures given { (lines : List LeafLines) → GivesShortStep self.old result lines self.new }
@@ -111,26 +115,27 @@ impl<'a> Walk<'a> {
         self.tree.next_sibling(ix);
         self.stage = Stage::Before;
         match end {
-            Some(end) => Some(Brief::Short(Short::End(end))),
-            None => None,
+            Some(end) => BriefStep::Short(Short::End(end)),
+            None => BriefStep::Silent,
         }
     }
 
     // Up from behind the last sibling, and past the parent.
     #[inline(always)]
-    fn leave_short(&mut self) -> Brief<'a>
+    fn leave_short(&mut self) -> BriefStep<'a>
         requires { IsPast self.old }
-        ensures given { (lines : List LeafLines) → GivesBrief self.old result lines self.new }
+        ensures given { (lines : List LeafLines) → GivesShortStep self.old result lines self.new }
+        ensures nearer { ComesNearerShort self.old result self.new }
         ensures goes_on { GoesOn self.old self.new }
     {
         let Some(ix) = self.tree.pop() else {
-            return Brief::Over;
+            return BriefStep::Over;
         };
         let item = *self.tree.item(ix);
         let end = self.end(item);
         self.tree.next_sibling(ix);
         match end {
-            Some(end) => Brief::Short(Short::End(end)),
+            Some(end) => BriefStep::Short(Short::End(end)),
             None => unreachable!(),
         }
     }

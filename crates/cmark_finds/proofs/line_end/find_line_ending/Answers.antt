@@ -9,4 +9,4 @@ returns-in_err-start c = rw c.from_residual.ensures (no_end c.as_bytes-bytes.res
 pub returns : goal.returns
 returns c =
     let rest = rest_of c.as_bytes-bytes.result.now c.in_ok-start.start ∙ ap (drop c.in_ok-start.start) c.as_bytes-bytes.ensures.value in
-    first_end c.as_bytes-bytes.result.now c.args.text.now _ c.in_ok-start.start c.ending_len.result c.as_bytes-bytes.ensures.value c.utf8.text c.in_ok-start.ensures rest c.ending_len.ensures
+    first_end c.as_bytes-bytes.result.now c.args.text.now _ c.in_ok-start.start c.ending_len.result c.as_bytes-bytes.ensures.value c.utf8.text c.in_ok-start.ensures rest c.ending_len.ensures.value

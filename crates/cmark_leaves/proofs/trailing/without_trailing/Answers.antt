@@ -1,6 +1,6 @@
 use Rattle.std.proofs.Common.{◌≡◌, ◌==◌, take, sym, ◌∙◌, arith}
 use Rattle.cmark_grammar.specs.Columns.{drop_end}
-use Rattle.cmark_scan.proofs.ByteSteps.{drop_end-less, drop_end-stays, drop_end-none}
+use Rattle.cmark_scan_parts.proofs.TrailingSteps.{drop_end-less, drop_end-stays, drop_end-none}
 use Rattle.cmark_leaves.proofs.EndSteps.{equal-true, equal-false}
 use Rattle.cmark_leaves.proofs.trailing.without_trailing.Goals as goal
 use Rattle.cmark_leaves.proofs.trailing.without_trailing.Goals.{then-loop-len-test+else-bytes-len, else-loop-len-test}

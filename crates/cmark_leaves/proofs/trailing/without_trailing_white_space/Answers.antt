@@ -1,7 +1,7 @@
 use Rattle.std.proofs.Common.{◌≡◌, take, sym, ◌∙◌, arith}
 use Rattle.cmark_grammar.specs.Attributes.{is_white_space}
 use Rattle.cmark_grammar.specs.Columns.{drop_end}
-use Rattle.cmark_scan.proofs.ByteSteps.{drop_end-less, drop_end-stays, drop_end-none}
+use Rattle.cmark_scan_parts.proofs.TrailingSteps.{drop_end-less, drop_end-stays, drop_end-none}
 use Rattle.cmark_leaves.proofs.trailing.without_trailing_white_space.Goals as goal
 use Rattle.cmark_leaves.proofs.trailing.without_trailing_white_space.Goals.{then-loop-len-test+else-is_white_space, else-loop-len-test}
 

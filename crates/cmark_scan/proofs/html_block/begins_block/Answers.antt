@@ -1,6 +1,6 @@
 use Rattle.std.proofs.Common.{◌&&◌, drop, sym, ap, ◌∙◌}
 use Rattle.cmark_scan.specs.HtmlLines.{ends_block_name}
-use Rattle.cmark_scan.proofs.ByteSteps.{rest_of}
+use Rattle.cmark_scan_parts.proofs.Lists.{rest_of}
 use Rattle.cmark_scan.proofs.HtmlSteps.{block-is}
 use Rattle.cmark_scan.proofs.html_block.begins_block.Goals as goal
 

@@ -1,7 +1,7 @@
 use Rattle.std.proofs.Common.{◌-◌, length, take, drop, map, sym, ap, ◌∙◌, arith, length-drop}
 use Rattle.cmark_grammar.specs.HtmlBlocks.{lower}
 use Rattle.cmark_scan.specs.HtmlLines.{ends_verbatim, closes_verbatim}
-use Rattle.cmark_scan.proofs.ByteSteps.{rest_of}
+use Rattle.cmark_scan_parts.proofs.Lists.{rest_of}
 use Rattle.cmark_scan.proofs.FirstSteps.{none-before, first-within, none-at-all}
 use Rattle.cmark_scan.proofs.HtmlSteps.{ends-skip, ends-none, ends-here, ends-next}
 use Rattle.cmark_scan.proofs.html_block.ends_verbatim.Goals as goal

@@ -1,5 +1,5 @@
 use Rattle.std.proofs.Common.{sym, ◌∙◌}
-use Rattle.cmark_scan.proofs.ByteSteps.{rest_of}
+use Rattle.cmark_scan_parts.proofs.Lists.{rest_of}
 use Rattle.cmark_scan.proofs.LeafSteps.{backticks-found}
 use Rattle.cmark_scan.proofs.leaf.backtick_fence.Goals as goal
 

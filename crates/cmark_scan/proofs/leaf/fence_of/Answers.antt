@@ -1,4 +1,4 @@
-use Rattle.cmark_scan.proofs.ByteSteps.{rest_of}
+use Rattle.cmark_scan_parts.proofs.Lists.{rest_of}
 use Rattle.cmark_scan.proofs.LeafSteps.{fence-found}
 use Rattle.cmark_scan.proofs.leaf.fence_of.Goals as goal
 

@@ -1,5 +1,5 @@
 use Rattle.std.proofs.Common.{drop, sym, ap, ◌∙◌}
-use Rattle.cmark_scan.proofs.ByteSteps.{rest_of}
+use Rattle.cmark_scan_parts.proofs.Lists.{rest_of}
 use Rattle.cmark_scan.proofs.LeafSteps.{break-none, break-yes, break-no}
 use Rattle.cmark_scan.proofs.leaf.scan_hrule.Goals as goal
 

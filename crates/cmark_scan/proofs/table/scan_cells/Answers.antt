@@ -1,7 +1,7 @@
 use Rattle.std.proofs.Common.{ap, ◌∙◌}
 use Rattle.cmark_grammar.specs.Leaves.{trimmed}
 use Rattle.cmark_grammar.specs.Tables.{alignment_of}
-use Rattle.cmark_scan.proofs.ByteSteps.{rest_of}
+use Rattle.cmark_scan_parts.proofs.Lists.{rest_of}
 use Rattle.cmark_scan.proofs.TableSteps.{next-column, no_next-column, last-column, no_last-column, behind-pipe}
 use Rattle.cmark_scan.proofs.table.scan_cells.Goals as goal
 

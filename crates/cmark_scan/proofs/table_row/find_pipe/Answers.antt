@@ -1,5 +1,5 @@
 use Rattle.std.proofs.Common.{arith}
-use Rattle.cmark_scan.proofs.ByteSteps.{rest_of}
+use Rattle.cmark_scan_parts.proofs.Lists.{rest_of}
 use Rattle.cmark_scan.proofs.TableRowSteps.{passed-none, pipe-found, pipe-passed, pipe-within, none-ahead, plain-first, plain-behind, escaped-there}
 use Rattle.cmark_scan.proofs.table_row.find_pipe.Goals.{then-ahead-eq0-via-then-ahead-eq0, then-ahead-eq0-via-else-ahead-eq0+then-bytes-at-ne92}
 use Rattle.cmark_scan.proofs.table_row.find_pipe.Goals as goal

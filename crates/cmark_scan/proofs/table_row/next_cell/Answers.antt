@@ -1,6 +1,6 @@
 use Rattle.std.proofs.Common.{◌≡◌, ◌+◌, suc, ◌∷◌, take, drop, sym, ap, ◌∙◌, arith}
 use Rattle.cmark_scan.specs.TableCells.{cells_behind}
-use Rattle.cmark_scan.proofs.ByteSteps.{rest_of}
+use Rattle.cmark_scan_parts.proofs.Lists.{rest_of}
 use Rattle.cmark_scan.proofs.TableRowSteps.{found-cells}
 use Rattle.cmark_scan.proofs.table_row.next_cell.Goals as goal
 

@@ -1,4 +1,4 @@
-use Rattle.std.proofs.Common.{false, sym, ap, ◌∙◌}
+use Rattle.std.proofs.Common.{sym, ap, ◌∙◌}
 use Rattle.cmark_grammar.specs.LinkDefinitions.{put, up_to, escapes_next}
 use Rattle.cmark_scan_parts.proofs.PartSteps.{reads_none, reads_more, reads_fail, reads_closed, reads_byte, no_bytes}
 use Rattle.cmark_scan_parts.proofs.closed.closed_size.Goals as goal

@@ -2,7 +2,7 @@ use Rattle.std.proofs.Common.{◌≡◌, sym, ap, ◌∙◌, arith, eqb-true}
 use Rattle.cmark_grammar.specs.Leaves.{is_parted}
 use Rattle.cmark_grammar.specs.Columns.{indent}
 use Rattle.cmark_scan.specs.LineStart.{columns_from}
-use Rattle.cmark_scan.proofs.ByteSteps.{rest_of}
+use Rattle.cmark_scan_parts.proofs.Lists.{rest_of}
 use Rattle.cmark_scan.proofs.PlaceSteps.{flush-words, not_flush}
 use Rattle.cmark_scan.proofs.LineStartSteps.{pending-blank}
 use Rattle.cmark_scan.proofs.line_start.LineStart.ahead.Goals as goal

@@ -4,7 +4,7 @@ use Rattle.cmark_grammar.specs.Leaves.{all_pass, is_break_of}
 use Rattle.cmark_scan.specs.LeafLines.{is_break_mark, stops_break}
 use Rattle.std.specs.List.{position}
 use Rattle.std.proofs.lemmas.List.{get_or-drop}
-use Rattle.cmark_scan.proofs.ByteSteps.{rest_of}
+use Rattle.cmark_scan_parts.proofs.Lists.{rest_of}
 use Rattle.cmark_scan.proofs.LeafSteps.{break-fails, stop-found, break-here, no-stop, stop-learned, mark-here}
 use Rattle.cmark_scan.proofs.line_start.LineStart.is_break.Goals as goal
 use Rattle.cmark_scan.proofs.line_start.LineStart.is_break.Goals.{then-not-is_break_mark-via-then-not-is_break_mark, then-not-is_break_mark-via-else-not-is_break_mark+then-has_stop}

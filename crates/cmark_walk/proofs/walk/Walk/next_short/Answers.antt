@@ -1,17 +1,33 @@
 use Rattle.std.proofs.Common.{subst}
+use Rattle.cmark_walk.specs.declared.reading.Brief.TheVariants as brief
 use Rattle.cmark_walk.specs.Walking.{GivesShortStep}
 use Rattle.cmark_walk.proofs.ShortSteps.{after-lasting, lasts-on}
 use Rattle.cmark_walk.proofs.WalkSteps.{on-err}
 use Rattle.cmark_walk.proofs.walk.Walk.next_short.Goals as goal
 
-pub returns-in_err-brief-clause-refused : goal.returns-in_err-brief-clause-refused
-returns-in_err-brief-clause-refused c = on-err c.from_residual.result _ (λ left r. c.in_err-brief.ensures.refused.remains left (c.loop-brief.invariant.remains left r))
+pub returns-in_err-short-clause-refused : goal.returns-in_err-short-clause-refused
+returns-in_err-short-clause-refused c = on-err c.from_residual.result _ (λ left r. c.in_err-short.ensures.refused.remains left (c.loop-short.invariant.remains left r))
 
-pub returns-in-Some-clause-given : goal.returns-in-Some-clause-given
-returns-in-Some-clause-given c =
-    after-lasting c.args.self.now c.loop-brief.self c.short_step.new.self c.in-Some.brief c.short_step.new.lines.items c.loop-brief.invariant
-    (subst (λ b. GivesShortStep c.loop-brief.self b c.short_step.new.lines.items c.short_step.new.self) c.in-Some.is c.in_ok-brief.ensures.given)
+pub returns-in-Short-clause-given : goal.returns-in-Short-clause-given
+returns-in-Short-clause-given c =
+    after-lasting c.args.self.now c.loop-short.self c.short_step.new.self (brief.Short c.in-Short.short) c.short_step.new.lines.items c.loop-short.invariant
+    (subst (λ b. GivesShortStep c.loop-short.self b c.short_step.new.lines.items c.short_step.new.self) c.in-Short.is c.in_ok-short.ensures.given)
 
-pub loop-brief-preserved : goal.loop-brief-preserved
-loop-brief-preserved c = lasts-on c.args.self.now c.loop-brief.self c.short_step.new.self c.loop-brief.invariant
-    (subst (λ b. GivesShortStep c.loop-brief.self b c.short_step.new.lines.items c.short_step.new.self) c.in_default.is c.in_ok-brief.ensures.given) c.in_ok-brief.ensures.goes_on.goes c.in_ok-brief.ensures.goes_on.definitions c.in_ok-brief.ensures.goes_on.text
+pub returns-in-Leaf-clause-given : goal.returns-in-Leaf-clause-given
+returns-in-Leaf-clause-given c =
+    after-lasting c.args.self.now c.loop-short.self c.short_step.new.self (brief.Leaf c.in-Leaf.is_cell) c.short_step.new.lines.items c.loop-short.invariant
+    (subst (λ b. GivesShortStep c.loop-short.self b c.short_step.new.lines.items c.short_step.new.self) c.in-Leaf.is c.in_ok-short.ensures.given)
+
+pub returns-in-Long-clause-given : goal.returns-in-Long-clause-given
+returns-in-Long-clause-given c =
+    after-lasting c.args.self.now c.loop-short.self c.short_step.new.self brief.Long c.short_step.new.lines.items c.loop-short.invariant
+    (subst (λ b. GivesShortStep c.loop-short.self b c.short_step.new.lines.items c.short_step.new.self) c.in-Long.is c.in_ok-short.ensures.given)
+
+pub returns-in-Over-clause-given : goal.returns-in-Over-clause-given
+returns-in-Over-clause-given c =
+    after-lasting c.args.self.now c.loop-short.self c.short_step.new.self brief.Over c.short_step.new.lines.items c.loop-short.invariant
+    (subst (λ b. GivesShortStep c.loop-short.self b c.short_step.new.lines.items c.short_step.new.self) c.in-Over.is c.in_ok-short.ensures.given)
+
+pub loop-short-preserved : goal.loop-short-preserved
+loop-short-preserved c = lasts-on c.args.self.now c.loop-short.self c.short_step.new.self c.loop-short.invariant
+    (subst (λ b. GivesShortStep c.loop-short.self b c.short_step.new.lines.items c.short_step.new.self) c.in-Silent.is c.in_ok-short.ensures.given) c.in_ok-short.ensures.goes_on.goes c.in_ok-short.ensures.goes_on.definitions c.in_ok-short.ensures.goes_on.text
