@@ -28,7 +28,8 @@ pub(crate) fn is_leaf(item: Item) -> bool
     match item.body {
         ItemBody::Paragraph => true,
         ItemBody::TightParagraph => true,
-        ItemBody::Heading(_, _) => true,
+        ItemBody::Heading(_) => true,
+        ItemBody::AttributedHeading(_, _) => true,
         ItemBody::DefinitionListTitle => true,
         ItemBody::TableCell => true,
         _ => false,
