@@ -14,12 +14,12 @@ fn main(rt: HostRuntime) -> ExitCode {
     let mut reader = Watched::new(rt.stdin());
     let mut writer = Watched::new(rt.stdout());
     let ended = match start(&rt, "mdevents", ABOUT) {
-        Ok(settings) => run(
+        Ok(told) => run(
             rt.alloc(),
             &mut reader,
             &mut writer,
-            settings.options,
-            &settings.entities,
+            told.options,
+            &told.entities,
         ),
         Err(Stop::Help(text)) => write_text(&mut writer, text.as_bytes()),
         Err(Stop::BadLine) => {
