@@ -81,6 +81,7 @@ fn blank_break_in(text: &str) -> Option<Parting<'_>>
 }
 
 /// The break in front, if a line ends there.
+#[inline(always)]
 fn parting_in(text: &str) -> Option<Parting<'_>>
     ensures value { option_map shown_parting result ≡ line_break_in text.entry.now }
     ensures rest { IfSome result (λ parting. IsRest text.entry.now parting.behind.now) }

@@ -102,6 +102,7 @@ fn without_padding(text: &str) -> &str
 }
 
 /// The text of what a code span holds, where no line ends in it (CommonMark 6.1): a part of that.
+#[inline(always)]
 pub fn code_part<'t>(content: &'t str) -> Option<&'t str>
     ensures value { IfSome result (λ made. made.now ≡ code_text content.entry.now) }
     ensures part { IfSome result (λ made. IsPartOf content.entry.now made.now) }

@@ -13,8 +13,9 @@ ghost use Rattle.cmark_text.specs.Shown.{text_bytes};
 
 use crate::entity::{Entity, scan_entity};
 use crate::find::begins_with;
+use cmark_search::find_escape;
 use cmark_text::{CowStr, EntityLookup};
-use memchr::{memchr2, memmem};
+use memchr::memmem;
 use std::alloc::{AllocError, Global};
 
 /// An escape or an entity in a text.
@@ -60,7 +61,7 @@ fn find_resolved<'t, E: EntityLookup>(text: &'t str, entities: &'t E) -> Option<
     ensures { MatchOption result (resolved (E.replacement entities.now) text.entry.now ≡ text.entry.now) (λ found. Resolves (E.replacement entities.now) text.entry.now found.start found.end (text_bytes found.text)) }
 {
     let mut rest = text;
-    while let Some(at) = memchr2(b'&', b'\\', rest.as_bytes()) {
+    while let Some(at) = find_escape(rest.as_bytes()) {
         if let Some(part) = resolved_in_front(&rest[at..], entities) {
             let start = text.len() - rest.len() + at;
             return Some(Resolved {

@@ -21,6 +21,9 @@ const LINE_ENDS: &[u8; 16] = &[1, 0, 0, 0, 0, 0, 0, 0, 0, 0, 10, 0, 0, 13, 0, 0]
 /// Bit `n` alone for `n` below 8, and no bit for the others.
 const BITS: &[u8; 16] = &[1, 2, 4, 8, 16, 32, 64, 128, 0, 0, 0, 0, 0, 0, 0, 0];
 
+/// The keys of the set of ampersand and backslash. No byte whose low digit is 0 is 1.
+const ESCAPES: &[u8; 16] = &[1, 0, 0, 0, 0, 0, 38, 0, 0, 0, 0, 0, 92, 0, 0, 0];
+
 /// A set of ASCII bytes. Bit `high` of row `low` says whether the byte `16 * high + low` is in the set. A contract sees the
 /// sixteen rows.
 #[derive(Clone, Copy)]
@@ -289,4 +292,12 @@ pub fn find_line_end(bytes: &[u8]) -> Option<usize>
     ensures { IsFirstByte (is_byte2 10 13) bytes.now result }
 {
     find_first(LINE_ENDS, bytes)
+}
+
+/// Where the first ampersand or backslash stands, with which an entity or an escape begins.
+#[inline]
+pub fn find_escape(bytes: &[u8]) -> Option<usize>
+    ensures { IsFirstByte (is_byte2 38 92) bytes.now result }
+{
+    find_first(ESCAPES, bytes)
 }
