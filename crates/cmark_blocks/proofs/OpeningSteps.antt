@@ -1,9 +1,9 @@
 -- What a line begins, as far as the items of lists and headings go.
-use Rattle.std.proofs.Common.{◌≡◌, ℕ, Bool, true, false, ◌&&◌, nat_le, not, if◌then◌else◌, List, length, drop, Option, Some, None, refl, sym}
+use Rattle.std.proofs.Common.{◌≡◌, ℕ, suc, Bool, true, false, ◌==◌, ◌&&◌, ◌||◌, nat_lt, nat_le, not, if◌then◌else◌, List, [], ◌∷◌, length, drop, Option, Some, None, refl, sym, ap, ◌∙◌, eqb-true, true≢false}
 use Rattle.std.specs.Prelude.{unwrap_or}
 use Rattle.cmark_grammar.specs.Rows.{Row, words_of, is_blank_line, indent_of}
 use Rattle.cmark_grammar.specs.BlockQuoteKind.{BlockQuoteKind}
-use Rattle.cmark_grammar.specs.Containers.{Container, Quote, Item, Footnote, ListDefinition, Marker, marker_of, item_with, item_of, container_with, container_of, footnote_or, footnote_with, footnote_of, is_quote, width_with, with_task}
+use Rattle.cmark_grammar.specs.Containers.{Container, Quote, Item, Footnote, ListDefinition, Marker, is_bullet, is_delimiter, digits, number_of, delimited, marker_of, item_with, item_of, container_with, container_of, footnote_or, footnote_with, footnote_of, is_quote, width_with, with_task}
 use Rattle.cmark_grammar.specs.Footnotes.{Footnotes, Off, Gfm, Old, footnotes_in, footnote_in}
 use Rattle.cmark_grammar.specs.HtmlBlocks.{html_kind}
 use Rattle.cmark_grammar.specs.Leaves.{Fence, is_parted, run, is_thematic_break, is_atx_heading, fence_of, counted, code_further}
@@ -15,7 +15,6 @@ use Rattle.cmark_grammar.specs.Options.{Options}
 use Rattle.cmark_grammar.specs.Alignment.{Alignment}
 use Rattle.cmark_grammar.specs.TableRows.{table_head}
 use Rattle.cmark_items.specs.ItemNodes.{list_number}
-use Rattle.cmark_lines.proofs.PrefixRows.{IsShort, marker-short}
 
 -- the number of an item is told by its character
 abbrev pub Numbered : (mark : ℕ) → Option ℕ → Type 0
@@ -49,9 +48,35 @@ Fits level (Takes (MetadataBlock kind) more) = Unit {0}
 Fits level (Takes (Table alignments) more) = Unit {0}
 Fits level Plain = Unit {0}
 
-marker-numbered : (m : Option Marker) → IsShort m → MarkerNumbered m
-marker-numbered None short = tt
-marker-numbered (Some m) short = sym short.0
+bullet_no_delimiter : (b : ℕ) → is_bullet b ≡ true → is_delimiter b ≡ false
+bullet_no_delimiter b e = go (b == 45) (b == 43) (b == 42) refl refl refl e
+  where
+    at : (k : ℕ) → is_delimiter k ≡ false → (b == k) ≡ true → is_delimiter b ≡ false
+    at k off f = ap is_delimiter (eqb-true b k f) ∙ off
+
+    go : (x y z : Bool) → (b == 45) ≡ x → (b == 43) ≡ y → (b == 42) ≡ z → (x || (y || z)) ≡ true → is_delimiter b ≡ false
+    go true y z ex ey ez q = at 45 refl ex
+    go false true z ex ey ez q = at 43 refl ey
+    go false false true ex ey ez q = at 42 refl ez
+    go false false false ex ey ez q = absurd (true≢false (sym q))
+
+delimited-numbered : (ds : List ℕ) (rest : List ℕ) → MarkerNumbered (delimited ds rest)
+delimited-numbered ds [] = tt
+delimited-numbered ds (b ∷ bs) = go (nat_lt 0 (length ds)) (nat_le (length ds) 9) (is_delimiter b) refl
+  where
+    go : (x y z : Bool) → is_delimiter b ≡ z → MarkerNumbered (if x && (y && z) then Some (record { mark = b; number = Some (number_of ds); size = suc (length ds) }) else None)
+    go true true true ez = ap (λ t. if t then Some (number_of ds) else None) ez
+    go true true false ez = tt
+    go true false z ez = tt
+    go false y z ez = tt
+
+marker-numbered : (bs : List ℕ) → MarkerNumbered (marker_of bs)
+marker-numbered [] = tt
+marker-numbered (b ∷ bs) = go (is_bullet b) refl
+  where
+    go : (z : Bool) → is_bullet b ≡ z → MarkerNumbered (if z then Some (record { mark = b; number = None; size = 1 }) else delimited (digits (b ∷ bs)) (drop (length (digits (b ∷ bs))) (b ∷ bs)))
+    go true e = ap (λ t. if t then Some 0 else None) (bullet_no_delimiter b e)
+    go false e = delimited-numbered (digits (b ∷ bs)) (drop (length (digits (b ∷ bs))) (b ∷ bs))
 
 item-numbered : (r : Row) (m : Option Marker) → MarkerNumbered m → ContainerNumbered (item_with r m)
 item-numbered r None n = tt
@@ -171,7 +196,7 @@ opens-fits options r ahead = by r.lazy
         else-fits level (nests_if (container_of options r)) (leaf_of options r ahead)
         (nests-fits level (container_of options r)
         (footnote-numbered (footnotes_in options) r _ (container-numbered (with_task options r (item_of r)) (is_quote r) _
-        (task-numbered options r (item_of r) (item-numbered r (marker_of (words_of r)) (marker-numbered (marker_of (words_of r)) (marker-short (words_of r))))))))
+        (task-numbered options r (item_of r) (item-numbered r (marker_of (words_of r)) (marker-numbered (words_of r)))))))
         (leaf-fits options r ahead)
 
     by : (lazy : Bool) → Fits level (if lazy then Plain else or_else (metadata_begun (metadata_kind options r) ahead) (whole_opens options r ahead))

@@ -1,6 +1,6 @@
 -- The prefixes of containers, as the calls on the front of a line find them.
-use Rattle.std.proofs.Common.{◌≡◌, ℕ, suc, ◌+◌, ◌-◌, ◌≤◌, min, Bool, true, false, ◌==◌, ◌&&◌, ◌||◌, not, List, [], ◌∷◌, length, drop, Option, Some, None, refl, sym, ap, ◌∙◌, arith, eqb-true, true≢false}
-use Rattle.std.specs.Prelude.{if◌then◌else◌, nat_le, nat_lt, unwrap_or, ◌^◌}
+use Rattle.std.proofs.Common.{◌≡◌, ℕ, suc, ◌+◌, ◌-◌, ◌≤◌, min, Bool, true, false, ◌&&◌, ◌||◌, not, List, [], ◌∷◌, length, drop, Option, Some, None, refl, sym, ap, ◌∙◌, arith}
+use Rattle.std.specs.Prelude.{if◌then◌else◌, nat_le, nat_lt, ◌^◌}
 use Rattle.std.proofs.lemmas.Bool.{leb-true, leb-false}
 use Rattle.cmark_grammar.specs.Columns.{Column, indent, without_indent}
 use Rattle.cmark_grammar.specs.Rows.{Row, without, indent_of, words_of, is_bare}
@@ -8,7 +8,7 @@ use Rattle.cmark_grammar.specs.Leaves.{is_parted, is_thematic_break}
 use Rattle.cmark_grammar.specs.Containers.{Container, Quote, Item, Footnote, ListDefinition, Marker, is_bullet, is_delimiter, digits, number_of, delimited, marker_of, behind_marker, padding, width_with, item_with, item_of, quote_width, enter, keeps}
 use Rattle.cmark_scan.specs.LineMarkers.{begins_quote, behind_quote, item_in, item_numbers, entered}
 use Rattle.cmark_scan.proofs.PrefixSteps.{shallow, quote-seen, quote-entered, item-seen, item-entered, item-unseen, item-kept}
-use Rattle.cmark_lines.specs.Starts.{quote_entered, number_by, begun_item}
+use Rattle.cmark_lines.specs.Starts.{quote_entered, begun_item}
 
 -- what is left behind up to three columns, where so many were taken
 pub shallow-is : (r s : Row) (n : ℕ) → n ≡ min 3 (indent_of r) → s ≡ without n r → s ≡ shallow r
@@ -21,40 +21,28 @@ pub quote-some : (r s : Row) → true ≡ begins_quote (shallow r) → s ≡ beh
 quote-some r s e is =
     ap Some (is ∙ quote-entered r (sym (e ∙ quote-seen r))) ∙ ap (λ z. if z then Some (without (quote_width r) r) else None) (e ∙ quote-seen r)
 
--- a marker's character tells whether it has a number, and it is short
+-- a marker is short
 abbrev pub IsShort : Option Marker → Type 0
 IsShort None = Unit {0}
-IsShort (Some m) = (m.number ≡ number_by m.mark (unwrap_or m.number 0)) × (m.size ≤ 10)
-
-bullet_no_delimiter : (b : ℕ) → is_bullet b ≡ true → is_delimiter b ≡ false
-bullet_no_delimiter b e = go (b == 45) (b == 43) (b == 42) refl refl refl e
-  where
-    at : (k : ℕ) → is_delimiter k ≡ false → (b == k) ≡ true → is_delimiter b ≡ false
-    at k off f = ap is_delimiter (eqb-true b k f) ∙ off
-
-    go : (x y z : Bool) → (b == 45) ≡ x → (b == 43) ≡ y → (b == 42) ≡ z → (x || (y || z)) ≡ true → is_delimiter b ≡ false
-    go true y z ex ey ez q = at 45 refl ex
-    go false true z ex ey ez q = at 43 refl ey
-    go false false true ex ey ez q = at 42 refl ez
-    go false false false ex ey ez q = absurd (true≢false (sym q))
+IsShort (Some m) = m.size ≤ 10
 
 delimited-short : (ds : List ℕ) (rest : List ℕ) → IsShort (delimited ds rest)
 delimited-short ds [] = tt
-delimited-short ds (b ∷ bs) = go (nat_lt 0 (length ds)) (nat_le (length ds) 9) (is_delimiter b) refl refl
+delimited-short ds (b ∷ bs) = go (nat_lt 0 (length ds)) (nat_le (length ds) 9) (is_delimiter b) refl
   where
-    go : (x y z : Bool) → nat_le (length ds) 9 ≡ y → is_delimiter b ≡ z → IsShort (if x && (y && z) then Some (record { mark = b; number = Some (number_of ds); size = suc (length ds) }) else None)
-    go true true true ey ez = (ap (λ t. if t then Some (number_of ds) else None) (sym ez), (let le = leb-true (length ds) 9 ey in omega (arith, le)))
-    go true true false ey ez = tt
-    go true false z ey ez = tt
-    go false y z ey ez = tt
+    go : (x y z : Bool) → nat_le (length ds) 9 ≡ y → IsShort (if x && (y && z) then Some (record { mark = b; number = Some (number_of ds); size = suc (length ds) }) else None)
+    go true true true ey = let le = leb-true (length ds) 9 ey in omega (arith, le)
+    go true true false ey = tt
+    go true false z ey = tt
+    go false y z ey = tt
 
 pub marker-short : (bs : List ℕ) → IsShort (marker_of bs)
 marker-short [] = tt
-marker-short (b ∷ bs) = go (is_bullet b) refl
+marker-short (b ∷ bs) = go (is_bullet b)
   where
-    go : (z : Bool) → is_bullet b ≡ z → IsShort (if z then Some (record { mark = b; number = None; size = 1 }) else delimited (digits (b ∷ bs)) (drop (length (digits (b ∷ bs))) (b ∷ bs)))
-    go true e = (ap (λ t. if t then Some 0 else None) (sym (bullet_no_delimiter b e)), omega arith)
-    go false e = delimited-short (digits (b ∷ bs)) (drop (length (digits (b ∷ bs))) (b ∷ bs))
+    go : (z : Bool) → IsShort (if z then Some (record { mark = b; number = None; size = 1 }) else delimited (digits (b ∷ bs)) (drop (length (digits (b ∷ bs))) (b ∷ bs)))
+    go true = omega arith
+    go false = delimited-short (digits (b ∷ bs)) (drop (length (digits (b ∷ bs))) (b ∷ bs))
 
 pub padding-few : (cs : List Column) → padding cs ≤ 4
 padding-few cs = go (is_bare (without_indent cs)) (nat_le 5 (indent cs)) refl
@@ -64,40 +52,37 @@ padding-few cs = go (is_bare (without_indent cs)) (nat_le 5 (indent cs)) refl
     go false true e = omega arith
     go false false e = let lt = leb-false 5 (indent cs) e in omega (arith, lt)
 
-triple : (a b c x y z : ℕ) → ◌≡◌ {A = Option (ℕ × ℕ × ℕ)} (Some (a, b, c)) (Some (x, y, z)) → (a ≡ x) × (b ≡ y) × (c ≡ z)
-triple a b c x y z e = (ap (λ o. (all o).0) e, ap (λ o. (all o).1) e, ap (λ o. (all o).2) e)
+triple : (a x : ℕ) (b y : Option ℕ) (c z : ℕ) → ◌≡◌ {A = Option (ℕ × Option ℕ × ℕ)} (Some (a, b, c)) (Some (x, y, z)) → (a ≡ x) × (b ≡ y) × (c ≡ z)
+triple a x b y c z e = (ap (λ o. (all o).0) e, ap (λ o. (all o).1) e, ap (λ o. (all o).2) e)
   where
-    all : Option (ℕ × ℕ × ℕ) → ℕ × ℕ × ℕ
+    all : Option (ℕ × Option ℕ × ℕ) → ℕ × Option ℕ × ℕ
     all None = (a, b, c)
     all (Some t) = t
 
--- an item's numbers tell the item
-item-read : (r : Row) → indent_of r ≤ 3 → (mark number width : ℕ) → Some (mark, number, width) ≡ item_numbers 0 (item_of r) → item_of r ≡ Some (Item mark (number_by mark number) width None)
+-- what the call answers tells the item
+item-read : (r : Row) → indent_of r ≤ 3 → (mark : ℕ) (number : Option ℕ) (width : ℕ) → Some (mark, number, width) ≡ item_numbers 0 (item_of r) → item_of r ≡ Some (Item mark number width None)
 item-read r le mark number width is = go (marker_of (words_of r)) (marker-short (words_of r)) is
   where
-    go : (o : Option Marker) → IsShort o → Some (mark, number, width) ≡ item_numbers 0 (item_with r o) → item_with r o ≡ Some (Item mark (number_by mark number) width None)
+    go : (o : Option Marker) → IsShort o → Some (mark, number, width) ≡ item_numbers 0 (item_with r o) → item_with r o ≡ Some (Item mark number width None)
     go None short e = absurd (let q : Some (mark, number, width) ≡ None = e in cc)
     go (Some m) short e = test (is_parted (drop m.size (words_of r)) && not (is_thematic_break (words_of r))) e
       where
-        test : (z : Bool) → Some (mark, number, width) ≡ item_numbers 0 (if z then Some (Item m.mark m.number (width_with m.size r) None) else None) → (if z then Some (Item m.mark m.number (width_with m.size r) None) else None) ≡ Some (Item mark (number_by mark number) width None)
+        test : (z : Bool) → Some (mark, number, width) ≡ item_numbers 0 (if z then Some (Item m.mark m.number (width_with m.size r) None) else None) → (if z then Some (Item m.mark m.number (width_with m.size r) None) else None) ≡ Some (Item mark number width None)
         test false q = absurd (let p : Some (mark, number, width) ≡ None = q in cc)
         test true q =
-            let p = triple mark number width m.mark (unwrap_or m.number 0) (min (0 + width_with m.size r) (2 ^ 64 - 1)) q in
-            let a : mark ≡ m.mark = p.0 in
-            let b : number ≡ unwrap_or m.number 0 = p.1 in
+            let p = triple mark m.mark number m.number width (min (0 + width_with m.size r) (2 ^ 64 - 1)) q in
             let w : width ≡ min (0 + width_with m.size r) (2 ^ 64 - 1) = p.2 in
             let few = padding-few (behind_marker m.size r) in
-            let s : width_with m.size r ≡ width = omega (arith, w, few, le, short.1) in
-            ap (λ n. Some (Item m.mark n (width_with m.size r) None)) short.0 ∙ ap (λ x. Some (Item x (number_by x (unwrap_or m.number 0)) (width_with m.size r) None)) (sym a)
-            ∙ ap (λ n. Some (Item mark (number_by mark n) (width_with m.size r) None)) (sym b) ∙ ap (λ n. Some (Item mark (number_by mark number) n None)) s
+            let s : width_with m.size r ≡ width = omega (arith, w, few, le, short) in
+            ap (λ x. Some (Item x m.number (width_with m.size r) None)) (sym p.0) ∙ ap (λ n. Some (Item mark n (width_with m.size r) None)) (sym p.1) ∙ ap (λ n. Some (Item mark number n None)) s
 
 pub numbers-is : (r s : Row) (n : ℕ) → n ≡ min 3 (indent_of r) → s ≡ without n r → item_numbers n (item_in s) ≡ item_numbers (min 3 (indent_of r)) (item_in (shallow r))
 numbers-is r s n count is = ap (λ x. item_numbers n (item_in x)) (shallow-is r s n count is) ∙ ap (λ m. item_numbers m (item_in (shallow r))) count
 
-pub item-found : (r : Row) (mark number width : ℕ) → Some (mark, number, width) ≡ item_numbers (min 3 (indent_of r)) (item_in (shallow r)) → (indent_of r ≤ 3) × (item_of r ≡ Some (Item mark (number_by mark number) width None))
+pub item-found : (r : Row) (mark : ℕ) (number : Option ℕ) (width : ℕ) → Some (mark, number, width) ≡ item_numbers (min 3 (indent_of r)) (item_in (shallow r)) → (indent_of r ≤ 3) × (item_of r ≡ Some (Item mark number width None))
 item-found r mark number width is = go (nat_le (indent_of r) 3) refl
   where
-    go : (z : Bool) → nat_le (indent_of r) 3 ≡ z → (indent_of r ≤ 3) × (item_of r ≡ Some (Item mark (number_by mark number) width None))
+    go : (z : Bool) → nat_le (indent_of r) 3 ≡ z → (indent_of r ≤ 3) × (item_of r ≡ Some (Item mark number width None))
     go true e = let le = leb-true (indent_of r) 3 e in (le, item-read r le mark number width (is ∙ item-seen r le))
     go false e = absurd (let p : Some (mark, number, width) ≡ None = is ∙ ap (item_numbers (min 3 (indent_of r))) (item-unseen r (leb-false (indent_of r) 3 e)) in cc)
 
@@ -107,12 +92,12 @@ begun-all r le = ap (λ z. if z then item_of r else None) (test (indent_of r) le
     test : (n : ℕ) → n ≤ 3 → nat_le n 3 ≡ true
     test n le = grind (arith)
 
-pub item-some : (r : Row) (mark number width : ℕ) → Some (mark, number, width) ≡ item_numbers (min 3 (indent_of r)) (item_in (shallow r)) → Some (Item mark (number_by mark number) width None) ≡ begun_item r
+pub item-some : (r : Row) (mark : ℕ) (number : Option ℕ) (width : ℕ) → Some (mark, number, width) ≡ item_numbers (min 3 (indent_of r)) (item_in (shallow r)) → Some (Item mark number width None) ≡ begun_item r
 item-some r mark number width is = let h = item-found r mark number width is in sym (begun-all r h.0 ∙ h.1)
 
-pub item-inside : (r s : Row) (mark number width : ℕ) → Some (mark, number, width) ≡ item_numbers (min 3 (indent_of r)) (item_in (shallow r)) → s ≡ entered (item_in (shallow r)) (shallow r) → s ≡ without width r
+pub item-inside : (r s : Row) (mark : ℕ) (number : Option ℕ) (width : ℕ) → Some (mark, number, width) ≡ item_numbers (min 3 (indent_of r)) (item_in (shallow r)) → s ≡ entered (item_in (shallow r)) (shallow r) → s ≡ without width r
 unfolding enter
-item-inside r s mark number width is e = let h = item-found r mark number width is in e ∙ item-entered r h.0 (Item mark (number_by mark number) width None) h.1
+item-inside r s mark number width is e = let h = item-found r mark number width is in e ∙ item-entered r h.0 (Item mark number width None) h.1
 
 pub item-none : (r : Row) → None ≡ item_numbers (min 3 (indent_of r)) (item_in (shallow r)) → None ≡ begun_item r
 item-none r is = go (nat_le (indent_of r) 3) refl
@@ -155,7 +140,7 @@ item-none r is = go (nat_le (indent_of r) 3) refl
                 test : (z : Bool) → Some (ListDefinition width) ≡ (if z then Some (Item m.mark m.number (width_with m.size r) None) else None) → ⊥
                 test true y = cc
                 test false y = cc
-    by (Some (Item mark number width task)) q e = absurd (let p : None ≡ Some (mark, unwrap_or number 0, min (0 + width) (2 ^ 64 - 1)) = e in cc)
+    by (Some (Item mark number width task)) q e = absurd (let p : None ≡ Some (mark, number, min (0 + width) (2 ^ 64 - 1)) = e in cc)
 
     go : (z : Bool) → nat_le (indent_of r) 3 ≡ z → None ≡ (if z then item_of r else None)
     go true e = by (item_of r) refl (is ∙ item-seen r (leb-true (indent_of r) 3 e))

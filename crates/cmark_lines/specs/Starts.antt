@@ -1,7 +1,7 @@
 -- Containers as this crate knows them, seen as those of the grammar.
 use Rattle.std.specs.Prelude.{◌≡◌, ℕ, Bool, ◌==◌, ◌||◌, nat_le, if◌then◌else◌, Option, Some, None}
 use Rattle.cmark_grammar.specs.Containers as grammar
-use Rattle.cmark_grammar.specs.Containers.{item_of, with_task, marker_width, container_of, container_with, footnote_of, is_quote, quote_width, enter}
+use Rattle.cmark_grammar.specs.Containers.{item_of, with_task, marker_width, container_of, container_with, footnote_of, is_quote, quote_width}
 use Rattle.cmark_grammar.specs.Footnotes.{footnotes_in, footnote_in, marker_columns}
 use Rattle.cmark_grammar.specs.LinkDefinitions.{Found}
 use Rattle.cmark_scan_parts.specs.Footnotes.{marked, IsClosed}
@@ -65,10 +65,6 @@ abbrev pub HasMarker : Row → ContainerStart → Type 0
 HasMarker r (begun.Quote inside) = Unit {0}
 HasMarker r (begun.Item item inside) = Unit {0}
 HasMarker r (begun.Footnote footnote inside) = IsClosed (words_of r) footnote.label_size
-
--- the number of an item of this character: what stands behind a number tells an ordered item
-abbrev pub number_by : (mark number : ℕ) → Option ℕ
-number_by mark number = if grammar.is_delimiter mark then Some number else None
 
 -- of a line that is indented by at most three columns, the item and the container that it begins
 abbrev pub begun_item : Row → Option grammar.Container

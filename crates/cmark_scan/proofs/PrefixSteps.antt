@@ -1,7 +1,7 @@
 -- The calls on the front of a line, one after the other, as the prefixes of containers: up to three columns of blanks and
 -- a marker, or an item's width of blanks.
 use Rattle.std.proofs.Common.{◌≡◌, ℕ, zero, suc, ◌+◌, ◌-◌, ◌<◌, ◌≤◌, min, Bool, true, false, ◌&&◌, ◌||◌, not, List, [], ◌∷◌, drop, Option, Some, None, refl, sym, ap, ◌∙◌, arith, eq-eqb, ne_eqb, true≢false}
-use Rattle.std.specs.Prelude.{if◌then◌else◌, nat_le, unwrap_or, ◌^◌}
+use Rattle.std.specs.Prelude.{if◌then◌else◌, nat_le, ◌^◌}
 use Rattle.std.proofs.lemmas.Bool.{leb-true, leb-false}
 use Rattle.std.proofs.lemmas.List.{drop-drop}
 use Rattle.cmark_grammar.specs.Columns.{Column, without_indent, bytes_of}
@@ -116,7 +116,7 @@ module _ (r : Row) (le : indent_of r ≤ 3) where
       by (Some (Quote alert)) = refl
       by (Some (Footnote label old size)) = refl
       by (Some (ListDefinition width)) = refl
-      by (Some (Item mark number width task)) = ap (λ n. Some (mark, unwrap_or number 0, min n (2 ^ 64 - 1))) (let s : indent_of r + width ≡ 0 + (indent_of r + width) = omega arith in s)
+      by (Some (Item mark number width task)) = ap (λ n. Some (mark, number, min n (2 ^ 64 - 1))) (let s : indent_of r + width ≡ 0 + (indent_of r + width) = omega arith in s)
 
   no_quote_item : (alert : Option BlockQuoteKind) → item_in (shallow r) ≡ Some (Quote alert) → ⊥
   no_quote_item alert e = go (is_flush (shallow r)) (marker_of (words_of (shallow r))) e

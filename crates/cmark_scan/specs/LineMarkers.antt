@@ -42,13 +42,13 @@ entered (Some k) r = enter k r
 abbrev pub sum_up_to_most : ℕ → ℕ → ℕ
 sum_up_to_most m n = min (m + n) (2 ^ 64 - 1)
 
--- a list item's character, its number, 0 for a bullet, and its width with the indent that was taken before
-abbrev pub item_numbers : (indent : ℕ) → Option Container → Option (ℕ × ℕ × ℕ)
+-- a list item's character, its number, none for a bullet, and its width with the indent that was taken before
+abbrev pub item_numbers : (indent : ℕ) → Option Container → Option (ℕ × Option ℕ × ℕ)
 item_numbers indent None = None
 item_numbers indent (Some (Quote alert)) = None
 item_numbers indent (Some (Footnote label old size)) = None
 item_numbers indent (Some (ListDefinition width)) = None
-item_numbers indent (Some (Item mark number width task)) = Some (mark, unwrap_or number 0, sum_up_to_most indent width)
+item_numbers indent (Some (Item mark number width task)) = Some (mark, number, sum_up_to_most indent width)
 
 -- the width of a definition's prefix, and its first line behind the marker
 abbrev pub definition_in : Row → Option ℕ

@@ -63,17 +63,20 @@ fn a_tag_of_an_alert(rt: HostRuntime) -> Result<(), Fail> {
 #[test]
 fn bullets(rt: HostRuntime) -> Result<(), Fail> {
     let mut line = LineStart::new(b"- a");
-    assert_eq!(rt; line.scan_list_marker_with_indent(0), Some((b'-', 0, 2)));
+    assert_eq!(rt; line.scan_list_marker_with_indent(0), Some((b'-', None, 2)));
     let mut tabbed = LineStart::new(b"-\ta");
-    assert_eq!(rt; tabbed.scan_list_marker_with_indent(0), Some((b'-', 0, 4)));
+    assert_eq!(rt;
+        tabbed.scan_list_marker_with_indent(0),
+        Some((b'-', None, 4))
+    );
     Ok(())
 }
 
 #[test]
 fn a_thematic_break_behind_bullets(rt: HostRuntime) -> Result<(), Fail> {
     let mut line = LineStart::new(b"- - * * *");
-    assert_eq!(rt; line.scan_list_marker_with_indent(0), Some((b'-', 0, 2)));
-    assert_eq!(rt; line.scan_list_marker_with_indent(0), Some((b'-', 0, 2)));
+    assert_eq!(rt; line.scan_list_marker_with_indent(0), Some((b'-', None, 2)));
+    assert_eq!(rt; line.scan_list_marker_with_indent(0), Some((b'-', None, 2)));
     assert_eq!(rt; line.scan_list_marker_with_indent(0), None);
     assert_eq!(rt; line.bytes_scanned(), 4);
     Ok(())
@@ -82,21 +85,24 @@ fn a_thematic_break_behind_bullets(rt: HostRuntime) -> Result<(), Fail> {
 #[test]
 fn a_numbered_item(rt: HostRuntime) -> Result<(), Fail> {
     let mut line = LineStart::new(b"10) x");
-    assert_eq!(rt; line.scan_list_marker_with_indent(0), Some((b')', 10, 4)));
+    assert_eq!(rt;
+        line.scan_list_marker_with_indent(0),
+        Some((b')', Some(10), 4))
+    );
     Ok(())
 }
 
 #[test]
 fn an_item_with_a_blank_rest(rt: HostRuntime) -> Result<(), Fail> {
     let mut line = LineStart::new(b"-");
-    assert_eq!(rt; line.scan_list_marker_with_indent(0), Some((b'-', 0, 2)));
+    assert_eq!(rt; line.scan_list_marker_with_indent(0), Some((b'-', None, 2)));
     Ok(())
 }
 
 #[test]
 fn of_six_blanks_one_counts(rt: HostRuntime) -> Result<(), Fail> {
     let mut line = LineStart::new(b"-      a");
-    assert_eq!(rt; line.scan_list_marker_with_indent(0), Some((b'-', 0, 2)));
+    assert_eq!(rt; line.scan_list_marker_with_indent(0), Some((b'-', None, 2)));
     assert_eq!(rt; line.bytes_scanned(), 2);
     Ok(())
 }

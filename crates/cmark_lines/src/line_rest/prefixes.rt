@@ -9,7 +9,7 @@ ghost use Rattle.cmark_text.specs.Shown.{shown_block_quote_kind};
 ghost use Rattle.cmark_lines.specs.Boxes.{is_checked, IsBehindBox};
 ghost use Rattle.cmark_lines.specs.Definitions.{width_of, definition_behind, EntersDefinition};
 ghost use Rattle.cmark_lines.specs.Rests.{row_of};
-ghost use Rattle.cmark_lines.specs.Starts.{quote_entered, number_by, shown_begun, begun_item, EntersItem, label_shown, begun_label, EntersFootnote, IsMarkerClosed};
+ghost use Rattle.cmark_lines.specs.Starts.{quote_entered, shown_begun, begun_item, EntersItem, label_shown, begun_label, EntersFootnote, IsMarkerClosed};
 
 use crate::container::ItemStart;
 use crate::line_rest::LineRest;
@@ -121,23 +121,11 @@ impl<'a> LineRest<'a> {
         let mut front = self.front;
         let indent = front.scan_space_upto(3);
         let (mark, number, width) = front.scan_list_marker_with_indent(indent)?;
-        let number = item_number(mark, number);
         let item = ItemStart {
             mark,
             number,
             width,
         };
         Some((item, self.with_front(front)))
-    }
-}
-
-/// The number of a list item of this character: a bullet has none.
-#[inline]
-fn item_number(mark: u8, number: u64) -> Option<u64>
-    ensures { result ≡ number_by mark number }
-{
-    match mark {
-        b'.' | b')' => Some(number),
-        _ => None,
     }
 }

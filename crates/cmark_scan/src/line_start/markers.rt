@@ -46,12 +46,15 @@ impl<'a> LineStart<'a> {
     }
 
     /// Takes the marker of a list item and the blanks behind it that count (CommonMark 5.2), and answers its character
-    /// (the bullet, or what stands behind the number), its number, 0 for a bullet, and the item's width in columns: the
+    /// (the bullet, or what stands behind the number), its number, none for a bullet, and the item's width in columns: the
     /// indent, which was taken before, the marker and those blanks. At most `usize::MAX` is answered. Where no list item
     /// begins, or a thematic break stands, nothing is taken. In front of `10) x`, with no indent, the answer is
-    /// `(b')', 10, 4)`.
+    /// `(b')', Some(10), 4)`.
     #[inline]
-    pub fn scan_list_marker_with_indent(&mut self, indent: usize) -> Option<(u8, u64, usize)>
+    pub fn scan_list_marker_with_indent(
+        &mut self,
+        indent: usize,
+    ) -> Option<(u8, Option<u64>, usize)>
         ensures found { (at past : ℕ) → result ≡ item_numbers indent (item_in (row_from at past self.old)) }
         ensures rest { (at past : ℕ) → row_from at past self.new ≡ entered (item_in (row_from at past self.old)) (row_from at past self.old) }
         ensures stays { result ≡ None → self.new ≡ self.old }
@@ -62,11 +65,7 @@ impl<'a> LineStart<'a> {
         }
         self.take_bytes(marker.size);
         let width = marker.size + self.scan_padding();
-        Some((
-            marker.mark,
-            marker.number.unwrap_or(0),
-            indent.saturating_add(width),
-        ))
+        Some((marker.mark, marker.number, indent.saturating_add(width)))
     }
 
     /// Takes the marker of a definition and the blanks behind it that count (this profile's own), and answers the

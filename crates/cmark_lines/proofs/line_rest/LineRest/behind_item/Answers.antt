@@ -1,6 +1,5 @@
-use Rattle.std.proofs.Common.{ap, ◌∙◌, Some, None}
+use Rattle.std.proofs.Common.{ap, ◌∙◌}
 use Rattle.std.specs.Prelude.{option_map}
-use Rattle.cmark_grammar.specs.Containers.{Item}
 use Rattle.cmark_scan.specs.LineMarkers.{item_in, entered}
 use Rattle.cmark_scan.specs.LineStart.{row_from}
 use Rattle.cmark_lines.specs.Rests.{row_of}
@@ -30,8 +29,7 @@ unfolding row_of
 returns-clause-item c =
     let rest = c.args.self in
     let step = c.scan_space_upto-indent in
-    ap (λ n. Some (Item c.in_ok-mark.mark n c.in_ok-mark.width None)) c.item_number-number.ensures
-    ∙ item-some (row_of rest) c.in_ok-mark.mark c.in_ok-mark.number c.in_ok-mark.width
+    item-some (row_of rest) c.in_ok-mark.mark c.in_ok-mark.number c.in_ok-mark.width
     (c.in_ok-mark.ensures.found rest.start rest.past
     ∙ numbers-is (row_of rest) (row_from rest.start rest.past step.new.self) step.result (step.ensures.count rest.start) (step.ensures.rest rest.start rest.past))
 

@@ -1,5 +1,5 @@
 use Rattle.std.proofs.Common.{◌+◌, Some, sym, ap, ◌∙◌, get_or}
-use Rattle.std.specs.Prelude.{option_map, unwrap_or}
+use Rattle.std.specs.Prelude.{option_map}
 use Rattle.cmark_grammar.specs.Columns.{is_blank_byte}
 use Rattle.cmark_grammar.specs.Rows.{without}
 use Rattle.cmark_grammar.specs.Leaves.{is_thematic_break}
@@ -50,8 +50,7 @@ returns-clause-found c at past =
     let m = c.in_ok-marker.marker in
     let no_break = c.if-is_break.ensures.found ∙ ap is_thematic_break (sym (c.ahead.ensures.rest (marker-some bs _ c.in_ok-marker.ensures.value))) in
     let pad = c.scan_padding.ensures.count at ∙ ap (λ x. padding x.columns) (c.take_bytes.ensures.rest at past ∙ ap (without m.size) (c.is_break.ensures.rest at past)) in
-    ap (λ n. Some (m.mark, n, c.saturating_add.result)) c.unwrap_or.ensures
-    ∙ ap (λ w. Some (m.mark, unwrap_or m.number 0, w)) (c.saturating_add.ensures ∙ ap (λ p. sum_up_to_most c.args.indent (m.size + p)) pad)
+    ap (λ w. Some (m.mark, m.number, w)) (c.saturating_add.ensures ∙ ap (λ p. sum_up_to_most c.args.indent (m.size + p)) pad)
     ∙ ap (item_numbers c.args.indent) (ap (option_map (item_at r)) (c.in_ok-marker.ensures.value ∙ begun-parted bs no_break) ∙ sym (item-is r bs (c.ahead.ensures.words at past) (c.ahead.ensures.blank at past)))
 
 pub returns-clause-rest : goal.returns-clause-rest
