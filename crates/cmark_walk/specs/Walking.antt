@@ -325,7 +325,7 @@ HasText walk = (z : Zip Item) (here : BlockDocument) (above : List Outer) → St
 
 -- an element with a text of its own: a heading with attributes, fenced code, a table or a footnote's definition
 abbrev pub has_texts : ItemBody → Bool
-has_texts (body.Heading level (Some index)) = true
+has_texts (body.AttributedHeading level index) = true
 has_texts (body.FencedCodeBlock index) = true
 has_texts (body.Table index) = true
 has_texts (body.FootnoteDefinition index) = true

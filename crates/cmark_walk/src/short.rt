@@ -168,7 +168,7 @@ impl<'a> Walk<'a> {
                     Glance::Around(PlainTag::Paragraph)
                 }
             }
-            ItemBody::Heading(level, None) => Glance::Around(PlainTag::Heading(level)),
+            ItemBody::Heading(level) => Glance::Around(PlainTag::Heading(level)),
             ItemBody::IndentCodeBlock => Glance::Around(PlainTag::IndentedCode),
             ItemBody::HtmlBlock => Glance::Around(PlainTag::HtmlBlock),
             ItemBody::TableHead => Glance::Around(PlainTag::TableHead),

@@ -507,7 +507,7 @@ impl<'a> Walk<'a> {
             } else {
                 Some(Tag::Paragraph)
             }),
-            ItemBody::Heading(level, None) => Ok(Some(Tag::Heading {
+            ItemBody::Heading(level) => Ok(Some(Tag::Heading {
                 level,
                 id: None,
                 classes: Vec::new(self.alloc),
@@ -525,7 +525,7 @@ impl<'a> Walk<'a> {
             ItemBody::DefinitionList(_) => Ok(Some(Tag::DefinitionList)),
             ItemBody::DefinitionListTitle => Ok(Some(Tag::DefinitionListTitle)),
             ItemBody::DefinitionListDefinition(_) => Ok(Some(Tag::DefinitionListDefinition)),
-            ItemBody::Heading(_, Some(_))
+            ItemBody::AttributedHeading(_, _)
             | ItemBody::FencedCodeBlock(_)
             | ItemBody::Table(_)
             | ItemBody::FootnoteDefinition(_) => {
@@ -546,7 +546,7 @@ impl<'a> Walk<'a> {
             → Some (shown_tag tag) ≡ tag_in (read_as (kind_within (tight_below above) node.kind))) }
     {
         match item.body {
-            ItemBody::Heading(level, Some(index)) => {
+            ItemBody::AttributedHeading(level, index) => {
                 let words = self.allocations[index].as_str();
                 heading(self.alloc, level, words)
             }
@@ -582,7 +582,9 @@ impl<'a> Walk<'a> {
                     Some(TagEnd::Paragraph)
                 }
             }
-            ItemBody::Heading(level, _) => Some(TagEnd::Heading(level)),
+            ItemBody::Heading(level) | ItemBody::AttributedHeading(level, _) => {
+                Some(TagEnd::Heading(level))
+            }
             ItemBody::IndentCodeBlock => Some(TagEnd::CodeBlock),
             ItemBody::FencedCodeBlock(_) => Some(TagEnd::CodeBlock),
             ItemBody::HtmlBlock => Some(TagEnd::HtmlBlock),
@@ -643,7 +645,8 @@ pub(crate) fn is_leaf(item: Item) -> bool
     match item.body {
         ItemBody::Paragraph => true,
         ItemBody::TightParagraph => true,
-        ItemBody::Heading(_, _) => true,
+        ItemBody::Heading(_) => true,
+        ItemBody::AttributedHeading(_, _) => true,
         ItemBody::DefinitionListTitle => true,
         ItemBody::TableCell => true,
         _ => false,
