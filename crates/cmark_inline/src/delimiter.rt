@@ -129,6 +129,11 @@ impl Delimiters {
         if self.placed.len() <= first {
             return Ok(());
         }
+        if self.placed.len() - first == 1 {
+            // One run alone makes no pair.
+            self.placed.truncate(first);
+            return Ok(());
+        }
         let bound = slots.len();
         let count = gather(&mut self.runs, self.placed.as_slice(), first, bound)?;
         slots_of_runs(count, &self.runs, &mut self.room, &mut self.marks)?;
