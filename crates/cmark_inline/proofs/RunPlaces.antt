@@ -14,12 +14,14 @@ use Rattle.cmark_emphasis.specs.declared.slot.Slot as code_mark
 use Rattle.cmark_emphasis.specs.declared.slot.Slot.TheVariants as mark
 use Rattle.cmark_grammar.specs.Emphasis.{Pair, IsEmphasis, StandFrom, kinds_of, places_taken, runs_of}
 use Rattle.cmark_grammar.specs.EmphasisModel.{pairs_of, spans_of}
+use Rattle.cmark_grammar.specs.Options.{Options}
 use Rattle.cmark_grammar.specs.SpanEntries as entries
 use Rattle.cmark_grammar.specs.Spans.{SpanKind, Emphasis, Strong, SingleTilde, DoubleTilde, Caret, Spans, span_width}
 use Rattle.cmark_grammar.proofs.EmphasisOne.{one}
 use Rattle.cmark_grammar.proofs.EmphasisSound.{sound as emphasis}
 use Rattle.cmark_grammar.proofs.SpanEntries.{pairs-marked}
-use Rattle.cmark_inline_model.specs.SlotRows.{Mark, Stays, opening, closing, marks_by, run_places}
+use Rattle.cmark_inline_model.specs.SlotRows as row
+use Rattle.cmark_inline_model.specs.SlotRows.{Mark, Stays, opening, closing, marked, marks_by, run_places}
 use Rattle.cmark_inline_model.proofs.SlotLaws.{entries-say}
 use Rattle.cmark_inline.specs.MarkedSlots.{AreAhead, AreReady, AreWhole, HaveBytes, places_of, shown_mark, siblings_from, SameBefore}
 use Rattle.cmark_inline.specs.Tokens.{byte_slots}
