@@ -34,13 +34,17 @@ letter-definition-not options r e = ap is_marker (none-marked options.definition
     go [] l = refl
     go (b ∷ bs) l = at b (b == 58) refl l
 
--- nor does a blank line begin one
-pub blank-defines-not : (options : Options) (place : Place) (r : Row) → words_of r ≡ [] → definition_at options place r ≡ None
-blank-defines-not options place r none = go (is_behind_title place)
+-- a line that begins otherwise begins none
+pub other-defines-not : (options : Options) (place : Place) (r : Row) → begins_with 58 (words_of r) ≡ false → definition_at options place r ≡ None
+other-defines-not options place r other = go (is_behind_title place)
   where
     go : (z : Bool) → (if z then definition_marker options r else None) ≡ None
-    go true = none-marked options.definition_list (nat_le (indent_of r) 3) r (ap (begins_with 58) none)
+    go true = none-marked options.definition_list (nat_le (indent_of r) 3) r other
     go false = refl
+
+-- nor does a blank line begin one
+pub blank-defines-not : (options : Options) (place : Place) (r : Row) → words_of r ≡ [] → definition_at options place r ≡ None
+blank-defines-not options place r none = other-defines-not options place r (ap (begins_with 58) none)
 
 -- behind siblings no line stands behind a task marker
 pub place-plain : (s : model.Siblings) → is_behind_task (place_of s) ≡ false

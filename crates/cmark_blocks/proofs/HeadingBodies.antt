@@ -19,7 +19,7 @@ no-words n (b ∷ bs) e = absurd (omega (arith, e))
 -- words that were kept
 pub kept-words : (old new : Tables) (level : HeadingLevel) (words : CowStr) (index : HeadingIndex) (bytes : List ℕ) →
     index.0 ≡ length old.texts → new ≡ with_text words old → text_bytes words ≡ bytes →
-    kind_of new.texts (shape (body.Heading level (Some index))) ≡ Some (Heading (level_number level) (attributes_of bytes))
+    kind_of new.texts (shape (body.AttributedHeading level index)) ≡ Some (Heading (level_number level) (attributes_of bytes))
 kept-words old new level words index bytes at is read =
     ap (option_map (λ ws. Heading (level_number level) (attributes_of ws)))
     (ap (λ t. text_at t.texts index.0) is ∙ ap (text_at (old.texts ++ words ∷ [])) at ∙ last-text old.texts words ∙ ap Some read)

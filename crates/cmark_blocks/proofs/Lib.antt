@@ -7,6 +7,7 @@ pub mod CountSteps
 pub mod DefinitionRows
 pub mod DefinitionSteps
 pub mod FeedSteps
+pub mod FlushRows
 pub mod FootnoteSteps
 pub mod GatherSteps
 pub mod HeadingBodies

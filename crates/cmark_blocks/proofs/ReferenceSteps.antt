@@ -1,6 +1,7 @@
 -- The table of link reference definitions, with one more.
-use Rattle.std.proofs.Common.{◌≡◌, ℕ, Bool, true, false, List, [], ◌∷◌, ◌++◌, Option, Some, None, option_map, All, cond, filter, refl, sym, ap, ◌∙◌, true≢false, arith}
-use Rattle.std.specs.Prelude.{bytes_eq, if◌then◌else◌}
+use Rattle.std.proofs.Common.{◌≡◌, ℕ, Bool, true, false, List, [], ◌∷◌, ◌++◌, Option, Some, None, option_map, All, cond, filter, refl, sym, ap, subst, ◌∙◌, true≢false, arith}
+use Rattle.std.specs.Borrow.{Bor}
+use Rattle.std.specs.Prelude.{bytes_eq, if◌then◌else◌, is_some, option_copied}
 use Rattle.std.specs.Char.{is_ascii_whitespace}
 use Rattle.std.specs.List.{slice_split, join_with_byte, onto_first}
 use Rattle.std.proofs.lemmas.List.Elements.{All-cons}
@@ -72,6 +73,32 @@ eq-sym a b =
     go true q x y = sym (x refl)
     go false true x y = y refl
     go false false x y = refl
+
+-- one more reference that is not of this label
+not-found : (folded : List ℕ) (rs : List Reference) (r : Reference) → bytes_eq (fold r.label) folded ≡ false → first_with fold folded (rs ++ r ∷ []) ≡ first_with fold folded rs
+not-found folded [] r other = ap (λ z. found_or z r None) other
+not-found folded (s ∷ rs) r other = ap (found_or (bytes_eq (fold s.label) folded) s) (not-found folded rs r other)
+
+-- one more reference of a label that is known changes nothing
+pub with-known : (folded : List ℕ) (rs : List Reference) (r known : Reference) → first_with fold (fold r.label) rs ≡ Some known → first_with fold folded (rs ++ r ∷ []) ≡ first_with fold folded rs
+with-known folded [] r known e = absurd (let q : None ≡ Some known = e in cc)
+with-known folded (s ∷ rs) r known e = go (bytes_eq (fold s.label) folded) refl (bytes_eq (fold s.label) (fold r.label)) refl e (λ f. with-known folded rs r known f)
+  where
+    go : (p : Bool) → bytes_eq (fold s.label) folded ≡ p → (q : Bool) → bytes_eq (fold s.label) (fold r.label) ≡ q → found_or q s (first_with fold (fold r.label) rs) ≡ Some known →
+        (first_with fold (fold r.label) rs ≡ Some known → first_with fold folded (rs ++ r ∷ []) ≡ first_with fold folded rs) →
+        found_or p s (first_with fold folded (rs ++ r ∷ [])) ≡ found_or p s (first_with fold folded rs)
+    go true at q same f later = refl
+    go false at false same f later = later f
+    go false at true same f later = not-found folded rs r (subst (λ bs. bytes_eq bs folded ≡ false) ((bytes_eq-Decides (fold s.label) (fold r.label)).0 same) at)
+
+pub known-some : (known : Option (Bor LinkDef)) (found : Option LinkDef) → is_some known ≡ true → option_copied known ≡ found → (def : LinkDef) × (found ≡ Some def)
+known-some None found e is = absurd (true≢false (sym e))
+known-some (Some def) found e is = (def.now, sym is)
+
+-- where the table has a definition, there is a reference
+pub known-reference : (found : Option LinkDef) (def : LinkDef) (o : Option Reference) → found ≡ Some def → option_map shown_definition found ≡ option_map shown_reference o → (known : Reference) × (o ≡ Some known)
+known-reference found def None is same = absurd (let q : Some (shown_definition def) ≡ None = sym (ap (option_map shown_definition) is) ∙ same in cc)
+known-reference found def (Some known) is same = (known, refl)
 
 -- one more reference behind the others
 pub with-more : (folded : List ℕ) (rs : List Reference) (r : Reference) (found : Option LinkDef) (def : LinkDef) →

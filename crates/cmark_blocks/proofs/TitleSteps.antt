@@ -46,8 +46,10 @@ around-none : (t : Option Title) (d : Drawing) → is_some (list_around t) ≡ f
 around-none None d e = refl
 around-none (Some t) d e = ap (λ o. released_from o d) (no-list t.list false (ap (λ z. z || false) e))
 
-pub but-alone : (s : Siblings) (d : Drawing) → (is_some s.list || is_some (list_around s.title)) ≡ false → ended_but (definitions_in s.list) s d ≡ d
-but-alone s d e =
-    let none = no-list s.list (is_some (list_around s.title)) e in
-    ap (λ o. ended_but (definitions_in o) s d) none ∙ ap (λ o. list_closed o (title_released s.title d)) none
+pub ended-alone : (s : Siblings) (d : Drawing) → (is_some s.list || is_some (list_around s.title)) ≡ false → ended s d ≡ d
+ended-alone s d e =
+    ap (λ o. list_closed o (title_released s.title d)) (no-list s.list (is_some (list_around s.title)) e)
     ∙ around-none s.title d (no-other s.list (is_some (list_around s.title)) e)
+
+pub but-alone : (s : Siblings) (d : Drawing) → (is_some s.list || is_some (list_around s.title)) ≡ false → ended_but (definitions_in s.list) s d ≡ d
+but-alone s d e = ap (λ o. ended_but (definitions_in o) s d) (no-list s.list (is_some (list_around s.title)) e) ∙ ended-alone s d e

@@ -52,10 +52,10 @@ pub(crate) fn heading_body<'a>(
     ensures definitions { defined (tables builder.new.allocations) ≡ defined (tables builder.old.allocations) }
 {
     if words.as_str().is_empty() {
-        return Ok(ItemBody::Heading(level, None));
+        return Ok(ItemBody::Heading(level));
     }
     let index = builder.allocations.allocate_heading(words)?;
-    Ok(ItemBody::Heading(level, Some(index)))
+    Ok(ItemBody::AttributedHeading(level, index))
 }
 
 /// The attributes of a setext heading with these lines, if it has some, and they are read. This memory is for the lines.
@@ -92,7 +92,7 @@ fn setext_body(
     ensures definitions { defined (tables builder.new.allocations) ≡ defined (tables builder.old.allocations) }
 {
     let Some(SetextAttributes { words, place }) = found else {
-        return Ok(ItemBody::Heading(level, None));
+        return Ok(ItemBody::Heading(level));
     };
     cut_lines(builder, place)?;
     heading_body(builder, level, CowStr::from_string(words)?)

@@ -7,7 +7,7 @@ ghost use Rattle.cmark_lines.specs.Rests.{row_of};
 ghost use Rattle.cmark_blocks.specs.Entered.{OpensAs, IsNoContainer};
 
 use crate::state::Pass;
-use cmark_lines::{LineRest, Opening, what_opens};
+use cmark_lines::{LineRest, Opening, begins_with_label, begins_with_text, what_opens};
 use cmark_text::EntityLookup;
 use std::alloc::AllocError;
 
@@ -113,6 +113,14 @@ impl<'a, E: EntityLookup> Pass<'a, E> {
     {
         if line.is_blank() {
             self.pass_blank_line(false);
+            return Ok(());
+        }
+        if begins_with_text(line) {
+            self.begin_text(line)?;
+            return Ok(());
+        }
+        if begins_with_label(line, self.options) {
+            self.begin_bracket(line)?;
             return Ok(());
         }
         self.begin_blocks(line)?;

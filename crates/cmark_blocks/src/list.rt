@@ -73,7 +73,23 @@ impl<'a, E: EntityLookup> Pass<'a, E> {
     }
 
     /// A block begins that is no item.
+    #[inline(always)]
     pub(crate) fn begin_block(&mut self)
+        requires { IsGood self.old }
+        ensures good { IsGood self.new }
+        ensures runs { Steps E.replacement self.old self.new block_begun }
+        ensures others { LeavesTheRest self.old self.new }
+    {
+        if self.inner.has_list() {
+            self.begin_block_behind_list();
+            return;
+        }
+        self.inner.add_block();
+    }
+
+    /// The same, whether or not a list is open.
+    #[inline(never)]
+    fn begin_block_behind_list(&mut self)
         requires { IsGood self.old }
         ensures good { IsGood self.new }
         ensures runs { Steps E.replacement self.old self.new block_begun }

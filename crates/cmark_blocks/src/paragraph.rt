@@ -99,7 +99,7 @@ impl<'a, E: EntityLookup> Pass<'a, E> {
             return Ok(());
         }
         if rest.is_blank() {
-            self.close_leaf()?;
+            self.close_paragraph(from, last)?;
             self.pass_blank_line(false);
             return Ok(());
         }
@@ -137,6 +137,7 @@ impl<'a, E: EntityLookup> Pass<'a, E> {
     }
 
     /// Closes a paragraph, whose last line this is; the lines that touch it begin at this byte offset.
+    #[inline(always)]
     pub(crate) fn close_paragraph(
         &mut self,
         from: usize,

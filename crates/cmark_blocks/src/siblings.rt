@@ -10,14 +10,14 @@ ghost use Rattle.cmark_blocks.specs.Shown.{shown_list, shown_siblings, list_of};
 /// A list to which further items may come, or titles and definitions.
 #[derive(Clone, Copy, Debug, PartialEq, Eq)]
 pub(crate) struct OpenList {
-    /// The bullet, or what stands behind the number; the marker of definitions, `:`, where they stand in it.
-    pub mark: u8,
     /// The number of the first item; 0 for a bullet.
     pub number: u64,
-    /// It is known to be loose.
-    pub loose: bool,
     /// Where its last item ends: a byte offset of the text.
     pub end: usize,
+    /// The bullet, or what stands behind the number; the marker of definitions, `:`, where they stand in it.
+    pub mark: u8,
+    /// It is known to be loose.
+    pub loose: bool,
 }
 
 /// What was known before a paragraph that a definition may make a title (this profile's own).
@@ -32,16 +32,16 @@ pub(crate) struct Title {
 /// The blocks of a container so far.
 #[derive(Clone, Copy, Debug, PartialEq, Eq)]
 pub(crate) struct Siblings {
+    /// The list that the last one is an item of, or a definition.
+    pub list: Option<OpenList>,
+    /// What was known before the last one, where it is a paragraph.
+    pub title: Option<Title>,
     /// There is one.
     pub has_block: bool,
     /// A blank line stands behind the last one.
     pub blank: bool,
     /// A blank line stands between two of them.
     pub parted: bool,
-    /// The list that the last one is an item of, or a definition.
-    pub list: Option<OpenList>,
-    /// What was known before the last one, where it is a paragraph.
-    pub title: Option<Title>,
 }
 
 /// The marker of definitions, as the character of their list.
@@ -72,6 +72,18 @@ impl Siblings {
             list: None,
             title: None,
         }
+    }
+
+    /// One more, which is no item of a list, where no list is open.
+    #[inline(always)]
+    pub(crate) fn add_block(&mut self)
+        requires { (shown_siblings self.old).list ≡ None }
+        ensures { shown_siblings self.new ≡ siblings_with_block (shown_siblings self.old) }
+    {
+        self.title = None;
+        self.parted = self.parted || self.blank;
+        self.has_block = true;
+        self.blank = false;
     }
 
     /// One more, a paragraph. A definition list that is open stays so, for the paragraph may be a title in it.

@@ -9,7 +9,7 @@ use cmark_text::escape::{escape_href, escape_html, escape_html_body_text};
 use std::alloc::AllocError;
 
 /// A part of a piece.
-#[derive(Clone, Copy, Debug)]
+#[derive(Clone, Copy)]
 pub enum Part<'a> {
     /// A text as it is.
     Raw(&'a str),

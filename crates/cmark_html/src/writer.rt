@@ -51,6 +51,35 @@ fn write_outside<'a>(
     ensures state { OnOk result (writing writer.new ≡ moved_outside (writing writer.old) (shown event.entry)) }
     ensures err { OnErr result (AppendsFront (string_bytes out.old) (string_bytes out.new) (piece_outside (writing writer.old) (shown event.entry))) }
 {
+    match append_outside(out, writer, &event) {
+        Ok(()) => {
+            if let Some(image) = keep_event(&mut writer.table, &mut writer.names, event)? {
+                writer.image = Some(image);
+            }
+            Ok(())
+        }
+        Err(error) => {
+            drop(event);
+            Err(error)
+        }
+    }
+}
+
+/// Appends this piece, and keeps what the event says but of tables, footnotes and images.
+#[inline(always)]
+fn append_outside<'a>(
+    out: &mut String,
+    writer: &mut Writer<'a>,
+    event: &Event<'a>,
+) -> Result<(), AllocError>
+    ensures ok { OnOk result (string_bytes out.new ≡ string_bytes out.old ++ piece_outside (writing writer.old) (shown event.now)) }
+    ensures line_start { OnOk result (writer.new.line_start ≡ line_start_after (writing writer.old) (shown event.now)) }
+    ensures in_metadata { OnOk result (writer.new.in_metadata ≡ metadata_after writer.old.in_metadata (shown event.now)) }
+    ensures image { writer.new.image ≡ writer.old.image }
+    ensures table { writer.new.table ≡ writer.old.table }
+    ensures names { writer.new.names ≡ writer.old.names }
+    ensures err { OnErr result (AppendsFront (string_bytes out.old) (string_bytes out.new) (piece_outside (writing writer.old) (shown event.now))) }
+{
     if let Event::Start(
         Tag::Link {
             link_type,
@@ -58,18 +87,15 @@ fn write_outside<'a>(
             title,
             id: _,
         },
-    ) = &event
+    ) = event
     {
         append_link(out, *link_type, dest_url.as_str(), title.as_str())?;
         writer.line_start = false;
         return Ok(());
     }
-    append_piece(out, writer, &event)?;
-    writer.line_start = line_start_after(writer, &event);
-    writer.in_metadata = metadata_after(writer.in_metadata, &event);
-    if let Some(image) = keep_event(&mut writer.table, &mut writer.names, event)? {
-        writer.image = Some(image);
-    }
+    append_piece(out, writer, event)?;
+    writer.line_start = line_start_after(writer, event);
+    writer.in_metadata = metadata_after(writer.in_metadata, event);
     Ok(())
 }
 
@@ -84,8 +110,13 @@ pub fn write_in_image<'a>(
     ensures state { OnOk result (writing writer.new ≡ moved (writing writer.old) (shown event.entry)) }
     ensures err { OnErr result (AppendsFront (string_bytes out.old) (string_bytes out.new) (piece (writing writer.old) (shown event.entry))) }
 {
-    append_inside(out, writer, &event)?;
-    keep_inside(&mut writer.names, event)
+    match append_inside(out, writer, &event) {
+        Ok(()) => keep_inside(&mut writer.names, event),
+        Err(error) => {
+            drop(event);
+            Err(error)
+        }
+    }
 }
 
 /// Appends this piece, and keeps what the event says but of footnotes.
@@ -114,7 +145,10 @@ fn keep_inside<'a>(names: &mut FootnoteNames<'a>, event: Event<'a>) -> Result<()
 {
     match event {
         Event::FootnoteReference(name) => names.add(name),
-        _ => Ok(()),
+        other => {
+            drop(other);
+            Ok(())
+        }
     }
 }
 
@@ -139,7 +173,10 @@ fn keep_event<'a>(
             names.add(name)?;
             Ok(None)
         }
-        _ => Ok(None),
+        other => {
+            drop(other);
+            Ok(None)
+        }
     }
 }
 
@@ -172,7 +209,10 @@ fn keep_start<'a>(
             table.column = 0;
             Ok(None)
         }
-        _ => Ok(None),
+        other => {
+            drop(other);
+            Ok(None)
+        }
     }
 }
 

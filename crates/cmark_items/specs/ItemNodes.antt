@@ -46,8 +46,8 @@ columns_of (Some alignments) = alignments
 abbrev pub shape : ItemBody → Shape
 shape body.Paragraph = Element document.Paragraph
 shape body.TightParagraph = Element document.TightParagraph
-shape (body.Heading level None) = Element (document.Heading (level_number level) no_attributes)
-shape (body.Heading level (Some index)) = Spelt (λ words. document.Heading (level_number level) (attributes_of words)) index.0
+shape (body.Heading level) = Element (document.Heading (level_number level) no_attributes)
+shape (body.AttributedHeading level index) = Spelt (λ words. document.Heading (level_number level) (attributes_of words)) index.0
 shape body.Rule = Element document.ThematicBreak
 shape body.IndentCodeBlock = Element document.IndentedCode
 shape (body.FencedCodeBlock index) = Spelt document.FencedCode index.0

@@ -42,19 +42,20 @@ impl TreeSpan for Item {
     }
 }
 
+// The fields of each lie in such an order that none has more than 16 bytes with its tag, for a node of the tree is as large as the largest.
 /// What an item is. The bodies that begin with `Maybe` are tokens: whether they come to anything is seen when the leaf
 /// around them is read.
 #[derive(Clone, Copy, Debug, Default, PartialEq, Eq)]
 pub enum ItemBody {
-    /// A byte of a run of `*`, `_`, `~` or `^`: the run's length from here on, and whether it can open and close
+    /// A byte of a run of `*`, `_`, `~` or `^`: whether it can open and close, and the run's length from here on
     /// (CommonMark 6.2).
-    MaybeEmphasis(usize, bool, bool),
+    MaybeEmphasis(bool, bool, usize),
     /// A `$`: whether it can open and close, and the braces that it stands in (this profile's own).
     MaybeMath(bool, bool, u8),
     /// A quotation mark, and whether it can open and close (this profile's own).
     MaybeSmartQuote(u8, bool, bool),
-    /// A run of so many backticks, and whether a backslash stands before it (CommonMark 6.1).
-    MaybeCode(usize, bool),
+    /// A run of backticks: whether a backslash stands before it, and how many there are (CommonMark 6.1).
+    MaybeCode(bool, usize),
     /// A `<` (CommonMark 6.5, 6.6).
     MaybeHtml,
     /// A `[` (CommonMark 6.3).
@@ -74,8 +75,8 @@ pub enum ItemBody {
     Superscript,
     /// Lowered text (this profile's own).
     Subscript,
-    /// A formula, and whether it is displayed (this profile's own).
-    Math(CowIndex, bool),
+    /// A formula: whether it is displayed, and its text (this profile's own).
+    Math(bool, CowIndex),
     /// A code span (CommonMark 6.1).
     Code(CowIndex),
     /// A footnote's reference (this profile's own).
@@ -115,8 +116,10 @@ pub enum ItemBody {
     TightParagraph,
     /// A thematic break (CommonMark 4.1).
     Rule,
-    /// A heading (CommonMark 4.2, 4.3), and the words between the braces of its attributes.
-    Heading(HeadingLevel, Option<HeadingIndex>),
+    /// A heading (CommonMark 4.2, 4.3).
+    Heading(HeadingLevel),
+    /// A heading with attributes, and the words between their braces (this profile's own).
+    AttributedHeading(HeadingLevel, HeadingIndex),
     /// A fenced code block (CommonMark 4.5), and its info string.
     FencedCodeBlock(CowIndex),
     /// An indented code block (CommonMark 4.4).

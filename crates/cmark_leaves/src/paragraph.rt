@@ -17,6 +17,7 @@ use cmark_scan_parts::bytes::without_trailing_blanks;
 use std::alloc::AllocError;
 
 /// Where the words of a line end, without the blanks behind them.
+#[inline(always)]
 fn words_end(rest: LineRest<'_>) -> usize
     ensures { result ≡ words_end (row_of rest.entry) }
 {
@@ -26,6 +27,7 @@ fn words_end(rest: LineRest<'_>) -> usize
 
 /// The last lines of a paragraph that touch, from this byte offset to the end of the last one's words: as they are, as a node behind
 /// the last sibling, unless they are empty. Where memory is refused, the tree is as it was.
+#[inline(always)]
 pub fn draw_last_lines(
     builder: &mut Builder<'_>,
     from: usize,

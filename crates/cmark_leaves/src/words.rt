@@ -13,6 +13,7 @@ use cmark_items::ItemBody;
 use std::alloc::AllocError;
 
 /// The text from one byte offset to before another as it is, as a node behind the last sibling, unless it is empty.
+#[inline(always)]
 pub(crate) fn draw_words(
     builder: &mut Builder<'_>,
     start: usize,

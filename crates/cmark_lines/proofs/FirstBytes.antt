@@ -6,7 +6,7 @@ use Rattle.std.proofs.lemmas.List.Sums.{take_while-cons}
 use Rattle.cmark_grammar.specs.Options.{Options}
 use Rattle.cmark_grammar.specs.Columns.{is_blank_byte}
 use Rattle.cmark_grammar.specs.Containers.{begins_with, is_digit, footnote_with, footnote_of}
-use Rattle.cmark_grammar.specs.Footnotes.{Footnotes, Off, Gfm, Old, footnotes_in, footnote_in, behind_caret}
+use Rattle.cmark_grammar.specs.Footnotes.{Footnotes, Off, Gfm, Old, are_read, footnotes_in, footnote_in, behind_caret}
 use Rattle.cmark_grammar.specs.HtmlBlocks.{html_kind}
 use Rattle.cmark_grammar.specs.Leaves.{all_pass, is_parted, run, is_break_of, is_thematic_break, fence_of, fence_with}
 use Rattle.cmark_grammar.specs.Letters.{first_is, is_letter}
@@ -76,6 +76,21 @@ letter-container options r e =
     marker : (words : List ℕ) → first_is is_letter words ≡ true → first_is begins_marker words ≡ false
     marker [] f = refl
     marker (b ∷ bs) f = unmarked b (letter-or b f)
+
+-- nor does a bracket, where footnotes are not read
+pub label-container : (options : Options) (r : Row) → are_read (footnotes_in options) ≡ false → begins_with 91 (words_of r) ≡ true → begun_container options r ≡ None
+label-container options r off e =
+    sym (begun-other options r None (sym (none (footnotes_in options) (nat_le (indent_of r) 3) off)) (sym (no-container options r (marker (words_of r) e))))
+  where
+    none : (footnotes : Footnotes) (z : Bool) → are_read footnotes ≡ false → (if z then footnote_of footnotes r else None) ≡ None
+    none footnotes false o = refl
+    none Off true o = refl
+    none Gfm true o = absurd (true≢false o)
+    none Old true o = absurd (true≢false o)
+
+    marker : (words : List ℕ) → begins_with 91 words ≡ true → first_is begins_marker words ≡ false
+    marker [] f = refl
+    marker (b ∷ bs) f = ap begins_marker (eqb-true b 91 f)
 
 -- what begins with a bracket is a text's beginning, and no other leaf's
 pub bracket-leaf : (options : Options) (r : Row) (ahead : List Row) → begins_with 91 (words_of r) ≡ true → leaf_of options r ahead ≡ text_of options r ahead

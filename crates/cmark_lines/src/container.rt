@@ -4,6 +4,7 @@ ghost use Rattle.std.specs.Prelude.{◌≡◌, ℕ, List, option_map, IfSome};
 ghost use Rattle.cmark_grammar.specs.Containers as grammar;
 ghost use Rattle.cmark_grammar.specs.Containers.{keeps};
 ghost use Rattle.cmark_grammar.specs.Letters.{first_is};
+ghost use Rattle.cmark_grammar.specs.Rows.{words_of};
 ghost use Rattle.cmark_grammar.specs.Options as profile;
 ghost use Rattle.cmark_lines.specs.Rests.{row_of, IsIn};
 ghost use Rattle.cmark_text.specs.Shown.{shown_options};
@@ -72,7 +73,7 @@ impl Container {
     /// columns, and blank lines, or, as it was read before, all lines that are not blank; a definition keeps lines as an item does. `bare` says
     /// that the line before was the first one of an item or of a definition, and blank behind the marker: then a blank line ends it
     /// (CommonMark 5.2).
-    #[inline]
+    #[inline(always)]
     pub fn keeps<'a>(self, bare: bool, rest: LineRest<'a>) -> Option<LineRest<'a>>
         ensures row { (k : grammar.Container) → Shows self k → option_map row_of result ≡ keeps k bare (row_of rest.entry) }
         ensures placed { (text : List ℕ) → IsIn text rest.entry → IfSome result (IsIn text) }
@@ -90,12 +91,14 @@ impl Container {
 }
 
 /// The container that the line begins, indented by at most three columns, and the line behind its marker: where footnotes are read, the
-/// definition of one comes first.
+/// definition of one comes first. The line's words are handed in.
 #[inline]
 pub(crate) fn container_start<'a>(
     rest: LineRest<'a>,
+    words: &[u8],
     options: Options,
 ) -> Option<ContainerStart<'a>>
+    requires { words.now ≡ words_of (row_of rest) }
     ensures container { option_map (shown_start (shown_options options) (row_of rest.entry)) result ≡ begun_container (shown_options options) (row_of rest.entry) }
     ensures inside { IfSome result (Enters (row_of rest.entry)) }
     ensures marker { IfSome result (HasMarker (row_of rest.entry)) }
@@ -103,7 +106,7 @@ pub(crate) fn container_start<'a>(
     if let Some(start) = footnote_start(rest, options) {
         return Some(start);
     }
-    marker_start(rest)
+    marker_start(rest, words)
 }
 
 /// The footnote definition that the line begins, indented by at most three columns, and the line behind the blanks that follow its marker
@@ -122,14 +125,15 @@ fn footnote_start<'a>(rest: LineRest<'a>, options: Options) -> Option<ContainerS
     Some(ContainerStart::Footnote(FootnoteStart { label_size, old }, inside))
 }
 
-/// The list item or block quote that the line begins, indented by at most three columns, and the line behind its marker.
+/// The list item or block quote that the line with these words begins, indented by at most three columns, and the line behind its marker.
 #[inline]
-fn marker_start<'a>(rest: LineRest<'a>) -> Option<ContainerStart<'a>>
+fn marker_start<'a>(rest: LineRest<'a>, words: &[u8]) -> Option<ContainerStart<'a>>
+    requires { words.now ≡ words_of (row_of rest) }
     ensures container { (options : profile.Options) → option_map (shown_start options (row_of rest.entry)) result ≡ begun_marked options (row_of rest.entry) }
     ensures inside { IfSome result (Enters (row_of rest.entry)) }
     ensures marker { IfSome result (HasMarker (row_of rest.entry)) }
 {
-    if !may_begin_container(rest.words()) {
+    if !may_begin_container(words) {
         return None;
     }
     if let Some((item, inside)) = rest.behind_item() {

@@ -18,6 +18,6 @@ pub use definition::{begins_definition, definition_start, reads_definition_lists
 pub use interrupt::{interrupts, underlines};
 pub use line_rest::LineRest;
 pub use metadata::{ends_metadata, metadata_kind};
-pub use opening::{Opening, what_opens};
+pub use opening::{Opening, begins_with_label, begins_with_text, what_opens};
 pub use table::{begins_with_pipe, count_missing, head_cells, is_delimiter_row};
 pub use verbatim::{Further, Verbatim, ends_at_once};

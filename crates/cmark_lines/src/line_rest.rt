@@ -34,6 +34,7 @@ impl<'a> LineRest<'a> {
     ghost use Rattle.cmark_lines.specs.Rests.{row_of, no_row, IsIn};
 
     /// The whole line of the text that begins at `start`. At the text's end it is an empty one, which has no ending.
+    #[inline(always)]
     pub fn new(text: &'a [u8], start: usize) -> LineRest<'a>
         requires { start ≤ length text.now }
         ensures line { (line : List ℕ) (more : List (List ℕ)) → lines (drop start text.entry.now) ≡ line ∷ more → row_of result ≡ row_at start line }

@@ -1,7 +1,8 @@
 //! What a line begins (CommonMark 3 to 5).
 
-ghost use Rattle.std.specs.Prelude.{◌≡◌, ◌&&◌, not, ℕ, List, IfSome, option_map};
-ghost use Rattle.cmark_grammar.specs.Footnotes.{footnotes_in, is_footnote_label};
+ghost use Rattle.std.specs.Prelude.{◌≡◌, ◌==◌, ◌&&◌, not, ℕ, List, IfSome, option_map};
+ghost use Rattle.cmark_grammar.specs.Footnotes.{are_read, footnotes_in, is_footnote_label};
+ghost use Rattle.cmark_grammar.specs.Letters.{is_letter, first_is};
 ghost use Rattle.cmark_grammar.specs.Rows.{Row, words_of, indent_of};
 ghost use Rattle.cmark_grammar.specs.Containers.{begins_with};
 ghost use Rattle.cmark_grammar.specs.Metadata.{metadata_kind};
@@ -74,7 +75,7 @@ pub fn what_opens<'a>(rest: LineRest<'a>, options: Options) -> Opening<'a>
     if begins_with_letter(words) {
         return Opening::Plain;
     }
-    if let Some(start) = container_start(rest, options) {
+    if let Some(start) = container_start(rest, words, options) {
         return Opening::Nests(start);
     }
     leaf_opening(words, indent, options)
@@ -183,4 +184,22 @@ fn begins_footnote_label(words: &[u8]) -> bool
         [b'[', b'^', ..] => true,
         _ => false,
     }
+}
+
+/// Whether an ASCII letter stands in front of a line, with no indent: where no definition may begin, such a line begins a table or a
+/// paragraph.
+#[inline]
+pub fn begins_with_text(rest: LineRest<'_>) -> bool
+    ensures { result ≡ ((indent_of (row_of rest.entry) == 0) && first_is is_letter (words_of (row_of rest.entry))) }
+{
+    rest.indent_upto(1) == 0 && rest.begins_with_letter()
+}
+
+/// Whether an opening bracket stands in front of a line, with no indent, where footnotes are not read: such a line begins a link reference
+/// definition, a table or a paragraph.
+#[inline]
+pub fn begins_with_label(rest: LineRest<'_>, options: Options) -> bool
+    ensures { result ≡ ((indent_of (row_of rest.entry) == 0) && (begins_with 91 (words_of (row_of rest.entry)) && not (are_read (footnotes_in (shown_options options))))) }
+{
+    rest.indent_upto(1) == 0 && begins_with_bracket(rest.words()) && !reads_footnotes(options)
 }

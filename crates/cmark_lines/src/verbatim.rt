@@ -46,6 +46,7 @@ pub enum Further {
 impl Verbatim {
     /// What the line does to this block. It must have the prefixes of the containers around the block: a line that lacks one
     /// ends each.
+    #[inline(always)]
     pub fn further(self, rest: LineRest<'_>) -> Further
         ensures { (info : List ℕ) → shown_further result ≡ further_in (shown_verbatim info self) (row_of rest.entry) }
     {

@@ -113,7 +113,8 @@ where
         match text_of(self.read()?) {
             Ok(text) => Some(text),
             Err(item) => {
-                self.held = Some(item);
+                // Nothing was held.
+                drop(self.held.replace(item));
                 None
             }
         }
@@ -130,6 +131,7 @@ where
         requires not_over { (ranged_ahead self.old).is_over ≡ false }
         ensures joins { IfOk result (λ all. Joins I.next_gives (ranged_ahead self.old) first.entry second.entry (string_at all) (ranged_ahead self.new)) }
         ensures refused { OnErr result (ReadsTexts I.next_gives (ranged_ahead self.old) (ranged_ahead self.new)) }
+        ensures refused_holds_nothing { OnErr result ((ranged_ahead self.new).held ≡ None) }
         ensures goes { CanGo I.can_next I.remaining (ranged_ahead self.new) }
         ensures no_more { size (items_left I.remaining (ranged_ahead self.new)) ≤ size (items_left I.remaining (ranged_ahead self.old)) }
     {
@@ -165,7 +167,6 @@ where
                 Some(Ok((Event::Text(text), range)))
             }
             Err(error) => {
-                self.held = None;
                 self.is_over = true;
                 Some(Err(error))
             }

@@ -46,11 +46,11 @@ impl<'a> LineStart<'a> {
     ghost use Rattle.cmark_scan.specs.LineStart.{columns_taken, columns_from, row_from, line_of, cut_columns, knows_stop};
 
     /// The line that the bytes begin with, of which nothing was taken: the bytes up to the first LF or CR, or all.
-    #[inline]
+    #[inline(always)]
     pub fn new(bytes: &'a [u8]) -> LineStart<'a>
         ensures { (at past : ℕ) → row_from at past result ≡ line_of at past bytes.entry.now }
     {
-        let len = find_line_end(bytes).unwrap_or(bytes.len());
+        let len = content_len(bytes);
         LineStart {
             bytes: &bytes[..len],
             taken: 0,
@@ -307,5 +307,17 @@ impl<'a> LineStart<'a> {
         ensures { (at past : ℕ) → begin_of (row_from at past self.now) ≡ at + result }
     {
         self.taken
+    }
+}
+
+/// How many bytes stand before the first LF or CR, or how many there are. Of an empty line, of which texts have many, its first byte tells it.
+#[inline(always)]
+fn content_len(bytes: &[u8]) -> usize
+    ensures content { take result bytes.now ≡ content bytes.now }
+    ensures within { result ≤ length bytes.now }
+{
+    match bytes {
+        [b'\n', ..] => 0,
+        _ => find_line_end(bytes).unwrap_or(bytes.len()),
     }
 }

@@ -9,7 +9,7 @@ ghost use Rattle.cmark_grammar.specs.Lines.{ending_len};
 ghost use Rattle.cmark_grammar.specs.Tags.{is_attribute_start, is_space_byte, ends_value, behind_ending, behind_line_feed};
 
 /// A class of bytes, all of them ASCII but for `BareValue` and `Uri`.
-#[derive(Clone, Copy, Debug)]
+#[derive(Clone, Copy)]
 pub(crate) enum Class {
     /// Spaces and tabs.
     Blank,

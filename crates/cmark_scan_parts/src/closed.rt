@@ -7,7 +7,7 @@ ghost use Rattle.cmark_scan_parts.specs.Steps.{read_closed, OnEnds};
 use crate::bytes::escapes_next;
 
 /// What a byte does to the part that is read.
-#[derive(Clone, Copy, Debug)]
+#[derive(Clone, Copy)]
 pub(crate) enum Step {
     /// The part ends there.
     Ends,

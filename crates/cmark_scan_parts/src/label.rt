@@ -18,7 +18,7 @@ use cmark_text::CowStr;
 use std::alloc::{AllocError, Global};
 
 /// A label of a link behind its opening bracket.
-#[derive(Debug, Drop)]
+#[derive(Drop)]
 pub struct LinkLabelRest<'t> {
     /// How many bytes it takes, to behind its closing bracket.
     pub end: usize,

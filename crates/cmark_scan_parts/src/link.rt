@@ -13,7 +13,7 @@ use crate::find::begins_with;
 use memchr::memchr;
 
 /// A part of a text, and the place behind its closer.
-#[derive(Clone, Copy, Debug, PartialEq, Eq)]
+#[derive(Clone, Copy)]
 pub struct Cut<'t> {
     /// The place in the text behind the closer.
     pub end: usize,

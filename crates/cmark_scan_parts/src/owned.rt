@@ -13,7 +13,7 @@ use memchr::memchr2;
 use std::alloc::{AllocError, Global};
 
 /// An open or a closing tag.
-#[derive(Debug, Drop)]
+#[derive(Drop)]
 pub struct HtmlTag {
     /// How many bytes it takes, from its `<` to behind its `>`.
     pub end: usize,

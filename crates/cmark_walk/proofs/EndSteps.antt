@@ -14,7 +14,7 @@ use Rattle.cmark_grammar.specs.TagEnd.{TagEnd}
 use Rattle.cmark_grammar.specs.BlockDocument as document
 use Rattle.cmark_grammar.specs.BlockDocument.{BlockKind, BlockNode, BlockDocument, Paragraph, TightParagraph, Heading, LinkDefinition, TaskMarker}
 use Rattle.cmark_grammar.specs.BlockReading as reads
-use Rattle.cmark_grammar.specs.BlockReading.{Reads, read_as, over, first_event, begins_title, starts_before, starts_of, is_title}
+use Rattle.cmark_grammar.specs.BlockReading.{Reads, read_as, first_event, begins_title, starts_before, starts_of, is_title}
 use Rattle.cmark_grammar.specs.DrawnDocument.{is_definition, kind_within, settled}
 use Rattle.cmark_grammar.specs.SpanDocuments.{Segment, Given, Content, first_of_segments, inside_of, node_segments, segments, stretches_of, with_first_segment}
 use Rattle.cmark_grammar.specs.Tables.{delimiter_row}
@@ -129,7 +129,7 @@ owns-kind text texts start end tight (body.SynthesizeChar x) kind e o i =
     let q : Some (document.OwnedText (encode_utf8 x)) ≡ Some kind = e in
     let k : document.OwnedText (encode_utf8 x) ≡ kind = cc in
     let q : reads.Inside ≡ reads.Alone _ = i ∙ ap (λ b. read_as (kind_within tight b)) (sym k) in cc
-owns-kind text texts start end tight (body.Heading level (Some x)) kind e o i =
+owns-kind text texts start end tight (body.AttributedHeading level x) kind e o i =
     let k = (spelt-kind (λ words. document.Heading (level_number level) (attributes_of words)) (text_at texts x.0) kind e).1 in
     let q : reads.Inside ≡ reads.Around _ = i ∙ ap (λ b. read_as (kind_within tight b)) (sym k) in cc
 owns-kind text texts start end tight (body.FencedCodeBlock x) kind e o i =

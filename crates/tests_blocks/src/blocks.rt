@@ -22,7 +22,7 @@ fn a_text_leaves_its_blocks_and_definitions(rt: HostRuntime) -> Result<(), Fail>
     if let Some(ix) = pass.tree.cur() {
         let heading = *pass.tree.item(ix);
         assert_eq!(rt; (heading.start, heading.end), (8, 12));
-        assert_eq!(rt; heading.body, ItemBody::Heading(HeadingLevel::H1, None));
+        assert_eq!(rt; heading.body, ItemBody::Heading(HeadingLevel::H1));
     }
     Ok(())
 }

@@ -8,7 +8,7 @@ use Rattle.cmark_lines.proofs.container.marker_start.Goals as goal
 
 pub returns-then-not-may_begin_container-clause-container : goal.returns-then-not-may_begin_container-clause-container
 returns-then-not-may_begin_container-clause-container c options =
-    sym (no-container options (row_of c.args.rest) (ap (first_is begins_marker) (sym c.words.ensures) ∙ sym c.may_begin_container.ensures ∙ c.if-not-may_begin_container.true))
+    sym (no-container options (row_of c.args.rest) (ap (first_is begins_marker) (sym c.requires) ∙ sym c.may_begin_container.ensures ∙ c.if-not-may_begin_container.true))
 
 pub returns-clause-container : goal.returns-clause-container
 returns-clause-container c options = quote-begun options (row_of c.args.rest) (row_of c.in_ok-inside.inside) c.in_default.ensures.item c.in_ok-inside.ensures

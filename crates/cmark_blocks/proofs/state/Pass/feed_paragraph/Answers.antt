@@ -29,7 +29,7 @@ returns-then-is_blank-clause-runs g c text options lookup m runs =
     let row = row_of c.args.rest in
     let next = lines_at text row.past in
     let blank = sym c.is_blank.ensures ∙ c.if-is_blank.true in
-    let closed = c.in_ok-close_leaf.ensures.runs text options lookup m runs in
+    let closed = c.in_ok-close_paragraph.ensures.runs text options lookup m runs in
     subst (λ p. Runs replacement text options lookup p c.pass_blank_line.new.self)
     (sym (feeds-interrupted text options lookup row next m (map row_of c.args.self.now.blank_lines.items) c.args.from (row_of c.args.last) (sym (blank-underlines-not row blank)) (whole c.args.rest)
     (sym (ap (λ z. z || block_interrupts options true row (ahead_in text options lookup m.outer next)) (blank-interrupts options row (ahead_in text options lookup m.outer next) blank)))
