@@ -15,7 +15,7 @@ use Rattle.cmark_grammar.specs.Tokens.{slice}
 use Rattle.cmark_leaf_text.specs.Reads.{IsPart, is_cell_of, text_of}
 use Rattle.cmark_leaf_text.specs.declared.leaf_text.LeafText.{LeafText}
 use Rattle.cmark_scan_parts.proofs.Endings.{tag-behind}
-use Rattle.cmark_inline.specs.FoundInSource.{IsTag, IsFound, FindsNone, ReadsLess}
+use Rattle.cmark_inline.specs.MarkupInSource.{IsTag, IsFound, FindsNone, ReadsLess}
 use Rattle.cmark_inline.specs.Linked.{IsAutolink}
 use Rattle.cmark_inline.specs.Tokens.{whole, reading, read_on, opens_markup, shown_autolink, Says, Puts, BeginsThere, PutsAutolink}
 use Rattle.cmark_inline.specs.declared.link.LinkParts.{LinkParts}

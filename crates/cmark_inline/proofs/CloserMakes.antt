@@ -35,7 +35,7 @@ use Rattle.cmark_inline.specs.Hiding.{WritesReference, WritesWikilink}
 use Rattle.cmark_inline.specs.SlotViews.{shown_parts}
 use Rattle.cmark_inline.specs.Sound.{IsSound, IsTakenFrom}
 use Rattle.cmark_inline.specs.Stands.{IsBracket, Stands}
-use Rattle.cmark_inline.specs.Written.{WritesElement}
+use Rattle.cmark_inline.specs.FormedSlots.{WritesElement}
 use Rattle.cmark_inline.specs.Wikilinks.{forms_wikilink, is_wikilink, wiki_start, wiki_text}
 use Rattle.cmark_inline.specs.declared.bracket.Bracket.{Bracket}
 use Rattle.cmark_inline.specs.declared.bracket.Brackets.{Brackets}

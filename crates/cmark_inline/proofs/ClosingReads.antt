@@ -28,17 +28,17 @@ use Rattle.cmark_text.specs.declared.text.CowStr.{CowStr}
 use Rattle.cmark_inline_model.specs.BracketPass.{Pass}
 use Rattle.cmark_inline_model.specs.LikeSlots.{AreLike, IsLike}
 use Rattle.cmark_inline_model.specs.RowParts.{BracketPlace, text_slot}
-use Rattle.cmark_inline_model.specs.RowPasses.{IsReached, linked_slots}
+use Rattle.cmark_inline_model.specs.RowPasses.{IsReached}
 use Rattle.cmark_inline_model.specs.SlotRows as row
 use Rattle.cmark_inline_model.proofs.RowParts.{cut-row}
 use Rattle.cmark_inline.specs.Closers.{Formed, LinksTaken, ReadsOn}
 use Rattle.cmark_inline.specs.Decided.{ComesTo, IsCloser}
-use Rattle.cmark_inline.specs.Marked.{places_of, siblings_from}
+use Rattle.cmark_inline.specs.MarkedSlots.{places_of, siblings_from}
 use Rattle.cmark_inline.specs.Reached.{HasRead, ReadsPlaces, bracket_place, quotes_of, runs_of}
 use Rattle.cmark_inline.specs.SlotViews.{first_of, shown_parts, shown_slot, shown_slots, slot_as}
 use Rattle.cmark_inline.specs.Stands.{PushesText}
 use Rattle.cmark_inline.specs.Tokens.{Puts}
-use Rattle.cmark_inline.specs.Written.{WritesElement, dressed_behind, wrapped}
+use Rattle.cmark_inline.specs.FormedSlots.{WritesElement, dressed_behind, wrapped}
 use Rattle.cmark_inline.specs.declared.bracket.Bracket.{Bracket}
 use Rattle.cmark_inline.specs.declared.callback.BrokenLink.{BrokenLink}
 use Rattle.cmark_inline.specs.declared.delimiter.PlacedRun.{PlacedRun}

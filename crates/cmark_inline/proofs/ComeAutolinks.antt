@@ -13,7 +13,6 @@ use Rattle.cmark_grammar.specs.Parts.{Nil, Single}
 use Rattle.cmark_grammar.specs.Readers.{Reader}
 use Rattle.cmark_grammar.specs.Siblings.{item, uri_link}
 use Rattle.cmark_grammar.specs.Tag as tag
-use Rattle.cmark_grammar.specs.Tag.{Linked}
 use Rattle.cmark_grammar.specs.Tokens.{slice}
 use Rattle.cmark_leaf_text.specs.Reads.{is_cell_of, place_of, text_of}
 use Rattle.cmark_leaf_text.specs.declared.leaf_text.LeafText.{LeafText}
@@ -29,8 +28,8 @@ use Rattle.cmark_inline_model.specs.SlotRows as row
 use Rattle.cmark_inline_model.specs.SlotRows.{ItemSlot}
 use Rattle.cmark_inline_model.proofs.RowPasses.{reached-autolink}
 use Rattle.cmark_inline_model.proofs.TogetherTokens.{Joined, Together, begins-joined}
-use Rattle.cmark_inline.specs.Come.{HasReached}
-use Rattle.cmark_inline.specs.Marked.{places_of}
+use Rattle.cmark_inline.specs.CursorProgress.{HasReached}
+use Rattle.cmark_inline.specs.MarkedSlots.{places_of}
 use Rattle.cmark_inline.specs.Reached.{ReadsPlaces, bracket_place, quotes_of, runs_of}
 use Rattle.cmark_inline.specs.Sound.{IsSound}
 use Rattle.cmark_inline.specs.SlotViews.{linked_at, linked_or_none, shown_slot, shown_slots}

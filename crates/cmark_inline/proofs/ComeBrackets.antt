@@ -20,7 +20,7 @@ use Rattle.cmark_inline_model.specs.PlacedTokens.{placed, one_stretch, text_read
 use Rattle.cmark_inline_model.specs.SlotRows.{ItemSlot}
 use Rattle.cmark_inline.specs.BracketViews.{past_opening}
 use Rattle.cmark_inline.specs.Closers.{ShowsState}
-use Rattle.cmark_inline.specs.Come.{HasReached}
+use Rattle.cmark_inline.specs.CursorProgress.{HasReached}
 use Rattle.cmark_inline.specs.Reached.{ReadsPlaces}
 use Rattle.cmark_inline.specs.SlotViews.{shown_slot, shown_slots}
 use Rattle.cmark_inline.specs.SpecialReads.{OpensBracket}

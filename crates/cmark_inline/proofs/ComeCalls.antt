@@ -16,7 +16,7 @@ use Rattle.cmark_text.specs.declared.text.CowStr.{CowStr}
 use Rattle.cmark_grammar.specs.LeafText.{Leaf}
 use Rattle.cmark_grammar.specs.Readers.{Reader}
 use Rattle.cmark_inline.specs.Closers.{Closes}
-use Rattle.cmark_inline.specs.Come.{ComesOn, HasCome}
+use Rattle.cmark_inline.specs.CursorProgress.{ComesOn, HasCome}
 use Rattle.cmark_inline.specs.Decided.{ReadsSame}
 use Rattle.cmark_inline.specs.PlainStretches.{IsSetOf, StandUpTo}
 use Rattle.cmark_inline.specs.Sound.{IsSound}

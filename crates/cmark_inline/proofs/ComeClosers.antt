@@ -1,6 +1,6 @@
 -- Behind a closing bracket the pass of the grammar has read what the new state stands for, with what was asked there.
 use Rattle.std.specs.Prelude.{Option, map}
-use Rattle.std.proofs.Common.{◌≡◌, ℕ, suc, ◌+◌, ◌<◌, Bool, false, List, [], ◌∷◌, ◌++◌, length, get_or, Some, refl, sym, ap, ◌∙◌, subst, arith, true≢false}
+use Rattle.std.proofs.Common.{◌≡◌, ℕ, suc, ◌+◌, ◌<◌, Bool, false, List, [], ◌∷◌, ◌++◌, length, get_or, Some, refl, sym, ap, ◌∙◌, subst, arith}
 use Rattle.std.proofs.lemmas.List.{length-map}
 use Rattle.cmark_grammar.specs.Answers.{Destination}
 use Rattle.cmark_grammar.specs.BracketDecisions.{decide}
@@ -27,11 +27,11 @@ use Rattle.cmark_inline_model.proofs.DecisionLaws.{decide-fits, decide-recorded}
 use Rattle.cmark_inline_model.proofs.RowParts.{cut-row}
 use Rattle.cmark_inline.specs.BracketViews.{ArePlaced}
 use Rattle.cmark_inline.specs.Closers as closers
-use Rattle.cmark_inline.specs.Closers.{ClosesAs, ShowsState, left_of}
+use Rattle.cmark_inline.specs.Closers.{ShowsState, left_of}
 use Rattle.cmark_inline.specs.Sound.{AreEnded}
-use Rattle.cmark_inline.specs.Come.{HasReached}
+use Rattle.cmark_inline.specs.CursorProgress.{HasReached}
 use Rattle.cmark_inline.specs.Decided.{AsksThis, ComesTo, ReadsSame}
-use Rattle.cmark_inline.specs.Marked.{places_of}
+use Rattle.cmark_inline.specs.MarkedSlots.{places_of}
 use Rattle.cmark_inline.specs.Reached.{HasRead, ReadsPlaces, bracket_place, quotes_of, runs_of}
 use Rattle.cmark_inline.specs.Resolved.{Answered}
 use Rattle.cmark_inline.specs.Stands.{Flushes}

@@ -16,10 +16,10 @@ use Rattle.cmark_text.specs.declared.text.CowStr.{CowStr}
 use Rattle.cmark_inline_model.specs.BracketPass.{pass}
 use Rattle.cmark_inline_model.specs.PlacedTokens.{may_open_markup, placed, one_stretch, text_reader}
 use Rattle.cmark_inline_model.specs.SlotRows.{marked, marks_by, quoted}
-use Rattle.cmark_inline.specs.Come.{HasBegun, HasCome, HasReached, IsCleared, IsPending}
+use Rattle.cmark_inline.specs.CursorProgress.{HasBegun, HasCome, HasReached, IsCleared, IsPending}
 use Rattle.cmark_inline.specs.Decided.{EndsWithin}
-use Rattle.cmark_inline.specs.Marked.{places_of, siblings_from}
-use Rattle.cmark_inline.specs.Quoted.{characters_of}
+use Rattle.cmark_inline.specs.MarkedSlots.{places_of, siblings_from}
+use Rattle.cmark_inline.specs.QuoteSlots.{characters_of}
 use Rattle.cmark_inline.specs.Reached.{ReadsPlaces}
 use Rattle.cmark_inline.specs.Resolved.{ResolvesAs}
 use Rattle.cmark_inline.specs.SlotViews.{events_to_come, shown_slots}

@@ -15,11 +15,11 @@ use Rattle.cmark_leaf_text.specs.declared.leaf_text.LeafText.{LeafText}
 use Rattle.cmark_text.specs.declared.text.CowStr.{CowStr}
 use Rattle.cmark_inline_model.specs.PlacedTokens.{StopsAt, may_open_markup, placed, placed_item, one_stretch, text_reader}
 use Rattle.cmark_inline_model.specs.RowPasses.{has_own_slot}
-use Rattle.cmark_inline.specs.Come.{HasReached}
+use Rattle.cmark_inline.specs.CursorProgress.{HasReached}
 use Rattle.cmark_inline.specs.Reached.{ReadsPlaces}
 use Rattle.cmark_inline.specs.Sound.{IsSound}
 use Rattle.cmark_inline.specs.Stands as stands
-use Rattle.cmark_inline.specs.Stands.{AreSlots, IsSlot, PushesText}
+use Rattle.cmark_inline.specs.Stands.{IsSlot, PushesText}
 use Rattle.cmark_inline.specs.Tokens.{Appends, BeginsThere, Says, begins_at, opens_markup}
 use Rattle.cmark_inline.specs.declared.callback.BrokenLink.{BrokenLink}
 use Rattle.cmark_inline.specs.declared.slot.Slot.{Slot}

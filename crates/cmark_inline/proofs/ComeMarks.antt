@@ -24,7 +24,7 @@ use Rattle.cmark_inline_model.specs.LikeSlots.{AreLike, IsLike, is_html}
 use Rattle.cmark_inline_model.specs.PartLists.{join}
 use Rattle.cmark_inline_model.specs.SlotRows.{ItemSlot, run_slots}
 use Rattle.cmark_inline_model.proofs.TogetherTokens.{Together, together-slice}
-use Rattle.cmark_inline.specs.Come.{HasReached}
+use Rattle.cmark_inline.specs.CursorProgress.{HasReached}
 use Rattle.cmark_inline.specs.Reached.{ReadsPlaces}
 use Rattle.cmark_inline.specs.SlotViews.{shown_slot, shown_slots}
 use Rattle.cmark_inline.specs.Tokens.{AppendsQuote, AppendsRun, byte_slots}

@@ -7,7 +7,7 @@ use Rattle.std.proofs.lemmas.Bool.{or_cases}
 use Rattle.cmark_grammar.specs.InlineHtml.{behind_markup}
 use Rattle.cmark_grammar.specs.InlineReading.{event_of}
 use Rattle.cmark_grammar.specs.InlineTokens as grammar
-use Rattle.cmark_grammar.specs.InlineTokens.{begins, from, item_at, longest, markup_or, read_on, tag_or_text, token}
+use Rattle.cmark_grammar.specs.InlineTokens.{begins, from, longest, markup_or, read_on, tag_or_text, token}
 use Rattle.cmark_grammar.specs.Items.{Html, Own, Item, Stands}
 use Rattle.cmark_grammar.specs.LeafReading.{Between}
 use Rattle.cmark_grammar.specs.LeafText.{Leaf, end_of}
@@ -25,8 +25,8 @@ use Rattle.cmark_inline_model.specs.RowPasses.{has_own_slot}
 use Rattle.cmark_inline_model.specs.SlotRows.{ItemSlot}
 use Rattle.cmark_inline_model.proofs.PlacedTokens as places
 use Rattle.cmark_inline_model.proofs.PlacedTokens.{from-place}
-use Rattle.cmark_inline.specs.Come.{HasReached}
-use Rattle.cmark_inline.specs.FoundInSource.{AppendsMarkup, AppendsUnclosed, source_from}
+use Rattle.cmark_inline.specs.CursorProgress.{HasReached}
+use Rattle.cmark_inline.specs.MarkupInSource.{AppendsMarkup, AppendsUnclosed, source_from}
 use Rattle.cmark_inline.specs.Reached.{ReadsPlaces}
 use Rattle.cmark_inline.specs.SlotViews.{shown_slot, shown_slots}
 use Rattle.cmark_inline.specs.Tokens as tokens

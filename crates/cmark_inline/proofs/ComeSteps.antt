@@ -25,8 +25,8 @@ use Rattle.cmark_text.specs.declared.text.CowStr.{CowStr}
 use Rattle.cmark_inline_model.specs.PlacedTokens.{may_open_markup}
 use Rattle.cmark_inline.specs.Closers as closers
 use Rattle.cmark_inline.specs.Decided.{ReadsSame}
-use Rattle.cmark_inline.specs.Come.{HasCome, HasEscaped, HasReached, IsPending}
-use Rattle.cmark_inline.specs.FoundInSource.{AppendsMarkup, AppendsUnclosed, ReadsLess}
+use Rattle.cmark_inline.specs.CursorProgress.{HasCome, HasEscaped, HasReached, IsPending}
+use Rattle.cmark_inline.specs.MarkupInSource.{AppendsMarkup, AppendsUnclosed, ReadsLess}
 use Rattle.cmark_inline.specs.PlainStretches.{StandUpTo}
 use Rattle.cmark_inline.specs.Reached.{ReadsPlaces}
 use Rattle.cmark_inline.specs.SlotViews.{shown_slots}

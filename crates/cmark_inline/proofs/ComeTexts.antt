@@ -16,7 +16,7 @@ use Rattle.cmark_grammar.specs.LinkDefinitions.{Found}
 use Rattle.cmark_grammar.specs.Options.{Options}
 use Rattle.cmark_grammar.specs.Tokens.{is_punctuation}
 use Rattle.cmark_inline_model.specs.PlacedTokens.{StopsAt}
-use Rattle.cmark_inline.specs.Come.{HasBegun, HasEscaped, IsPending}
+use Rattle.cmark_inline.specs.CursorProgress.{HasBegun, HasEscaped, IsPending}
 use Rattle.cmark_inline.specs.PlainStretches.{StandsForItself, StandUpTo}
 use Rattle.cmark_inline.specs.Tokens.{Escapes, EscapesPipe, Passes, PassesOver, begins_at, reading, whole}
 use Rattle.cmark_inline.specs.declared.state.InlineState.{InlineState}

@@ -1,8 +1,7 @@
 -- A slot that is cut is like the grammar's item that begins at the same byte.
 use Rattle.std.specs.Prelude.{encode_utf8, not, ◌&&◌, ◌||◌, if◌then◌else◌, nat_lt}
-use Rattle.std.specs.List.{list_any}
-use Rattle.std.proofs.Common.{◌≡◌, ℕ, zero, suc, ◌+◌, ◌-◌, ◌<◌, ◌≤◌, ◌==◌, Bool, true, false, true≢false, List, [], ◌∷◌, length, drop, take, get_or, refl, sym, ap, ◌∙◌, subst, arith}
-use Rattle.std.proofs.lemmas.Bool.{ltb-true, ltb-false}
+use Rattle.std.proofs.Common.{◌≡◌, ℕ, zero, suc, ◌+◌, ◌-◌, ◌<◌, ◌≤◌, ◌==◌, Bool, true, false, true≢false, List, length, get_or, refl, sym, ap, ◌∙◌, subst, arith}
+use Rattle.std.proofs.lemmas.Bool.{ltb-false}
 use Rattle.std.proofs.lemmas.Grind.{same_number_lists}
 use Rattle.std.proofs.lemmas.List.{get_or_default}
 use Rattle.std.proofs.lemmas.List.Folds.{Any-from_list_any, list_any_at, list_any_none}
@@ -27,7 +26,7 @@ use Rattle.cmark_inline_model.specs.Displays.{CutFacts, CutKind, OwnedFacts}
 use Rattle.cmark_inline_model.specs.LikeSlots.{IsLike, is_html}
 use Rattle.cmark_inline_model.specs.SlotRows as row
 use Rattle.cmark_inline.specs.Reached.{ReadsPlaces}
-use Rattle.cmark_inline.specs.SlotViews.{first_of, item_slot, past_of, shown_slot, slot_as, text_at, written}
+use Rattle.cmark_inline.specs.SlotViews.{shown_slot, slot_as, text_at, written}
 use Rattle.cmark_inline.specs.Wikilinks.{cut_kind, cut_slot}
 use Rattle.cmark_inline.specs.declared.link.LinkParts.{LinkParts}
 use Rattle.cmark_inline.specs.declared.slot.Slot.{Slot}

@@ -19,7 +19,7 @@ use Rattle.cmark_text.specs.declared.text.CowStr.{CowStr}
 use Rattle.cmark_inline.specs.Decided.{said, shown_question, target_outcome, with_left, LeadsTo}
 use Rattle.cmark_inline.specs.Linked.{Said, said_by, said_in, Refers, Answers, IsAnswered, IsQuestion, parted, left_behind}
 use Rattle.cmark_inline.specs.declared.callback.BrokenLink.{BrokenLink}
-use Rattle.cmark_inline.specs.declared.link.Destination.{Destination}
+use Rattle.cmark_inline.specs.declared.reference.Destination.{Destination}
 use Rattle.cmark_inline.specs.declared.link.Target.{Target}
 
 module _ {F : Type 0} (R : F → BrokenLink → Option (CowStr × CowStr) → F → Type 0) (reader : Reader) (leaf : Leaf) (place : ℕ → ℕ) (taken : Taken) (closer : items.Bracket) where

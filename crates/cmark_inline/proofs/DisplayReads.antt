@@ -1,6 +1,6 @@
 -- What the grammar's pass has read with a closing bracket that forms a wikilink which shows what stands behind its pipe.
-use Rattle.std.specs.Prelude.{drop, take, map, Option, Some, None}
-use Rattle.std.proofs.Common.{◌≡◌, ◌⊎◌, inl, inr, ℕ, zero, suc, ◌+◌, ◌-◌, ◌<◌, ◌≤◌, ◌==◌, Bool, true, false, true≢false, List, [], ◌∷◌, ◌++◌, length, get_or, refl, sym, ap, subst, ◌∙◌, arith, append_assoc, length-append, length-drop}
+use Rattle.std.specs.Prelude.{drop, take, map, Some}
+use Rattle.std.proofs.Common.{◌≡◌, ◌⊎◌, inl, inr, ℕ, suc, ◌+◌, ◌-◌, ◌<◌, ◌≤◌, ◌==◌, Bool, true, false, true≢false, List, [], ◌∷◌, ◌++◌, length, get_or, refl, sym, ap, subst, ◌∙◌, arith, append_assoc, length-drop}
 use Rattle.std.proofs.lemmas.Bool.{cases_lt}
 use Rattle.std.proofs.lemmas.List.{ext_get_or, get_or-drop, get_or-take, length-take-le, take-append-drop}
 use Rattle.cmark_grammar.specs.BracketDecisions.{decide, behind_pipe, name_in}
@@ -30,16 +30,15 @@ use Rattle.cmark_inline.specs.Closers.{ReadsOn}
 use Rattle.cmark_inline.specs.Decided.{IsCloser}
 use Rattle.cmark_inline.specs.Doubled.{nearest}
 use Rattle.cmark_inline.specs.Hiding.{WritesWikilink}
-use Rattle.cmark_inline.specs.Marked.{siblings_from}
+use Rattle.cmark_inline.specs.MarkedSlots.{siblings_from}
 use Rattle.cmark_inline.specs.Reached.{ReadsPlaces}
 use Rattle.cmark_inline.specs.SlotViews.{first_of, shown_slot, shown_slots}
 use Rattle.cmark_inline.specs.Sound.{AreEnded, IsSound, IsTakenPair}
 use Rattle.cmark_inline.specs.Stands.{AreSlots, Stands}
 use Rattle.cmark_inline.specs.Wikilinks.{Hides, IsFirstBehind, Shows, ShowsFrom, cut_at, cut_slot, display_place, ends_by, has_pothole, hidden, shown_name, wiki_start, wiki_text}
-use Rattle.cmark_inline.specs.Written.{dressed_behind, wrapped}
+use Rattle.cmark_inline.specs.FormedSlots.{dressed_behind, wrapped}
 use Rattle.cmark_inline.specs.declared.bracket.Bracket.{Bracket}
 use Rattle.cmark_inline.specs.declared.slot.Slot.{Slot}
-use Rattle.cmark_inline.specs.declared.slot.SlotKind.TheVariants as kind
 use Rattle.cmark_inline.specs.declared.state.InlineState.{InlineState}
 use Rattle.cmark_inline.specs.declared.wikilink.Wikilink.{Wikilink}
 use Rattle.cmark_inline.proofs.AfterSteps.{IsTried}

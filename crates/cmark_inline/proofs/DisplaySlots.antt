@@ -1,16 +1,13 @@
 -- The slots that a wikilink shows from a place on are like those that are left of the grammar's row.
 use Rattle.std.specs.Prelude.{map, drop, take, get_or, nat_le, nat_lt, max, ◌==◌, ◌&&◌, ◌||◌, if◌then◌else◌, Some}
-use Rattle.std.proofs.Common.{◌≡◌, ◌⊎◌, inl, inr, ℕ, zero, suc, ◌+◌, ◌-◌, ◌<◌, ◌≤◌, Bool, true, false, List, [], ◌∷◌, ◌++◌, length, refl, sym, ap, subst, ◌∙◌, arith, append_assoc, append-nil, length-append, length-drop, eqb-true}
-use Rattle.std.proofs.Math.Seq.{drop-append_seam, take-append_seam}
+use Rattle.std.proofs.Common.{◌≡◌, ◌⊎◌, inl, inr, ℕ, suc, ◌+◌, ◌-◌, ◌<◌, ◌≤◌, Bool, true, false, List, [], ◌∷◌, ◌++◌, length, refl, sym, ap, subst, ◌∙◌, arith, length-append, eqb-true}
 use Rattle.std.proofs.lemmas.Bool.{cases_lt, eq-eqb}
-use Rattle.std.proofs.lemmas.List.{ext_get_or, get_or_at, get_or-append-add, length-map, length-take-le, map-append, take-append-drop}
+use Rattle.std.proofs.lemmas.List.{get_or_at, length-map, map-append, take-append-drop}
 use Rattle.cmark_grammar.specs.Event as event
-use Rattle.cmark_grammar.specs.InlineHtml.{takes_lines}
 use Rattle.cmark_grammar.specs.Items as items
 use Rattle.cmark_grammar.specs.Items.{Item}
 use Rattle.cmark_grammar.specs.Siblings.{item}
 use Rattle.cmark_grammar.specs.Tag.{Tag}
-use Rattle.cmark_grammar.specs.Tokens.{slice}
 use Rattle.cmark_leaf_text.specs.Reads.{place_of, text_of}
 use Rattle.cmark_leaf_text.specs.declared.leaf_text.LeafText.{LeafText}
 use Rattle.cmark_text.specs.declared.text.CowStr.{CowStr}
@@ -18,16 +15,15 @@ use Rattle.cmark_inline_model.specs.Displays.{CanBeCut, CutFacts, IsCutThere, Sh
 use Rattle.cmark_inline_model.specs.Displays as row_shows
 use Rattle.cmark_inline_model.specs.LikeSlots.{AreLike, IsLike}
 use Rattle.cmark_inline_model.specs.SlotRows as row
-use Rattle.cmark_inline_model.proofs.DisplayRows.{EndBy, nothings, nothings-append, nothings-length, shown-hidden, shown-kept}
+use Rattle.cmark_inline_model.proofs.DisplayRows.{EndBy, nothings, nothings-append, shown-hidden, shown-kept}
 use Rattle.cmark_inline_model.proofs.RowPasses.{like-both}
-use Rattle.cmark_inline.specs.SlotViews.{first_of, shown_element, shown_slot, shown_slots, slot_as}
+use Rattle.cmark_inline.specs.SlotViews.{shown_element, shown_slot, shown_slots, slot_as}
 use Rattle.cmark_inline.specs.Sound.{EndsIn, source_end}
-use Rattle.cmark_inline.specs.Wikilinks.{Hides, cut_at, cut_kind, cut_slot, ends_by, has_none_behind, hidden}
+use Rattle.cmark_inline.specs.Wikilinks.{cut_at, cut_kind, cut_slot, ends_by, has_none_behind, hidden}
 use Rattle.cmark_inline.specs.declared.link.LinkParts.{LinkParts}
 use Rattle.cmark_inline.specs.declared.slot.Slot.{Slot}
 use Rattle.cmark_inline.specs.declared.slot.SlotKind.{SlotKind}
 use Rattle.cmark_inline.specs.declared.slot.SlotKind.TheVariants as kind
-use Rattle.cmark_inline.proofs.Marks.{no-slot}
 
 -- ## Lists that are like others
 

@@ -29,11 +29,11 @@ use Rattle.cmark_inline_model.specs.SlotRows as row
 use Rattle.cmark_inline_model.specs.SlotRows.{marked, marks_by, quoted, run_places}
 use Rattle.cmark_inline_model.proofs.DisplayPasses.{display-reached}
 use Rattle.cmark_inline.specs.Hiding.{AreLeft}
-use Rattle.cmark_inline.specs.Marked.{places_of, siblings_from}
+use Rattle.cmark_inline.specs.MarkedSlots.{places_of, siblings_from}
 use Rattle.cmark_inline.specs.Reached.{HasRead, bracket_place, runs_of, quotes_of}
 use Rattle.cmark_inline.specs.SlotViews.{shown_slots}
 use Rattle.cmark_inline.specs.Sound.{HaveSizes}
-use Rattle.cmark_inline.specs.Written.{dressed_behind}
+use Rattle.cmark_inline.specs.FormedSlots.{dressed_behind}
 use Rattle.cmark_inline.specs.declared.bracket.Bracket.{Bracket}
 use Rattle.cmark_inline.specs.declared.delimiter.PlacedRun.{PlacedRun}
 use Rattle.cmark_inline.specs.declared.quote.PlacedQuote.{PlacedQuote}

@@ -1,5 +1,5 @@
 -- The slots of a link or an image.
-use Rattle.std.proofs.Common.{◌≡◌, ℕ, suc, ◌+◌, ◌-◌, ◌<◌, ◌≤◌, Bool, true, false, List, [], ◌∷◌, ◌++◌, length, drop, take, get_or, set, refl, sym, ap, subst, ◌∙◌, arith}
+use Rattle.std.proofs.Common.{◌≡◌, ℕ, ◌+◌, ◌-◌, ◌<◌, ◌≤◌, true, false, List, [], ◌∷◌, ◌++◌, length, drop, take, get_or, set, refl, sym, ap, subst, ◌∙◌, arith}
 use Rattle.std.specs.Prelude.{map, max}
 use Rattle.std.proofs.lemmas.List.{append-nil, get_or_default, length-map, map-append, map-set}
 use Rattle.cmark_grammar.specs.Emphasis.{IsEmphasis, Pair}
@@ -12,12 +12,12 @@ use Rattle.cmark_leaf_text.specs.declared.leaf_text.LeafText.{LeafText}
 use Rattle.cmark_text.specs.declared.text.CowStr.{CowStr}
 use Rattle.cmark_inline_model.specs.SlotRows as row
 use Rattle.cmark_inline_model.specs.SlotRows.{marks_by}
-use Rattle.cmark_inline.specs.Marked.{begun_as, places_of, siblings_from}
-use Rattle.cmark_inline.specs.Quoted.{characters_of}
+use Rattle.cmark_inline.specs.MarkedSlots.{begun_as, places_of, siblings_from}
+use Rattle.cmark_inline.specs.QuoteSlots.{characters_of}
 use Rattle.cmark_inline.specs.SlotViews.{first_of, linked_or_none, shown_element, shown_parts, shown_slot, shown_slots}
 use Rattle.cmark_inline.specs.Sound.{AreNamed, CanSettle}
 use Rattle.cmark_inline.specs.Stands.{AreSlots}
-use Rattle.cmark_inline.specs.Written.{WritesElement, dressed_behind, end_slot, wrapped}
+use Rattle.cmark_inline.specs.FormedSlots.{WritesElement, dressed_behind, end_slot, wrapped}
 use Rattle.cmark_inline.specs.declared.bracket.Bracket.{Bracket}
 use Rattle.cmark_inline.specs.declared.delimiter.PlacedRun.{PlacedRun}
 use Rattle.cmark_inline.specs.declared.link.LinkParts.{LinkParts}

@@ -25,8 +25,8 @@ use Rattle.cmark_inline_model.specs.RowPasses.{IsReached}
 use Rattle.cmark_inline_model.specs.SlotRows as row
 use Rattle.cmark_inline_model.specs.SlotRows.{marked, marks_by, quoted, slot_events}
 use Rattle.cmark_inline_model.proofs.RowPasses.{reached-first, reached-closing, reached-end}
-use Rattle.cmark_inline.specs.Marked.{places_of, siblings_from}
-use Rattle.cmark_inline.specs.Quoted.{characters_of}
+use Rattle.cmark_inline.specs.MarkedSlots.{places_of, siblings_from}
+use Rattle.cmark_inline.specs.QuoteSlots.{characters_of}
 use Rattle.cmark_inline.specs.Reached.{HasRead, bracket_place, runs_of, quotes_of}
 use Rattle.cmark_inline.specs.SlotViews.{shown_slot, shown_slots, events_of, events_to_come}
 use Rattle.cmark_inline.specs.declared.bracket.Bracket.{Bracket}

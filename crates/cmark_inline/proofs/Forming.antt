@@ -1,14 +1,14 @@
 -- What links, images and footnote references leave of the slots, the runs, the quotes and the brackets.
-use Rattle.std.proofs.Common.{◌≡◌, ◌⊎◌, inl, inr, ℕ, zero, suc, ◌+◌, ◌-◌, ◌<◌, ◌≤◌, List, [], ◌∷◌, ◌++◌, length, take, drop, get_or, set, Some, None, refl, sym, ap, subst, ◌∙◌, arith}
+use Rattle.std.proofs.Common.{◌≡◌, ◌⊎◌, inl, inr, ℕ, zero, suc, ◌+◌, ◌-◌, ◌<◌, ◌≤◌, List, [], ◌∷◌, ◌++◌, length, take, get_or, set, Some, None, refl, sym, ap, subst, ◌∙◌, arith}
 use Rattle.std.specs.Prelude.{All, Bool, true, false, if◌then◌else◌, nat_lt}
 use Rattle.std.proofs.lemmas.Bool.{cases_eq, cases_lt, ltb-true, ltb-false}
 use Rattle.std.proofs.lemmas.List.{length_push, length-set, length-take, get_or-take, get_or_append_left, get_or_push, get_or-set_same, get_or-set_other, take_all}
 use Rattle.cmark_leaf_text.specs.declared.leaf_text.LeafText.{LeafText}
 use Rattle.cmark_inline.specs.Doubled.{DropsBehind}
 use Rattle.cmark_inline.specs.Footnoted.{PutsReference, put_at, reference_slot, with_mark}
-use Rattle.cmark_inline.specs.Marked.{AreWhole, EndWithin, HaveBytes, SameBefore, last_in}
+use Rattle.cmark_inline.specs.MarkedSlots.{AreWhole, EndWithin, HaveBytes, SameBefore, last_in}
 use Rattle.cmark_inline.specs.SlotViews.{link_named, text_named}
-use Rattle.cmark_inline.specs.Sound.{AreEnded, AreNamed, AreSound, BeginsBefore, CanSettle, EndInOrder, EndsIn, IsPlaced, IsPlain, IsSettled, IsTaken, IsTakenPair, NamesAs, source_end}
+use Rattle.cmark_inline.specs.Sound.{AreEnded, AreNamed, AreSound, BeginsBefore, CanSettle, EndInOrder, EndsIn, IsPlain, IsSettled, IsTaken, IsTakenPair, NamesAs, source_end}
 use Rattle.cmark_inline.specs.Stands.{AreBrackets}
 use Rattle.cmark_inline.specs.declared.bracket.Bracket.{Bracket}
 use Rattle.cmark_inline.specs.declared.delimiter.PlacedRun.{PlacedRun}
@@ -18,9 +18,8 @@ use Rattle.cmark_inline.specs.declared.slot.SlotKind.TheVariants as kind
 use Rattle.cmark_inline.proofs.Marks.{no-slot, whole-set, within-set}
 use Rattle.cmark_inline.proofs.Naming.{AddsOne, adds-set, adds-then, named-link, named-text, one-ended, same-as}
 use Rattle.cmark_inline.proofs.Placing.{all-cons, have-kept, texts-kept}
-use Rattle.cmark_inline.proofs.RunPlaces.{same-on}
 use Rattle.cmark_inline.proofs.Settling.{nothing-text}
-use Rattle.cmark_inline.proofs.Soundness.{sound-back, sound-fewer, sound-settles}
+use Rattle.cmark_inline.proofs.Soundness.{sound-back, sound-fewer}
 
 pub runs-low : (slots : List Slot) (low place : ℕ) (runs : List PlacedRun) → HaveBytes slots low place runs → (least : ℕ) → least ≤ low → All (λ (r : PlacedRun). least ≤ r.slot) runs
 runs-low slots low place [] h least le = λ k d lt. absurd (omega (arith, lt))

@@ -1,7 +1,6 @@
 -- What the grammar's pass has read with a closing bracket that forms what shows nothing of what stands between its brackets.
 use Rattle.std.specs.Prelude.{drop, take, Option, Some, None}
-use Rattle.std.proofs.lemmas.Bool.{cases_lt, eq-eqb}
-use Rattle.std.proofs.Common.{◌≡◌, ◌⊎◌, inl, inr, ◌==◌, ℕ, suc, ◌+◌, ◌-◌, ◌<◌, ◌≤◌, Bool, true, false, if◌then◌else◌, List, [], ◌∷◌, ◌++◌, length, get_or, refl, sym, ap, subst, ◌∙◌, arith, append-nil}
+use Rattle.std.proofs.Common.{◌≡◌, ℕ, suc, ◌+◌, ◌-◌, ◌<◌, ◌≤◌, Bool, true, false, if◌then◌else◌, List, [], ◌∷◌, ◌++◌, length, get_or, refl, sym, ap, subst, ◌∙◌, arith, append-nil}
 use Rattle.std.proofs.Math.Seq.{drop-cons}
 use Rattle.cmark_grammar.specs.BracketDecisions.{decide, name_in, behind_pipe}
 use Rattle.cmark_grammar.specs.BracketReading.{Comes}
@@ -17,11 +16,11 @@ use Rattle.cmark_grammar.specs.Parts.{Parts, Nil, Form, Footnote, Wiki}
 use Rattle.cmark_grammar.specs.Questions.{AnyAnswer}
 use Rattle.cmark_grammar.specs.Readers.{Reader}
 use Rattle.cmark_grammar.specs.Siblings as siblings
-use Rattle.cmark_grammar.specs.Siblings.{Inline, display_from, footnote_then, from_place, item, name_text, quotes_of, wiki_tag}
-use Rattle.cmark_grammar.specs.SiblingsModel.{dress, siblings_of}
+use Rattle.cmark_grammar.specs.Siblings.{Inline, footnote_then, item, name_text, quotes_of, wiki_tag}
+use Rattle.cmark_grammar.specs.SiblingsModel.{siblings_of}
 use Rattle.cmark_grammar.specs.Tag.{Tag}
 use Rattle.cmark_grammar.specs.Tokens.{slice}
-use Rattle.cmark_leaf_text.specs.Reads.{IsFirstFrom, place_of, text_of}
+use Rattle.cmark_leaf_text.specs.Reads.{place_of, text_of}
 use Rattle.cmark_leaf_text.specs.declared.leaf_text.LeafText.{LeafText}
 use Rattle.cmark_text.specs.declared.text.CowStr.{CowStr}
 use Rattle.cmark_inline_model.specs.LikeSlots.{AreLike, IsLike}

@@ -1,18 +1,17 @@
 -- Calls that append slots keep what holds of the state.
 use Rattle.std.proofs.Common.{◌≡◌, ◌⊎◌, inl, inr, ℕ, zero, suc, ◌+◌, ◌-◌, ◌<◌, ◌≤◌, List, [], ◌∷◌, ◌++◌, length, get_or, Some, None, refl, sym, ap, subst, ◌∙◌, arith}
-use Rattle.std.specs.Prelude.{All, Bool, true, false, if◌then◌else◌, IfSome, Option}
+use Rattle.std.specs.Prelude.{Bool, true, false, if◌then◌else◌, IfSome, Option}
 use Rattle.std.proofs.lemmas.Bool.{cases_lt}
-use Rattle.std.proofs.lemmas.List.{length_push, length-append, get_or_append_left, get_or-append_right, get_or_push}
-use Rattle.std.proofs.lemmas.List.Elements.{All-push}
+use Rattle.std.proofs.lemmas.List.{length_push, length-append, get_or_append_left, get_or-append_right}
 use Rattle.cmark_leaf_text.specs.declared.leaf_text.LeafText.{LeafText}
 use Rattle.cmark_text.specs.declared.text.CowStr.{CowStr}
 use Rattle.cmark_grammar.specs.Answers.{Lookup}
 use Rattle.cmark_grammar.specs.Options.{Options}
 use Rattle.cmark_leaf_text.specs.Reads.{place_of}
-use Rattle.cmark_inline.specs.FoundInSource.{IsFound}
-use Rattle.cmark_inline.specs.Marked.{last_in}
+use Rattle.cmark_inline.specs.MarkupInSource.{IsFound}
+use Rattle.cmark_inline.specs.MarkedSlots.{last_in}
 use Rattle.cmark_inline.specs.SlotViews.{link_named, text_named}
-use Rattle.cmark_inline.specs.Sound.{AreEnded, AreSound, IsPlain, IsSound, IsTaken, IsTakenFrom, KeepsSound, NamesNoMore, StandsAlone, source_end, EndsIn}
+use Rattle.cmark_inline.specs.Sound.{AreEnded, AreSound, IsSound, IsTaken, IsTakenFrom, KeepsSound, StandsAlone, source_end, EndsIn}
 use Rattle.cmark_inline.specs.Stands.{AreSlots, PushesText, SameSpans}
 use Rattle.cmark_inline.specs.Tokens.{AppendsQuote, Puts, PutsAutolink, byte_slots}
 use Rattle.cmark_inline.specs.declared.bracket.Bracket.{Bracket}
@@ -29,8 +28,8 @@ use Rattle.cmark_inline.specs.declared.slot.SlotKind.{SlotKind}
 use Rattle.cmark_inline.specs.declared.slot.SlotKind.TheVariants as kind
 use Rattle.cmark_inline.specs.declared.state.InlineState.{InlineState}
 use Rattle.cmark_inline.specs.declared.step.Cursor.{Cursor}
-use Rattle.cmark_inline.proofs.Naming.{adds-push, ended-on, no-more-on, no-more-push, no-more-same, one-ended}
-use Rattle.cmark_inline.proofs.Soundness.{sound-bytes, sound-link, sound-pending, sound-plain, sound-quote, sound-run, sound-text}
+use Rattle.cmark_inline.proofs.Naming.{adds-push, ended-on, no-more-push, one-ended}
+use Rattle.cmark_inline.proofs.Soundness.{sound-link, sound-pending, sound-plain, sound-quote, sound-run, sound-text}
 use Rattle.cmark_inline.proofs.Forming.{sound-same}
 
 pub keeps-same : (state : InlineState) → KeepsSound state state

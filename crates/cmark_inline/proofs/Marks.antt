@@ -12,11 +12,11 @@ use Rattle.cmark_grammar.specs.Items as items
 use Rattle.cmark_grammar.specs.Options.{Options}
 use Rattle.cmark_grammar.specs.Spans.{span_tag}
 use Rattle.cmark_inline_model.specs.SlotRows as row
-use Rattle.cmark_inline_model.specs.SlotRows.{Mark, marked, spanned, start_in, end_in, used_up, run_places}
+use Rattle.cmark_inline_model.specs.SlotRows.{Mark, marked, spanned, start_in, end_in, used_up}
 use Rattle.cmark_leaf_text.specs.Reads.{place_of}
 use Rattle.cmark_leaf_text.specs.declared.leaf_text.LeafText.{LeafText}
 use Rattle.cmark_text.specs.declared.text.CowStr.{CowStr}
-use Rattle.cmark_inline.specs.Marked.{AreAhead, AreBegun, AreReady, AreWhole, BeganFrom, EndWithin, Merges, SameBefore, begun_as, ended, last_in, shown_mark, whole_to}
+use Rattle.cmark_inline.specs.MarkedSlots.{AreAhead, AreBegun, AreReady, AreWhole, BeganFrom, EndWithin, Merges, SameBefore, begun_as, ended, last_in, shown_mark, whole_to}
 use Rattle.cmark_inline.specs.SlotViews.{slot_as, shown_slot, shown_slots, shown_element, item_slot, first_of, past_of}
 use Rattle.cmark_inline.specs.Wikilinks.{Hides, hidden}
 use Rattle.cmark_inline.specs.declared.link.LinkParts.{LinkParts}

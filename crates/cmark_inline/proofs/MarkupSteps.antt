@@ -7,7 +7,7 @@ use Rattle.std.proofs.lemmas.List.{take-append-drop}
 use Rattle.std.proofs.lemmas.Slice.Eq.{bytes_eq-Decides}
 use Rattle.cmark_grammar.specs.InlineHtml.{behind_comment, behind_opened, opened_in, declaration_in, cdata_in, behind_markup}
 use Rattle.cmark_grammar.specs.Letters.{first_is, is_letter, starts, behind_first, behind_start}
-use Rattle.cmark_inline.specs.FoundInSource.{opens_as}
+use Rattle.cmark_inline.specs.MarkupInSource.{opens_as}
 use Rattle.cmark_inline.specs.declared.markup.MarkupKind.{MarkupKind}
 use Rattle.cmark_inline.specs.declared.markup.MarkupKind.TheVariants as markup
 

@@ -1,15 +1,13 @@
 -- Which texts and links slots name, as slots are appended and become others.
-use Rattle.std.proofs.Common.{◌≡◌, ◌≢◌, ◌⊎◌, inl, inr, ℕ, zero, suc, ◌+◌, ◌<◌, ◌≤◌, List, [], ◌∷◌, ◌++◌, length, get_or, set, Some, None, refl, sym, ap, subst, ◌∙◌, arith}
-use Rattle.std.specs.Prelude.{Option, All, max}
+use Rattle.std.proofs.Common.{◌≡◌, ◌⊎◌, inl, inr, ℕ, ◌+◌, ◌<◌, ◌≤◌, List, [], ◌∷◌, ◌++◌, length, get_or, set, Some, None, refl, sym, ap, subst, ◌∙◌, arith}
+use Rattle.std.specs.Prelude.{Option, All}
 use Rattle.std.proofs.lemmas.Bool.{cases_eq, cases_lt}
 use Rattle.std.proofs.lemmas.List.{length_push, get_or_append_left, get_or_push, get_or-set_same, get_or-set_other, length-set}
 use Rattle.std.proofs.lemmas.Option.{same_Some}
 use Rattle.cmark_leaf_text.specs.declared.leaf_text.LeafText.{LeafText}
-use Rattle.cmark_inline.specs.Marked.{Merges, whole_to}
+use Rattle.cmark_inline.specs.MarkedSlots.{Merges, whole_to}
 use Rattle.cmark_inline.specs.SlotViews.{AreOnce, Differ, IsThere, link_named, text_named}
 use Rattle.cmark_inline.specs.Sound.{AreEnded, AreNamed, EndsIn, IsPlain, NamesAs, NamesNoMore, source_end}
-use Rattle.cmark_inline.specs.Stands.{PushesText}
-use Rattle.cmark_inline.specs.Tokens.{byte_slots}
 use Rattle.cmark_inline.specs.Wikilinks.{Hides}
 use Rattle.cmark_inline.specs.declared.slot.Slot.{Slot}
 use Rattle.cmark_inline.specs.declared.slot.SlotKind.{SlotKind}

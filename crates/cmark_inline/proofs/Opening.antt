@@ -1,16 +1,16 @@
 -- An opening bracket that is appended, and a bracket that is taken.
 use Rattle.std.proofs.Common.{◌≡◌, ◌⊎◌, inl, inr, ℕ, zero, suc, ◌+◌, ◌-◌, ◌<◌, ◌≤◌, Bool, true, false, List, [], ◌∷◌, ◌++◌, length, take, get_or, Some, None, refl, sym, ap, subst, ◌∙◌, arith}
-use Rattle.std.specs.Prelude.{All, Option, not, nat_lt, ◌&&◌, ◌==◌, if◌then◌else◌, slice_get, IfSome}
-use Rattle.std.proofs.lemmas.Bool.{cases_lt, ltb-true, eqb-true}
+use Rattle.std.specs.Prelude.{All, Option, not, nat_lt, ◌&&◌, ◌==◌, if◌then◌else◌, slice_get}
+use Rattle.std.proofs.lemmas.Bool.{cases_lt, eqb-true}
 use Rattle.std.proofs.lemmas.List.{length_push, length-take, get_or_append_left, get_or_push, get_or-take, take_all}
 use Rattle.std.proofs.lemmas.List.Elements.{All-push, All-take}
-use Rattle.std.proofs.lemmas.Option.{get_or_from_slice_get, slice_get-get_or}
+use Rattle.std.proofs.lemmas.Option.{get_or_from_slice_get}
 use Rattle.cmark_grammar.specs.Options.{Options}
 use Rattle.cmark_inline.specs.Doubled.{doubles, if_ends, nearest, nearest_of, touching, with_double}
-use Rattle.cmark_inline.specs.Marked.{last_in}
+use Rattle.cmark_inline.specs.MarkedSlots.{last_in}
 use Rattle.cmark_inline.specs.SlotViews.{link_named, text_named}
-use Rattle.cmark_inline.specs.Sound.{AreEnded, AreInOrder, AreSound, BeginsBefore, EndInOrder, IsPlaced, IsSound, IsTaken, IsTakenPair, KeepsSound}
-use Rattle.cmark_inline.specs.Stands.{AreBrackets, PushesText}
+use Rattle.cmark_inline.specs.Sound.{AreInOrder, AreSound, BeginsBefore, EndInOrder, IsPlaced, IsTaken, IsTakenPair}
+use Rattle.cmark_inline.specs.Stands.{AreBrackets}
 use Rattle.cmark_inline.specs.declared.bracket.Bracket.{Bracket}
 use Rattle.cmark_inline.specs.declared.bracket.Brackets.{Brackets}
 use Rattle.cmark_inline.specs.declared.delimiter.PlacedRun.{PlacedRun}

@@ -1,12 +1,10 @@
 -- Quotes, delimiter runs and brackets that stand in slots, as slots are appended and become others.
-use Rattle.std.proofs.Common.{◌≡◌, ◌⊎◌, inl, inr, ⊎_elim, false, ℕ, zero, suc, ◌+◌, ◌-◌, ◌<◌, ◌≤◌, List, [], ◌∷◌, ◌++◌, length, take, drop, get_or, refl, sym, ap, subst, ◌∙◌, arith}
+use Rattle.std.proofs.Common.{◌≡◌, ◌⊎◌, inl, inr, false, ℕ, zero, suc, ◌+◌, ◌-◌, ◌<◌, ◌≤◌, List, [], ◌∷◌, ◌++◌, length, take, drop, get_or, refl, sym, ap, subst, ◌∙◌, arith}
 use Rattle.std.specs.Prelude.{All}
 use Rattle.std.proofs.lemmas.Bool.{cases_lt}
 use Rattle.std.proofs.lemmas.List.{length_push, length-take, length-take-le, length-drop, get_or_append_left, get_or_push, get_or-take, get_or-drop, same_lists}
-use Rattle.cmark_emphasis.specs.declared.quotes.Quote.{Quote}
-use Rattle.cmark_emphasis.specs.declared.run.Run.{Run}
-use Rattle.cmark_inline.specs.Marked.{HaveBytes, HaveTexts, SameBefore}
-use Rattle.cmark_inline.specs.Sound.{AreApart, HaveSizes, IsPlaced}
+use Rattle.cmark_inline.specs.MarkedSlots.{HaveBytes, HaveTexts, SameBefore}
+use Rattle.cmark_inline.specs.Sound.{HaveSizes, IsPlaced}
 use Rattle.cmark_inline.specs.Tokens.{byte_slots}
 use Rattle.cmark_inline.specs.declared.bracket.Bracket.{Bracket}
 use Rattle.cmark_inline.specs.declared.delimiter.PlacedRun.{PlacedRun}

@@ -9,7 +9,7 @@ use Rattle.cmark_grammar.specs.LeafText.{Leaf}
 use Rattle.cmark_grammar.specs.Options.{Options}
 use Rattle.cmark_grammar.specs.Readers.{Reader}
 use Rattle.cmark_inline_model.specs.PlacedTokens.{StopsAt}
-use Rattle.cmark_inline.specs.Come.{AreTexts, HasBegun}
+use Rattle.cmark_inline.specs.CursorProgress.{AreTexts, HasBegun}
 use Rattle.cmark_inline.specs.PlainStretches.{StandsForItself}
 use Rattle.cmark_inline.specs.Tokens.{begins_at, reading, whole}
 use Rattle.cmark_inline.proofs.TokenSteps.{from-is}

@@ -1,8 +1,8 @@
 -- Bytes that are not special stand for themselves.
 use Rattle.std.specs.Prelude.{Option, None, codes, not, if◌then◌else◌, nat_lt}
 use Rattle.std.specs.List.{prefix_len, position_or_len}
-use Rattle.std.proofs.Common.{◌≡◌, ◌⊎◌, inl, inr, ℕ, zero, suc, ◌+◌, ◌-◌, ◌<◌, ◌≤◌, ◌==◌, ◌&&◌, ◌||◌, Bool, true, false, List, [], ◌∷◌, length, drop, get_or, refl, sym, ap, ◌∙◌, arith, cond, eqb-true, length-drop, true≢false}
-use Rattle.std.proofs.lemmas.Bool.{eq-eqb, or_parts, false_from_ne_true, ltb-true, ltb-false, lt-ltb}
+use Rattle.std.proofs.Common.{◌≡◌, ◌⊎◌, inl, inr, ℕ, suc, ◌+◌, ◌-◌, ◌<◌, ◌≤◌, ◌==◌, ◌&&◌, ◌||◌, Bool, true, false, List, [], ◌∷◌, length, drop, get_or, refl, sym, ap, ◌∙◌, arith, cond, eqb-true, length-drop, true≢false}
+use Rattle.std.proofs.lemmas.Bool.{eq-eqb, or_parts, false_from_ne_true, ltb-true, ltb-false}
 use Rattle.std.proofs.lemmas.List.{get_or-drop}
 use Rattle.std.proofs.lemmas.List.Sums.{prefix_len_passes, prefix_len-le-length, fails_before_first, passes_at_first}
 use Rattle.cmark_grammar.specs.Answers.{Lookup}

@@ -5,7 +5,7 @@ use Rattle.std.specs.Prelude.{map}
 use Rattle.std.proofs.lemmas.List.{drop_all, length-map}
 use Rattle.cmark_emphasis.specs.Shown.{shown_quote}
 use Rattle.cmark_grammar.specs.Quotes.{Quote, quote_characters}
-use Rattle.cmark_inline.specs.Quoted.{characters_of, with_character, with_characters}
+use Rattle.cmark_inline.specs.QuoteSlots.{characters_of, with_character, with_characters}
 use Rattle.cmark_inline.specs.declared.quote.PlacedQuote.{PlacedQuote}
 use Rattle.cmark_inline.specs.declared.slot.Slot.{Slot}
 use Rattle.cmark_inline.specs.declared.slot.SlotKind.TheVariants as kind

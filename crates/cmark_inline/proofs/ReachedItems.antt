@@ -20,9 +20,9 @@ use Rattle.cmark_inline_model.specs.RowPasses.{IsReached, has_own_slot}
 use Rattle.cmark_inline_model.specs.SlotRows.{ItemSlot}
 use Rattle.cmark_inline.specs.BracketViews.{ArePlaced, IsFresh, StandFor}
 use Rattle.cmark_inline.specs.Closers.{ShowsState}
-use Rattle.cmark_inline.specs.Come.{HasReached}
+use Rattle.cmark_inline.specs.CursorProgress.{HasReached}
 use Rattle.cmark_inline.specs.Decided.{EndsWithin}
-use Rattle.cmark_inline.specs.Marked.{places_of}
+use Rattle.cmark_inline.specs.MarkedSlots.{places_of}
 use Rattle.cmark_inline.specs.Reached.{HasRead, bracket_place, quotes_of, runs_of}
 use Rattle.cmark_inline.specs.SlotViews.{shown_slot, shown_slots}
 use Rattle.cmark_inline.specs.declared.bracket.Bracket.{Bracket}

@@ -8,25 +8,26 @@ use Rattle.cmark_emphasis.specs.Shown.{shown_run}
 use Rattle.cmark_emphasis.specs.Slots.{AreBalanced, slots_of}
 use Rattle.cmark_emphasis.specs.Slots as code_sides
 use Rattle.cmark_emphasis.specs.declared.run.Run as code_run
+use Rattle.cmark_emphasis.proofs.Bridge.{run_pairs-are}
+use Rattle.cmark_emphasis.proofs.FewRuns.{one_run}
 use Rattle.cmark_emphasis.specs.declared.slot.Slot as code_mark
 use Rattle.cmark_emphasis.specs.declared.slot.Slot.TheVariants as mark
 use Rattle.cmark_grammar.specs.Emphasis.{Pair, IsEmphasis, StandFrom, kinds_of, places_taken, runs_of}
 use Rattle.cmark_grammar.specs.EmphasisModel.{pairs_of, spans_of}
-use Rattle.cmark_grammar.specs.SpanEntries as entries
 use Rattle.cmark_grammar.specs.Options.{Options}
+use Rattle.cmark_grammar.specs.SpanEntries as entries
 use Rattle.cmark_grammar.specs.Spans.{SpanKind, Emphasis, Strong, SingleTilde, DoubleTilde, Caret, Spans, span_width}
 use Rattle.cmark_grammar.proofs.EmphasisOne.{one}
 use Rattle.cmark_grammar.proofs.EmphasisSound.{sound as emphasis}
 use Rattle.cmark_grammar.proofs.SpanEntries.{pairs-marked}
 use Rattle.cmark_inline_model.specs.SlotRows as row
-use Rattle.cmark_inline_model.specs.SlotRows.{Mark, marked, Stays, opening, closing, marks_by, marks_of, run_places}
+use Rattle.cmark_inline_model.specs.SlotRows.{Mark, Stays, opening, closing, marked, marks_by, run_places}
 use Rattle.cmark_inline_model.proofs.SlotLaws.{entries-say}
-use Rattle.cmark_inline.specs.Marked.{AreAhead, AreReady, AreWhole, HaveBytes, places_of, shown_mark, siblings_from, SameBefore}
+use Rattle.cmark_inline.specs.MarkedSlots.{AreAhead, AreReady, AreWhole, HaveBytes, places_of, shown_mark, siblings_from, SameBefore}
 use Rattle.cmark_inline.specs.Tokens.{byte_slots}
 use Rattle.cmark_inline.specs.declared.delimiter.PlacedRun.{PlacedRun}
 use Rattle.cmark_inline.specs.declared.slot.Slot.{Slot}
 use Rattle.cmark_inline.specs.declared.slot.SlotKind.TheVariants as kind
-use Rattle.cmark_inline.proofs.Marks.{begun-further}
 
 -- ## Runs as siblings
 
@@ -90,6 +91,29 @@ marks-are placed marks pairs spans e is =
     ∙ sym (pairs-marked Mark Stays opening closing opening-wide closing-wide sib (stand-so 0 placed))
     ∙ ap (λ ps. marks_by (places_taken sib) ps) (sym (one sib pairs spans e).0)
     ∙ ap (λ n. marks_by n pairs) (sym (length-places 0 placed))
+
+-- where each byte stays, the slots are as they were
+stay-marked : (options : Options) (places : List ℕ) (count : ℕ) (slots : List row.Slot) → marked options places (entries.stays Mark Stays opening closing count) slots [] ≡ slots
+stay-marked options [] count slots = refl
+stay-marked options (at ∷ places) zero slots = refl
+stay-marked options (at ∷ places) (suc count) slots = stay-marked options places count slots
+
+no-pairs : (placed : PlacedRun) → pairs_of (siblings_from 0 (placed ∷ [])) ≡ []
+no-pairs placed = sym (run_pairs-are (siblings_from 0 (placed ∷ []))) ∙ one_run _
+
+-- a run alone makes no pair
+alone-marked : (options : Options) (placed : PlacedRun) (pairs : List Pair) (spans : Spans) (slots : List row.Slot) → IsEmphasis (siblings_from 0 (placed ∷ [])) pairs spans
+    → slots ≡ marked options (places_of (placed ∷ [])) (marks_by (length (places_of (placed ∷ []))) pairs) slots []
+alone-marked options placed pairs spans slots e =
+    sym (ap (λ ps. marked options (places_of (placed ∷ [])) (marks_by (length (places_of (placed ∷ []))) ps) slots []) ((one (siblings_from 0 (placed ∷ [])) pairs spans e).0 ∙ no-pairs placed)
+    ∙ stay-marked options (places_of (placed ∷ [])) (length (places_of (placed ∷ []))) slots)
+
+-- the last of the runs makes none
+pub lone-marked : (options : Options) (placed : List PlacedRun) (pairs : List Pair) (spans : Spans) (slots : List row.Slot) → length placed ≡ 1 → IsEmphasis (siblings_from 0 placed) pairs spans
+    → slots ≡ marked options (places_of placed) (marks_by (length (places_of placed)) pairs) slots []
+lone-marked options [] pairs spans slots one_long e = absurd (omega arith)
+lone-marked options (p ∷ []) pairs spans slots one_long e = alone-marked options p pairs spans slots e
+lone-marked options (p ∷ (q ∷ placed)) pairs spans slots one_long e = absurd (omega arith)
 
 -- pairs write into a row of entries, and leave as many of them
 module _ (Entry : Type 0) (single : Entry) (open_side close_side : SpanKind → List Entry) where

@@ -1,11 +1,10 @@
 -- Slots that get the characters of quotes and the marks of runs, and what stays of them.
-use Rattle.std.proofs.Common.{◌≡◌, ◌≢◌, ◌⊎◌, inl, inr, ⊎_elim, ℕ, zero, suc, ◌+◌, ◌<◌, ◌≤◌, List, [], ◌∷◌, ◌++◌, length, drop, get_or, refl, sym, ap, subst, ◌∙◌, arith}
-use Rattle.std.specs.Prelude.{All}
+use Rattle.std.proofs.Common.{◌≡◌, ◌≢◌, ◌⊎◌, inl, inr, ⊎_elim, ℕ, zero, suc, ◌+◌, ◌<◌, ◌≤◌, List, [], ◌∷◌, ◌++◌, length, get_or, refl, sym, ap, subst, ◌∙◌, arith}
 use Rattle.std.proofs.lemmas.Bool.{cases_lt}
 use Rattle.std.proofs.lemmas.List.{length_push, get_or_append_left, get_or_push}
-use Rattle.cmark_inline.specs.Marked.{AreWhole, EndWithin, HaveBytes, HaveTexts, SameBefore, last_in}
-use Rattle.cmark_inline.specs.Quoted.{with_character, with_characters}
-use Rattle.cmark_inline.specs.Sound.{AreApart, CanSettle, HaveSizes, IsPlain, IsSettled, NamesAs, NamesNoMore}
+use Rattle.cmark_inline.specs.MarkedSlots.{AreWhole, EndWithin, HaveBytes, SameBefore, last_in}
+use Rattle.cmark_inline.specs.QuoteSlots.{with_character, with_characters}
+use Rattle.cmark_inline.specs.Sound.{CanSettle, IsPlain, NamesAs, NamesNoMore}
 use Rattle.cmark_inline.specs.declared.delimiter.PlacedRun.{PlacedRun}
 use Rattle.cmark_inline.specs.declared.quote.PlacedQuote.{PlacedQuote}
 use Rattle.cmark_inline.specs.declared.slot.Slot.{Slot}

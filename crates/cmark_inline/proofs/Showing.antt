@@ -1,15 +1,14 @@
 -- The slots that a wikilink shows, and the quotes and runs in them.
-use Rattle.std.proofs.Common.{◌≡◌, ◌≢◌, ◌⊎◌, inl, inr, ℕ, zero, suc, ◌+◌, ◌-◌, ◌<◌, ◌≤◌, List, [], ◌∷◌, ◌++◌, length, take, drop, get_or, refl, sym, ap, subst, ◌∙◌, arith}
+use Rattle.std.proofs.Common.{◌≡◌, ◌⊎◌, inl, inr, ℕ, zero, suc, ◌+◌, ◌-◌, ◌<◌, ◌≤◌, List, [], ◌∷◌, length, drop, get_or, refl, sym, ap, subst, ◌∙◌, arith}
 use Rattle.std.specs.Prelude.{All, Bool, true, false, ◌&&◌, if◌then◌else◌, nat_lt}
-use Rattle.std.proofs.lemmas.Bool.{cases_lt, ltb-true, ltb-false}
+use Rattle.std.proofs.lemmas.Bool.{cases_lt, ltb-true}
 use Rattle.std.proofs.lemmas.List.{length-drop, get_or-drop}
 use Rattle.cmark_grammar.specs.InlineHtml.{takes_lines}
 use Rattle.cmark_grammar.specs.Tokens.{slice}
-use Rattle.cmark_inline.specs.Marked.{AreWhole, EndWithin, HaveBytes, HaveTexts, SameBefore, last_in}
+use Rattle.cmark_inline.specs.MarkedSlots.{EndWithin, HaveBytes, SameBefore, last_in}
 use Rattle.cmark_inline.specs.SlotViews.{link_named, text_named}
-use Rattle.cmark_inline.specs.Sound.{AreSound, CanSettle, HaveSizes, IsPlaced, IsPlain, NamesAs, NamesNoMore, source_end}
-use Rattle.cmark_inline.specs.Tokens.{byte_slots}
-use Rattle.cmark_inline.specs.Wikilinks.{Hides, cut_at, cut_kind, cut_slot, hidden}
+use Rattle.cmark_inline.specs.Sound.{AreSound, CanSettle, HaveSizes, IsPlain, NamesAs, NamesNoMore, source_end}
+use Rattle.cmark_inline.specs.Wikilinks.{Hides, cut_at, cut_kind, cut_slot}
 use Rattle.cmark_inline.specs.declared.bracket.Bracket.{Bracket}
 use Rattle.cmark_inline.specs.declared.delimiter.PlacedRun.{PlacedRun}
 use Rattle.cmark_inline.specs.declared.quote.PlacedQuote.{PlacedQuote}
@@ -19,7 +18,7 @@ use Rattle.cmark_inline.specs.declared.slot.SlotKind.TheVariants as kind
 use Rattle.cmark_inline.proofs.Forming.{runs-low}
 use Rattle.cmark_inline.proofs.Marks.{whole-hides}
 use Rattle.cmark_inline.proofs.Naming.{no-more-hides, no-more-on, same-as}
-use Rattle.cmark_inline.proofs.Placing.{KeepsRuns, all-drop, all-head, all-tail, byte, byte-there, have-kept, texts-kept}
+use Rattle.cmark_inline.proofs.Placing.{KeepsRuns, all-drop, all-head, all-tail, byte, byte-there, have-kept}
 use Rattle.cmark_inline.proofs.Settling.{Stays, whole-stays, within-stays}
 
 -- ## One slot that is cut

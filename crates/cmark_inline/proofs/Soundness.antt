@@ -1,13 +1,13 @@
 -- What holds of the slots of a leaf while it is read stays so, as slots are appended and become others.
 use Rattle.std.proofs.Common.{◌≡◌, ◌⊎◌, inl, inr, ℕ, zero, suc, ◌+◌, ◌-◌, ◌<◌, ◌≤◌, List, [], ◌∷◌, ◌++◌, length, take, drop, get_or, Some, None, refl, sym, ap, subst, ◌∙◌, arith}
-use Rattle.std.specs.Prelude.{All, nat_lt, Bool, true, false}
+use Rattle.std.specs.Prelude.{All}
 use Rattle.std.proofs.Math.Seq.{drop-append_seam}
-use Rattle.std.proofs.lemmas.Bool.{cases_lt, ltb-true, ltb-false}
-use Rattle.std.proofs.lemmas.List.{length_push, length-append, length-take, length-take-le, length-drop, get_or_append_left, get_or_push, get_or-take, get_or-drop, take_all}
+use Rattle.std.proofs.lemmas.Bool.{cases_lt}
+use Rattle.std.proofs.lemmas.List.{length_push, length-take, length-drop, get_or_append_left, get_or_push, get_or-take, get_or-drop, take_all}
 use Rattle.std.proofs.lemmas.List.Elements.{All-push, All-take}
-use Rattle.cmark_inline.specs.Marked.{AreWhole, EndWithin, HaveBytes, HaveTexts, SameBefore, last_in}
+use Rattle.cmark_inline.specs.MarkedSlots.{AreWhole, EndWithin, SameBefore, last_in}
 use Rattle.cmark_inline.specs.SlotViews.{link_named, text_named}
-use Rattle.cmark_inline.specs.Sound.{AreApart, AreInOrder, AreNamed, AreSound, BeginsBefore, EndInOrder, CanSettle, HaveSizes, IsPlaced, IsPlain, NamesNoMore, StandInOrder}
+use Rattle.cmark_inline.specs.Sound.{AreNamed, AreSound, BeginsBefore, EndInOrder, CanSettle, HaveSizes, IsPlaced}
 use Rattle.cmark_inline.specs.Stands.{PushesText}
 use Rattle.cmark_inline.specs.Tokens.{byte_slots}
 use Rattle.cmark_inline.specs.declared.bracket.Bracket.{Bracket}
@@ -15,8 +15,8 @@ use Rattle.cmark_inline.specs.declared.delimiter.PlacedRun.{PlacedRun}
 use Rattle.cmark_inline.specs.declared.quote.PlacedQuote.{PlacedQuote}
 use Rattle.cmark_inline.specs.declared.slot.Slot.{Slot}
 use Rattle.cmark_inline.specs.declared.slot.SlotKind.TheVariants as kind
-use Rattle.cmark_inline.proofs.Naming.{AddsOne, adds-push, named-more, named-none, named-on, named-text, named-link, no-more-push}
-use Rattle.cmark_inline.proofs.Placing.{EndBefore, all-drop, have-drop, have-kept, have-push, have-take, keeps-before, length-bytes, placed-cut, placed-quote, placed-run, placed-slots, runs-within, texts-kept}
+use Rattle.cmark_inline.proofs.Naming.{adds-push, named-more, named-none, named-text, named-link}
+use Rattle.cmark_inline.proofs.Placing.{all-drop, have-drop, have-kept, have-push, have-take, keeps-before, length-bytes, placed-cut, placed-quote, placed-run, placed-slots, runs-within, texts-kept}
 use Rattle.cmark_inline.proofs.Settling.{whole-push, within-push}
 
 -- ## Slots that are appended

@@ -9,7 +9,7 @@ use Rattle.cmark_leaf_text.specs.declared.stretch.Stretch.{Stretch}
 use Rattle.cmark_leaf_text.specs.Reads.{IsRead, IsPart, text_of, source_of, place_of}
 use Rattle.cmark_leaf_text.specs.Stretches.{AreStretches, joined, place_in, size_of}
 use Rattle.cmark_leaf_text.proofs.StretchSteps.{size-joined, part-there}
-use Rattle.cmark_inline.specs.FoundInSource.{IsFound}
+use Rattle.cmark_inline.specs.MarkupInSource.{IsFound}
 use Rattle.cmark_inline.specs.SlotViews.{CanBeGiven, EndsBehind}
 use Rattle.cmark_inline.specs.Sound.{AreNamed, EndsIn, source_end}
 use Rattle.cmark_text.specs.declared.text.CowStr.{CowStr}

@@ -11,7 +11,7 @@ use Rattle.cmark_leaf_text.specs.declared.stretch.Stretch.{Stretch}
 use Rattle.cmark_leaf_text.specs.Reads.{IsRead, IsFirstFrom, IsPart, text_of, source_of, place_of}
 use Rattle.cmark_leaf_text.specs.Stretches.{AreStretches, joined, place_in, size_of}
 use Rattle.cmark_leaf_text.proofs.StretchSteps.{size-joined, slice-length, byte-in-slice, placed, place-order, part-there}
-use Rattle.cmark_inline.specs.FoundInSource.{source_from, opens_as, NoneCloses, AreUnclosed}
+use Rattle.cmark_inline.specs.MarkupInSource.{source_from, opens_as, NoneCloses, AreUnclosed}
 use Rattle.cmark_inline.specs.declared.markup.MarkupKind.{MarkupKind}
 use Rattle.cmark_inline.specs.declared.markup.MarkupKind.TheVariants as markup
 use Rattle.cmark_inline.specs.declared.markup.Unclosed.{Unclosed}

@@ -3,7 +3,7 @@ use Rattle.std.specs.Prelude.{if◌then◌else◌, drop, Option, Some, None, opt
 use Rattle.std.proofs.Common.{◌≡◌, ℕ, suc, ◌+◌, ◌-◌, ◌<◌, ◌≤◌, ◌==◌, Bool, true, false, List, length, get_or, refl, sym, ap, subst, ◌∙◌, arith}
 use Rattle.cmark_grammar.specs.Answers.{Lookup}
 use Rattle.cmark_grammar.specs.BracketDecisions as decisions
-use Rattle.cmark_grammar.specs.BracketDecisions.{is_there, link_or, reference_or, stays, unless_footnote}
+use Rattle.cmark_grammar.specs.BracketDecisions.{is_there, link_or, reference_or, unless_footnote}
 use Rattle.cmark_grammar.specs.BracketStates.{State, Decision}
 use Rattle.cmark_grammar.specs.Items as items
 use Rattle.cmark_grammar.specs.Labels.{fold, normal_form}
@@ -29,7 +29,7 @@ use Rattle.cmark_inline.specs.Linked as linked
 use Rattle.cmark_inline.specs.Linked.{InlineLink, Refers, left_behind, reference_behind, shown_asked, shown_target}
 use Rattle.cmark_inline.specs.declared.bracket.Bracket.{Bracket}
 use Rattle.cmark_inline.specs.declared.callback.BrokenLink.{BrokenLink}
-use Rattle.cmark_inline.specs.declared.link.Asked.{Asked}
+use Rattle.cmark_inline.specs.declared.reference.Asked.{Asked}
 use Rattle.cmark_inline.specs.declared.link.Target.{Target}
 use Rattle.cmark_inline.specs.declared.state.InlineState.{InlineState}
 use Rattle.cmark_inline.proofs.DecisionSteps.{refers-spent, refers-led, stays-settled}

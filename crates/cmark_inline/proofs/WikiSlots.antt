@@ -17,13 +17,13 @@ use Rattle.cmark_leaf_text.specs.declared.leaf_text.LeafText.{LeafText}
 use Rattle.cmark_inline_model.specs.SlotRows as row
 use Rattle.cmark_inline_model.specs.SlotRows.{marked, marks_by, quoted, seen}
 use Rattle.cmark_inline.specs.Hiding.{AreLeft, WritesShown}
-use Rattle.cmark_inline.specs.Marked.{SameBefore, begun_as, places_of, siblings_from}
-use Rattle.cmark_inline.specs.Quoted.{characters_of}
+use Rattle.cmark_inline.specs.MarkedSlots.{SameBefore, begun_as, places_of, siblings_from}
+use Rattle.cmark_inline.specs.QuoteSlots.{characters_of}
 use Rattle.cmark_inline.specs.SlotViews.{first_of, shown_element, shown_parts, shown_slot, shown_slots}
 use Rattle.cmark_inline.specs.Sound.{AreNamed, AreSound, CanSettle}
 use Rattle.cmark_inline.specs.Stands.{AreSlots}
 use Rattle.cmark_inline.specs.Wikilinks.{Hides, IsNamed, Shows, display_place, has_pothole, hidden, shown_name}
-use Rattle.cmark_inline.specs.Written.{Forgets, dressed_behind, end_slot, wrapped}
+use Rattle.cmark_inline.specs.FormedSlots.{Forgets, dressed_behind, end_slot, wrapped}
 use Rattle.cmark_inline.specs.declared.bracket.Bracket.{Bracket}
 use Rattle.cmark_inline.specs.declared.bracket.Brackets.{Brackets}
 use Rattle.cmark_inline.specs.declared.delimiter.PlacedRun.{PlacedRun}

@@ -1,5 +1,5 @@
 -- What is written into the slots between two others leaves these: the characters of quotes and the marks of runs.
-use Rattle.std.proofs.Common.{◌≡◌, ℕ, zero, suc, ◌+◌, ◌-◌, ◌<◌, ◌≤◌, List, [], ◌∷◌, ◌++◌, length, drop, take, get_or, set, Option, Some, None, refl, sym, ap, subst, ◌∙◌, arith, append_assoc}
+use Rattle.std.proofs.Common.{◌≡◌, ℕ, zero, suc, ◌+◌, ◌-◌, ◌<◌, ◌≤◌, List, [], ◌∷◌, ◌++◌, length, drop, take, get_or, set, Option, Some, None, refl, ap, ◌∙◌, arith, append_assoc}
 use Rattle.std.specs.Prelude.{All, map}
 use Rattle.std.proofs.lemmas.List.{get_or_append_left, get_or-set_other, length-set, set-append_left, set_comm, set_split}
 use Rattle.cmark_grammar.specs.Options.{Options}
@@ -8,8 +8,8 @@ use Rattle.cmark_grammar.specs.Tag.{Tag}
 use Rattle.cmark_grammar.specs.Items.{Own}
 use Rattle.cmark_grammar.specs.Siblings.{item}
 use Rattle.cmark_inline_model.specs.SlotRows.{BeginSlot, EndSlot, ItemSlot, Mark, NothingSlot, Slot, Stays, Begins, Ends, Blank, character_slot, end_in, marked, quoted, spanned, start_in, used_up}
-use Rattle.cmark_inline.specs.Marked.{AreAhead, HaveTexts}
-use Rattle.cmark_inline.specs.Written.{wrapped}
+use Rattle.cmark_inline.specs.MarkedSlots.{AreAhead, HaveTexts}
+use Rattle.cmark_inline.specs.FormedSlots.{wrapped}
 use Rattle.cmark_inline.specs.declared.quote.PlacedQuote.{PlacedQuote}
 use Rattle.cmark_inline.specs.declared.slot.Slot.{Slot as CodeSlot}
 use Rattle.cmark_inline.proofs.Placing.{all-head, all-tail}

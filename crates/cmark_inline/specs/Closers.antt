@@ -22,7 +22,7 @@ use Rattle.cmark_inline.specs.Doubled.{DropsBehind}
 use Rattle.cmark_inline.specs.Reached.{HasRead, ReadsPlaces}
 use Rattle.cmark_inline.specs.Sound.{AreEnded}
 use Rattle.cmark_inline.specs.Stands.{PushesText, SameSpans}
-use Rattle.cmark_inline.specs.Written.{WritesElement}
+use Rattle.cmark_inline.specs.FormedSlots.{WritesElement}
 use Rattle.cmark_inline.specs.declared.bracket.Bracket.{Bracket}
 use Rattle.cmark_inline.specs.declared.bracket.Brackets.{Brackets}
 use Rattle.cmark_inline.specs.declared.callback.BrokenLink.{BrokenLink}

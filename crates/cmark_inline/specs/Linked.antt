@@ -1,7 +1,7 @@
 -- What a reference leads to: what its definition says, or what the callback answers.
-use Rattle.std.specs.Prelude.{◌≡◌, ◌+◌, ◌-◌, ℕ, length, List, [], drop, Option, Some, None, Bool, false, if◌then◌else◌, option_map}
+use Rattle.std.specs.Prelude.{◌≡◌, ◌+◌, ◌-◌, ℕ, length, List, [], drop, Option, Some, None, IfSome, Bool, false, if◌then◌else◌, option_map}
 use Rattle.cmark_grammar.specs.LinkDefinitions.{Found}
-use Rattle.cmark_grammar.specs.LinkTails.{LinkTail, behind_collapsed, is_bracketed_label, reference_label_in}
+use Rattle.cmark_grammar.specs.LinkTails.{LinkTail, behind_collapsed, is_bracketed_label, link_tail_in, reference_label_in}
 use Rattle.cmark_grammar.specs.LinkType as link
 use Rattle.cmark_text.specs.declared.kind.LinkType.{LinkType}
 use Rattle.cmark_grammar.specs.Answers.{Lookup}
@@ -13,10 +13,11 @@ use Rattle.cmark_text.specs.Shown.{shown_link_type, text_bytes}
 use Rattle.cmark_text.specs.declared.text.CowStr.{CowStr}
 use Rattle.cmark_inline.specs.Footnoted.{is_footnote_label, unless_footnote}
 use Rattle.cmark_inline.specs.declared.callback.BrokenLink.{BrokenLink}
-use Rattle.cmark_inline.specs.declared.link.Asked.{Asked}
-use Rattle.cmark_inline.specs.declared.link.Destination.{Destination}
+use Rattle.cmark_inline.specs.declared.reference.Asked.{Asked}
+use Rattle.cmark_inline.specs.declared.reference.Destination.{Destination}
 use Rattle.cmark_inline.specs.declared.link.LinkParts.{LinkParts}
 use Rattle.cmark_inline.specs.declared.link.Target.{Target}
+use Rattle.cmark_inline.specs.Stands.{IsTarget}
 
 -- a title, which is empty where there is none
 abbrev pub title_or_none : Option CowStr → List ℕ
@@ -129,6 +130,12 @@ inline_link lookup is_cell tail = record {
 
 abbrev pub shown_target : (text : List ℕ) → Target → InlineLink
 shown_target text target = record { form = shown_link_type target.parts.link_type; id = text_bytes target.parts.id; said = said_in target.parts; behind = drop target.end text }
+
+-- the inline link that stands at this place of the text, behind a closing bracket, or none
+pub record FindsInline (lookup : Lookup) (is_cell : Bool) (text : List ℕ) (at : ℕ) (found : Option Target) : Type 0 where
+  pub value : option_map (shown_target text) found ≡ option_map (inline_link lookup is_cell) (link_tail_in (drop at text))
+  pub target : IfSome found (IsTarget text at)
+  pub past : IfSome found (λ (target : Target). target.past ≡ target.end)
 
 -- an autolink (CommonMark 6.5): its destination are the bytes between the angle brackets
 pub record IsAutolink (text : List ℕ) (at end : ℕ) (parts : LinkParts) : Type 0 where

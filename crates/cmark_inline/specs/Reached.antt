@@ -14,7 +14,7 @@ use Rattle.cmark_inline_model.specs.LeafModel.{HaveLineEnds}
 use Rattle.cmark_inline_model.specs.PlacedTokens.{AreLeafPlaces}
 use Rattle.cmark_inline_model.specs.RowParts.{BracketPlace}
 use Rattle.cmark_inline_model.specs.RowPasses.{IsReached}
-use Rattle.cmark_inline.specs.Marked.{places_of}
+use Rattle.cmark_inline.specs.MarkedSlots.{places_of}
 use Rattle.cmark_inline.specs.SlotViews.{shown_slots}
 use Rattle.cmark_inline.specs.declared.bracket.Bracket.{Bracket}
 use Rattle.cmark_inline.specs.declared.delimiter.PlacedRun.{PlacedRun}

@@ -4,7 +4,7 @@ use Rattle.std.specs.Prelude.{◌≡◌, ◌⊎◌, ℕ, ◌+◌, ◌<◌, ◌�
 use Rattle.std.specs.Str.{IsCharBoundary}
 use Rattle.cmark_leaf_text.specs.Reads.{place_of, source_of, text_of}
 use Rattle.cmark_leaf_text.specs.declared.leaf_text.LeafText.{LeafText}
-use Rattle.cmark_inline.specs.Marked.{AreWhole, EndWithin, HaveBytes, HaveTexts, SameBefore, last_in}
+use Rattle.cmark_inline.specs.MarkedSlots.{AreWhole, EndWithin, HaveBytes, HaveTexts, SameBefore, last_in}
 use Rattle.cmark_inline.specs.SlotViews.{AreOnce, IsThere, link_named, text_named}
 use Rattle.cmark_inline.specs.declared.bracket.Bracket.{Bracket}
 use Rattle.cmark_inline.specs.declared.delimiter.PlacedRun.{PlacedRun}

@@ -9,7 +9,7 @@ use Rattle.cmark_leaf_text.specs.declared.leaf_text.LeafText.{LeafText}
 use Rattle.cmark_leaf_text.specs.Reads.{is_cell_of, text_of}
 use Rattle.cmark_inline.specs.BracketViews.{past_opening}
 use Rattle.cmark_inline.specs.Closers.{OpensAs}
-use Rattle.cmark_inline.specs.FoundInSource.{ReadsLess}
+use Rattle.cmark_inline.specs.MarkupInSource.{ReadsLess}
 use Rattle.cmark_inline.specs.Tokens.{Escapes, TakesEscaped, AppendsRun, AppendsQuote, PassesOver, EscapesPipe, PutsBracket, begins_at}
 use Rattle.cmark_inline.specs.declared.state.InlineState.{InlineState}
 use Rattle.cmark_inline.specs.declared.step.Cursor.{Cursor}

@@ -1,12 +1,12 @@
 -- What holds while the text of a leaf is read.
-use Rattle.std.specs.Prelude.{◌≡◌, ℕ, ◌+◌, ◌≤◌, ◌<◌, Bool, true, false, List, [], ◌∷◌, ◌++◌, length, get_or, All}
+use Rattle.std.specs.Prelude.{◌≡◌, ℕ, ◌+◌, ◌≤◌, ◌<◌, Bool, true, false, List, [], ◌∷◌, ◌++◌, length, get_or, slice_index, All}
 use Rattle.std.specs.List.{sum_by}
 use Rattle.std.specs.Str.{IsCharBoundary}
 use Rattle.cmark_leaf_text.specs.Reads.{IsPart}
 use Rattle.cmark_inline.specs.declared.bracket.Bracket.{Bracket}
 use Rattle.cmark_inline.specs.declared.delimiter.PlacedRun.{PlacedRun}
 use Rattle.cmark_inline.specs.declared.event.Opened.{Opened}
-use Rattle.cmark_inline.specs.declared.link.Asked.{Asked}
+use Rattle.cmark_inline.specs.declared.reference.Asked.{Asked}
 use Rattle.cmark_inline.specs.declared.link.Target.{Target}
 use Rattle.cmark_inline.specs.declared.slot.Element.{Element}
 use Rattle.cmark_inline.specs.declared.slot.Element.TheVariants as element
@@ -118,6 +118,13 @@ pub record IsCursor (text : List ℕ) (cursor : Cursor) : Type 0 where
   pub pending : IsCharBoundary text cursor.pending
   pub at : IsCharBoundary text cursor.at
   pub ordered : cursor.pending ≤ cursor.at
+
+-- a byte of ASCII stands at the cursor, and all that was read stands before what is pending
+pub record IsAtByte (text : List ℕ) (here : Cursor) (state : InlineState) : Type 0 where
+  pub stands : Stands text here.pending state
+  pub cursor : IsCursor text here
+  pub within : here.at < length text
+  pub ascii : slice_index text here.at < 128
 
 -- the text was read further than to this place
 pub record Moves (text : List ℕ) (at : ℕ) (state : InlineState) (next : Cursor) : Type 0 where

@@ -1,11 +1,22 @@
-//! Brackets that may open a link or an image (CommonMark 6.3 and 6.4).
+//! Opening brackets, and those that may still form a link or an image (CommonMark 6.3 and 6.4).
 
-ghost use Rattle.std.specs.Prelude.{◌≡◌, ◌≤◌, min, true, false, ◌-◌, ◌++◌, ◌∷◌, [], ℕ, List, length, take, OnOk, IfSome};
+ghost use Rattle.std.specs.Prelude.{◌≡◌, ◌≤◌, min, true, false, ◌-◌, ◌++◌, ◌∷◌, [], ℕ, List, length, take, OnOk, IfSome, ◌⊎◌, Bool, slice_index, IfOk, ◌+◌};
 ghost use Rattle.cmark_inline.specs.Doubled.{DropsBehind, doubles, nearest, touching};
 ghost use Rattle.cmark_text.specs.Shown.{shown_options};
-ghost use Rattle.cmark_inline.specs.Stands.{AreBrackets, AreFree, HoldNoLink, IsBracket};
+ghost use Rattle.cmark_inline.specs.Stands.{IsAtByte, AreBrackets, AreFree, HoldNoLink, IsBracket, IsCursor, Moves, Stands};
 ghost use Rattle.cmark_inline.specs.declared.slot.Slot.{Slot};
+ghost use Rattle.cmark_grammar.specs.Answers.{Lookup};
+ghost use Rattle.cmark_inline.specs.Sound.{KeepsSound};
+ghost use Rattle.cmark_inline.specs.SpecialReads.{OpensBracket};
+ghost use Rattle.cmark_inline.specs.Tokens.{Passes, PutsBracket};
+ghost use Rattle.std.specs.Str.{IsCharBoundary};
+ghost use Rattle.cmark_leaf_text.specs.Reads.{IsPart};
+ghost use Rattle.cmark_inline.specs.Closers.{OpensAs};
 
+use crate::place::{behind, is_followed_by, pass};
+use crate::slot::{SlotKind, push_slot};
+use crate::state::InlineState;
+use crate::step::Cursor;
 use bitflags::Flags;
 use cmark_text::Options;
 use std::alloc::{AllocError, Global};
@@ -141,5 +152,69 @@ impl Brackets {
         ensures free { (slots : List Slot) → AreFree slots self.new.standing.items self.new.shut }
     {
         self.shut = self.standing.len();
+    }
+}
+
+impl<'a> InlineState<'a> {
+    // `!`: with a bracket behind it the begin of an image.
+    #[tactic(auto, using(std::proofs::lemmas::Str::lead_after_ascii))]
+    pub(crate) fn exclamation(
+        &mut self,
+        options: Options,
+        text: &str,
+        here: Cursor,
+    ) -> Result<Cursor, AllocError>
+        requires byte { IsAtByte text.now here self.old }
+        ensures expansion { self.new.expansion ≡ self.old.expansion }
+        ensures keeps { OnOk result (KeepsSound self.old self.new) }
+        ensures moves { IfOk result (Moves text.now here.at self.new) }
+        ensures token { (lookup : Lookup) (is_cell : Bool) → slice_index text.now here.at ≡ 33 → IfOk result (λ next. Passes (shown_options options) lookup is_cell text.now here self.old self.new next ⊎ OpensBracket (shown_options options) lookup is_cell text.now here self.old self.new next) }
+    {
+        if is_followed_by(text, here.at, b'[') {
+            let inside = behind(text, behind(text, here.at));
+            let next = self.open_bracket(options, text, here, inside, true)?;
+            return Ok(next);
+        }
+        Ok(pass(text, here))
+    }
+
+    // A bracket that may open a link or an image.
+    #[inline(always)]
+    pub(crate) fn open_bracket(
+        &mut self,
+        options: Options,
+        text: &str,
+        here: Cursor,
+        inside: usize,
+        is_image: bool,
+    ) -> Result<Cursor, AllocError>
+        requires stands { Stands text.now here.pending self.old }
+        requires cursor { IsCursor text.now here }
+        requires part { IsPart text.now here.at inside }
+        requires mark { is_image ≡ true → IsCharBoundary text.now (here.at + 1) }
+        ensures expansion { self.new.expansion ≡ self.old.expansion }
+        ensures keeps { OnOk result (KeepsSound self.old self.new) }
+        ensures moves { IfOk result (Moves text.now here.at self.new) }
+        ensures at { IfOk result (λ next. (next.pending ≡ inside) × (next.at ≡ inside)) }
+        ensures doubles { OnOk result (self.new.doubled.standing.items ≡ doubles (shown_options options) self.old.brackets is_image here.at inside self.old.doubled.standing.items) }
+        ensures puts { OnOk result (PutsBracket is_image here.pending here.at inside self.old self.new) }
+        ensures opens { OnOk result (OpensAs (shown_options options).wikilinks is_image text.now here.at inside self.old self.new) }
+    {
+        self.flush(text, here, here.at)?;
+        let bracket = Bracket {
+            slot: self.slots.len(),
+            runs: self.delimiters.len(),
+            quotes: self.quotes.len(),
+            start: here.at,
+            inside,
+            is_image,
+        };
+        push_slot(&mut self.slots, SlotKind::Text, here.at, inside)?;
+        self.doubled.double(&self.brackets, options, bracket)?;
+        self.brackets.push(bracket)?;
+        Ok(Cursor {
+            pending: inside,
+            at: inside,
+        })
     }
 }

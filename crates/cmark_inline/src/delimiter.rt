@@ -1,6 +1,6 @@
 //! Delimiter runs and the elements that they become (CommonMark 6.2).
 
-ghost use Rattle.std.specs.Prelude.{◌≡◌, ◌+◌, ◌<◌, ◌≤◌, ◌++◌, ◌∷◌, ℕ, false, List, [], None, Some, drop, get_or, length, map, max, reverse, set, take, IsOk, OnOk, IfOk, IfSome};
+ghost use Rattle.std.specs.Prelude.{◌≡◌, ◌+◌, ◌<◌, ◌≤◌, ◌++◌, ◌∷◌, ℕ, false, List, [], None, Some, drop, get_or, length, map, reverse, set, take, IsOk, OnOk, IfOk, IfSome};
 ghost use Rattle.cmark_emphasis.specs.Shown.{shown_kind, shown_run};
 ghost use Rattle.cmark_emphasis.specs.Slots.{AreRuns};
 ghost use Rattle.cmark_emphasis.specs.declared.slot.Slot.{Slot as Marks};
@@ -11,7 +11,7 @@ ghost use Rattle.cmark_leaf_text.specs.declared.leaf_text.LeafText.{LeafText};
 ghost use Rattle.cmark_text.specs.Shown.{shown_options};
 ghost use Rattle.cmark_text.specs.declared.text.CowStr.{CowStr};
 ghost use Rattle.cmark_inline.specs.Elements.{IsElementOf};
-ghost use Rattle.cmark_inline.specs.Marked.{AreReady, AreWhole, BeganFrom, EndWithin, HaveBytes, Merges, SameBefore, begun_as, ended, places_of, shown_mark, siblings_from};
+ghost use Rattle.cmark_inline.specs.MarkedSlots.{AreReady, AreWhole, BeganFrom, EndWithin, HaveBytes, Merges, SameBefore, begun_as, ended, places_of, shown_mark, siblings_from};
 ghost use Rattle.cmark_inline.specs.SlotViews.{link_of, shown_element, shown_slots};
 ghost use Rattle.cmark_inline.specs.Sound.{NamesNoMore};
 ghost use Rattle.cmark_inline.specs.Stands.{AreSlots, NoNewLink, bytes_of, is_link};
@@ -127,6 +127,11 @@ impl Delimiters {
         ensures succeeds { length self.old.placed.items ≤ first → IsOk result }
     {
         if self.placed.len() <= first {
+            return Ok(());
+        }
+        if self.placed.len() - first == 1 {
+            // One run alone makes no pair.
+            self.placed.truncate(first);
             return Ok(());
         }
         let bound = slots.len();

@@ -22,11 +22,11 @@ ghost use Rattle.cmark_inline_model.specs.LikeSlots.{AreLike};
 ghost use Rattle.cmark_inline_model.specs.RowPasses.{linked_slots};
 ghost use Rattle.cmark_inline_model.specs.SlotRows.{Slot as RowSlot};
 ghost use Rattle.cmark_inline.specs.Hiding.{AreLeft};
-ghost use Rattle.cmark_inline.specs.Marked.{siblings_from};
+ghost use Rattle.cmark_inline.specs.MarkedSlots.{siblings_from};
 ghost use Rattle.cmark_inline.specs.Reached.{HasRead, bracket_place};
 ghost use Rattle.cmark_inline.specs.SlotViews.{shown_slots};
 ghost use Rattle.cmark_inline.specs.Sound.{HaveSizes};
-ghost use Rattle.cmark_inline.specs.Written.{dressed_behind};
+ghost use Rattle.cmark_inline.specs.FormedSlots.{dressed_behind};
 ghost use Rattle.cmark_inline.specs.declared.bracket.Bracket.{Bracket};
 ghost use Rattle.cmark_inline.specs.declared.state.InlineState.{InlineState};
 

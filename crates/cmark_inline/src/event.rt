@@ -1,9 +1,9 @@
 //! The events of a leaf's slots, one after the other.
 
-ghost use Rattle.std.specs.Prelude.{◌≡◌, ◌⊎◌, ◌<◌, ◌≤◌, ◌+◌, ◌-◌, ◌∷◌, ℕ, false, List, [], None, Some, IfOk, IfSome, OnErr, OnOk, OnSome, length};
+ghost use Rattle.std.specs.Prelude.{◌≡◌, ◌⊎◌, ◌<◌, ◌≤◌, ◌+◌, ◌-◌, ◌∷◌, ℕ, false, List, [], Some, IfOk, IfSome, OnErr, OnOk, OnSome, length};
 ghost use Rattle.std.specs.Str.{IsCharBoundary};
 ghost use Rattle.cmark_grammar.specs.CodeSpans.{code_text};
-ghost use Rattle.cmark_grammar.specs.Event.{InlineHtml, Start, End, Text};
+ghost use Rattle.cmark_grammar.specs.Event.{Start, End, Text};
 ghost use Rattle.cmark_grammar.specs.InlineHtml.{takes_lines};
 ghost use Rattle.cmark_grammar.specs.InlineTokens.{as_in, without_pipe_escapes};
 ghost use Rattle.cmark_grammar.specs.InlineReading.{over};
@@ -130,8 +130,16 @@ impl<'a> InlineState<'a> {
             }
             SlotKind::End => Ok(self.end_last()),
             SlotKind::Nothing => Ok(None),
-            SlotKind::SourceHtml(end) => Ok(Some(source_html(leaf, slot, end))),
-            SlotKind::SourceText(end) => Ok(Some(source_text(leaf, slot, end))),
+            SlotKind::SourceHtml(end) => {
+                let (html, range) = source_part(leaf, slot, end);
+                let event = Event::InlineHtml(html);
+                Ok(Some(Given { event, range }))
+            }
+            SlotKind::SourceText(end) => {
+                let (text, range) = source_part(leaf, slot, end);
+                let event = Event::Text(text);
+                Ok(Some(Given { event, range }))
+            }
             SlotKind::Empty => Ok(Some(empty_text(leaf, slot))),
             _ => {
                 let event = self.single(leaf, slot)?;
@@ -391,40 +399,19 @@ fn written<'a>(
     text.lent_by(alloc, part)
 }
 
-// Inline HTML that is a part of the source: borrowed, with the prefixes of its later lines.
-fn source_html<'a>(leaf: &LeafText<'a>, slot: Slot, end: usize) -> Given<'a>
+// A part of the source at a slot, up to this end behind the slot's begin: borrowed, with the prefixes of its later lines, and where it stands.
+fn source_part<'a>(leaf: &LeafText<'a>, slot: Slot, end: usize) -> (CowStr<'a>, Range<usize>)
     requires read { IsRead leaf.now }
     requires slot { IsSlot (text_of leaf.now) (length (text_of leaf.now)) slot }
-    ensures start { result.range.start ≡ place_of leaf.now slot.start }
-    ensures end { place_of leaf.now slot.start < end → IsCharBoundary (source_of leaf.now) end → result.range.end ≡ end }
-    ensures part { IsPart (source_of leaf.now) result.range.start result.range.end }
-    ensures value { shown result.event ≡ InlineHtml (slice (source_of leaf.now) result.range.start result.range.end) }
-    ensures lent { GivesZeroCopy (source_of leaf.now) result }
+    ensures start { result.1.start ≡ place_of leaf.now slot.start }
+    ensures end { place_of leaf.now slot.start < end → IsCharBoundary (source_of leaf.now) end → result.1.end ≡ end }
+    ensures part { IsPart (source_of leaf.now) result.1.start result.1.end }
+    ensures value { text_bytes result.0 ≡ slice (source_of leaf.now) result.1.start result.1.end }
+    ensures lent { IsLentBy (slice (source_of leaf.now) result.1.start result.1.end) result.0 }
 {
     let range = leaf.range_up_to(slot.start, slot.end, end);
-    let html = leaf.source_at(range.start, range.end);
-    Given {
-        event: Event::InlineHtml(CowStr::Borrowed(html)),
-        range,
-    }
-}
-
-// A text that is a part of the source: borrowed, with the prefixes of its later lines.
-fn source_text<'a>(leaf: &LeafText<'a>, slot: Slot, end: usize) -> Given<'a>
-    requires read { IsRead leaf.now }
-    requires slot { IsSlot (text_of leaf.now) (length (text_of leaf.now)) slot }
-    ensures start { result.range.start ≡ place_of leaf.now slot.start }
-    ensures end { place_of leaf.now slot.start < end → IsCharBoundary (source_of leaf.now) end → result.range.end ≡ end }
-    ensures part { IsPart (source_of leaf.now) result.range.start result.range.end }
-    ensures value { shown result.event ≡ Text (slice (source_of leaf.now) result.range.start result.range.end) }
-    ensures lent { GivesZeroCopy (source_of leaf.now) result }
-{
-    let range = leaf.range_up_to(slot.start, slot.end, end);
-    let text = leaf.source_at(range.start, range.end);
-    Given {
-        event: Event::Text(CowStr::Borrowed(text)),
-        range,
-    }
+    let part = leaf.source_at(range.start, range.end);
+    (CowStr::Borrowed(part), range)
 }
 
 // A text of no bytes, before the first byte of a slot.

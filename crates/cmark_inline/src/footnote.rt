@@ -1,6 +1,6 @@
 //! Footnote references (this profile's own).
 
-ghost use Rattle.std.specs.Prelude.{◌≡◌, true, false, ◌<◌, ◌≤◌, ◌+◌, ◌++◌, ◌∷◌, ℕ, List, [], drop, length, is_some, IfOk, OnOk, IfSome, OnSome, None, Some, option_copied, option_map};
+ghost use Rattle.std.specs.Prelude.{◌≡◌, false, ◌<◌, ◌≤◌, ◌+◌, ◌++◌, ◌∷◌, ℕ, List, [], drop, length, is_some, IfOk, OnOk, IfSome, None, option_copied, option_map};
 ghost use Rattle.std.specs.Str.{IsCharBoundary};
 ghost use Rattle.cmark_finds.specs.Shown.{shown_label};
 ghost use Rattle.cmark_grammar.specs.BracketDecisions.{is_there};
@@ -19,7 +19,7 @@ ghost use Rattle.cmark_leaf_text.specs.declared.leaf_text.LeafText.{LeafText as 
 ghost use Rattle.cmark_inline.specs.Stands.{AreSlots, IsBracket, IsSlot, Moves, NoNewLink, Stands, begins_link};
 
 use crate::bracket::Bracket;
-use crate::link::label_text;
+use crate::reference::label_text;
 use crate::slot::{Slot, SlotKind, hide, put_slot, replace_slot};
 use crate::state::InlineState;
 use crate::step::Cursor;

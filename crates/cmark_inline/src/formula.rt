@@ -1,11 +1,10 @@
 //! Formulas between dollar signs (this profile's own).
 
-ghost use Rattle.std.specs.Prelude.{◌≡◌, ◌<◌, ◌≤◌, ◌+◌, ◌++◌, ◌∷◌, true, false, if◌then◌else◌, ℕ, Bool, List, [], length, slice_index, IfOk, OnOk, IfSome};
-ghost use Rattle.std.specs.Str.{IsCharBoundary};
+ghost use Rattle.std.specs.Prelude.{◌≡◌, ◌<◌, true, false, if◌then◌else◌, Bool, length, slice_index, IfOk, OnOk};
 ghost use Rattle.cmark_grammar.specs.Answers.{Lookup};
 ghost use Rattle.cmark_grammar.specs.Options.{Options};
 ghost use Rattle.cmark_finds.specs.Dollars.{AreDollarsOf};
-ghost use Rattle.cmark_inline.specs.Stands.{IsCursor, IsSlot, Moves, Stands, begins_link};
+ghost use Rattle.cmark_inline.specs.Stands.{IsCursor, Moves, Stands, begins_link};
 ghost use Rattle.cmark_inline.specs.Tokens.{Appends};
 ghost use Rattle.cmark_inline.specs.declared.slot.SlotKind.TheVariants as slot_kind;
 ghost use Rattle.cmark_inline.specs.Sound.{KeepsSound};

@@ -4,6 +4,7 @@
 
 mod bracket;
 mod callback;
+mod closing;
 mod delimiter;
 pub mod display_laws;
 mod event;

@@ -1,26 +1,17 @@
-//! Links and images: what stands behind their closing bracket (CommonMark 6.3 and 6.4).
+//! Links and images, and the inline ones: their destination and their title stand behind the closing bracket (CommonMark 6.3 and 6.4).
 
-ghost use Rattle.std.specs.Prelude.{◌≡◌, ◌==◌, ◌<◌, ◌≤◌, ◌+◌, List, None, ℕ, drop, IfOk, IfSome, length, option_copied, option_map};
+ghost use Rattle.std.specs.Prelude.{◌≡◌, ◌==◌, List, None, ℕ, drop, IfOk, option_copied};
 ghost use Rattle.std.specs.Str.{IsCharBoundary};
-ghost use Rattle.cmark_leaf_text.specs.Reads.{IsRead, IsPart, is_cell_of, text_of};
-ghost use Rattle.cmark_text.specs.Labelled.{link_key};
+ghost use Rattle.cmark_leaf_text.specs.Reads.{IsRead, is_cell_of, text_of};
 ghost use Rattle.cmark_grammar.specs.Letters.{first_is};
-ghost use Rattle.cmark_grammar.specs.LinkTails.{link_tail_in};
-ghost use Rattle.cmark_grammar.specs.Tokens.{slice};
-ghost use Rattle.cmark_text.specs.Shown.{shown_options, text_bytes};
-ghost use Rattle.cmark_items.specs.Definitions.{definition};
-ghost use Rattle.cmark_inline.specs.Footnoted.{as_label};
-ghost use Rattle.cmark_inline.specs.Linked.{by_own_label, inline_link, reference_behind, resolved_title, said_by, shown_asked, shown_destination, shown_target};
+ghost use Rattle.cmark_text.specs.Shown.{text_bytes};
+ghost use Rattle.cmark_inline.specs.Linked.{FindsInline, resolved_title, shown_target};
 ghost use Rattle.cmark_inline.specs.SlotViews.{linked_or_none, shown_parts};
-ghost use Rattle.cmark_inline.specs.Stands.{IsAsked, IsBracket, IsTarget};
 
-use crate::bracket::Bracket;
-use crate::footnote::{full_label, is_footnote_label};
-use cmark_finds::{collapsed_end, is_bracketed_label, link_tail, title_text};
-use cmark_items::RefDefs;
+use cmark_finds::{link_tail, title_text};
 use cmark_leaf_text::LeafText;
-use cmark_scan_parts::{unescape, with_literal_pipes};
-use cmark_text::{CowStr, EntityLookup, LinkLabel, LinkType, Options};
+use cmark_scan_parts::unescape;
+use cmark_text::{CowStr, EntityLookup, LinkType};
 use std::alloc::{AllocError, Global};
 
 /// What a link or an image is.
@@ -65,9 +56,7 @@ fn inline_in<'t, E: EntityLookup>(
     entities: &E,
 ) -> Result<Option<Target<'t>>, AllocError>
     requires { IsCharBoundary text.now at }
-    ensures value { IfOk result (λ found. option_map (shown_target text.entry.now) found ≡ option_map (inline_link (E.replacement entities.now) is_cell) (link_tail_in (drop at text.entry.now))) }
-    ensures target { IfOk result (λ found. IfSome found (IsTarget text.entry.now at)) }
-    ensures past { IfOk result (λ found. IfSome found (λ target. target.past ≡ target.end)) }
+    ensures { IfOk result (FindsInline (E.replacement entities.now) is_cell text.entry.now at) }
 {
     let Some(tail) = link_tail(text, at) else {
         return Ok(None);
@@ -152,9 +141,7 @@ pub fn inline_target<'a, E: EntityLookup>(
     requires read { IsRead leaf.now }
     requires same { text.now ≡ text_of leaf.now }
     requires place { IsCharBoundary text.now at }
-    ensures value { IfOk result (λ found. option_map (shown_target text.now) found ≡ option_map (inline_link (E.replacement entities.now) (is_cell_of leaf.now)) (link_tail_in (drop at text.now))) }
-    ensures target { IfOk result (λ found. IfSome found (IsTarget text.now at)) }
-    ensures past { IfOk result (λ found. IfSome found (λ target. target.past ≡ target.end)) }
+    ensures { IfOk result (FindsInline (E.replacement entities.now) (is_cell_of leaf.now) text.now at) }
 {
     if !opens_tail(text, at) {
         return Ok(None);
@@ -174,9 +161,7 @@ fn tail_target<'a, E: EntityLookup>(
     requires read { IsRead leaf.now }
     requires same { text.now ≡ text_of leaf.now }
     requires place { IsCharBoundary text.now at }
-    ensures value { IfOk result (λ found. option_map (shown_target text.now) found ≡ option_map (inline_link (E.replacement entities.now) (is_cell_of leaf.now)) (link_tail_in (drop at text.now))) }
-    ensures target { IfOk result (λ found. IfSome found (IsTarget text.now at)) }
-    ensures past { IfOk result (λ found. IfSome found (λ target. target.past ≡ target.end)) }
+    ensures { IfOk result (FindsInline (E.replacement entities.now) (is_cell_of leaf.now) text.now at) }
 {
     let is_cell = leaf.is_cell();
     if let Some(source) = leaf.as_source() {
@@ -187,117 +172,4 @@ fn tail_target<'a, E: EntityLookup>(
         Some(target) => Ok(Some(own_target(alloc, target)?)),
         None => Ok(None),
     }
-}
-
-/// A reference as it is written.
-#[derive(Clone, Copy)]
-pub struct Asked<'t> {
-    pub label: &'t str,
-    pub link_type: LinkType,
-    /// The place behind the reference, without a following `[]`.
-    pub end: usize,
-    /// The place behind all that it uses up.
-    pub past: usize,
-}
-
-/// The reference whose bracket closes at `close`: a full one, or, unless that bracket is shut off for it, by its own label. A label of
-/// a footnote is none of a link.
-pub fn asked_at<'t>(
-    options: Options,
-    text: &'t str,
-    bracket: Bracket,
-    close: usize,
-    is_shut: bool,
-) -> Option<Asked<'t>>
-    requires bracket { IsBracket text.now close bracket }
-    requires close { IsPart text.now close (close + 1) }
-    ensures value { option_map (shown_asked text.entry.now) result ≡ reference_behind (shown_options options) is_shut (slice text.entry.now bracket.inside close) (drop (close + 1) text.entry.now) }
-    ensures ends { IfSome result (IsAsked text.entry.now close) }
-{
-    if let Some(label) = full_label(options, text, close + 1) {
-        return Some(Asked {
-            label: label.label,
-            link_type: LinkType::Reference,
-            end: label.end,
-            past: label.end,
-        });
-    }
-    if is_shut {
-        return None;
-    }
-    own_label_at(options, text, bracket, close)
-}
-
-// The reference by the bracket's own label.
-fn own_label_at<'t>(
-    options: Options,
-    text: &'t str,
-    bracket: Bracket,
-    close: usize,
-) -> Option<Asked<'t>>
-    requires bracket { IsBracket text.now close bracket }
-    requires close { IsPart text.now close (close + 1) }
-    ensures value { option_map (shown_asked text.entry.now) result ≡ by_own_label (shown_options options) (slice text.entry.now bracket.inside close) (drop (close + 1) text.entry.now) }
-    ensures ends { IfSome result (IsAsked text.entry.now close) }
-{
-    let label = &text[bracket.inside..close];
-    if is_footnote_label(options, label) || !is_bracketed_label(label) {
-        return None;
-    }
-    let end = close + 1;
-    if let Some(past) = collapsed_end(text, end) {
-        return Some(Asked {
-            label,
-            link_type: LinkType::Collapsed,
-            end,
-            past,
-        });
-    }
-    Some(Asked {
-        label,
-        link_type: LinkType::Shortcut,
-        end,
-        past: end,
-    })
-}
-
-/// A label as it counts: in the cell of a table `|` stands in it for each `\|` (GFM 4.10) and each `\\|` (this profile's own). It is the
-/// very text where there is none; fails only where memory is refused.
-pub fn label_text<'t>(
-    alloc: Global,
-    is_cell: bool,
-    label: &'t str,
-) -> Result<CowStr<'t>, AllocError>
-    ensures { IfOk result (λ text. text_bytes text ≡ as_label is_cell label.entry.now) }
-{
-    if is_cell {
-        return with_literal_pipes(alloc, CowStr::Borrowed(label));
-    }
-    Ok(CowStr::Borrowed(label))
-}
-
-/// Where a reference leads, and its title.
-#[derive(Drop)]
-pub struct Destination<'a> {
-    pub dest_url: CowStr<'a>,
-    pub title: CowStr<'a>,
-}
-
-/// What the definition of a label says, if it has one.
-pub fn defined<'a>(
-    alloc: Global,
-    references: &RefDefs<'a>,
-    label: &LinkLabel,
-) -> Result<Option<Destination<'a>>, AllocError>
-    ensures { IfOk result (λ found. option_map shown_destination found ≡ option_map said_by (definition references.now (link_key label.now))) }
-{
-    let Some(definition) = references.get_label(label) else {
-        return Ok(None);
-    };
-    let title = match &definition.title {
-        Some(title) => title.clone(alloc)?,
-        None => CowStr::Borrowed(""),
-    };
-    let dest_url = definition.dest.clone(alloc)?;
-    Ok(Some(Destination { dest_url, title }))
 }

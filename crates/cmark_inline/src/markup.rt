@@ -1,11 +1,11 @@
 //! Inline HTML where it stands (CommonMark 6.6): tags in the text of a leaf, and markup, which is all else, in the source.
 
-ghost use Rattle.std.specs.Prelude.{◌≡◌, ◌||◌, ◌<◌, ◌+◌, ℕ, List, length, drop, true, false, Some, None, IfSome};
+ghost use Rattle.std.specs.Prelude.{◌≡◌, ◌<◌, ◌+◌, ℕ, length, drop, true, false, Some, None, IfSome};
 ghost use Rattle.std.specs.Str.{IsCharBoundary};
 ghost use Rattle.cmark_grammar.specs.InlineHtml.{behind_inline_html, behind_markup};
 ghost use Rattle.cmark_grammar.specs.Letters.{starts};
 ghost use Rattle.cmark_leaf_text.specs.Reads.{IsRead, IsPart, source_of, text_of};
-ghost use Rattle.cmark_inline.specs.FoundInSource.{AreUnclosed, FindsNone, IsFound, IsInSource, NoneCloses, opens_as, source_from};
+ghost use Rattle.cmark_inline.specs.MarkupInSource.{AreUnclosed, FindsNone, IsFound, IsInSource, NoneCloses, opens_as, source_from};
 ghost use Rattle.cmark_inline.specs.Stands.{IsContent, begins_link};
 ghost use Rattle.cmark_inline.specs.Tokens.{opens_markup};
 ghost use Rattle.cmark_inline.specs.declared.markup.MarkupKind.TheVariants as kind;

@@ -1,6 +1,6 @@
 //! Places in a leaf's text.
 
-ghost use Rattle.std.specs.Prelude.{◌≡◌, ◌⊎◌, ◌==◌, true, false, ◌<◌, ◌≤◌, ◌+◌, ◌-◌, ◌++◌, ℕ, List, [], drop, take, reverse, chars, length, slice_index, IfOk, OnOk, IfSome, Some, None, option_map};
+ghost use Rattle.std.specs.Prelude.{◌≡◌, ◌⊎◌, ◌==◌, true, false, ◌<◌, ◌≤◌, ◌+◌, ◌-◌, ℕ, drop, take, reverse, chars, length, slice_index, IfSome, Some, option_map};
 ghost use Rattle.std.specs.List.{prefix_len};
 ghost use Rattle.std.specs.Str.{IsCharBoundary};
 ghost use Rattle.cmark_grammar.specs.Autolinks.{autolink_in};
@@ -11,9 +11,10 @@ ghost use Rattle.cmark_grammar.specs.LabelsOverLines.{piped};
 ghost use Rattle.cmark_grammar.specs.Letters.{first_is, starts};
 ghost use Rattle.cmark_grammar.specs.LinkDefinitions.{behind_blanks};
 ghost use Rattle.cmark_grammar.specs.Tokens.{is_punctuation};
-ghost use Rattle.cmark_leaf_text.specs.Reads.{IsRead, IsPart, text_of};
-ghost use Rattle.cmark_inline.specs.Stands.{AreSlots, AreBrackets, IsBracket, IsCursor, IsSlot, IsTarget, Moves, SameSpans, Stands, bytes_of};
+ghost use Rattle.cmark_leaf_text.specs.Reads.{IsPart};
+ghost use Rattle.cmark_inline.specs.Stands.{IsCursor, Moves};
 ghost use Rattle.cmark_inline.specs.Tokens.{read_on, shown_autolink};
+ghost use Rattle.cmark_inline.specs.declared.state.InlineState.{InlineState};
 
 use crate::step::Cursor;
 use cmark_scan_parts::scan_autolink;
@@ -147,7 +148,7 @@ pub(crate) fn part_end(text: &str, at: usize, end: usize) -> Option<usize>
 }
 
 // Where the words of the line begin that begins at this place; the place itself, where none does.
-pub(crate) fn words_from(text: &str, at: usize) -> usize
+fn words_from(text: &str, at: usize) -> usize
     requires { IsCharBoundary text.now at }
     ensures value { result ≡ read_on text.now at }
     ensures order { at ≤ result }
@@ -157,6 +158,22 @@ pub(crate) fn words_from(text: &str, at: usize) -> usize
         return at;
     }
     behind_blanks(text, at)
+}
+
+// The cursor behind the blanks in front of a line, where one begins there; the cursor itself, where none does.
+#[inline(always)]
+pub(crate) fn onto_words(text: &str, next: Cursor) -> Cursor
+    requires boundary { IsCharBoundary text.now next.pending }
+    requires same { next.pending ≡ next.at }
+    ensures pending { result.pending ≡ result.at }
+    ensures at { result.at ≡ read_on text.now next.at }
+    ensures moves { (from : ℕ) (state : InlineState) → Moves text.now from state next → Moves text.now from state result }
+{
+    let words = words_from(text, next.pending);
+    Cursor {
+        pending: words,
+        at: words,
+    }
 }
 
 // The place behind the autolink whose `<` stands at this place (CommonMark 6.5).

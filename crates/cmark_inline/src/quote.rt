@@ -4,14 +4,14 @@ ghost use Rattle.std.specs.Prelude.{◌≡◌, ◌<◌, ◌≤◌, ◌++◌, ◌
 ghost use Rattle.cmark_inline_model.specs.SlotRows.{quoted};
 ghost use Rattle.cmark_leaf_text.specs.declared.leaf_text.LeafText.{LeafText};
 ghost use Rattle.cmark_text.specs.declared.text.CowStr.{CowStr};
-ghost use Rattle.cmark_inline.specs.Marked.{HaveTexts};
-ghost use Rattle.cmark_inline.specs.Quoted.{characters_of, with_characters};
+ghost use Rattle.cmark_inline.specs.MarkedSlots.{HaveTexts};
+ghost use Rattle.cmark_inline.specs.QuoteSlots.{characters_of, with_characters};
 ghost use Rattle.cmark_inline.specs.SlotViews.{shown_slots};
 ghost use Rattle.cmark_inline.specs.Stands.{AreSlots, NoNewLink};
 ghost use Rattle.cmark_inline.specs.declared.link.LinkParts.{LinkParts};
 ghost use Rattle.cmark_inline.specs.declared.quote.PlacedQuote.{PlacedQuote};
 
-use crate::slot::{Slot, SlotKind, become_character};
+use crate::slot::{Slot, become_character};
 use cmark_emphasis::{Quote, quote_characters};
 use std::alloc::{AllocError, Global};
 

@@ -1,11 +1,10 @@
 //! Delimiter runs where they stand (CommonMark 6.2).
 
-ghost use Rattle.std.specs.Prelude.{◌≡◌, ◌⊎◌, true, ◌<◌, ◌≤◌, ◌+◌, ◌-◌, ◌++◌, ℕ, Bool, List, [], length, slice_index, IfOk, OnOk, IfSome};
-ghost use Rattle.std.specs.Str.{IsCharBoundary};
+ghost use Rattle.std.specs.Prelude.{◌≡◌, ◌⊎◌, true, ◌<◌, ◌≤◌, ◌+◌, ◌-◌, ◌++◌, ℕ, Bool, length, slice_index, IfOk, OnOk};
 ghost use Rattle.cmark_grammar.specs.Answers.{Lookup};
 ghost use Rattle.cmark_text.specs.Shown.{shown_options};
-ghost use Rattle.cmark_leaf_text.specs.Reads.{IsRead, IsPart, text_of};
-ghost use Rattle.cmark_inline.specs.Stands.{AreSlots, AreBrackets, IsBracket, IsCursor, IsSlot, IsTarget, Moves, NoNewLink, Stands, bytes_of};
+ghost use Rattle.cmark_leaf_text.specs.Reads.{IsPart};
+ghost use Rattle.cmark_inline.specs.Stands.{IsAtByte, AreSlots, Moves, NoNewLink, Stands};
 ghost use Rattle.cmark_inline.specs.Tokens.{AppendsRun, Passes, PassesOver, byte_slots, is_mark, is_other};
 ghost use Rattle.cmark_inline.specs.Sound.{KeepsSound};
 
@@ -25,10 +24,7 @@ impl<'a> InlineState<'a> {
         mark: u8,
         here: Cursor,
     ) -> Result<Cursor, AllocError>
-        requires stands { Stands text.now here.pending self.old }
-        requires cursor { IsCursor text.now here }
-        requires here { here.at < length text.now }
-        requires ascii { slice_index text.now here.at < 128 }
+        requires byte { IsAtByte text.now here self.old }
         ensures expansion { self.new.expansion ≡ self.old.expansion }
         ensures keeps { OnOk result (KeepsSound self.old self.new) }
         ensures moves { IfOk result (Moves text.now here.at self.new) }

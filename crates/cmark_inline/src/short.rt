@@ -18,7 +18,6 @@ ghost use Rattle.cmark_inline.specs.Shorts.{GivesNext, IfShort, IsAlone, IsNextF
 ghost use Rattle.cmark_inline.specs.SlotViews.{AreLeft, events_of, events_to_come, shown_opened};
 ghost use Rattle.cmark_inline.specs.Stands.{AreOpened, AreSlots, IsSlot};
 ghost use Rattle.cmark_inline.specs.declared.event.Opened.{Opened as OpenedOnes};
-ghost use Rattle.cmark_inline.specs.declared.slot.SlotKind.TheVariants as kind;
 ghost use Rattle.cmark_inline.specs.declared.slot.Slot.{Slot as Slots};
 ghost use Rattle.cmark_leaf_text.specs.declared.leaf_text.LeafText.{LeafText as LeafTexts};
 ghost use Rattle.cmark_inline.specs.declared.link.LinkParts.{LinkParts as Links};
@@ -88,48 +87,23 @@ impl<'a> InlineState<'a> {
         ensures ends { OnErr result ((texts : List Texts) (links : List Links) (behind : List Slots) → BeginWithoutEnd (events_of leaf.now texts links (slot ∷ behind) self.old.walk.opened.items)) }
     {
         match slot.kind {
-            SlotKind::Begin(element) => self.begin_short(leaf, slot, element),
+            // The begin of a link or an image is of another kind.
+            SlotKind::Begin(element) => {
+                let Some((tag, end)) = plain_element(element) else {
+                    return Ok(Next::Long);
+                };
+                let range = leaf.range(slot.start, slot.end);
+                self.walk.opened.push(Opened {
+                    tag: end,
+                    start: range.start,
+                    end: range.end,
+                })?;
+                Ok(Next::Short(Short::Start(tag)))
+            }
             SlotKind::End => Ok(self.end_short()),
             SlotKind::Nothing => Ok(Next::Over),
             _ => Ok(single_short(leaf, slot)),
         }
-    }
-
-    // An element begins; that of a link or an image is of another kind.
-    #[inline(always)]
-    fn begin_short(
-        &mut self,
-        leaf: &LeafText<'a>,
-        slot: Slot,
-        element: Element,
-    ) -> Result<Next<'a>, AllocError>
-        requires read { IsRead leaf.now }
-        requires slot { IsSlot (text_of leaf.now) (length (text_of leaf.now)) slot }
-        requires is { slot.kind ≡ kind.Begin element }
-        requires opened { AreOpened (source_of leaf.now) self.old.walk.opened.items }
-        ensures slots { self.new.slots ≡ self.old.slots }
-        ensures expansion { self.new.expansion ≡ self.old.expansion }
-        ensures texts { self.new.texts ≡ self.old.texts }
-        ensures links { self.new.links ≡ self.old.links }
-        ensures place { self.new.walk.next ≡ self.old.walk.next }
-        ensures opened { AreOpened (source_of leaf.now) self.new.walk.opened.items }
-        ensures stands { IfOk result (λ next. IfShort next (StandsFor leaf.now slot)) }
-        ensures gives { IfOk result (λ next. PassesShort (source_of leaf.now) self.old.walk.opened.items next self.new.walk.opened.items) }
-        ensures first { IfOk result (λ next. (texts : List Texts) (links : List Links) (behind : List Slots)
-            → PassesFirst (source_of leaf.now) self.old.walk.opened.items next self.new.walk.opened.items
-            (events_of leaf.now texts links (slot ∷ behind) self.old.walk.opened.items) (events_of leaf.now texts links behind self.new.walk.opened.items)) }
-        ensures ends { OnErr result ((texts : List Texts) (links : List Links) (behind : List Slots) → BeginWithoutEnd (events_of leaf.now texts links (slot ∷ behind) self.old.walk.opened.items)) }
-    {
-        let Some((tag, end)) = plain_element(element) else {
-            return Ok(Next::Long);
-        };
-        let range = leaf.range(slot.start, slot.end);
-        self.walk.opened.push(Opened {
-            tag: end,
-            start: range.start,
-            end: range.end,
-        })?;
-        Ok(Next::Short(Short::Start(tag)))
     }
 
     // The element that began last ends, if one is open.

@@ -1,16 +1,15 @@
 //! Typographic punctuation: dots, hyphens and quotes (this profile's own).
 
-ghost use Rattle.std.specs.Prelude.{◌≡◌, ◌⊎◌, true, ◌<◌, ◌≤◌, ◌+◌, ◌-◌, ◌*◌, ◌++◌, string_bytes, ℕ, Bool, List, [], length, slice_index, IfOk, OnOk, IfSome};
-ghost use Rattle.std.specs.Str.{IsCharBoundary};
+ghost use Rattle.std.specs.Prelude.{◌≡◌, ◌⊎◌, true, ◌≤◌, ◌+◌, ◌*◌, ◌++◌, string_bytes, Bool, slice_index, IfOk, OnOk};
 ghost use Rattle.cmark_grammar.specs.Answers.{Lookup};
 ghost use Rattle.cmark_grammar.specs.Dashes as grammar;
 ghost use Rattle.cmark_grammar.specs.Options.{Options};
-ghost use Rattle.cmark_inline.specs.Stands.{IsCursor, IsSlot, Moves, Stands};
+ghost use Rattle.cmark_inline.specs.Stands.{IsAtByte, Moves};
 ghost use Rattle.cmark_inline.specs.Tokens.{Appends, AppendsQuote, Passes};
 ghost use Rattle.cmark_inline.specs.Sound.{KeepsSound};
 
 use crate::place::{behind, character_at, character_before, pass, run_end};
-use crate::slot::{Slot, SlotKind, push_slot};
+use crate::slot::{Slot, SlotKind};
 use crate::state::InlineState;
 use crate::step::Cursor;
 use cmark_emphasis::quote_of;
@@ -20,10 +19,7 @@ use std::alloc::{AllocError, Global};
 impl<'a> InlineState<'a> {
     // A dot: three of them are an ellipsis.
     pub(crate) fn dots(&mut self, text: &str, here: Cursor) -> Result<Cursor, AllocError>
-        requires stands { Stands text.now here.pending self.old }
-        requires cursor { IsCursor text.now here }
-        requires here { here.at < length text.now }
-        requires ascii { slice_index text.now here.at < 128 }
+        requires byte { IsAtByte text.now here self.old }
         ensures expansion { self.new.expansion ≡ self.old.expansion }
         ensures keeps { OnOk result (KeepsSound self.old self.new) }
         ensures moves { IfOk result (Moves text.now here.at self.new) }
@@ -43,10 +39,7 @@ impl<'a> InlineState<'a> {
 
     // A run of hyphens: two and more are dashes.
     pub(crate) fn hyphens(&mut self, text: &str, here: Cursor) -> Result<Cursor, AllocError>
-        requires stands { Stands text.now here.pending self.old }
-        requires cursor { IsCursor text.now here }
-        requires here { here.at < length text.now }
-        requires ascii { slice_index text.now here.at < 128 }
+        requires byte { IsAtByte text.now here self.old }
         ensures expansion { self.new.expansion ≡ self.old.expansion }
         ensures keeps { OnOk result (KeepsSound self.old self.new) }
         ensures moves { IfOk result (Moves text.now here.at self.new) }
@@ -71,10 +64,7 @@ impl<'a> InlineState<'a> {
     // A quote, whose character stands with those of its siblings.
     #[tactic(auto, using(std::proofs::lemmas::Str::lead_after_ascii))]
     pub(crate) fn quote(&mut self, text: &str, here: Cursor) -> Result<Cursor, AllocError>
-        requires stands { Stands text.now here.pending self.old }
-        requires cursor { IsCursor text.now here }
-        requires here { here.at < length text.now }
-        requires ascii { slice_index text.now here.at < 128 }
+        requires byte { IsAtByte text.now here self.old }
         ensures expansion { self.new.expansion ≡ self.old.expansion }
         ensures moves { IfOk result (Moves text.now here.at self.new) }
         ensures token { (options : Options) (lookup : Lookup) (is_cell : Bool) → options.smart_punctuation ≡ true → (slice_index text.now here.at ≡ 34) ⊎ (slice_index text.now here.at ≡ 39) → IfOk result (AppendsQuote options lookup is_cell text.now here self.old self.new) }

@@ -1,22 +1,21 @@
 //! Code spans, autolinks and inline HTML (CommonMark 6.1, 6.5 and 6.6).
 
-ghost use Rattle.std.specs.Prelude.{◌≡◌, ◌⊎◌, true, ◌<◌, ◌≤◌, ◌+◌, ◌-◌, ◌++◌, ◌∷◌, ℕ, List, [], length, slice_index, Bool, IfOk, OnOk, IfSome};
-ghost use Rattle.std.specs.Str.{IsCharBoundary};
+ghost use Rattle.std.specs.Prelude.{◌≡◌, ◌⊎◌, ◌+◌, ◌-◌, ◌++◌, ◌∷◌, [], length, slice_index, Bool, IfOk, OnOk};
 ghost use Rattle.cmark_grammar.specs.Answers.{Lookup};
 ghost use Rattle.cmark_grammar.specs.Options.{Options};
 ghost use Rattle.cmark_finds.specs.Backticks.{AreRunsOf};
 ghost use Rattle.cmark_leaf_text.specs.Reads.{IsRead, IsPart, text_of};
 ghost use Rattle.cmark_inline.specs.Linked.{IsAutolink};
 ghost use Rattle.cmark_inline.specs.declared.link.LinkParts.{LinkParts as Parts};
-ghost use Rattle.cmark_inline.specs.Stands.{AreSlots, AreBrackets, IsBracket, IsCursor, IsSlot, IsTarget, Moves, SameSpans, Stands, bytes_of};
+ghost use Rattle.cmark_inline.specs.Stands.{IsAtByte, IsCursor, Moves, Stands};
 ghost use Rattle.cmark_inline.specs.Tokens.{Appends, PutsAutolink, TakesEscaped};
-ghost use Rattle.cmark_inline.specs.FoundInSource.{AreUnclosed, ReadsLess};
+ghost use Rattle.cmark_inline.specs.MarkupInSource.{AreUnclosed, ReadsLess};
 ghost use Rattle.cmark_inline.specs.Sound.{AreEnded, IsSound, KeepsSound};
 
 use crate::event::text_between;
 use crate::link::LinkParts;
 use crate::markup::Unclosed;
-use crate::place::{autolink_end, behind, is_followed_by, pass, run_end, text_start};
+use crate::place::{autolink_end, behind, is_followed_by, onto_words, pass, run_end, text_start};
 use crate::slot::{Element, Slot, SlotKind};
 use crate::state::InlineState;
 use crate::step::Cursor;
@@ -34,10 +33,7 @@ impl<'a> InlineState<'a> {
         here: Cursor,
     ) -> Result<Cursor, AllocError>
         requires runs { AreRunsOf text.now runs.old }
-        requires stands { Stands text.now here.pending self.old }
-        requires cursor { IsCursor text.now here }
-        requires here { here.at < length text.now }
-        requires ascii { slice_index text.now here.at < 128 }
+        requires byte { IsAtByte text.now here self.old }
         ensures runs { AreRunsOf text.now runs.new }
         ensures expansion { self.new.expansion ≡ self.old.expansion }
         ensures keeps { OnOk result (KeepsSound self.old self.new) }
@@ -72,10 +68,7 @@ impl<'a> InlineState<'a> {
         text: &str,
         here: Cursor,
     ) -> Result<Cursor, AllocError>
-        requires stands { Stands text.now here.pending self.old }
-        requires cursor { IsCursor text.now here }
-        requires here { here.at < length text.now }
-        requires ascii { slice_index text.now here.at < 128 }
+        requires byte { IsAtByte text.now here self.old }
         requires read { IsRead leaf.now }
         requires same { text.now ≡ text_of leaf.now }
         requires kept { AreUnclosed leaf.now here.at unclosed.old }
@@ -99,8 +92,8 @@ impl<'a> InlineState<'a> {
                 start: here.at,
                 end: found.end,
             };
-            let next = self.put_before_words(text, here, here.at, slot)?;
-            return Ok(next);
+            let next = self.put(text, here, here.at, slot)?;
+            return Ok(onto_words(text, next));
         }
         let slot = Slot {
             kind: SlotKind::Text,

@@ -2,7 +2,6 @@
 
 ghost use Rattle.std.specs.Prelude.{◌≡◌, ◌+◌, ◌≤◌, ◌<◌, ℕ, Bool, List, length, drop, slice_index};
 ghost use Rattle.std.specs.List.{position_or_len};
-ghost use Rattle.cmark_grammar.specs.SpecialBytes.{is_special};
 ghost use Rattle.cmark_search.specs.Sets.{in_rows};
 ghost use Rattle.cmark_grammar.specs.Answers.{Lookup};
 ghost use Rattle.cmark_grammar.specs.Options.{Options as Extensions};

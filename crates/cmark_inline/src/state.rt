@@ -1,7 +1,7 @@
 //! The state of the inline pass.
 
 ghost use Rattle.std.specs.Prelude.{◌≡◌, ℕ, List, [], max};
-ghost use Rattle.cmark_inline.specs.Come.{IsCleared};
+ghost use Rattle.cmark_inline.specs.CursorProgress.{IsCleared};
 ghost use Rattle.cmark_inline.specs.Sound.{IsSound};
 ghost use Rattle.cmark_inline.specs.Stands.{Stands};
 

@@ -1,18 +1,18 @@
 //! One pass over a leaf's text, from special byte to special byte.
 
-ghost use Rattle.std.specs.Prelude.{◌≡◌, ◌==◌, ◌⊎◌, true, false, ◌<◌, ◌≤◌, ◌+◌, ◌-◌, ◌++◌, ◌∷◌, ℕ, List, [], drop, length, slice_index, IfOk, IsOk, OnOk, IfSome};
+ghost use Rattle.std.specs.Prelude.{◌≡◌, ◌==◌, true, false, ◌<◌, ◌≤◌, ◌+◌, ◌++◌, ◌∷◌, ℕ, [], drop, length, slice_index, IfOk, IsOk, OnOk};
 ghost use Rattle.std.specs.Str.{IsCharBoundary};
 ghost use Rattle.cmark_finds.specs.Backticks.{AreRunsOf};
 ghost use Rattle.cmark_finds.specs.Dollars.{AreDollarsOf};
-ghost use Rattle.cmark_leaf_text.specs.Reads.{IsRead, IsPart, text_of};
+ghost use Rattle.cmark_leaf_text.specs.Reads.{IsRead, text_of};
 ghost use Rattle.cmark_inline.specs.Asking.{AsksBetween, AsksUpTo, closing_brackets};
-ghost use Rattle.cmark_inline.specs.Come.{ComesOn};
+ghost use Rattle.cmark_inline.specs.CursorProgress.{ComesOn};
 ghost use Rattle.cmark_inline.specs.PlainStretches.{IsSetOf};
 ghost use Rattle.cmark_inline.specs.Resolved.{Resolves};
-ghost use Rattle.cmark_inline.specs.Stands.{AreSlots, AreBrackets, IsBracket, IsCursor, IsSlot, IsTarget, Moves, SameSpans, Stands, PushesText, begins_link, bytes_of};
+ghost use Rattle.cmark_inline.specs.Stands.{IsAtByte, AreSlots, IsCursor, IsSlot, Moves, Stands, PushesText, begins_link};
 ghost use Rattle.cmark_inline.specs.Footnoted.{SameFootnotes};
-ghost use Rattle.cmark_inline.specs.FoundInSource.{AreUnclosed};
-ghost use Rattle.cmark_inline.specs.Marked.{AreWhole, EndWithin};
+ghost use Rattle.cmark_inline.specs.MarkupInSource.{AreUnclosed};
+ghost use Rattle.cmark_inline.specs.MarkedSlots.{AreWhole, EndWithin};
 ghost use Rattle.cmark_inline.specs.Sound.{AreEnded, IsSound};
 ghost use Rattle.cmark_inline.specs.SlotViews.{AreLeft};
 ghost use Rattle.cmark_inline.specs.SpecialReads.{ReadsSpecial};
@@ -158,10 +158,7 @@ impl<'a> InlineState<'a> {
     ) -> Result<Cursor, AllocError>
         requires runs { AreRunsOf text.now sought.old.runs }
         requires dollars { AreDollarsOf text.now sought.old.dollars }
-        requires stands { Stands text.now here.pending self.old }
-        requires cursor { IsCursor text.now here }
-        requires here { here.at < length text.now }
-        requires ascii { slice_index text.now here.at < 128 }
+        requires byte { IsAtByte text.now here self.old }
         requires read { IsRead leaf.now }
         requires same { text.now ≡ text_of leaf.now }
         requires kept { AreUnclosed leaf.now here.at sought.old.unclosed }

@@ -1,18 +1,17 @@
 //! Line breaks, escapes and entities (CommonMark 2.4, 2.5, 6.7 and 6.8).
 
-ghost use Rattle.std.specs.Prelude.{◌≡◌, ◌⊎◌, true, false, ◌<◌, ◌≤◌, ◌+◌, ◌-◌, ◌++◌, if◌then◌else◌, ℕ, Bool, List, [], length, slice_index, IfOk, OnOk, IfSome};
-ghost use Rattle.std.specs.Str.{IsCharBoundary};
+ghost use Rattle.std.specs.Prelude.{◌≡◌, ◌⊎◌, if◌then◌else◌, Bool, slice_index, IfOk, OnOk};
 ghost use Rattle.cmark_grammar.specs.Answers.{Lookup};
 ghost use Rattle.cmark_grammar.specs.LineBreaks.{ends_with_two_spaces};
 ghost use Rattle.cmark_grammar.specs.Options.{Options};
-ghost use Rattle.cmark_inline.specs.Stands.{AreSlots, AreBrackets, IsBracket, IsCursor, IsSlot, IsTarget, Moves, SameSpans, Stands, begins_link, bytes_of};
-ghost use Rattle.cmark_inline.specs.Tokens.{Appends, Escapes, EscapesPipe, Passes, Puts, read_on};
+ghost use Rattle.cmark_inline.specs.Stands.{IsAtByte, Moves};
+ghost use Rattle.cmark_inline.specs.Tokens.{Appends, Escapes, EscapesPipe, Passes};
 ghost use Rattle.cmark_inline.specs.declared.slot.SlotKind.TheVariants as slot_kind;
 ghost use Rattle.cmark_inline.specs.Sound.{KeepsSound};
 
 use crate::place::{
-    before_blanks, behind, end_behind, is_escape, is_lone_backtick, is_pipe_escape, pass,
-    words_from,
+    before_blanks, behind, end_behind, is_escape, is_lone_backtick, is_pipe_escape, onto_words,
+    pass,
 };
 use crate::slot::{Slot, SlotKind};
 use crate::state::InlineState;
@@ -26,10 +25,7 @@ impl<'a> InlineState<'a> {
     // A line ends: a soft break, or a hard one where two spaces stand before it (CommonMark 6.7 and 6.8). The blanks in front of
     // the next line go with it.
     pub(crate) fn line_end(&mut self, text: &str, here: Cursor) -> Result<Cursor, AllocError>
-        requires stands { Stands text.now here.pending self.old }
-        requires cursor { IsCursor text.now here }
-        requires here { here.at < length text.now }
-        requires ascii { slice_index text.now here.at < 128 }
+        requires byte { IsAtByte text.now here self.old }
         ensures expansion { self.new.expansion ≡ self.old.expansion }
         ensures keeps { OnOk result (KeepsSound self.old self.new) }
         ensures moves { IfOk result (Moves text.now here.at self.new) }
@@ -41,41 +37,8 @@ impl<'a> InlineState<'a> {
         };
         let is_hard = ends_with_two_spaces(&text.as_bytes()[stop..here.at]);
         let slot = break_slot(is_hard, stop, here.at, found.end);
-        let next = self.put_before_words(text, here, stop, slot)?;
-        Ok(next)
-    }
-
-    // Appends the text that is pending up to a place, and then a slot; the text is read on behind that and, where a line begins
-    // there, behind the blanks in front of it.
-    #[inline(always)]
-    pub(crate) fn put_before_words(
-        &mut self,
-        text: &str,
-        here: Cursor,
-        stop: usize,
-        slot: Slot,
-    ) -> Result<Cursor, AllocError>
-        requires stands { Stands text.now here.pending self.old }
-        requires starts { IsCharBoundary text.now here.pending }
-        requires stops { IsCharBoundary text.now stop }
-        requires behind { here.pending ≤ stop }
-        requires ordered { stop < slot.end }
-        requires slot { IsSlot text.now slot.end slot }
-        requires further { here.at < slot.end }
-        requires kind { begins_link slot.kind ≡ false }
-        ensures expansion { self.new.expansion ≡ self.old.expansion }
-        ensures moves { IfOk result (Moves text.now here.at self.new) }
-        ensures at { IfOk result (λ next. next.at ≡ read_on text.now slot.end) }
-        ensures pending { IfOk result (λ next. next.pending ≡ next.at) }
-        ensures slots { OnOk result (Puts here.pending stop slot self.old.slots.items self.new.slots.items) }
-        ensures others { self.new ≡ record self.old { slots = self.new.slots } }
-    {
         let next = self.put(text, here, stop, slot)?;
-        let words = words_from(text, next.pending);
-        Ok(Cursor {
-            pending: words,
-            at: words,
-        })
+        Ok(onto_words(text, next))
     }
 
     // A backslash: a hard break before a line end (CommonMark 6.7), or an escape (CommonMark 2.4). In the cell of a table it escapes a
@@ -87,10 +50,7 @@ impl<'a> InlineState<'a> {
         text: &str,
         here: Cursor,
     ) -> Result<Cursor, AllocError>
-        requires stands { Stands text.now here.pending self.old }
-        requires cursor { IsCursor text.now here }
-        requires here { here.at < length text.now }
-        requires ascii { slice_index text.now here.at < 128 }
+        requires byte { IsAtByte text.now here self.old }
         ensures expansion { self.new.expansion ≡ self.old.expansion }
         ensures keeps { OnOk result (KeepsSound self.old self.new) }
         ensures moves { IfOk result (Moves text.now here.at self.new) }
@@ -102,8 +62,8 @@ impl<'a> InlineState<'a> {
                 start: here.at,
                 end: found.end,
             };
-            let next = self.put_before_words(text, here, here.at, slot)?;
-            return Ok(next);
+            let next = self.put(text, here, here.at, slot)?;
+            return Ok(onto_words(text, next));
         }
         if !is_escape(text, here.at) {
             return Ok(pass(text, here));
@@ -139,10 +99,7 @@ impl<'a> InlineState<'a> {
         entities: &E,
         here: Cursor,
     ) -> Result<Cursor, AllocError>
-        requires stands { Stands text.now here.pending self.old }
-        requires cursor { IsCursor text.now here }
-        requires here { here.at < length text.now }
-        requires ascii { slice_index text.now here.at < 128 }
+        requires byte { IsAtByte text.now here self.old }
         ensures expansion { self.new.expansion ≡ self.old.expansion }
         ensures keeps { OnOk result (KeepsSound self.old self.new) }
         ensures moves { IfOk result (Moves text.now here.at self.new) }

@@ -1,6 +1,6 @@
 //! Wikilinks (this profile's own).
 
-ghost use Rattle.std.specs.Prelude.{◌≡◌, ◌⊎◌, ◌≤◌, ◌<◌, ◌+◌, ◌++◌, ◌∷◌, ◌&&◌, ◌==◌, drop, if◌then◌else◌, true, false, is_some, ℕ, List, [], length, IfOk, OnOk, IfSome, None, Some};
+ghost use Rattle.std.specs.Prelude.{◌≡◌, ◌⊎◌, ◌≤◌, ◌<◌, ◌+◌, ◌++◌, ◌∷◌, ◌&&◌, ◌==◌, drop, if◌then◌else◌, false, is_some, ℕ, [], length, IfOk, OnOk, IfSome, None, Some};
 ghost use Rattle.std.specs.Str.{IsCharBoundary};
 ghost use Rattle.cmark_grammar.specs.BracketDecisions.{name_in};
 ghost use Rattle.cmark_leaf_text.specs.Reads.{IsRead, IsPart, text_of};
@@ -8,7 +8,7 @@ ghost use Rattle.cmark_text.specs.Shown.{shown_options};
 ghost use Rattle.cmark_grammar.specs.Letters.{first_is};
 ghost use Rattle.cmark_inline.specs.Closers.{LeavesWikilink, TriesDoubled};
 ghost use Rattle.cmark_inline.specs.Doubled.{DropsBehind, nearest};
-ghost use Rattle.cmark_inline.specs.Marked.{SameBefore};
+ghost use Rattle.cmark_inline.specs.MarkedSlots.{SameBefore};
 ghost use Rattle.cmark_inline.specs.SlotViews.{link_of};
 ghost use Rattle.cmark_inline.specs.declared.slot.Element.TheVariants as element;
 ghost use Rattle.cmark_inline.specs.Hiding.{AreLeft, WritesShown, WritesWikilink};
@@ -18,7 +18,6 @@ ghost use Rattle.cmark_leaf_text.specs.declared.leaf_text.LeafText.{LeafText as 
 ghost use Rattle.cmark_inline.specs.Stands.{AreSlots, HoldNoLink, IsBracket, Moves, NoNewLink, Stands};
 ghost use Rattle.cmark_inline.specs.Wikilinks.{IsNamed, IsWikilink, Shows, forms_wikilink, wiki_text};
 ghost use Rattle.cmark_inline.specs.declared.link.LinkParts.{LinkParts as Parts};
-ghost use Rattle.cmark_inline.specs.declared.wikilink.Wikilink.{Wikilink as Found};
 
 use crate::bracket::Bracket;
 use crate::link::LinkParts;

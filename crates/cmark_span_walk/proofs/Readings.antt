@@ -32,7 +32,7 @@ use Rattle.cmark_leaf_text.specs.declared.stretch.LeafLine.{LeafLine}
 use Rattle.cmark_text.specs.declared.text.CowStr.{CowStr}
 use Rattle.cmark_walk.specs.declared.walk.Walk.{Walk}
 use Rattle.cmark_walk.specs.Walking as walking
-use Rattle.cmark_walk.specs.Walking.{AreLinesOf, lines_of}
+use Rattle.cmark_walk.specs.Walking.{lines_of}
 use Rattle.cmark_span_walk.specs.declared.span_walk.SpanWalk.{SpanWalk}
 use Rattle.cmark_span_walk.specs.Walking.{ArePlaced, Ends, EntersLeaf, HasAsked, HasRange, IsOnlyLine, IsReadBy, Passes, ReadsLeaf, ReadsSame, Remains, StandsAt, callback_of, definitions_of, expansion_of, source_of, spans_to_come}
 use Rattle.cmark_span_walk.proofs.Walks.{Lasts, behind-at, closed, closed-at, met-by, one-left, same-at}

@@ -98,6 +98,14 @@ module _ {E F : Type 0} where
   abbrev pub footnotes_of : SpanWalk E F → FootnoteDefs
   footnotes_of walk = walk.footnotes
 
+  -- a call reads on in a leaf alone: what stands around the leaf is as it was
+  pub record KeepsAround (old new : SpanWalk E F) : Type 0 where
+    pub callback : callback_of new ≡ callback_of old
+    pub budget : new.budget ≡ old.budget
+    pub source : source_of new ≡ source_of old
+    pub definitions : definitions_of new ≡ definitions_of old
+    pub footnotes : footnotes_of new ≡ footnotes_of old
+
   -- the bytes that are special are those of the options
   abbrev pub HasSpecialBytes : SpanWalk E F → Type 0
   HasSpecialBytes walk = IsSetOf (options_of walk) walk.special

@@ -1,6 +1,6 @@
 //! The walk over a document's events with the spans of its leaves.
 
-ghost use Rattle.std.specs.Prelude.{◌≡◌, ◌≢◌, ◌<◌, ◌≤◌, ℕ, Bool, true, false, List, [], None, is_some, length, max, IfOk, IfSome, OnErr, OnOk, OnSome};
+ghost use Rattle.std.specs.Prelude.{◌≡◌, ◌≢◌, ◌<◌, ◌≤◌, ℕ, Bool, true, false, List, [], is_some, length, max, IfOk, IfSome, OnErr, OnOk, OnSome};
 ghost use Rattle.cmark_grammar.specs.Answers.{Lookup};
 ghost use Rattle.cmark_grammar.specs.Event.{Ranged as Shown};
 ghost use Rattle.cmark_grammar.specs.Questions.{Exchange};
@@ -46,7 +46,7 @@ pub struct SpanWalk<'input, 'e, E, F> {
 }
 
 impl<'input, 'e, E: EntityLookup, F: BrokenLinkCallback<'input> + Drop> SpanWalk<'input, 'e, E, F> {
-    ghost use Rattle.cmark_span_walk.specs.Walking.{BeforeLeaf, EntersLeaf, Gives, GivesInLeaf, GivesNext, GivesSpan, IsReadBy, KeepsBehindLeaf, KeepsLeft, LeavesFewer, LeavesLeaf, NoEndIsNext, ReadsLeaf, ReadsSame, Remains, Stands, callback_of, definitions_of, events_left, expansion_of, footnotes_of, options_of, source_of};
+    ghost use Rattle.cmark_span_walk.specs.Walking.{BeforeLeaf, KeepsAround, EntersLeaf, Gives, GivesInLeaf, GivesNext, GivesSpan, IsReadBy, KeepsBehindLeaf, KeepsLeft, LeavesFewer, LeavesLeaf, NoEndIsNext, ReadsLeaf, ReadsSame, Remains, Stands, callback_of, definitions_of, events_left, expansion_of, footnotes_of, options_of, source_of};
 
     /// A walk over what this walk over the text meets, which are fewer events and leaves than `budget`. `entities` says what the
     /// entity names stand for; `footnotes` are those that the text defines, of which each counts its references; `callback` is asked
@@ -182,15 +182,11 @@ impl<'input, 'e, E: EntityLookup, F: BrokenLinkCallback<'input> + Drop> SpanWalk
         ensures given { (reader : GrammarReader) → IsReadBy E.replacement reader self.old → IfOk result (λ next. GivesInLeaf F.answers E.replacement reader self.old next self.new) }
         ensures kept { (reader : GrammarReader) → IfOk result (λ next. KeepsBehindLeaf E.replacement reader self.old next self.new) }
         ensures ends { OnErr result ((reader : GrammarReader) → NoEndIsNext E.replacement reader self.old) }
-        ensures callback { callback_of self.new ≡ callback_of self.old }
         ensures fewer { IfOk result (λ next. LeavesFewer self.old next self.new) }
         ensures most { OnOk result (events_left self.new ≤ events_left self.old) }
         ensures few { OnOk result (self.old.in_leaf ≡ true → length self.new.inline.slots.items < 18446744073709551616) }
         ensures slots { OnOk result (self.new.inline.slots ≡ self.old.inline.slots) }
-        ensures budget { self.new.budget ≡ self.old.budget }
-        ensures source { source_of self.new ≡ source_of self.old }
-        ensures definitions { definitions_of self.new ≡ definitions_of self.old }
-        ensures footnotes { footnotes_of self.new ≡ footnotes_of self.old }
+        ensures around { KeepsAround self.old self.new }
     {
         if !self.in_leaf {
             return Ok(Next::Over);
@@ -214,16 +210,12 @@ impl<'input, 'e, E: EntityLookup, F: BrokenLinkCallback<'input> + Drop> SpanWalk
         ensures given { (reader : GrammarReader) → IsReadBy E.replacement reader self.old → IfOk result (λ given. GivesSpan F.answers E.replacement reader self.old given self.new) }
         ensures kept { (reader : GrammarReader) → IfOk result (λ given. is_some given ≡ false → KeepsLeft E.replacement reader self.old self.new) }
         ensures ends { OnErr result ((reader : GrammarReader) → NoEndIsNext E.replacement reader self.old) }
-        ensures callback { callback_of self.new ≡ callback_of self.old }
         ensures lent { IfOk result (λ given. IfSome given (GivesZeroCopy (source_of self.old))) }
         ensures fewer { IfOk result (λ given. OnSome given (events_left self.new < events_left self.old)) }
         ensures most { OnOk result (events_left self.new ≤ events_left self.old) }
         ensures few { OnOk result (self.old.in_leaf ≡ true → length self.new.inline.slots.items < 18446744073709551616) }
         ensures slots { OnOk result (self.new.inline.slots ≡ self.old.inline.slots) }
-        ensures budget { self.new.budget ≡ self.old.budget }
-        ensures source { source_of self.new ≡ source_of self.old }
-        ensures definitions { definitions_of self.new ≡ definitions_of self.old }
-        ensures footnotes { footnotes_of self.new ≡ footnotes_of self.old }
+        ensures around { KeepsAround self.old self.new }
     {
         if !self.in_leaf {
             return Ok(None);

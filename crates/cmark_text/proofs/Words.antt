@@ -1,5 +1,5 @@
 -- The words of a label, as they come off its front.
-use Rattle.std.proofs.Common.{◌≡◌, ℕ, suc, ◌<◌, ◌≤◌, false, List, [], ◌∷◌, ◌++◌, length, get_or, filter, All, refl, sym, ap, subst, ◌∙◌, inl, inr, arith, length-append, append_assoc, append-nil}
+use Rattle.std.proofs.Common.{◌≡◌, ℕ, suc, ◌<◌, ◌≤◌, false, List, [], ◌∷◌, ◌++◌, length, get_or, filter, position, None, All, refl, sym, ap, subst, ◌∙◌, inl, inr, arith, length-append, append_assoc, append-nil}
 use Rattle.std.specs.Char.{is_ascii_whitespace}
 use Rattle.std.specs.List.{slice_split, join_with_byte, AllPass}
 use Rattle.std.specs.Str.{NoCharPasses}
@@ -11,6 +11,7 @@ use Rattle.std.proofs.lemmas.List.Elements.{All-from_get_or}
 use Rattle.std.proofs.lemmas.List.Splits.{slice_split-cons_yes, slice_split_none, slice_split_at}
 use Rattle.std.proofs.lemmas.Str.{NoCharPasses-byte}
 use Rattle.cmark_grammar.specs.Labels.{is_nonempty, words}
+use Rattle.cmark_text.proofs.Escaping.{all_kept-position}
 
 not_white : (b : ℕ) → 128 ≤ b → is_ascii_whitespace b ≡ false
 not_white b high = grind (arith, nat_tests)
@@ -99,3 +100,11 @@ joined_more label text new bs gap x sep rest j cut white some none behind first 
 pub joined_all : (label text bs : List ℕ) → Joined label text bs → AllPass is_ascii_whitespace bs → text ≡ join_with_byte 32 (words label)
 joined_all label text bs j white =
     j.joined ∙ ap (join_with_byte 32) (sym (append-nil j.seen) ∙ ap (λ l. j.seen ++ l) (sym (words_white bs white)) ∙ sym j.cut)
+
+-- a label without white space is its own normal form
+pub one_word : (label : List ℕ) → position is_ascii_whitespace label ≡ None → label ≡ join_with_byte 32 (words label)
+one_word [] none = refl
+one_word (b ∷ bs) none = sym (ap (join_with_byte 32) (sym (ap words (append-nil (b ∷ bs))) ∙ words_at_word (b ∷ bs) [] [] (omega arith) plain ((λ k d below. absurd (omega arith)), omega arith, λ e. refl)))
+  where
+    plain : All (λ c. is_ascii_whitespace c ≡ false) (b ∷ bs)
+    plain = All-from_get_or (λ c. is_ascii_whitespace c ≡ false) (b ∷ bs) 0 (all_kept-position is_ascii_whitespace (b ∷ bs) None (sym none) refl)

@@ -1,5 +1,6 @@
 -- What a label shows: its normal form, and what it is compared by.
 use Rattle.std.specs.Prelude.{ℕ, List, string_bytes}
+use Rattle.cmark_grammar.specs.Labels.{case_folded}
 use Rattle.cmark_text.specs.declared.label.LinkLabel.{LinkLabel}
 use Rattle.cmark_text.specs.declared.label.FootnoteLabel.{FootnoteLabel}
 
@@ -7,10 +8,10 @@ abbrev pub link_text : LinkLabel → List ℕ
 link_text label = string_bytes label.link.text
 
 abbrev pub link_key : LinkLabel → List ℕ
-link_key label = string_bytes label.link.folded
+link_key label = case_folded (string_bytes label.link.text)
 
 abbrev pub footnote_text : FootnoteLabel → List ℕ
 footnote_text label = string_bytes label.footnote.text
 
 abbrev pub footnote_key : FootnoteLabel → List ℕ
-footnote_key label = string_bytes label.footnote.folded
+footnote_key label = case_folded (string_bytes label.footnote.text)

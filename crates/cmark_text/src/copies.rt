@@ -25,10 +25,7 @@ impl<'a> Tag<'a> {
                 id,
                 classes,
                 attrs,
-            } => {
-                let parts = clone_heading_parts(alloc, id, classes, attrs)?;
-                Ok(heading_tag(*level, parts))
-            }
+            } => Ok(heading_tag(*level, clone_heading_parts(alloc, id, classes, attrs)?)),
             Tag::CodeBlock(kind) => kind.clone(alloc).map(Tag::CodeBlock),
             Tag::FootnoteDefinition(label) => label.clone(alloc).map(Tag::FootnoteDefinition),
             Tag::Table(alignments) => Ok(Tag::Table(Vec::from_slice(alloc, alignments)?)),
@@ -37,19 +34,13 @@ impl<'a> Tag<'a> {
                 dest_url,
                 title,
                 id,
-            } => {
-                let texts = clone_link_texts(alloc, dest_url, title, id)?;
-                Ok(link_tag(*link_type, texts))
-            }
+            } => Ok(link_tag(*link_type, clone_link_texts(alloc, dest_url, title, id)?)),
             Tag::Image {
                 link_type,
                 dest_url,
                 title,
                 id,
-            } => {
-                let texts = clone_link_texts(alloc, dest_url, title, id)?;
-                Ok(image_tag(*link_type, texts))
-            }
+            } => Ok(image_tag(*link_type, clone_link_texts(alloc, dest_url, title, id)?)),
             _ => unreachable!(),
         }
     }
@@ -68,10 +59,7 @@ impl<'a> Tag<'a> {
                 id,
                 classes,
                 attrs,
-            } => {
-                let parts = static_heading_parts(alloc, id, classes, attrs)?;
-                Ok(heading_tag(level, parts))
-            }
+            } => Ok(heading_tag(level, static_heading_parts(alloc, id, classes, attrs)?)),
             Tag::CodeBlock(kind) => kind.into_static(alloc).map(Tag::CodeBlock),
             Tag::FootnoteDefinition(label) => label.into_static(alloc).map(Tag::FootnoteDefinition),
             Tag::Table(alignments) => Ok(Tag::Table(alignments)),
@@ -80,19 +68,13 @@ impl<'a> Tag<'a> {
                 dest_url,
                 title,
                 id,
-            } => {
-                let texts = static_link_texts(alloc, dest_url, title, id)?;
-                Ok(link_tag(link_type, texts))
-            }
+            } => Ok(link_tag(link_type, static_link_texts(alloc, dest_url, title, id)?)),
             Tag::Image {
                 link_type,
                 dest_url,
                 title,
                 id,
-            } => {
-                let texts = static_link_texts(alloc, dest_url, title, id)?;
-                Ok(image_tag(link_type, texts))
-            }
+            } => Ok(image_tag(link_type, static_link_texts(alloc, dest_url, title, id)?)),
             _ => unreachable!(),
         }
     }

@@ -1,6 +1,7 @@
 //! Labels of links and footnotes.
 
-ghost use Rattle.std.specs.Prelude.{◌≡◌, ◌<◌, ◌∷◌, ◌++◌, IfOk, OnOk, length, string_bytes, nat_eq, Some, refl};
+ghost use Rattle.std.specs.Prelude.{◌≡◌, ◌<◌, ◌∷◌, ◌++◌, IfOk, OnOk, length, position, string_bytes, nat_eq, Some, refl};
+ghost use Rattle.std.specs.Char.{is_ascii_whitespace};
 ghost use Rattle.std.specs.Ordering.{nat_cmp};
 ghost use Rattle.std.specs.Cmp.{on_equiv, on_per, on_po, on_total, partial_equiv_from_equiv};
 ghost use Rattle.std.specs.Cmp.Lexicographic.{pointwise, slice_cmp, nat_list_eq_equiv, nat_list_cmp_total, texts_po, texts_ties};
@@ -8,6 +9,7 @@ ghost use Rattle.std.specs.Cmp.Rules.{hashing};
 ghost use Rattle.std.specs.Hash as fed;
 ghost use Rattle.std.proofs.Common.{rules};
 ghost use Rattle.cmark_grammar.specs.Labels.{normal_form, case_folded, fold};
+ghost use Rattle.cmark_text.specs.Folding.{compared, may_fold};
 
 use caseless::default_case_fold_str;
 use std::alloc::{AllocError, Global};
@@ -76,16 +78,17 @@ impl FootnoteLabel {
 #[derive(Debug, Drop)]
 struct Label {
     text: String,
-    folded: String,
-    ghost folds: { string_bytes folded ≡ case_folded (string_bytes text) },
+    /// What it is compared by, where that is another text.
+    folded: Option<String>,
+    ghost folds: { compared (string_bytes text) folded ≡ case_folded (string_bytes text) },
 }
 
 impl Label {
     fn new(alloc: Global, label: &str) -> Result<Label, AllocError>
         ensures { IfOk result (λ made. string_bytes made.text ≡ normal_form label.now) }
     {
-        let text = normalized(alloc, label)?;
-        let folded = case_folded(alloc, text.as_str())?;
+        let text = normal_text(alloc, label)?;
+        let folded = folded_apart(alloc, text.as_str())?;
         Ok(Label { text, folded })
     }
 
@@ -94,26 +97,36 @@ impl Label {
     {
         self.text.as_str()
     }
+
+    /// What it is compared by.
+    fn key(&self) -> &str
+        ensures { result.now ≡ case_folded (string_bytes self.now.text) }
+    {
+        match &self.folded {
+            Some(folded) => folded.as_str(),
+            None => self.text.as_str(),
+        }
+    }
 }
 
 impl PartialEq for Label {
-    ghost eq = { λ a b. pointwise nat_eq (string_bytes a.folded) (string_bytes b.folded) };
+    ghost eq = { λ a b. pointwise nat_eq (case_folded (string_bytes a.text)) (case_folded (string_bytes b.text)) };
 
-    ghost laws = { on_per (λ label. string_bytes label.folded) (partial_equiv_from_equiv nat_list_eq_equiv) };
+    ghost laws = { on_per (λ label. case_folded (string_bytes label.text)) (partial_equiv_from_equiv nat_list_eq_equiv) };
 
     fn eq(&self, other: &Label) -> bool {
-        self.folded == other.folded
+        self.key() == other.key()
     }
 }
 
 impl Eq for Label {
-    ghost laws = { on_equiv (λ label. string_bytes label.folded) nat_list_eq_equiv };
+    ghost laws = { on_equiv (λ label. case_folded (string_bytes label.text)) nat_list_eq_equiv };
 }
 
 impl PartialOrd for Label {
-    ghost partial_cmp = { λ a b. Some (slice_cmp nat_cmp (string_bytes a.folded) (string_bytes b.folded)) };
+    ghost partial_cmp = { λ a b. Some (slice_cmp nat_cmp (case_folded (string_bytes a.text)) (case_folded (string_bytes b.text))) };
 
-    ghost laws = { on_po (λ label. string_bytes label.folded) texts_po };
+    ghost laws = { on_po (λ label. case_folded (string_bytes label.text)) texts_po };
 
     fn partial_cmp(&self, other: &Label) -> Option<Ordering> {
         Some(self.cmp(other))
@@ -121,27 +134,53 @@ impl PartialOrd for Label {
 }
 
 impl Ord for Label {
-    ghost cmp = { λ a b. slice_cmp nat_cmp (string_bytes a.folded) (string_bytes b.folded) };
+    ghost cmp = { λ a b. slice_cmp nat_cmp (case_folded (string_bytes a.text)) (case_folded (string_bytes b.text)) };
 
-    ghost total = { on_total (λ label. string_bytes label.folded) nat_list_cmp_total };
+    ghost total = { on_total (λ label. case_folded (string_bytes label.text)) nat_list_cmp_total };
 
     ghost matches_partial_cmp = { λ a b. refl };
 
-    ghost matches_eq = { λ a b. texts_ties (string_bytes a.folded) (string_bytes b.folded) };
+    ghost matches_eq = { λ a b. texts_ties (case_folded (string_bytes a.text)) (case_folded (string_bytes b.text)) };
 
     fn cmp(&self, other: &Label) -> Ordering {
-        self.folded.cmp(&other.folded)
+        self.key().cmp(other.key())
     }
 }
 
 impl Hash for Label {
-    ghost hash_input = { λ label. fed.str (string_bytes label.folded) };
+    ghost hash_input = { λ label. fed.str (case_folded (string_bytes label.text)) };
 
     ghost respects_eq = { Prim.search (hashing, rules) };
 
     fn hash<H: Hasher>(&self, state: &mut H) {
-        self.folded.hash(state);
+        self.key().hash(state);
     }
+}
+
+/// The text with Unicode's full case folding, where that may be another text. Most labels are of lower case, which folds to itself.
+fn folded_apart(alloc: Global, text: &str) -> Result<Option<String>, AllocError>
+    ensures { IfOk result (λ made. compared text.now made ≡ case_folded text.now) }
+{
+    let Some(_) = find_folding(text) else {
+        return Ok(None);
+    };
+    let folded = case_folded(alloc, text)?;
+    Ok(Some(folded))
+}
+
+/// Where the first byte stands that case folding may change.
+fn find_folding(text: &str) -> Option<usize>
+    ensures { result ≡ position may_fold text.now }
+{
+    text.as_bytes().iter().position(|byte| may_fold(*byte))
+}
+
+/// Whether case folding may change a byte: it is an upper case letter, or a part of a character beyond ASCII.
+#[inline(always)]
+fn may_fold(byte: u8) -> bool
+    ensures { result ≡ may_fold byte }
+{
+    byte > 64 && byte < 91 || byte > 127
 }
 
 /// The text with Unicode's full case folding. An ASCII text, as most labels are, folds to its lower case.
@@ -154,6 +193,28 @@ fn case_folded(alloc: Global, text: &str) -> Result<String, AllocError>
         return Ok(lower);
     }
     default_case_fold_str(alloc, text)
+}
+
+/// The normal form of a label. Most labels have no white space, and are their own.
+fn normal_text(alloc: Global, label: &str) -> Result<String, AllocError>
+    ensures { IfOk result (λ text. string_bytes text ≡ normal_form label.now) }
+{
+    let None = find_white_space(label) else {
+        return normalized(alloc, label);
+    };
+    let mut text = String::with_capacity(alloc, label.len())?;
+    text.push_str(label)?;
+    Ok(text)
+}
+
+/// Where the first white space stands.
+fn find_white_space(label: &str) -> Option<usize>
+    ensures { result ≡ position is_ascii_whitespace label.now }
+{
+    label
+        .as_bytes()
+        .iter()
+        .position(|byte| byte.is_ascii_whitespace())
 }
 
 /// The words of a label, with one space between each two.

@@ -14,7 +14,7 @@ use Rattle.cmark_grammar.specs.TagEnd.{TagEnd}
 use Rattle.cmark_grammar.specs.BlockDocument as document
 use Rattle.cmark_grammar.specs.BlockDocument.{BlockKind, BlockNode, BlockDocument, Paragraph, TightParagraph, Heading, LinkDefinition, TaskMarker}
 use Rattle.cmark_grammar.specs.BlockReading as reads
-use Rattle.cmark_grammar.specs.BlockReading.{Reads, read_as, over, first_event, begins_title, starts_before, starts_of, is_title}
+use Rattle.cmark_grammar.specs.BlockReading.{Reads, read_as, first_event, begins_title, starts_before, starts_of, is_title}
 use Rattle.cmark_grammar.specs.DrawnDocument.{is_definition, kind_within, settled}
 use Rattle.cmark_grammar.specs.SpanDocuments.{Segment, Given, Content, first_of_segments, inside_of, node_segments, segments, stretches_of, with_first_segment}
 use Rattle.cmark_grammar.specs.Tables.{delimiter_row}

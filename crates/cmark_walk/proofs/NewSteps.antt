@@ -3,14 +3,14 @@ use Rattle.std.proofs.Common.{◌≡◌, ◌≤◌, ℕ, false, List, [], ◌∷
 use Rattle.std.specs.Str.{IsCharBoundary}
 use Rattle.cmark_tree.specs.declared.tree.Tree.{Tree}
 use Rattle.cmark_tree.specs.Forest as forest
-use Rattle.cmark_tree.specs.Forest.{Forest, Nil, Node, join}
+use Rattle.cmark_tree.specs.Forest.{Forest, Nil, Node}
 use Rattle.cmark_tree.specs.Arena.{Placed, items_of}
 use Rattle.cmark_tree.specs.Zip.{Level, Zip, plug, siblings, whole, at_first}
 use Rattle.cmark_tree.specs.Building.{Is, opened}
 use Rattle.cmark_tree.specs.Tree.{Holds}
 use Rattle.cmark_text.specs.declared.text.CowStr.{CowStr}
 use Rattle.cmark_grammar.specs.BlockDocument as document
-use Rattle.cmark_grammar.specs.BlockDocument.{BlockNode, BlockDocument}
+use Rattle.cmark_grammar.specs.BlockDocument.{BlockDocument}
 use Rattle.cmark_grammar.specs.DrawnDocument.{settled}
 use Rattle.cmark_grammar.specs.Ranges.{InOrder, AllAt}
 use Rattle.cmark_grammar.specs.SpanDocuments.{segments}

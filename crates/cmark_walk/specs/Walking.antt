@@ -228,6 +228,17 @@ MayBeginWithEnd (Content leaf ∷ others) = leaf.stretches ≡ []
 abbrev pub NoEndIsNext : Walk → Type 0
 NoEndIsNext walk = (left : List Segment) → Remains walk left → MayBeginWithEnd left → ⊥
 
+-- the same is left, and it begins with no end: where a call is refused memory
+pub record LeavesTheSame (old new : Walk) : Type 0 where
+  pub remains : (left : List Segment) → Remains old left → Remains new left
+  pub no_end : NoEndIsNext old
+
+-- the walk stands in a document, in the same text and with the same definitions
+pub record GoesOn (old new : Walk) : Type 0 where
+  pub goes : Goes new
+  pub definitions : definitions_of new ≡ definitions_of old
+  pub text : text_of new ≡ text_of old
+
 -- the most steps that give nothing before one that gives something: out of a paragraph of a tight list, and into the next one
 abbrev pub silent_steps : Stage → ℕ
 silent_steps stage.Before = 1

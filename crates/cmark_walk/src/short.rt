@@ -9,10 +9,12 @@ ghost use Rattle.cmark_grammar.specs.SpanDocuments.{Segment};
 ghost use Rattle.cmark_grammar.specs.Tokens.{slice};
 ghost use Rattle.cmark_leaf_text.specs.declared.stretch.LeafLine.{LeafLine as LeafLines};
 ghost use Rattle.cmark_walk.specs.declared.reading.Stage.TheVariants as stage;
-ghost use Rattle.cmark_walk.specs.Walking.{ComesNearerShort, Drawn, GivesBrief, GivesShortStep, GlancesZeroCopy, Goes, IsAt, IsBelow, IsDrawn, IsPast, NoEndIsNext, Outer, ReadsAs, Remains, StandsBelow, definitions_of, text_of, texts_of, tight_below};
+ghost use Rattle.cmark_walk.specs.Walking.{GoesOn, LeavesTheSame, ComesNearerShort, Drawn, GivesBrief, GivesShortStep, GlancesZeroCopy, Goes, IsAt, IsBelow, IsDrawn, IsPast, NoEndIsNext, Outer, ReadsAs, Remains, StandsBelow, definitions_of, text_of, texts_of, tight_below};
 
+use crate::item::first_number;
+use crate::kind::is_leaf;
 use crate::reading::{Brief, BriefStep, Glance, Stage};
-use crate::walk::{Walk, first_number, is_leaf};
+use crate::walk::Walk;
 use cmark_items::{Item, ItemBody};
 use cmark_leaf_text::LeafLine;
 use cmark_text::{PlainTag, Short};
@@ -49,12 +51,9 @@ impl<'a> Walk<'a> {
     fn short_step(&mut self, lines: &mut Vec<LeafLine>) -> Result<BriefStep<'a>, AllocError>
         requires { Goes self.old }
         ensures given { IfOk result (λ brief. GivesShortStep self.old brief lines.new.items self.new) }
-        ensures refused { OnErr result ((left : List Segment) → Remains self.old left → Remains self.new left) }
-        ensures ends { OnErr result (NoEndIsNext self.old) }
+        ensures refused { OnErr result (LeavesTheSame self.old self.new) }
         ensures nearer { IfOk result (λ brief. ComesNearerShort self.old brief self.new) }
-        ensures goes { Goes self.new }
-        ensures definitions { definitions_of self.new ≡ definitions_of self.old }
-        ensures text { text_of self.new ≡ text_of self.old }
+        ensures goes_on { GoesOn self.old self.new }
     {
         let Some(ix) = self.tree.cur() else {
             return Ok(self.leave_short());
@@ -76,12 +75,9 @@ impl<'a> Walk<'a> {
         requires at { IsAt self.old ix }
         requires before { self.old.stage ≡ stage.Before }
         ensures given { IfOk result (λ brief. (lines : List LeafLines) → GivesShortStep self.old brief lines self.new) }
-        ensures refused { OnErr result ((left : List Segment) → Remains self.old left → Remains self.new left) }
-        ensures ends { OnErr result (NoEndIsNext self.old) }
+        ensures refused { OnErr result (LeavesTheSame self.old self.new) }
         ensures nearer { IfOk result (λ brief. ComesNearerShort self.old brief self.new) }
-        ensures goes { Goes self.new }
-        ensures definitions { definitions_of self.new ≡ definitions_of self.old }
-        ensures text { text_of self.new ≡ text_of self.old }
+        ensures goes_on { GoesOn self.old self.new }
     {
         let item = *self.tree.item(ix);
         match self.glance(item) {
@@ -112,9 +108,7 @@ impl<'a> Walk<'a> {
         requires behind { self.old.stage ≡ stage.Behind }
         ensures given { (lines : List LeafLines) → GivesShortStep self.old result lines self.new }
         ensures nearer { ComesNearerShort self.old result self.new }
-        ensures goes { Goes self.new }
-        ensures definitions { definitions_of self.new ≡ definitions_of self.old }
-        ensures text { text_of self.new ≡ text_of self.old }
+        ensures goes_on { GoesOn self.old self.new }
     {
         let item = *self.tree.item(ix);
         let end = self.end(item);
@@ -132,9 +126,7 @@ impl<'a> Walk<'a> {
         requires { IsPast self.old }
         ensures given { (lines : List LeafLines) → GivesShortStep self.old result lines self.new }
         ensures nearer { ComesNearerShort self.old result self.new }
-        ensures goes { Goes self.new }
-        ensures definitions { definitions_of self.new ≡ definitions_of self.old }
-        ensures text { text_of self.new ≡ text_of self.old }
+        ensures goes_on { GoesOn self.old self.new }
     {
         let Some(ix) = self.tree.pop() else {
             return BriefStep::Over;

@@ -3,7 +3,7 @@ use Rattle.std.specs.Prelude.{map}
 use Rattle.cmark_emphasis.specs.Shown.{shown_run}
 use Rattle.cmark_emphasis.specs.Slots.{AreRuns}
 use Rattle.cmark_grammar.specs.Emphasis.{places_taken, runs_of}
-use Rattle.cmark_inline.specs.Marked.{siblings_from}
+use Rattle.cmark_inline.specs.MarkedSlots.{siblings_from}
 use Rattle.cmark_inline.specs.Stands.{bytes_of}
 use Rattle.cmark_inline.proofs.delimiter.gather.Given as goal
 

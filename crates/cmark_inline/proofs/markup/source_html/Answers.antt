@@ -3,7 +3,6 @@ use Rattle.std.proofs.Common.{◌≡◌, ◌<◌, ◌+◌, ◌-◌, ℕ, List, l
 use Rattle.std.proofs.lemmas.Str.{IsCharBoundary-end, IsCharBoundary-start}
 use Rattle.cmark_grammar.specs.Tokens.{slice}
 use Rattle.cmark_leaf_text.specs.Reads.{IsPart, IsFirstFrom, source_of, place_of, text_of}
-use Rattle.cmark_inline.specs.declared.slot.SlotKind.TheVariants as kind
 use Rattle.cmark_inline.proofs.SourceOrder.{source-ends}
 use Rattle.cmark_inline.proofs.SourcePlaces.{found-edge, source-edge}
 use Rattle.cmark_inline.proofs.markup.source_html.Goals as goal

@@ -1,6 +1,5 @@
-use Rattle.std.proofs.Common.{◌≡◌, ◌<◌, ◌+◌, List, length, drop, sym, ap, ◌∙◌, arith}
-use Rattle.cmark_inline.specs.Quoted.{with_characters}
-use Rattle.cmark_inline.specs.declared.quote.PlacedQuote.{PlacedQuote}
+use Rattle.std.proofs.Common.{◌+◌, List, length, drop, sym, ap, ◌∙◌, arith}
+use Rattle.cmark_inline.specs.QuoteSlots.{with_characters}
 use Rattle.cmark_inline.specs.declared.slot.Slot.{Slot}
 use Rattle.cmark_inline.proofs.Quotes.{all-written, one-more}
 use Rattle.cmark_inline.proofs.Placing.{no-quote}

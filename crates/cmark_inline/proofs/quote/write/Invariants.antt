@@ -1,5 +1,5 @@
 use Rattle.std.proofs.Common.{◌≡◌, ℕ, List, drop, length}
-use Rattle.cmark_inline.specs.Quoted.{with_characters}
+use Rattle.cmark_inline.specs.QuoteSlots.{with_characters}
 use Rattle.cmark_inline.specs.Stands.{AreSlots, NoNewLink}
 use Rattle.cmark_inline.proofs.quote.write.Given as goal
 

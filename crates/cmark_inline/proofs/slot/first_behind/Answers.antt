@@ -3,7 +3,6 @@ use Rattle.std.proofs.lemmas.Bool.{cases_lt}
 use Rattle.std.proofs.lemmas.List.{get_or_default}
 use Rattle.cmark_inline.specs.Wikilinks.{ends_by}
 use Rattle.cmark_inline.specs.declared.slot.Slot.{Slot as Slots}
-use Rattle.cmark_inline.proofs.Marks.{no-slot}
 use Rattle.cmark_inline.proofs.slot.first_behind.Goals as goal
 
 pub loop-at-preserved : goal.loop-at-preserved

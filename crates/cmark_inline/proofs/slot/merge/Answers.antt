@@ -1,6 +1,6 @@
 use Rattle.std.proofs.Common.{get_or, set, sym, ap, subst, ◌∙◌, arith}
 use Rattle.std.proofs.lemmas.List.{get_or_default}
-use Rattle.cmark_inline.specs.Marked.{whole_to}
+use Rattle.cmark_inline.specs.MarkedSlots.{whole_to}
 use Rattle.cmark_inline.specs.Stands.{IsSlot}
 use Rattle.cmark_inline.specs.declared.slot.Slot.{Slot}
 use Rattle.cmark_inline.proofs.slot.merge.Goals as goal

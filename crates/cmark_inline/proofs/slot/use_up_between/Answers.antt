@@ -1,5 +1,5 @@
-use Rattle.std.proofs.Common.{◌≡◌, ◌≤◌, ◌<◌, ◌+◌, length, refl, ap, subst, ◌∙◌, arith}
-use Rattle.cmark_inline.specs.Marked.{last_in}
+use Rattle.std.proofs.Common.{◌≡◌, ◌≤◌, ◌+◌, length, refl, ap, subst, ◌∙◌, arith}
+use Rattle.cmark_inline.specs.MarkedSlots.{last_in}
 use Rattle.cmark_inline.specs.Wikilinks.{Hides}
 use Rattle.cmark_inline.specs.declared.slot.Slot.{Slot}
 use Rattle.cmark_inline.proofs.Merging.{between-more, ends-by}

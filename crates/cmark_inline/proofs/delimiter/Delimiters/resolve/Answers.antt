@@ -5,12 +5,12 @@ use Rattle.cmark_emphasis.specs.Slots.{AreBalanced}
 use Rattle.cmark_grammar.specs.Emphasis.{places_taken, runs_of}
 use Rattle.cmark_inline_model.specs.SlotRows.{marked, marks_by}
 use Rattle.cmark_text.specs.Shown.{shown_options}
-use Rattle.cmark_inline.specs.Marked.{AreReady, BeganFrom, places_of, shown_mark, siblings_from}
+use Rattle.cmark_inline.specs.MarkedSlots.{AreReady, BeganFrom, places_of, shown_mark, siblings_from}
 use Rattle.cmark_inline.specs.SlotViews.{shown_slots}
 use Rattle.cmark_inline.specs.declared.delimiter.PlacedRun.{PlacedRun}
 use Rattle.cmark_inline.proofs.Naming.{no-more-on, no-more-same}
 use Rattle.std.proofs.lemmas.List.{length-drop}
-use Rattle.cmark_inline.proofs.RunPlaces.{RunsFrom, as-many, length-run, runs-from, same-on, marks-are, none-left, ready-first, stand-so}
+use Rattle.cmark_inline.proofs.RunPlaces.{RunsFrom, as-many, length-run, lone-marked, runs-from, same-on, marks-are, none-left, ready-first, stand-so}
 use Rattle.cmark_inline.proofs.delimiter.Delimiters.resolve.Goals as goal
 
 pub loop-placed-init : goal.loop-placed-init
@@ -96,3 +96,9 @@ returns-clause-within c = c.loop-placed.invariant.6
 
 pub returns-clause-names : goal.returns-clause-names
 returns-clause-names c = c.loop-placed.invariant.7
+
+pub returns-then-len-first-eq1-clause-marks : goal.returns-then-len-first-eq1-clause-marks
+returns-then-len-first-eq1-clause-marks c = λ leaf texts links pairs spans e.
+    let mine : List PlacedRun = drop c.args.first c.args.self.now.placed.items in
+    let lone : length mine ≡ 1 = omega (arith, length-drop c.args.first c.args.self.now.placed.items, c.len-2.ensures, c.if-len-first-eq1.true) in
+    lone-marked (shown_options c.args.options) mine pairs spans (shown_slots leaf texts links c.args.slots.now.items) lone e

@@ -4,7 +4,7 @@ use Rattle.cmark_inline_model.specs.SlotRows.{marked}
 use Rattle.cmark_leaf_text.specs.declared.leaf_text.LeafText.{LeafText}
 use Rattle.cmark_text.specs.Shown.{shown_options}
 use Rattle.cmark_text.specs.declared.text.CowStr.{CowStr}
-use Rattle.cmark_inline.specs.Marked.{AreReady, BeganFrom, EndWithin, HaveBytes, SameBefore, places_of, shown_mark}
+use Rattle.cmark_inline.specs.MarkedSlots.{AreReady, BeganFrom, EndWithin, HaveBytes, SameBefore, places_of, shown_mark}
 use Rattle.cmark_inline.specs.SlotViews.{shown_slots}
 use Rattle.cmark_inline.specs.Sound.{NamesNoMore}
 use Rattle.cmark_inline.specs.Stands.{AreSlots, NoNewLink}

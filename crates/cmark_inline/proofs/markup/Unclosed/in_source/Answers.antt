@@ -2,7 +2,7 @@ use Rattle.std.specs.Prelude.{None}
 use Rattle.std.proofs.Common.{◌≡◌, ◌+◌, ◌-◌, true, List, ℕ, length, sym, ap, ◌∙◌, rules}
 use Rattle.cmark_grammar.specs.Tokens.{slice}
 use Rattle.cmark_leaf_text.specs.Reads.{source_of, place_of}
-use Rattle.cmark_inline.specs.FoundInSource.{source_from, opens_as}
+use Rattle.cmark_inline.specs.MarkupInSource.{source_from, opens_as}
 use Rattle.cmark_inline.proofs.SourcePlaces.{none-closes}
 use Rattle.cmark_inline.proofs.markup.Unclosed.in_source.Goals as goal
 

@@ -6,6 +6,7 @@ use Rattle.cmark_grammar.specs.LabelsOverLines.{piped}
 use Rattle.cmark_grammar.specs.Letters.{starts}
 use Rattle.cmark_inline.proofs.Appended.{at-byte, own-appends, pipe-makes, slash-appends, slash-makes}
 use Rattle.cmark_inline.proofs.TokenSteps.{line-at-slash, slash-lone, slash-stands}
+use Rattle.cmark_inline.specs.Tokens.{read_on}
 use Rattle.cmark_inline.proofs.Keeping.{keeps-pending, keeps-puts, keeps-same}
 use Rattle.cmark_inline.proofs.state.InlineState.backslash.Goals as goal
 use Rattle.cmark_inline.proofs.state.InlineState.backslash.Goals.{else-is_cell-via-then-is_cell+else-is_pipe_escape, else-is_cell-via-else-is_cell}
@@ -13,15 +14,15 @@ use Rattle.cmark_inline.proofs.state.InlineState.backslash.Goals.{else-is_cell-v
 pub returns-in-Some-clause-token : goal.returns-in-Some-clause-token
 returns-in-Some-clause-token c = λ o l is.
     let next = c.in_ok-next.ensures in
-    inr (inl (slash-appends o l c.args.is_cell c.args.text.now c.args.here c.args.self.now c.put_before_words.new.self c.in_ok-next.next c.in-Some.found _
-    c.requires.cursor.ordered c.requires.here is c.in-Some.ensures.value c.in-Some.ensures.places refl next.at next.pending next.slots next.others))
+    inr (inl (slash-appends o l c.args.is_cell c.args.text.now c.args.here c.args.self.now c.put.new.self c.onto_words.result c.in-Some.found _
+    c.requires.byte.cursor.ordered c.requires.byte.within is c.in-Some.ensures.value c.in-Some.ensures.places refl (c.onto_words.ensures.at ∙ ap (read_on c.args.text.now) next.at) c.onto_words.ensures.pending next.slots next.others))
 
 pub returns-then-not-is_escape-clause-token : goal.returns-then-not-is_escape-clause-token
 returns-then-not-is_escape-clause-token c = λ o l is.
     let text : List ℕ = c.args.text.now in
     let at : ℕ = c.args.here.at in
     inl (record {
-      token = slash-stands o l c.args.is_cell text at c.requires.here is (sym (c.in_default.ensures.value ∙ line-at-slash text at c.requires.here is)) (sym c.if-not-is_escape.ensures.value) ∙ ap (item_at Plain at) (sym c.pass.ensures.at);
+      token = slash-stands o l c.args.is_cell text at c.requires.byte.within is (sym (c.in_default.ensures.value ∙ line-at-slash text at c.requires.byte.within is)) (sym c.if-not-is_escape.ensures.value) ∙ ap (item_at Plain at) (sym c.pass.ensures.at);
       pending = c.pass.ensures.pending;
       same = refl;
     })
@@ -34,14 +35,14 @@ returns-then-is_lone_backtick-clause-token c = λ o l is.
     let e = c.behind-escaped.ensures.value in
     let f = c.behind-end.ensures.value in
     let lone : backticks (drop c.behind-escaped.result text) ≡ 1 = eqb-true (backticks (drop c.behind-escaped.result text)) 1 (sym c.if-is_lone_backtick.ensures) in
-    inr (inl (own-appends o l c.args.is_cell text c.args.here c.args.self.now c.put.new.self c.in_ok-next-2.next c.behind-escaped.result c.behind-end.result c.requires.cursor.ordered (at-byte text c.args.here 92 is refl refl refl)
-    (slash-lone o l c.args.is_cell text at c.requires.here is (sym (c.in_default.ensures.value ∙ line-at-slash text at c.requires.here is)) (ap (λ (k : ℕ). backticks (drop k text)) (sym e) ∙ lone)
+    inr (inl (own-appends o l c.args.is_cell text c.args.here c.args.self.now c.put-then-is_lone_backtick.new.self c.in_ok-next-2.next c.behind-escaped.result c.behind-end.result c.requires.byte.cursor.ordered (at-byte text c.args.here 92 is refl refl refl)
+    (slash-lone o l c.args.is_cell text at c.requires.byte.within is (sym (c.in_default.ensures.value ∙ line-at-slash text at c.requires.byte.within is)) (ap (λ (k : ℕ). backticks (drop k text)) (sym e) ∙ lone)
     ∙ ap (λ (s : ℕ). item_at Own s (at + 2)) (sym e) ∙ ap (item_at Own c.behind-escaped.result) (let q : at + 2 ≡ c.behind-end.result = omega (arith, e, f) in q))
     next.at (next.end ∙ sym next.at) next.slots next.others))
 
 pub returns-then-is_pipe_escape-clause-token : goal.returns-then-is_pipe_escape-clause-token
 returns-then-is_pipe_escape-clause-token c = λ o l is.
-    inr (inr (inr (pipe-makes o l c.args.is_cell c.args.text.now c.args.here c.args.self.now c.flush.new.self c.behind-escaped.result c.behind-end.result c.behind.result c.requires.here is c.in_default.ensures.value
+    inr (inr (inr (pipe-makes o l c.args.is_cell c.args.text.now c.args.here c.args.self.now c.flush.new.self c.behind-escaped.result c.behind-end.result c.behind.result c.requires.byte.within is c.in_default.ensures.value
     c.behind-escaped.ensures.value c.behind-end.ensures.value c.behind.ensures.value c.if-is_cell.true (sym c.if-is_pipe_escape.ensures.value) c.in_ok-flush.ensures.slots c.in_ok-flush.ensures.others)))
 
 either-way : (x : Bool) → (x && false) ≡ false
@@ -55,20 +56,23 @@ returns-clause-token c = λ o l is.
       | else-is_cell-via-then-is_cell+else-is_pipe_escape w ↦ ap (λ z. c.args.is_cell && z) (sym w.if-is_pipe_escape.ensures.value) ∙ either-way c.args.is_cell
       | else-is_cell-via-else-is_cell w ↦ ap (λ z. z && starts piped rest) w.if-is_cell.false
     ] in
-    inr (inr (inl (slash-makes o l c.args.is_cell c.args.text.now c.args.here c.args.self.now c.flush.new.self c.behind-escaped.result c.behind-end.result c.requires.here is c.in_default.ensures.value
+    inr (inr (inl (slash-makes o l c.args.is_cell c.args.text.now c.args.here c.args.self.now c.flush.new.self c.behind-escaped.result c.behind-end.result c.requires.byte.within is c.in_default.ensures.value
     c.if-not-is_escape.ensures.value c.behind-escaped.ensures.value c.behind-end.ensures.value c.if-is_lone_backtick.ensures no-pipe c.in_ok-flush.ensures.slots c.in_ok-flush.ensures.others)))
 
 pub returns-in-Some-clause-keeps : goal.returns-in-Some-clause-keeps
-returns-in-Some-clause-keeps c = keeps-puts c.args.self.now c.put_before_words.new.self c.in_ok-next.ensures.others c.args.here.pending c.args.here.at _ c.in_ok-next.ensures.slots ((refl, refl, refl), λ i. refl)
+returns-in-Some-clause-keeps c = keeps-puts c.args.self.now c.put.new.self c.in_ok-next.ensures.others c.args.here.pending c.args.here.at _ c.in_ok-next.ensures.slots ((refl, refl, refl), λ i. refl)
 
 pub returns-then-not-is_escape-clause-keeps : goal.returns-then-not-is_escape-clause-keeps
 returns-then-not-is_escape-clause-keeps c = keeps-same c.args.self.now
 
 pub returns-then-is_lone_backtick-clause-keeps : goal.returns-then-is_lone_backtick-clause-keeps
-returns-then-is_lone_backtick-clause-keeps c = keeps-puts c.args.self.now c.put.new.self c.in_ok-next-2.ensures.others c.args.here.pending c.args.here.at _ c.in_ok-next-2.ensures.slots ((refl, refl, refl), λ i. refl)
+returns-then-is_lone_backtick-clause-keeps c = keeps-puts c.args.self.now c.put-then-is_lone_backtick.new.self c.in_ok-next-2.ensures.others c.args.here.pending c.args.here.at _ c.in_ok-next-2.ensures.slots ((refl, refl, refl), λ i. refl)
 
 pub returns-then-is_pipe_escape-clause-keeps : goal.returns-then-is_pipe_escape-clause-keeps
 returns-then-is_pipe_escape-clause-keeps c = keeps-pending c.args.self.now c.flush.new.self c.in_ok-flush.ensures.others c.args.here.pending c.args.here.at c.in_ok-flush.ensures.slots
 
 pub returns-clause-keeps : goal.returns-clause-keeps
 returns-clause-keeps c = keeps-pending c.args.self.now c.flush.new.self c.in_ok-flush.ensures.others c.args.here.pending c.args.here.at c.in_ok-flush.ensures.slots
+
+pub returns-in-Some-clause-moves : goal.returns-in-Some-clause-moves
+returns-in-Some-clause-moves c = c.onto_words.ensures.moves c.args.here.at c.put.new.self c.in_ok-next.ensures.moves

@@ -9,14 +9,14 @@ use Rattle.cmark_inline.proofs.state.InlineState.backticks.Goals as goal
 pub returns-in-Some-clause-token : goal.returns-in-Some-clause-token
 returns-in-Some-clause-token c = λ o l cell is.
     let next = c.in_ok-next.ensures in
-    inl (code-appends o l cell c.args.text.now c.args.here c.args.self.now c.put.new.self c.in_ok-next.next c.in-Some.span c.requires.cursor.ordered c.requires.here is
+    inl (code-appends o l cell c.args.text.now c.args.here c.args.self.now c.put.new.self c.in_ok-next.next c.in-Some.span c.requires.byte.cursor.ordered c.requires.byte.within is
     (ap (option_map (shown_code c.args.text.now)) (sym c.in-Some.is) ∙ c.in_ok-span.ensures.value) (subst (λ r. IfSome r (IsCodeAt c.args.text.now c.args.here.at)) c.in-Some.is c.in_ok-span.ensures.places)
     next.at (next.end ∙ sym next.at) next.slots next.others)
 
 pub returns-clause-token : goal.returns-clause-token
 returns-clause-token c = λ o l cell is.
     let next = c.in_ok-next-2.ensures in
-    ticks-make o l cell c.args.text.now c.args.here c.args.self.now c.put-2.new.self c.in_ok-next-2.next c.text_start-start.result c.run_end.result c.requires.cursor.ordered c.requires.here is
+    ticks-make o l cell c.args.text.now c.args.here c.args.self.now c.put-2.new.self c.in_ok-next-2.next c.text_start-start.result c.run_end.result c.requires.byte.cursor.ordered c.requires.byte.within is
     (ap (option_map (shown_code c.args.text.now)) (sym c.in_default.is) ∙ c.in_ok-span.ensures.value) c.run_end.ensures.value c.text_start-start.ensures.value c.text_start-start.ensures.escaped
     next.at (next.end ∙ sym next.at) next.slots next.others
 

@@ -9,7 +9,7 @@ use Rattle.cmark_inline.proofs.state.InlineState.dots.Goals as goal
 pub returns-then-not-starts_with-clause-token : goal.returns-then-not-starts_with-clause-token
 returns-then-not-starts_with-clause-token c = λ o l cell smart is.
     inl (record {
-      token = no-ellipsis o l cell c.args.text.now c.args.here.at c.requires.here smart is (λ rest e. c.if-not-starts_with.ensures.cases rest (c.range_from.ensures.value ∙ e)) ∙ ap (item_at Plain c.args.here.at) (sym c.pass.ensures.at);
+      token = no-ellipsis o l cell c.args.text.now c.args.here.at c.requires.byte.within smart is (λ rest e. c.if-not-starts_with.ensures.cases rest (c.range_from.ensures.value ∙ e)) ∙ ap (item_at Plain c.args.here.at) (sym c.pass.ensures.at);
       pending = c.pass.ensures.pending;
       same = refl;
     })
@@ -18,8 +18,8 @@ pub returns-clause-token : goal.returns-clause-token
 returns-clause-token c = λ o l cell smart is.
     let next = c.in_ok-next.ensures in
     let cases = c.if-not-starts_with.ensures.cases in
-    inr (character-appends o l cell c.args.text.now c.args.here c.args.self.now c.put.new.self c.in_ok-next.next _ _ _ c.requires.cursor.ordered (at-byte c.args.text.now c.args.here 46 is refl refl refl)
-    (ellipsis-begins o l cell c.args.text.now c.args.here.at c.requires.here smart (drop cases.0 c.range_from.result.now) is (sym c.range_from.ensures.value ∙ cases.1.1))
+    inr (character-appends o l cell c.args.text.now c.args.here c.args.self.now c.put.new.self c.in_ok-next.next _ _ _ c.requires.byte.cursor.ordered (at-byte c.args.text.now c.args.here 46 is refl refl refl)
+    (ellipsis-begins o l cell c.args.text.now c.args.here.at c.requires.byte.within smart (drop cases.0 c.range_from.result.now) is (sym c.range_from.ensures.value ∙ cases.1.1))
     next.at (next.end ∙ sym next.at) next.slots next.others ellipsis-bytes)
 
 pub returns-then-not-starts_with-clause-keeps : goal.returns-then-not-starts_with-clause-keeps

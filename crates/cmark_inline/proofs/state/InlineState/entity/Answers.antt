@@ -12,9 +12,9 @@ use Rattle.cmark_inline.proofs.state.InlineState.entity.Goals as goal
 pub returns-in_default-clause-token : goal.returns-in_default-clause-token
 returns-in_default-clause-token g c = λ o cell is.
     let l : Lookup = g.E.EntityLookup.replacement c.args.entities.now in
-    let none = entity-is o l cell c.args.text.now c.args.here c.args.self.now c.args.self.now c.pass.result c.as_bytes.result.now c.range_from.result.now None c.requires.here is c.as_bytes.ensures.value c.range_from.ensures.value c.in_default.ensures.value in
+    let none = entity-is o l cell c.args.text.now c.args.here c.args.self.now c.args.self.now c.pass.result c.as_bytes.result.now c.range_from.result.now None c.requires.byte.within is c.as_bytes.ensures.value c.range_from.ensures.value c.in_default.ensures.value in
     inl (record {
-      token = no-entity o l cell c.args.text.now c.args.here c.args.self.now c.args.self.now c.pass.result c.requires.here is none c.pass.ensures.at;
+      token = no-entity o l cell c.args.text.now c.args.here c.args.self.now c.args.self.now c.pass.result c.requires.byte.within is none c.pass.ensures.at;
       pending = c.pass.ensures.pending;
       same = refl;
     })
@@ -23,16 +23,16 @@ pub returns-in_default-end_behind-clause-token : goal.returns-in_default-end_beh
 returns-in_default-end_behind-clause-token g c = λ o cell is.
     let boundary : IsCharBoundary (drop c.args.here.at c.args.text.now) c.in-Some.entity.len =
     subst (λ (bs : List ℕ). IsCharBoundary bs c.in-Some.entity.len) (c.as_bytes.ensures.value ∙ c.range_from.ensures.value) (c.in-Some.ensures.boundary c.as_bytes.ensures.utf8) in
-    let some = c.in_default-end_behind.ensures.found c.in-Some.ensures.closed.low (IsCharBoundary-from_rest c.args.text.now c.args.here.at c.in-Some.entity.len c.requires.cursor.at.0 boundary) in
+    let some = c.in_default-end_behind.ensures.found c.in-Some.ensures.closed.low (IsCharBoundary-from_rest c.args.text.now c.args.here.at c.in-Some.entity.len c.requires.byte.cursor.at.0 boundary) in
     absurd (let z : ⊥ = cc in z)
 
 pub returns-clause-token : goal.returns-clause-token
 returns-clause-token g c = λ o cell is.
     let l : Lookup = g.E.EntityLookup.replacement c.args.entities.now in
     let next = c.in_ok-next.ensures in
-    let found = entity-is o l cell c.args.text.now c.args.here c.args.self.now c.put.new.self c.in_ok-next.next c.as_bytes.result.now c.range_from.result.now (Some (shown_entity c.in-Some.entity)) c.requires.here is c.as_bytes.ensures.value c.range_from.ensures.value c.in-Some.ensures.value in
-    inr (owned-appends o l cell c.args.text.now c.args.here c.args.self.now c.put.new.self c.in_ok-next.next (shown_entity c.in-Some.entity).bytes c.in-Some-end_behind.end c.len.result c.in_ok-owned.owned c.requires.cursor.ordered (at-byte c.args.text.now c.args.here 38 is refl refl refl)
-    (entity-token o l cell c.args.text.now c.args.here c.args.self.now c.put.new.self c.in_ok-next.next (shown_entity c.in-Some.entity) c.in-Some-end_behind.end c.requires.here is found c.in-Some-end_behind.ensures.value)
+    let found = entity-is o l cell c.args.text.now c.args.here c.args.self.now c.put.new.self c.in_ok-next.next c.as_bytes.result.now c.range_from.result.now (Some (shown_entity c.in-Some.entity)) c.requires.byte.within is c.as_bytes.ensures.value c.range_from.ensures.value c.in-Some.ensures.value in
+    inr (owned-appends o l cell c.args.text.now c.args.here c.args.self.now c.put.new.self c.in_ok-next.next (shown_entity c.in-Some.entity).bytes c.in-Some-end_behind.end c.len.result c.in_ok-owned.owned c.requires.byte.cursor.ordered (at-byte c.args.text.now c.args.here 38 is refl refl refl)
+    (entity-token o l cell c.args.text.now c.args.here c.args.self.now c.put.new.self c.in_ok-next.next (shown_entity c.in-Some.entity) c.in-Some-end_behind.end c.requires.byte.within is found c.in-Some-end_behind.ensures.value)
     next.at (next.end ∙ sym next.at) next.slots (ap (λ (s : InlineState). s.texts.items) next.others ∙ c.in_ok-push.ensures.items) (let q : c.len.result ≡ length c.args.self.now.texts.items = search rules in q) c.in_ok-owned.ensures.value (kept c.args.self.now c.put.new.self _ next.others refl))
 
 pub returns-in_default-clause-keeps : goal.returns-in_default-clause-keeps

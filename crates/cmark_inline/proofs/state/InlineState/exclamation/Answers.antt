@@ -21,7 +21,7 @@ two text at one next k low high = go (before-or-behind k at)
 pub returns-clause-token : goal.returns-clause-token
 returns-clause-token c = λ l cell is.
     inl (record {
-      token = mark-stands (shown_options c.args.options) l cell c.args.text.now c.args.here.at c.requires.here is (sym c.if-is_followed_by.ensures.value) ∙ ap (item_at Plain c.args.here.at) (sym c.pass.ensures.at);
+      token = mark-stands (shown_options c.args.options) l cell c.args.text.now c.args.here.at c.requires.byte.within is (sym c.if-is_followed_by.ensures.value) ∙ ap (item_at Plain c.args.here.at) (sym c.pass.ensures.at);
       pending = c.pass.ensures.pending;
       same = refl;
     })
@@ -34,7 +34,7 @@ returns-then-is_followed_by-clause-token c = λ l cell is.
     let e : c.args.here.at + 2 ≡ c.in_ok-next.next.at = (let q : c.args.here.at + 2 ≡ c.behind-inside.result = omega (arith, a, b) in q) ∙ sym next.at.1 in
     inr (record {
       is_image = true;
-      token = image-opens (shown_options c.args.options) l cell c.args.text.now c.args.here.at c.requires.here is (sym c.if-is_followed_by.ensures.value) ∙ ap (λ k. Opens (bracket true c.args.here.at k)) e;
+      token = image-opens (shown_options c.args.options) l cell c.args.text.now c.args.here.at c.requires.byte.within is (sym c.if-is_followed_by.ensures.value) ∙ ap (λ k. Opens (bracket true c.args.here.at k)) e;
       inside = sym e;
       bytes = λ k low high. two c.args.text.now c.args.here.at is (c.if-is_followed_by.ensures.byte refl) k low (omega (arith, high, e));
       pending = next.at.0 ∙ sym next.at.1;

@@ -2,11 +2,11 @@ use Rattle.std.proofs.Common.{◌≡◌, ◌≤◌, ◌+◌, ◌++◌, ◌∷◌
 use Rattle.std.proofs.lemmas.List.{length_push}
 use Rattle.cmark_inline_model.specs.SlotRows.{marked, marks_by}
 use Rattle.cmark_text.specs.Shown.{shown_options}
-use Rattle.cmark_inline.specs.Marked.{AreWhole, EndWithin, HaveBytes, HaveTexts, SameBefore, places_of}
-use Rattle.cmark_inline.specs.Quoted.{characters_of, with_characters}
+use Rattle.cmark_inline.specs.MarkedSlots.{AreWhole, EndWithin, HaveBytes, HaveTexts, SameBefore, places_of}
+use Rattle.cmark_inline.specs.QuoteSlots.{characters_of, with_characters}
 use Rattle.cmark_inline.specs.SlotViews.{shown_slots}
 use Rattle.cmark_inline.specs.Sound.{CanSettle, NamesNoMore}
-use Rattle.cmark_inline.specs.Written.{dressed_behind}
+use Rattle.cmark_inline.specs.FormedSlots.{dressed_behind}
 use Rattle.cmark_inline.specs.declared.delimiter.PlacedRun.{PlacedRun}
 use Rattle.cmark_inline.specs.declared.quote.PlacedQuote.{PlacedQuote}
 use Rattle.cmark_inline.specs.declared.slot.Slot.{Slot}

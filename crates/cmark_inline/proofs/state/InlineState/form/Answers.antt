@@ -1,5 +1,5 @@
 use Rattle.std.proofs.Common.{rules, ◌≡◌, ◌≤◌, ◌<◌, ◌+◌, ◌++◌, ◌∷◌, [], true, false, List, ℕ, drop, length, set, get_or, refl, sym, ap, subst, ◌∙◌, arith}
-use Rattle.std.proofs.lemmas.List.{length_push, length-set}
+use Rattle.std.proofs.lemmas.List.{length_push}
 use Rattle.cmark_inline.specs.Closers.{LeavesElement}
 use Rattle.cmark_inline.specs.Stands.{IsSlot, IsTarget, AreBrackets, AreFree, bytes_of}
 use Rattle.cmark_leaf_text.specs.Reads.{IsPart}
@@ -8,12 +8,11 @@ use Rattle.cmark_inline.specs.declared.link.Target.{Target}
 use Rattle.cmark_inline.specs.declared.slot.Slot.{Slot}
 use Rattle.cmark_inline.specs.declared.slot.SlotKind.TheVariants as kind
 use Rattle.cmark_inline.proofs.Steps.{slots-on, brackets-on, free-on, part-from}
-use Rattle.cmark_inline.specs.Marked.{begun_as}
+use Rattle.cmark_inline.specs.MarkedSlots.{begun_as}
 use Rattle.cmark_text.specs.Shown.{shown_options}
 use Rattle.cmark_inline.specs.SlotViews.{link_named, shown_slots}
-use Rattle.cmark_inline.specs.Written.{WritesElement, dressed_behind, end_slot}
+use Rattle.cmark_inline.specs.FormedSlots.{WritesElement, dressed_behind, end_slot}
 use Rattle.cmark_inline.specs.Sound.{CanSettle, IsSettled}
-use Rattle.cmark_inline.specs.declared.link.LinkParts.{LinkParts}
 use Rattle.cmark_inline.specs.declared.slot.Element.TheVariants as element
 use Rattle.cmark_inline.proofs.ElementWrites.{image-shown, link-shown, writes-element}
 use Rattle.cmark_inline.proofs.Forming.{link-formed, settle-set, settled-ended, sound-same}

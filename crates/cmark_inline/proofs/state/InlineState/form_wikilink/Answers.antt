@@ -3,11 +3,11 @@ use Rattle.std.proofs.lemmas.List.{length_push}
 use Rattle.cmark_grammar.specs.Emphasis.{IsEmphasis}
 use Rattle.cmark_text.specs.Shown.{shown_options}
 use Rattle.cmark_inline.specs.Doubled.{DropsBehind}
-use Rattle.cmark_inline.specs.Marked.{begun_as, siblings_from}
+use Rattle.cmark_inline.specs.MarkedSlots.{begun_as, siblings_from}
 use Rattle.cmark_inline.specs.SlotViews.{shown_slots}
 use Rattle.cmark_inline.specs.Sound.{CanSettle, IsSettled}
 use Rattle.cmark_inline.specs.Stands.{IsEnd, AreBrackets, AreFree, bytes_of}
-use Rattle.cmark_inline.specs.Written.{dressed_behind, end_slot}
+use Rattle.cmark_inline.specs.FormedSlots.{dressed_behind, end_slot}
 use Rattle.cmark_inline.specs.declared.bracket.Bracket.{Bracket}
 use Rattle.cmark_inline.specs.declared.bracket.Brackets.{Brackets}
 use Rattle.cmark_inline.specs.declared.slot.Slot.{Slot}

@@ -10,7 +10,7 @@ use Rattle.cmark_inline.proofs.state.InlineState.hyphens.Goals as goal
 pub returns-then-size-lt2-clause-token : goal.returns-then-size-lt2-clause-token
 returns-then-size-lt2-clause-token c = λ o l cell smart is.
     inl (record {
-      token = one-hyphen o l cell c.args.text.now c.args.here.at c.requires.here smart c.run_end-end.result _ is c.run_end-end.ensures.value refl c.run_end-end.ensures.further c.if-size-lt2.true ∙ ap (item_at Plain c.args.here.at) (sym c.pass.ensures.at);
+      token = one-hyphen o l cell c.args.text.now c.args.here.at c.requires.byte.within smart c.run_end-end.result _ is c.run_end-end.ensures.value refl c.run_end-end.ensures.further c.if-size-lt2.true ∙ ap (item_at Plain c.args.here.at) (sym c.pass.ensures.at);
       pending = c.pass.ensures.pending;
       same = refl;
     })
@@ -18,8 +18,8 @@ returns-then-size-lt2-clause-token c = λ o l cell smart is.
 pub returns-clause-token : goal.returns-clause-token
 returns-clause-token c = λ o l cell smart is.
     let next = c.in_ok-next.ensures in
-    inr (owned-appends o l cell c.args.text.now c.args.here c.args.self.now c.put.new.self c.in_ok-next.next _ c.run_end-end.result c.len.result c.in_ok-owned.owned c.requires.cursor.ordered (at-byte c.args.text.now c.args.here 45 is refl refl refl)
-    (many-hyphens o l cell c.args.text.now c.args.here.at c.requires.here smart c.run_end-end.result _ is c.run_end-end.ensures.value refl c.if-size-lt2.false)
+    inr (owned-appends o l cell c.args.text.now c.args.here c.args.self.now c.put.new.self c.in_ok-next.next _ c.run_end-end.result c.len.result c.in_ok-owned.owned c.requires.byte.cursor.ordered (at-byte c.args.text.now c.args.here 45 is refl refl refl)
+    (many-hyphens o l cell c.args.text.now c.args.here.at c.requires.byte.within smart c.run_end-end.result _ is c.run_end-end.ensures.value refl c.if-size-lt2.false)
     next.at (next.end ∙ sym next.at) next.slots (ap (λ (s : InlineState). s.texts.items) next.others ∙ c.in_ok-push.ensures.items) (let q : c.len.result ≡ length c.args.self.now.texts.items = search rules in q)
     (c.in_ok-owned.ensures.value ∙ c.in_ok-dash_text.ensures) (kept c.args.self.now c.put.new.self _ next.others refl))
 

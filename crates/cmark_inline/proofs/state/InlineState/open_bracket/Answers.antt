@@ -10,7 +10,7 @@ use Rattle.cmark_inline.specs.declared.bracket.Brackets.{Brackets}
 use Rattle.cmark_inline.specs.declared.slot.Slot.{Slot}
 use Rattle.cmark_inline.specs.declared.slot.SlotKind.TheVariants as kind
 use Rattle.cmark_inline.proofs.Steps.{Keeps, free-push, keeps-push, last-holds-none}
-use Rattle.cmark_inline.specs.Sound.{AreEnded, AreSound, IsSound}
+use Rattle.cmark_inline.specs.Sound.{AreEnded, AreSound}
 use Rattle.cmark_inline.proofs.Keeping.{keeps-pending}
 use Rattle.cmark_inline.proofs.Naming.{ended-on, no-more-push}
 use Rattle.cmark_inline.proofs.Opening.{doubles-are, sound-opened}

@@ -20,7 +20,7 @@ returns-clause-token c = λ o l cell smart is.
     record {
       quote = c.quote_of-quote.result;
       token =
-          quote-begins o l cell text at c.requires.here smart (get_or text at 0) c.character_before-before.result c.character_at-after.result refl is c.character_before-before.ensures (c.character_at-after.ensures ∙ ap (λ (k : ℕ). first_of (chars (drop k text))) end)
+          quote-begins o l cell text at c.requires.byte.within smart (get_or text at 0) c.character_before-before.result c.character_at-after.result refl is c.character_before-before.ensures (c.character_at-after.ensures ∙ ap (λ (k : ℕ). first_of (chars (drop k text))) end)
           ∙ ap (λ q. item_at (Quoted q) at (at + 1)) (ap (λ (bs : List ℕ). quote_beside (get_or bs at 0 == 34) c.character_before-before.result c.character_at-after.result) (sym c.as_bytes.ensures.value) ∙ sym c.quote_of-quote.ensures)
           ∙ ap (item_at (Quoted _) at) (sym end);
       size = end;

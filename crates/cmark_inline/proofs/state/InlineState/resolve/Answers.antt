@@ -6,13 +6,13 @@ use Rattle.cmark_grammar.proofs.EmphasisSound.{sound as emphasis}
 use Rattle.cmark_leaf_text.specs.Reads.{text_of}
 use Rattle.cmark_text.specs.Shown.{shown_options}
 use Rattle.cmark_inline_model.specs.SlotRows.{marked, marks_by, quoted}
-use Rattle.cmark_inline.specs.Come.{HasCome}
+use Rattle.cmark_inline.specs.CursorProgress.{HasCome}
 use Rattle.cmark_inline.specs.SlotViews.{shown_slots}
 use Rattle.cmark_inline.proofs.ComeLoops.{begin-comes, comes-further}
 use Rattle.cmark_inline.proofs.ComeEnds.{end-reads}
 use Rattle.cmark_inline.specs.Asking.{AsksUpTo, closing_brackets}
-use Rattle.cmark_inline.specs.Marked.{AreWhole, EndWithin, HaveBytes, places_of, siblings_from}
-use Rattle.cmark_inline.specs.Quoted.{characters_of, with_characters}
+use Rattle.cmark_inline.specs.MarkedSlots.{AreWhole, EndWithin, HaveBytes, places_of, siblings_from}
+use Rattle.cmark_inline.specs.QuoteSlots.{characters_of, with_characters}
 use Rattle.cmark_inline.specs.Sound.{AreEnded, IsSound, NamesNoMore}
 use Rattle.cmark_inline.specs.Stands.{AreSlots, PushesText}
 use Rattle.cmark_inline.specs.declared.delimiter.PlacedRun.{PlacedRun}

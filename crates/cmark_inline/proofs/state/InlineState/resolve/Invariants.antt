@@ -2,9 +2,9 @@ use Rattle.std.proofs.Common.{◌≡◌, ◌-◌, [], length, take}
 use Rattle.cmark_finds.specs.Backticks.{AreRunsOf}
 use Rattle.cmark_finds.specs.Dollars.{AreDollarsOf}
 use Rattle.cmark_inline.specs.Asking.{AsksUpTo, closing_brackets}
-use Rattle.cmark_inline.specs.Come.{ComesTo}
+use Rattle.cmark_inline.specs.CursorProgress.{ComesTo}
 use Rattle.cmark_inline.specs.Footnoted.{SameFootnotes}
-use Rattle.cmark_inline.specs.FoundInSource.{AreUnclosed}
+use Rattle.cmark_inline.specs.MarkupInSource.{AreUnclosed}
 use Rattle.cmark_inline.specs.PlainStretches.{IsSetOf}
 use Rattle.cmark_inline.specs.Sound.{AreEnded, IsSound}
 use Rattle.cmark_inline.specs.Stands.{Stands, IsCursor}

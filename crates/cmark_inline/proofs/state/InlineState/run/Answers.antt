@@ -15,7 +15,7 @@ use Rattle.cmark_inline.proofs.state.InlineState.run.Goals.{else-not-flanking-vi
 pub returns-then-not-flanking-2-clause-token : goal.returns-then-not-flanking-2-clause-token
 returns-then-not-flanking-2-clause-token c = λ l cell is mark.
     inl (record {
-      token = run-stays (shown_options c.args.options) l cell c.args.text.now c.args.here.at c.requires.here c.args.mark c.run_end-end.result (c.run_end-end.result - c.args.here.at) c.character_before-before.result c.character_at-after.result
+      token = run-stays (shown_options c.args.options) l cell c.args.text.now c.args.here.at c.requires.byte.within c.args.mark c.run_end-end.result (c.run_end-end.result - c.args.here.at) c.character_before-before.result c.character_at-after.result
           (shown_flanking c.flanking_of-flanking.result)
           (record {
             byte = is;
@@ -45,7 +45,7 @@ returns-clause-token c = λ l cell is mark.
     let run : Run = record { mark = c.args.mark; size = c.run_end-end.result - c.args.here.at; at = 0; left = c.run_end-end.result - c.args.here.at; opens = c.flanking_of-flanking.result.opens; closes = c.flanking_of-flanking.result.closes } in
     inr (record {
       run = run;
-      token = run-begins-there (shown_options c.args.options) l cell c.args.text.now c.args.here.at c.requires.here c.args.mark c.run_end-end.result (c.run_end-end.result - c.args.here.at) c.character_before-before.result c.character_at-after.result
+      token = run-begins-there (shown_options c.args.options) l cell c.args.text.now c.args.here.at c.requires.byte.within c.args.mark c.run_end-end.result (c.run_end-end.result - c.args.here.at) c.character_before-before.result c.character_at-after.result
           (shown_flanking c.flanking_of-flanking.result)
           (record {
             byte = is;

@@ -1,6 +1,6 @@
-use Rattle.std.proofs.Common.{◌≡◌, ◌<◌, ◌≤◌, ◌+◌, ◌++◌, ◌∷◌, [], ℕ, List, Some, drop, length, refl, sym, ap, subst, ◌∙◌, arith}
-use Rattle.cmark_inline.specs.Marked.{SameBefore}
-use Rattle.cmark_inline.specs.Sound.{AreEnded, AreNamed, CanSettle, EndsIn, NamesNoMore}
+use Rattle.std.proofs.Common.{◌≡◌, ◌≤◌, ◌+◌, ◌++◌, ◌∷◌, [], ℕ, List, drop, length, refl, sym, ap, subst, ◌∙◌, arith}
+use Rattle.cmark_inline.specs.MarkedSlots.{SameBefore}
+use Rattle.cmark_inline.specs.Sound.{AreEnded, AreNamed, CanSettle, NamesNoMore}
 use Rattle.cmark_inline.specs.Wikilinks.{Hides, cut_at}
 use Rattle.cmark_inline.specs.declared.bracket.Bracket.{Bracket}
 use Rattle.cmark_inline.specs.declared.delimiter.PlacedRun.{PlacedRun}

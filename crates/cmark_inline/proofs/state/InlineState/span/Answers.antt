@@ -101,7 +101,7 @@ returns-in_ok-next-in-91-clause-token g c = λ special other.
     opens o l c.args.leaf.now text c.requires.same c.args.here c.args.self.now c.open_bracket.new.self c.in_ok-next-in-91.next
     (record {
       is_image = false;
-      token = link-opens o l (is_cell_of c.args.leaf.now) text at c.requires.here is ∙ ap (λ k. Opens (bracket false at k)) e;
+      token = link-opens o l (is_cell_of c.args.leaf.now) text at c.requires.byte.within is ∙ ap (λ k. Opens (bracket false at k)) e;
       inside = sym e;
       bytes = λ k low high. ap (λ n. is_content (get_or text n 0)) (let q : k ≡ at = omega (arith, low, high, e) in q) ∙ ap is_content is;
       pending = next.at.0 ∙ sym next.at.1;

@@ -4,7 +4,7 @@ use Rattle.cmark_grammar.specs.Answers.{Lookup}
 use Rattle.cmark_grammar.specs.Options.{Options}
 use Rattle.cmark_text.specs.Shown.{shown_options}
 use Rattle.cmark_inline.specs.Closers.{Closes}
-use Rattle.cmark_inline.specs.Come.{ComesOn}
+use Rattle.cmark_inline.specs.CursorProgress.{ComesOn}
 use Rattle.cmark_inline.specs.SpecialReads.{ReadsSpecial}
 use Rattle.cmark_inline.specs.Stands.{Flushes, Moves}
 use Rattle.cmark_inline.specs.declared.state.InlineState.{InlineState}

@@ -5,7 +5,7 @@ use Rattle.cmark_grammar.specs.Tokens.{slice}
 use Rattle.cmark_text.specs.Shown.{shown_options}
 use Rattle.cmark_inline.specs.Linked.{left_behind, reference_behind, shown_asked, shown_target}
 use Rattle.cmark_inline.specs.Stands.{IsAsked, IsTarget}
-use Rattle.cmark_inline.specs.declared.link.Asked.{Asked}
+use Rattle.cmark_inline.specs.declared.reference.Asked.{Asked}
 use Rattle.cmark_inline.specs.declared.link.Target.{Target}
 use Rattle.cmark_inline.specs.declared.state.InlineState.{InlineState}
 use Rattle.cmark_inline.proofs.TargetMakes.{inline-decides, label-within, led-decides, none-decides, spent-decides}

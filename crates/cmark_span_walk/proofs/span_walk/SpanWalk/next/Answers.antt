@@ -49,7 +49,7 @@ returns-in-Event-clause-given g c = λ reader r.
     let by = q.read_by in
     let gives = subst (λ m. walking.Gives by.left m c.next.new.lines.items c.next.new.self) c.in-Event.is (m.given by.left by.stands.blocks.remains) in
     let event = event-passes g.F.BrokenLinkCallback.answers g.E.EntityLookup.replacement reader mid c.next.new.self c.next.new.lines out m.text m.definitions _ (shown_ranged c.in-Event.given) gives.0 by gives.1 gives.2 refl in
-    (subst (λ t. HasRange t (shown_ranged c.in-Event.given)) (c.in_ok-given.ensures.source ∙ c.loop-given.invariant.lasts.source) event.0, passes-on g.F.BrokenLinkCallback.answers g.E.EntityLookup.replacement reader old mid _ _ q event.1)
+    (subst (λ t. HasRange t (shown_ranged c.in-Event.given)) (c.in_ok-given.ensures.around.source ∙ c.loop-given.invariant.lasts.source) event.0, passes-on g.F.BrokenLinkCallback.answers g.E.EntityLookup.replacement reader old mid _ _ q event.1)
 
 pub enter_leaf-requires : goal.enter_leaf-requires
 enter_leaf-requires g c κs =
@@ -71,9 +71,9 @@ loop-given-preserved g c =
     let gives = subst (λ m. walking.Gives s.0 m c.next.new.lines.items c.next.new.self) c.in-Leaf.is (m.given s.0 s.1.blocks.remains) in
     let before = before-leaf mid c.next.new.self c.next.new.lines out m.text c.in-Leaf.is_cell _ s.0 gives.0 gives.1 s.1 gives.2 gives.3 gives.4 gives.5 refl in
     record {
-      lasts = lasts-leaf mid c.next.new.self c.next.new.lines out m.text c.args.self.now head new s.0 gives.0 gives.1 s.1 c.loop-given.invariant.lasts c.in_ok-given.ensures.budget
-          (e.definitions ∙ m.definitions ∙ c.in_ok-given.ensures.definitions)
-          (λ folded. e.footnotes folded ∙ ap (λ t. is_some (footnote t folded)) c.in_ok-given.ensures.footnotes) c.in_ok-given.ensures.source gives.2 (e.enters gives.0 gives.1 before) e.source e.budget;
+      lasts = lasts-leaf mid c.next.new.self c.next.new.lines out m.text c.args.self.now head new s.0 gives.0 gives.1 s.1 c.loop-given.invariant.lasts c.in_ok-given.ensures.around.budget
+          (e.definitions ∙ m.definitions ∙ c.in_ok-given.ensures.around.definitions)
+          (λ folded. e.footnotes folded ∙ ap (λ t. is_some (footnote t folded)) c.in_ok-given.ensures.around.footnotes) c.in_ok-given.ensures.around.source gives.2 (e.enters gives.0 gives.1 before) e.source e.budget;
       reads = λ reader r.
           let p = c.loop-given.invariant.reads reader r in
           let none = subst (λ o. GivesSpan g.F.BrokenLinkCallback.answers g.E.EntityLookup.replacement reader head o mid) c.in_default.is (c.in_ok-given.ensures.given reader p.read_by) in
@@ -93,7 +93,7 @@ loop-given-preserved g c =
           let placed : ArePlaced reader (Content met.0 ∷ met.1) = subst (ArePlaced reader) met.2 by.placed in
           leaf-keeps g.E.EntityLookup.replacement reader mid out by met.0 met.1 met.2 g.F.BrokenLinkCallback.answers (met-by mid c.next.new.self c.next.new.lines out m.text _) new refl (e.enters met.0 met.1 here)
           (e.reads reader met.0 met.1 here placed.0 (met-same g.F.BrokenLinkCallback.answers g.E.EntityLookup.replacement reader mid c.next.new.self c.next.new.lines out m.text m.definitions _ by.same)) exchanges events kept b;
-      asked = asked-on g.F.BrokenLinkCallback.answers c.args.self.now.callback head.callback mid.callback new.callback c.loop-given.invariant.asked c.in_ok-given.ensures.callback e.asked;
+      asked = asked-on g.F.BrokenLinkCallback.answers c.args.self.now.callback head.callback mid.callback new.callback c.loop-given.invariant.asked c.in_ok-given.ensures.around.callback e.asked;
     }
 
 pub returns-in-Over-clause-stands : goal.returns-in-Over-clause-stands
@@ -123,7 +123,7 @@ returns-in-Event-clause-lent g c =
     let mid = c.next_span.new.self in
     let s = c.in_ok-given.ensures.stands in
     let meets = subst (MeetsZeroCopy (walking.text_of mid.walk)) c.in-Event.is c.in_ok-given-2.ensures.lent in
-    subst (λ t. GivesZeroCopy t c.in-Event.given) (s.1.blocks.same_text ∙ c.in_ok-given.ensures.source ∙ c.loop-given.invariant.lasts.source) meets
+    subst (λ t. GivesZeroCopy t c.in-Event.given) (s.1.blocks.same_text ∙ c.in_ok-given.ensures.around.source ∙ c.loop-given.invariant.lasts.source) meets
 
 pub returns-in_err-given-clause-ends : goal.returns-in_err-given-clause-ends
 returns-in_err-given-clause-ends g c = on-err c.from_residual.result _ (λ reader exchanges events m b. c.in_err-given.ensures.ends reader exchanges events (c.loop-given.invariant.ends reader exchanges events m b) b)
@@ -146,13 +146,13 @@ returns-in_err-enter_leaf-in-Leaf-clause-ends g c = on-err c.from_residual-in_er
 
 pub returns-in_err-given-clause-asked : goal.returns-in_err-given-clause-asked
 returns-in_err-given-clause-asked g c =
-    on-err c.from_residual.result _ (asked-same g.F.BrokenLinkCallback.answers c.args.self.now.callback c.loop-given.self.callback c.next_span.new.self.callback c.loop-given.invariant.asked c.in_err-given.ensures.callback)
+    on-err c.from_residual.result _ (asked-same g.F.BrokenLinkCallback.answers c.args.self.now.callback c.loop-given.self.callback c.next_span.new.self.callback c.loop-given.invariant.asked c.in_err-given.ensures.around.callback)
 
 pub returns-in_err-given-2-clause-asked : goal.returns-in_err-given-2-clause-asked
 returns-in_err-given-2-clause-asked g c =
-    on-err c.from_residual-in_err-given-2.result _ (asked-same g.F.BrokenLinkCallback.answers c.args.self.now.callback c.loop-given.self.callback c.next_span.new.self.callback c.loop-given.invariant.asked c.in_ok-given.ensures.callback)
+    on-err c.from_residual-in_err-given-2.result _ (asked-same g.F.BrokenLinkCallback.answers c.args.self.now.callback c.loop-given.self.callback c.next_span.new.self.callback c.loop-given.invariant.asked c.in_ok-given.ensures.around.callback)
 
 pub returns-in_err-enter_leaf-in-Leaf-clause-asked : goal.returns-in_err-enter_leaf-in-Leaf-clause-asked
 returns-in_err-enter_leaf-in-Leaf-clause-asked g c =
     on-err c.from_residual-in_err-enter_leaf-in-Leaf.result _
-    (asked-on g.F.BrokenLinkCallback.answers c.args.self.now.callback c.loop-given.self.callback c.next_span.new.self.callback c.enter_leaf.new.self.callback c.loop-given.invariant.asked c.in_ok-given.ensures.callback c.in_err-enter_leaf-in-Leaf.ensures.asked)
+    (asked-on g.F.BrokenLinkCallback.answers c.args.self.now.callback c.loop-given.self.callback c.next_span.new.self.callback c.enter_leaf.new.self.callback c.loop-given.invariant.asked c.in_ok-given.ensures.around.callback c.in_err-enter_leaf-in-Leaf.ensures.asked)

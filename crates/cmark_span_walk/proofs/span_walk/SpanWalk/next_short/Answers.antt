@@ -51,17 +51,17 @@ returns-in-Short-clause-fewer g c =
     let head = c.loop-short.self in
     let new = c.next_in_leaf.new.self in
     let e = c.in_ok-short.ensures in
-    less-since c.args.self.now head new c.loop-short.invariant.lasts (subst (λ (n : Next). LeavesFewer head n new) c.in-Short.is e.fewer) e.few e.slots e.budget
+    less-since c.args.self.now head new c.loop-short.invariant.lasts (subst (λ (n : Next). LeavesFewer head n new) c.in-Short.is e.fewer) e.few e.slots e.around.budget
 
 pub returns-in-Long-clause-fewer : goal.returns-in-Long-clause-fewer
 returns-in-Long-clause-fewer g c =
     let e = c.in_ok-short.ensures in
-    most-since c.args.self.now c.loop-short.self c.next_in_leaf.new.self c.loop-short.invariant.lasts e.most e.few e.slots e.budget
+    most-since c.args.self.now c.loop-short.self c.next_in_leaf.new.self c.loop-short.invariant.lasts e.most e.few e.slots e.around.budget
 
 pub returns-in-Long-2-clause-fewer : goal.returns-in-Long-2-clause-fewer
 returns-in-Long-2-clause-fewer g c =
     let e = c.in_ok-short.ensures in
-    most-since c.args.self.now c.loop-short.self c.next_in_leaf.new.self c.loop-short.invariant.lasts e.most e.few e.slots e.budget
+    most-since c.args.self.now c.loop-short.self c.next_in_leaf.new.self c.loop-short.invariant.lasts e.most e.few e.slots e.around.budget
 
 pub returns-in-Short-2-clause-stands : goal.returns-in-Short-2-clause-stands
 returns-in-Short-2-clause-stands g c =
@@ -94,7 +94,7 @@ returns-in-Short-2-clause-given g c = λ reader r.
     let q = passes-on g.F.BrokenLinkCallback.answers g.E.EntityLookup.replacement reader old head mid [] p none in
     let by = q.read_by in
     let first = given.gives by.left by.stands.blocks.remains in
-    let source = e.source ∙ c.loop-short.invariant.lasts.source in
+    let source = e.around.source ∙ c.loop-short.invariant.lasts.source in
     let event = event-passes g.F.BrokenLinkCallback.answers g.E.EntityLookup.replacement reader mid walk lines out m.text m.definitions _ given.given first.0 by first.1 first.2 refl in
     record {
       given = given.given;
@@ -117,7 +117,7 @@ returns-in-Short-2-clause-fewer g c =
     let s = e.stands in
     let given = subst (λ (b : Brief). walking.GivesBrief mid.walk b lines.items walk) c.in-Short-2.is m.given in
     let first = given.gives s.0 s.1.blocks.remains in
-    met-fewer mid walk lines out m.text old head _ s.0 (GivenOf given.given) first.0 s.1 first.1 c.loop-short.invariant.lasts e.most e.few e.slots e.budget refl
+    met-fewer mid walk lines out m.text old head _ s.0 (GivenOf given.given) first.0 s.1 first.1 c.loop-short.invariant.lasts e.most e.few e.slots e.around.budget refl
 
 pub plain_text-requires : goal.plain_text-requires
 plain_text-requires g c κs =
@@ -169,7 +169,7 @@ returns-in-Some-clause-given g c = λ reader r.
     let only = c.in-Some.ensures.line in
     let special = by.stands.blocks.special in
     let plain = c.in-Some.ensures.plain reader.options reader.lookup gives.0.is_cell (λ byte less. special byte less ∙ ap (λ o. is_special o byte) (sym by.same.options_are)) in
-    let source = e.source ∙ c.loop-short.invariant.lasts.source in
+    let source = e.around.source ∙ c.loop-short.invariant.lasts.source in
     record {
       given = record { event = Text c.in-Some.text.now; start = only.line.start; end = only.line.stop };
       is = refl;
@@ -191,7 +191,7 @@ returns-in-Some-clause-fewer g c =
     let s = e.stands in
     let given = subst (λ (b : Brief). walking.GivesBrief mid.walk b lines.items walk) c.in-Leaf.is m.given in
     let gives = given s.0 s.1.blocks.remains in
-    met-fewer mid walk lines out m.text old head _ s.0 (Content gives.0) gives.1 s.1 gives.2 c.loop-short.invariant.lasts e.most e.few e.slots e.budget refl
+    met-fewer mid walk lines out m.text old head _ s.0 (Content gives.0) gives.1 s.1 gives.2 c.loop-short.invariant.lasts e.most e.few e.slots e.around.budget refl
 
 pub enter_leaf-requires : goal.enter_leaf-requires
 enter_leaf-requires g c κs =
@@ -225,8 +225,8 @@ loop-short-preserved g c =
     let new = c.enter_leaf.new.self in
     let before = before-leaf mid walk lines out m.text c.in-Leaf.is_cell _ s.0 gives.0 gives.1 s.1 gives.2 gives.3 gives.4 gives.5 refl in
     record {
-      lasts = lasts-leaf mid walk lines out m.text old head new s.0 gives.0 gives.1 s.1 c.loop-short.invariant.lasts e.budget (entered.definitions ∙ m.definitions ∙ e.definitions)
-          (λ folded. entered.footnotes folded ∙ ap (λ t. is_some (footnote t folded)) e.footnotes) e.source gives.2 (entered.enters gives.0 gives.1 before) entered.source entered.budget;
+      lasts = lasts-leaf mid walk lines out m.text old head new s.0 gives.0 gives.1 s.1 c.loop-short.invariant.lasts e.around.budget (entered.definitions ∙ m.definitions ∙ e.around.definitions)
+          (λ folded. entered.footnotes folded ∙ ap (λ t. is_some (footnote t folded)) e.around.footnotes) e.around.source gives.2 (entered.enters gives.0 gives.1 before) entered.source entered.budget;
       reads = λ reader r.
           let p = c.loop-short.invariant.reads reader r in
           let none = subst (λ (n : Next). GivesInLeaf g.F.BrokenLinkCallback.answers g.E.EntityLookup.replacement reader head n mid) c.in-Over.is (e.given reader p.read_by) in
@@ -247,7 +247,7 @@ loop-short-preserved g c =
           let placed : ArePlaced reader (Content met.0 ∷ met.1) = subst (ArePlaced reader) met.2 by.placed in
           leaf-keeps g.E.EntityLookup.replacement reader mid out by met.0 met.1 met.2 g.F.BrokenLinkCallback.answers (met-by mid walk lines out m.text _) new refl (entered.enters met.0 met.1 here)
           (entered.reads reader met.0 met.1 here placed.0 (met-same g.F.BrokenLinkCallback.answers g.E.EntityLookup.replacement reader mid walk lines out m.text m.definitions _ by.same)) exchanges events kept b;
-      asked = asked-on g.F.BrokenLinkCallback.answers old.callback head.callback mid.callback new.callback c.loop-short.invariant.asked e.callback entered.asked;
+      asked = asked-on g.F.BrokenLinkCallback.answers old.callback head.callback mid.callback new.callback c.loop-short.invariant.asked e.around.callback entered.asked;
     }
 
 pub returns-in-Long-2-clause-stands : goal.returns-in-Long-2-clause-stands
@@ -341,13 +341,13 @@ returns-in_err-enter_leaf-in-Leaf-clause-ends g c = on-err c.from_residual-in_er
 
 pub returns-in_err-short-clause-asked : goal.returns-in_err-short-clause-asked
 returns-in_err-short-clause-asked g c =
-    on-err c.from_residual.result _ (asked-same g.F.BrokenLinkCallback.answers c.args.self.now.callback c.loop-short.self.callback c.next_in_leaf.new.self.callback c.loop-short.invariant.asked c.in_err-short.ensures.callback)
+    on-err c.from_residual.result _ (asked-same g.F.BrokenLinkCallback.answers c.args.self.now.callback c.loop-short.self.callback c.next_in_leaf.new.self.callback c.loop-short.invariant.asked c.in_err-short.ensures.around.callback)
 
 pub returns-in_err-short-2-clause-asked : goal.returns-in_err-short-2-clause-asked
 returns-in_err-short-2-clause-asked g c =
-    on-err c.from_residual-in_err-short-2.result _ (asked-same g.F.BrokenLinkCallback.answers c.args.self.now.callback c.loop-short.self.callback c.next_in_leaf.new.self.callback c.loop-short.invariant.asked c.in_ok-short.ensures.callback)
+    on-err c.from_residual-in_err-short-2.result _ (asked-same g.F.BrokenLinkCallback.answers c.args.self.now.callback c.loop-short.self.callback c.next_in_leaf.new.self.callback c.loop-short.invariant.asked c.in_ok-short.ensures.around.callback)
 
 pub returns-in_err-enter_leaf-in-Leaf-clause-asked : goal.returns-in_err-enter_leaf-in-Leaf-clause-asked
 returns-in_err-enter_leaf-in-Leaf-clause-asked g c =
     on-err c.from_residual-in_err-enter_leaf-in-Leaf.result _
-    (asked-on g.F.BrokenLinkCallback.answers c.args.self.now.callback c.loop-short.self.callback c.next_in_leaf.new.self.callback c.enter_leaf.new.self.callback c.loop-short.invariant.asked c.in_ok-short.ensures.callback c.in_err-enter_leaf-in-Leaf.ensures.asked)
+    (asked-on g.F.BrokenLinkCallback.answers c.args.self.now.callback c.loop-short.self.callback c.next_in_leaf.new.self.callback c.enter_leaf.new.self.callback c.loop-short.invariant.asked c.in_ok-short.ensures.around.callback c.in_err-enter_leaf-in-Leaf.ensures.asked)

@@ -1,4 +1,4 @@
-use Rattle.std.proofs.Common.{[], subst}
+use Rattle.std.proofs.Common.{refl, [], subst}
 use Rattle.cmark_walk.specs.Walking.{IsTitleIn}
 use Rattle.cmark_walk.proofs.EndSteps.{listed-otherwise}
 use Rattle.cmark_walk.proofs.ListSteps.{enters-titled, enters-untitled, here-focus}
@@ -8,29 +8,37 @@ use Rattle.cmark_walk.proofs.walk.Walk.enter_list.Goals as goal
 pub push-requires : goal.push-requires
 push-requires c = here-focus c.args.self.now c.args.ix c.requires.at.1 c.requires.at.0
 
-pub returns-in_err-push-clause-refused : goal.returns-in_err-push-clause-refused
-returns-in_err-push-clause-refused c = on-err c.from_residual.result _ (λ left r. unchanged-remains c.args.self.now c.push.new.self c.in_err-push.ensures.err left r)
-
 pub returns-in-Some-clause-given : goal.returns-in-Some-clause-given
 returns-in-Some-clause-given c =
     enters-titled c.args.self.now c.args.ix c.requires.at.1 c.push.new.self c.in_ok-push.ensures.ok c.args.is_checked c.args.start c.args.end c.requires.listed
     c.in-Some.title (subst (IsTitleIn c.args.self.now c.args.ix) c.in-Some.is c.title_in-title.ensures) c.given.result c.given.ensures.value
 
-pub returns-in-Some-clause-goes : goal.returns-in-Some-clause-goes
-returns-in-Some-clause-goes c =
-    goes-after c.requires.at.0.0 c.given.result [] _
-    (enters-titled c.args.self.now c.args.ix c.requires.at.1 c.push.new.self c.in_ok-push.ensures.ok c.args.is_checked c.args.start c.args.end c.requires.listed
-    c.in-Some.title (subst (IsTitleIn c.args.self.now c.args.ix) c.in-Some.is c.title_in-title.ensures) c.given.result c.given.ensures.value c.requires.at.0.0 [] c.requires.at.0.1)
+pub returns-in-Some-clause-goes_on : goal.returns-in-Some-clause-goes_on
+returns-in-Some-clause-goes_on c = record {
+  goes =
+      (goes-after c.requires.at.0.0 c.given.result [] _
+      (enters-titled c.args.self.now c.args.ix c.requires.at.1 c.push.new.self c.in_ok-push.ensures.ok c.args.is_checked c.args.start c.args.end c.requires.listed
+      c.in-Some.title (subst (IsTitleIn c.args.self.now c.args.ix) c.in-Some.is c.title_in-title.ensures) c.given.result c.given.ensures.value c.requires.at.0.0 [] c.requires.at.0.1));
+  definitions = refl;
+  text = refl;
+}
 
 pub returns-in-None-clause-given : goal.returns-in-None-clause-given
 returns-in-None-clause-given c left lines r =
     enters-untitled c.args.self.now c.args.ix c.requires.at.1 c.push.new.self c.in_ok-push.ensures.ok c.args.is_checked c.args.start c.args.end c.requires.listed
     (subst (IsTitleIn c.args.self.now c.args.ix) c.in-None.is c.title_in-title.ensures) left r
 
-pub returns-in-None-clause-goes : goal.returns-in-None-clause-goes
-returns-in-None-clause-goes c =
-    let g = enters-untitled c.args.self.now c.args.ix c.requires.at.1 c.push.new.self c.in_ok-push.ensures.ok c.args.is_checked c.args.start c.args.end c.requires.listed
-    (subst (IsTitleIn c.args.self.now c.args.ix) c.in-None.is c.title_in-title.ensures) c.requires.at.0.0 c.requires.at.0.1 in (g.0, g.2)
+pub returns-in-None-clause-goes_on : goal.returns-in-None-clause-goes_on
+returns-in-None-clause-goes_on c = record {
+  goes =
+      (let g = enters-untitled c.args.self.now c.args.ix c.requires.at.1 c.push.new.self c.in_ok-push.ensures.ok c.args.is_checked c.args.start c.args.end c.requires.listed
+      (subst (IsTitleIn c.args.self.now c.args.ix) c.in-None.is c.title_in-title.ensures) c.requires.at.0.0 c.requires.at.0.1 in (g.0, g.2));
+  definitions = refl;
+  text = refl;
+}
 
-pub returns-in_err-push-clause-ends : goal.returns-in_err-push-clause-ends
-returns-in_err-push-clause-ends c = on-err c.from_residual.result _ (listed-otherwise c.args.self.now c.args.is_checked c.args.start c.args.end c.requires.listed)
+pub returns-in_err-push-clause-refused : goal.returns-in_err-push-clause-refused
+returns-in_err-push-clause-refused c = on-err c.from_residual.result _ (record {
+  remains = (λ left r. unchanged-remains c.args.self.now c.push.new.self c.in_err-push.ensures.err left r);
+  no_end = (listed-otherwise c.args.self.now c.args.is_checked c.args.start c.args.end c.requires.listed);
+})

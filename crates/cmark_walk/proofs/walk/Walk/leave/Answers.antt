@@ -1,4 +1,4 @@
-use Rattle.std.proofs.Common.{[], sym, ap, ◌∙◌, option_map}
+use Rattle.std.proofs.Common.{refl, [], sym, ap, ◌∙◌, option_map}
 use Rattle.cmark_text.specs.Shown.{shown_end}
 use Rattle.cmark_walk.proofs.WalkSteps.{goes-after}
 use Rattle.cmark_walk.proofs.LeaveSteps.{parent-below, parent-number, leaves-over, leaves-some, never-none}
@@ -15,11 +15,15 @@ returns-clause-given c =
     leaves-some c.args.self.now c.in-Some.ix c.pop.new.self c.requires.1 c.in-Some.ensures.result c.in-Some.ensures.popped c.item-item.result.now c.next_sibling.new.self c.item-item.ensures c.next_sibling.ensures.past
     c.in-Some-end.end c.given.result (λ z above node b d. ap (option_map shown_end) (sym c.in-Some-end.is) ∙ c.end-end.ensures z above node b d) c.given.ensures.value
 
-pub returns-clause-goes : goal.returns-clause-goes
-returns-clause-goes c =
-    goes-after c.requires.0.0 c.given.result [] _
-    (leaves-some c.args.self.now c.in-Some.ix c.pop.new.self c.requires.1 c.in-Some.ensures.result c.in-Some.ensures.popped c.item-item.result.now c.next_sibling.new.self c.item-item.ensures c.next_sibling.ensures.past
-    c.in-Some-end.end c.given.result (λ z above node b d. ap (option_map shown_end) (sym c.in-Some-end.is) ∙ c.end-end.ensures z above node b d) c.given.ensures.value c.requires.0.0 [] c.requires.0.1)
+pub returns-clause-goes_on : goal.returns-clause-goes_on
+returns-clause-goes_on c = record {
+  goes =
+      (goes-after c.requires.0.0 c.given.result [] _
+      (leaves-some c.args.self.now c.in-Some.ix c.pop.new.self c.requires.1 c.in-Some.ensures.result c.in-Some.ensures.popped c.item-item.result.now c.next_sibling.new.self c.item-item.ensures c.next_sibling.ensures.past
+      c.in-Some-end.end c.given.result (λ z above node b d. ap (option_map shown_end) (sym c.in-Some-end.is) ∙ c.end-end.ensures z above node b d) c.given.ensures.value c.requires.0.0 [] c.requires.0.1));
+  definitions = refl;
+  text = refl;
+}
 
 pub unreachable-requires : goal.unreachable-requires
 unreachable-requires c =

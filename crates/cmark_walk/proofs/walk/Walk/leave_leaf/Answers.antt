@@ -1,4 +1,4 @@
-use Rattle.std.proofs.Common.{[], sym, ap, ◌∙◌, option_map}
+use Rattle.std.proofs.Common.{refl, [], sym, ap, ◌∙◌, option_map}
 use Rattle.cmark_text.specs.Shown.{shown_end}
 use Rattle.cmark_walk.proofs.WalkSteps.{focus-node, goes-after}
 use Rattle.cmark_walk.proofs.LeafLeave.{ends-none, ends-some}
@@ -12,19 +12,28 @@ returns-in-Some-clause-given c =
     ends-some c.args.self.now c.item-item.result.now c.args.ix c.requires.at.1 c.item-item.ensures c.next_sibling.new.self c.next_sibling.ensures.past c.requires.behind
     c.in-Some.end c.given.result (λ z above node b d. ap (option_map shown_end) (sym c.in-Some.is) ∙ c.end-end.ensures z above node b d) c.given.ensures.value
 
-pub returns-in-Some-clause-goes : goal.returns-in-Some-clause-goes
-returns-in-Some-clause-goes c =
-    goes-after c.requires.at.0.0 c.given.result [] _ (ends-some c.args.self.now c.item-item.result.now c.args.ix c.requires.at.1 c.item-item.ensures c.next_sibling.new.self c.next_sibling.ensures.past c.requires.behind
-    c.in-Some.end c.given.result (λ z above node b d. ap (option_map shown_end) (sym c.in-Some.is) ∙ c.end-end.ensures z above node b d) c.given.ensures.value c.requires.at.0.0 [] c.requires.at.0.1)
+pub returns-in-Some-clause-goes_on : goal.returns-in-Some-clause-goes_on
+returns-in-Some-clause-goes_on c = record {
+  goes =
+      (goes-after c.requires.at.0.0 c.given.result [] _ (ends-some c.args.self.now c.item-item.result.now c.args.ix c.requires.at.1 c.item-item.ensures c.next_sibling.new.self c.next_sibling.ensures.past c.requires.behind
+      c.in-Some.end c.given.result (λ z above node b d. ap (option_map shown_end) (sym c.in-Some.is) ∙ c.end-end.ensures z above node b d) c.given.ensures.value c.requires.at.0.0 [] c.requires.at.0.1));
+  definitions = refl;
+  text = refl;
+}
 
 pub returns-in-None-clause-given : goal.returns-in-None-clause-given
 returns-in-None-clause-given c = λ left lines r.
     ends-none c.args.self.now c.item-item.result.now c.args.ix c.requires.at.1 c.item-item.ensures c.next_sibling.new.self c.next_sibling.ensures.past c.requires.behind
     (λ z above node b d. ap (option_map shown_end) (sym c.in-None.is) ∙ c.end-end.ensures z above node b d) left r
 
-pub returns-in-None-clause-goes : goal.returns-in-None-clause-goes
-returns-in-None-clause-goes c = (
-  c.requires.at.0.0,
-  ends-none c.args.self.now c.item-item.result.now c.args.ix c.requires.at.1 c.item-item.ensures c.next_sibling.new.self c.next_sibling.ensures.past c.requires.behind
-      (λ z above node b d. ap (option_map shown_end) (sym c.in-None.is) ∙ c.end-end.ensures z above node b d) c.requires.at.0.0 c.requires.at.0.1,
-)
+pub returns-in-None-clause-goes_on : goal.returns-in-None-clause-goes_on
+returns-in-None-clause-goes_on c = record {
+  goes =
+      ((
+        c.requires.at.0.0,
+        ends-none c.args.self.now c.item-item.result.now c.args.ix c.requires.at.1 c.item-item.ensures c.next_sibling.new.self c.next_sibling.ensures.past c.requires.behind
+            (λ z above node b d. ap (option_map shown_end) (sym c.in-None.is) ∙ c.end-end.ensures z above node b d) c.requires.at.0.0 c.requires.at.0.1,
+      ));
+  definitions = refl;
+  text = refl;
+}

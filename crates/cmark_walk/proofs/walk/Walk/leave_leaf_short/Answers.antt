@@ -15,21 +15,31 @@ returns-in-Some-clause-given c = λ lines.
     (ends-some c.args.self.now c.item-item.result.now c.args.ix c.requires.at.1 c.item-item.ensures c.next_sibling.new.self c.next_sibling.ensures.past c.requires.behind
     c.in-Some.end (step.Event (ranged_end c.in-Some.end c.item-item.result.now)) (λ z above node b d. ap (option_map shown_end) (sym c.in-Some.is) ∙ c.end-end.ensures z above node b d) refl))
 
-pub returns-in-Some-clause-goes : goal.returns-in-Some-clause-goes
-returns-in-Some-clause-goes c = goes-short c.args.self.now _ _
-    (ends-short c.args.self.now _ c.in-Some.end c.item-item.result.now
-    (ends-some c.args.self.now c.item-item.result.now c.args.ix c.requires.at.1 c.item-item.ensures c.next_sibling.new.self c.next_sibling.ensures.past c.requires.behind
-    c.in-Some.end (step.Event (ranged_end c.in-Some.end c.item-item.result.now)) (λ z above node b d. ap (option_map shown_end) (sym c.in-Some.is) ∙ c.end-end.ensures z above node b d) refl))
-    c.requires.at.0
+pub returns-in-Some-clause-goes_on : goal.returns-in-Some-clause-goes_on
+returns-in-Some-clause-goes_on c = record {
+  goes =
+      (goes-short c.args.self.now _ _
+      (ends-short c.args.self.now _ c.in-Some.end c.item-item.result.now
+      (ends-some c.args.self.now c.item-item.result.now c.args.ix c.requires.at.1 c.item-item.ensures c.next_sibling.new.self c.next_sibling.ensures.past c.requires.behind
+      c.in-Some.end (step.Event (ranged_end c.in-Some.end c.item-item.result.now)) (λ z above node b d. ap (option_map shown_end) (sym c.in-Some.is) ∙ c.end-end.ensures z above node b d) refl))
+      c.requires.at.0);
+  definitions = refl;
+  text = refl;
+}
 
 pub returns-in-None-clause-given : goal.returns-in-None-clause-given
 returns-in-None-clause-given c = λ lines left r.
     ends-none c.args.self.now c.item-item.result.now c.args.ix c.requires.at.1 c.item-item.ensures c.next_sibling.new.self c.next_sibling.ensures.past c.requires.behind
     (λ z above node b d. ap (option_map shown_end) (sym c.in-None.is) ∙ c.end-end.ensures z above node b d) left r
 
-pub returns-in-None-clause-goes : goal.returns-in-None-clause-goes
-returns-in-None-clause-goes c = (
-  c.requires.at.0.0,
-  ends-none c.args.self.now c.item-item.result.now c.args.ix c.requires.at.1 c.item-item.ensures c.next_sibling.new.self c.next_sibling.ensures.past c.requires.behind
-      (λ z above node b d. ap (option_map shown_end) (sym c.in-None.is) ∙ c.end-end.ensures z above node b d) c.requires.at.0.0 c.requires.at.0.1,
-)
+pub returns-in-None-clause-goes_on : goal.returns-in-None-clause-goes_on
+returns-in-None-clause-goes_on c = record {
+  goes =
+      ((
+        c.requires.at.0.0,
+        ends-none c.args.self.now c.item-item.result.now c.args.ix c.requires.at.1 c.item-item.ensures c.next_sibling.new.self c.next_sibling.ensures.past c.requires.behind
+            (λ z above node b d. ap (option_map shown_end) (sym c.in-None.is) ∙ c.end-end.ensures z above node b d) c.requires.at.0.0 c.requires.at.0.1,
+      ));
+  definitions = refl;
+  text = refl;
+}

@@ -17,12 +17,17 @@ returns-clause-given c = λ lines.
     (leaves-some c.args.self.now c.in-Some.ix c.pop.new.self c.requires.1 c.in-Some.ensures.result c.in-Some.ensures.popped c.item-item.result.now c.next_sibling.new.self c.item-item.ensures c.next_sibling.ensures.past
     c.in-Some-end.end (step.Event (ranged_end c.in-Some-end.end c.item-item.result.now)) (λ z above node b d. ap (option_map shown_end) (sym c.in-Some-end.is) ∙ c.end-end.ensures z above node b d) refl))
 
-pub returns-clause-goes : goal.returns-clause-goes
-returns-clause-goes c = goes-short c.args.self.now _ _
-    (ends-short c.args.self.now _ c.in-Some-end.end c.item-item.result.now
-    (leaves-some c.args.self.now c.in-Some.ix c.pop.new.self c.requires.1 c.in-Some.ensures.result c.in-Some.ensures.popped c.item-item.result.now c.next_sibling.new.self c.item-item.ensures c.next_sibling.ensures.past
-    c.in-Some-end.end (step.Event (ranged_end c.in-Some-end.end c.item-item.result.now)) (λ z above node b d. ap (option_map shown_end) (sym c.in-Some-end.is) ∙ c.end-end.ensures z above node b d) refl))
-    c.requires.0
+pub returns-clause-goes_on : goal.returns-clause-goes_on
+returns-clause-goes_on c = record {
+  goes =
+      (goes-short c.args.self.now _ _
+      (ends-short c.args.self.now _ c.in-Some-end.end c.item-item.result.now
+      (leaves-some c.args.self.now c.in-Some.ix c.pop.new.self c.requires.1 c.in-Some.ensures.result c.in-Some.ensures.popped c.item-item.result.now c.next_sibling.new.self c.item-item.ensures c.next_sibling.ensures.past
+      c.in-Some-end.end (step.Event (ranged_end c.in-Some-end.end c.item-item.result.now)) (λ z above node b d. ap (option_map shown_end) (sym c.in-Some-end.is) ∙ c.end-end.ensures z above node b d) refl))
+      c.requires.0);
+  definitions = refl;
+  text = refl;
+}
 
 pub unreachable-requires : goal.unreachable-requires
 unreachable-requires c =

@@ -6,7 +6,7 @@ use Rattle.cmark_walk.proofs.WalkSteps.{on-err}
 use Rattle.cmark_walk.proofs.walk.Walk.next_short.Goals as goal
 
 pub returns-in_err-short-clause-refused : goal.returns-in_err-short-clause-refused
-returns-in_err-short-clause-refused c = on-err c.from_residual.result _ (λ left r. c.in_err-short.ensures.refused left (c.loop-short.invariant.remains left r))
+returns-in_err-short-clause-refused c = on-err c.from_residual.result _ (λ left r. c.in_err-short.ensures.refused.remains left (c.loop-short.invariant.remains left r))
 
 pub returns-in-Short-clause-given : goal.returns-in-Short-clause-given
 returns-in-Short-clause-given c =
@@ -30,4 +30,4 @@ returns-in-Over-clause-given c =
 
 pub loop-short-preserved : goal.loop-short-preserved
 loop-short-preserved c = lasts-on c.args.self.now c.loop-short.self c.short_step.new.self c.loop-short.invariant
-    (subst (λ b. GivesShortStep c.loop-short.self b c.short_step.new.lines.items c.short_step.new.self) c.in-Silent.is c.in_ok-short.ensures.given) c.in_ok-short.ensures.goes c.in_ok-short.ensures.definitions c.in_ok-short.ensures.text
+    (subst (λ b. GivesShortStep c.loop-short.self b c.short_step.new.lines.items c.short_step.new.self) c.in-Silent.is c.in_ok-short.ensures.given) c.in_ok-short.ensures.goes_on.goes c.in_ok-short.ensures.goes_on.definitions c.in_ok-short.ensures.goes_on.text

@@ -8,8 +8,8 @@ use Rattle.cmark_leaf_text.specs.Reads.{place_of}
 use Rattle.cmark_leaf_text.specs.declared.leaf_text.LeafText.{LeafText}
 use Rattle.cmark_inline_model.specs.SlotRows as row
 use Rattle.cmark_inline_model.specs.SlotRows.{marked, marks_by, quoted}
-use Rattle.cmark_inline.specs.Marked.{places_of, siblings_from}
-use Rattle.cmark_inline.specs.Quoted.{characters_of}
+use Rattle.cmark_inline.specs.MarkedSlots.{places_of, siblings_from}
+use Rattle.cmark_inline.specs.QuoteSlots.{characters_of}
 use Rattle.cmark_inline.specs.SlotViews.{first_of, shown_parts, shown_slots}
 use Rattle.cmark_inline.specs.declared.bracket.Bracket.{Bracket}
 use Rattle.cmark_inline.specs.declared.delimiter.PlacedRun.{PlacedRun}

@@ -1,0 +1,263 @@
+//! Closing brackets, and the links and images that they form (CommonMark 6.3 and 6.4).
+
+ghost use Rattle.std.specs.Prelude.{◌≡◌, ◌<◌, length, IfOk, OnOk, false, ◌+◌, IfSome, None, Bool, ℕ, List, ◌++◌, ◌∷◌, [], ◌≤◌, drop, take};
+ghost use Rattle.cmark_leaf_text.specs.Reads.{IsRead, text_of, IsPart};
+ghost use Rattle.cmark_text.specs.Shown.{shown_options};
+ghost use Rattle.cmark_inline.specs.Asking.{AsksOnce};
+ghost use Rattle.cmark_inline.specs.Closers.{Closes, LinksTaken, LeavesElement};
+ghost use Rattle.cmark_inline.specs.Footnoted.{SameFootnotes};
+ghost use Rattle.cmark_inline.specs.Sound.{AreEnded, IsSound, IsTakenFrom, CanSettle, IsSettled};
+ghost use Rattle.cmark_inline.specs.Stands.{IsAtByte, Moves, Stands, Flushes, HoldNoLink, IsBracket, IsTarget, SameSpans, IsEnd, NoNewLink, AreSlots, bytes_of};
+ghost use Rattle.cmark_leaf_text.specs.declared.leaf_text.LeafText.{LeafText as LeafTexts};
+ghost use Rattle.cmark_grammar.specs.BracketStates.{Opener};
+ghost use Rattle.cmark_grammar.specs.OpenBrackets.{nearest, used_up};
+ghost use Rattle.cmark_inline.specs.BracketViews.{StandFor, TakenAs};
+ghost use Rattle.cmark_inline.specs.declared.bracket.Bracket.{Bracket as Opening};
+ghost use Rattle.cmark_inline.specs.Decided.{EndsWithin, TargetDecides};
+ghost use Rattle.cmark_inline.specs.Doubled.{DropsBehind};
+ghost use Rattle.cmark_inline.specs.FormedSlots.{WritesElement, dressed_behind, end_slot};
+ghost use Rattle.cmark_grammar.specs.Spans.{Spans};
+ghost use Rattle.cmark_text.specs.declared.text.CowStr.{CowStr as Texts};
+ghost use Rattle.cmark_grammar.specs.Emphasis.{IsEmphasis, Pair};
+ghost use Rattle.cmark_inline.specs.MarkedSlots.{siblings_from};
+ghost use Rattle.cmark_inline.specs.SlotViews.{shown_slots};
+ghost use Rattle.cmark_inline.specs.declared.link.LinkParts.{LinkParts as Parts};
+
+use crate::bracket::Bracket;
+use crate::callback::BrokenLinkCallback;
+use crate::link::{Target, inline_target};
+use crate::place::behind;
+use crate::read::Reader;
+use crate::reference::asked_at;
+use crate::slot::{Element, Slot, SlotKind, begin, push_slot};
+use crate::state::InlineState;
+use crate::step::Cursor;
+use cmark_items::FootnoteDefs;
+use cmark_leaf_text::LeafText;
+use cmark_text::{EntityLookup, Options};
+use std::alloc::AllocError;
+
+impl<'a> InlineState<'a> {
+    #[tactic(auto, using(std::proofs::lemmas::Str::lead_after_ascii))]
+    pub(crate) fn close_bracket<E: EntityLookup, F: BrokenLinkCallback<'a>>(
+        &mut self,
+        leaf: &LeafText<'a>,
+        reader: &Reader<'_, 'a, E>,
+        footnotes: &mut FootnoteDefs,
+        callback: &mut F,
+        text: &str,
+        here: Cursor,
+    ) -> Result<Cursor, AllocError>
+        requires byte { IsAtByte text.now here self.old }
+        requires read { IsRead leaf.now }
+        requires same { text.now ≡ text_of leaf.now }
+        requires sound { IsSound self.old }
+        ensures sound { OnOk result (IsSound self.new) }
+        ensures ends { OnOk result (AreEnded leaf.now self.old.slots.items → AreEnded leaf.now self.new.slots.items) }
+        ensures asks { AsksOnce F.answers callback.old callback.new }
+        ensures spent { self.old.expansion ≡ 0 → (callback.new ≡ callback.old) × (self.new.expansion ≡ 0) }
+        ensures moves { IfOk result (Moves text.now here.at self.new) }
+        ensures footnotes { SameFootnotes footnotes.old footnotes.new }
+        ensures flushes { OnOk result (Flushes here.pending here.at self.old) }
+        ensures closes { IfOk result (λ next. Closes F.answers (shown_options reader.now.options) (E.replacement reader.now.entities.now) reader.now.references.now footnotes.old leaf.now text.now here.pending here.at self.old self.new next callback.old callback.new) }
+    {
+        self.flush(text, here, here.at)?;
+        let behind_it = behind(text, here.at);
+        let taken = self.take_bracket(text, here.at);
+        if let Some(next) = self.wikilink(leaf, reader.options, text, here.at)? {
+            return Ok(next);
+        }
+        if let Some(next) = self.footnote(leaf, reader.options, footnotes, text, taken, here.at)? {
+            return Ok(next);
+        }
+        if let Some(next) = self.link(leaf, reader, callback, text, taken, here.at)? {
+            return Ok(next);
+        }
+        let slot = Slot {
+            kind: SlotKind::Text,
+            start: here.at,
+            end: behind_it,
+        };
+        let flushed = Cursor {
+            pending: here.at,
+            at: here.at,
+        };
+        let next = self.put(text, flushed, here.at, slot)?;
+        Ok(next)
+    }
+
+    // The link or the image that the bracket forms which was taken, if one was; `None` where it forms none.
+    fn link<E: EntityLookup, F: BrokenLinkCallback<'a>>(
+        &mut self,
+        leaf: &LeafText<'a>,
+        reader: &Reader<'_, 'a, E>,
+        callback: &mut F,
+        text: &str,
+        taken: Option<Bracket>,
+        close: usize,
+    ) -> Result<Option<Cursor>, AllocError>
+        requires stands { Stands text.now close self.old }
+        requires bracket { IfSome taken (IsBracket text.now close) }
+        requires free { IfSome taken (λ bracket. bracket.is_image ≡ false → HoldNoLink self.old.slots.items bracket.slot) }
+        requires close { IsPart text.now close (close + 1) }
+        requires read { IsRead leaf.now }
+        requires same { text.now ≡ text_of leaf.now }
+        requires sound { IsSound self.old }
+        requires taken { IfSome taken (IsTakenFrom self.old) }
+        ensures sound { OnOk result (IsSound self.new) }
+        ensures ends { OnOk result ((leaf : LeafTexts) → AreEnded leaf self.old.slots.items → AreEnded leaf self.new.slots.items) }
+        ensures asks { AsksOnce F.answers callback.old callback.new }
+        ensures spent { self.old.expansion ≡ 0 → (callback.new ≡ callback.old) × (self.new.expansion ≡ 0) }
+        ensures stands { IfOk result (λ next. next ≡ None → Stands text.now close self.new) }
+        ensures moves { IfOk result (λ next. IfSome next (Moves text.now close self.new)) }
+        ensures links { IfOk result (λ next. LinksTaken F.answers (shown_options reader.now.options) (E.replacement reader.now.entities.now) reader.now.references.now leaf.now text.now taken close self.old self.new next callback.old callback.new) }
+    {
+        let Some(bracket) = taken else {
+            return Ok(None);
+        };
+        let Some(target) = self.target(leaf, reader, callback, text, bracket, close)? else {
+            return Ok(None);
+        };
+        let past = target.past;
+        self.form(reader.options, text, bracket, close, target)?;
+        Ok(Some(Cursor {
+            pending: past,
+            at: past,
+        }))
+    }
+
+    // The nearest opening bracket, which is used up, if it can form a link or an image.
+    fn take_bracket(&mut self, text: &str, at: usize) -> Option<Bracket>
+        requires stands { Stands text.now at self.old }
+        requires sound { IsSound self.old }
+        ensures sound { IsSound self.new }
+        ensures taken { IfSome result (IsTakenFrom self.new) }
+        ensures stands { Stands text.now at self.new }
+        ensures expansion { self.new.expansion ≡ self.old.expansion }
+        ensures bracket { IfSome result (IsBracket text.now at) }
+        ensures link { IfSome result (λ bracket. bracket.is_image ≡ false → HoldNoLink self.new.slots.items bracket.slot) }
+        ensures others { self.new ≡ record self.old { brackets = self.new.brackets } }
+        ensures takes { (wikilinks : Bool) (place : ℕ → ℕ) (openers : List Opener) (bs : List Opening) → StandFor wikilinks place at openers bs self.old.brackets self.old.doubled → StandFor wikilinks place at (used_up openers) bs self.new.brackets self.new.doubled × TakenAs place bs (nearest openers) result }
+    {
+        let (bracket, forms) = self.brackets.take()?;
+        if forms { Some(bracket) } else { None }
+    }
+
+    fn target<E: EntityLookup, F: BrokenLinkCallback<'a>>(
+        &mut self,
+        leaf: &LeafText<'a>,
+        reader: &Reader<'_, 'a, E>,
+        callback: &mut F,
+        text: &str,
+        bracket: Bracket,
+        close: usize,
+    ) -> Result<Option<Target<'a>>, AllocError>
+        requires stands { Stands text.now close self.old }
+        requires bracket { IsBracket text.now close bracket }
+        requires close { IsPart text.now close (close + 1) }
+        requires read { IsRead leaf.now }
+        requires same { text.now ≡ text_of leaf.now }
+        ensures asks { AsksOnce F.answers callback.old callback.new }
+        ensures spent { self.old.expansion ≡ 0 → (callback.new ≡ callback.old) × (self.new.expansion ≡ 0) }
+        ensures same { SameSpans self.old self.new }
+        ensures table { self.new.links ≡ self.old.links }
+        ensures texts { self.new.texts ≡ self.old.texts }
+        ensures quotes { self.new.quotes ≡ self.old.quotes }
+        ensures stands { Stands text.now close self.new }
+        ensures target { IfOk result (λ found. IfSome found (IsTarget text.now close)) }
+        ensures decides { IfOk result (λ found. TargetDecides F.answers (shown_options reader.now.options) (E.replacement reader.now.entities.now) reader.now.references.now leaf.now text.now bracket close self.old self.new found callback.old callback.new) }
+        ensures label { OnOk result (EndsWithin text.now self.old.shut_close → EndsWithin text.now self.new.shut_close) }
+    {
+        if let Some(target) = inline_target(self.alloc, leaf, text, close + 1, reader.entities)? {
+            return Ok(Some(target));
+        }
+        let is_shut = self.is_shut(close);
+        let Some(asked) = asked_at(reader.options, text, bracket, close, is_shut) else {
+            return Ok(None);
+        };
+        self.remember_label(asked);
+        if self.expansion == 0 {
+            return Ok(None);
+        }
+        let found = self.reference(leaf, reader, callback, text, bracket.start, asked)?;
+        Ok(found)
+    }
+
+    fn form(
+        &mut self,
+        options: Options,
+        text: &str,
+        bracket: Bracket,
+        close: usize,
+        target: Target<'a>,
+    ) -> Result<(), AllocError>
+        requires stands { Stands text.now close self.old }
+        requires close { IsPart text.now close (close + 1) }
+        requires target { IsTarget text.now close target }
+        requires free { bracket.is_image ≡ false → HoldNoLink self.old.slots.items bracket.slot }
+        requires sound { IsSound self.old }
+        requires taken { IsTakenFrom self.old bracket }
+        ensures sound { OnOk result (IsSound self.new) }
+        ensures ends { OnOk result ((leaf : LeafTexts) → AreEnded leaf self.old.slots.items → AreEnded leaf self.new.slots.items) }
+        ensures expansion { self.new.expansion ≡ self.old.expansion }
+        ensures stands { OnOk result (Stands text.now target.entry.past self.new) }
+        ensures parts { OnOk result (self.new.links.items ≡ self.old.links.items ++ (target.entry.parts ∷ [])) }
+        ensures doubled { OnOk result (DropsBehind bracket.start self.old.doubled.standing.items self.new.doubled.standing.items) }
+        ensures inactive { OnOk result (bracket.is_image ≡ false → self.new.doubled.shut ≡ length self.new.doubled.standing.items) }
+        ensures link { OnOk result (bracket.is_image ≡ false → HoldNoLink self.new.slots.items (bracket.slot + 1)) }
+        ensures leaves { OnOk result (LeavesElement bracket.is_image bracket.start self.old self.new) }
+        ensures label { self.new.shut_close ≡ self.old.shut_close }
+        ensures writes { OnOk result (WritesElement (shown_options options) bracket target.entry self.old self.new) }
+    {
+        let Target { parts, end, .. } = target;
+        let index = self.links.len();
+        self.links.push(parts)?;
+        self.doubled.drop_behind(bracket.start);
+        if bracket.is_image {
+            begin(&mut self.slots, bracket.slot, Element::Image(index), end);
+            self.finish(options, bracket, close, end)?;
+            return Ok(());
+        }
+        begin(&mut self.slots, bracket.slot, Element::Link(index), end);
+        self.finish(options, bracket, close, end)?;
+        self.brackets.shut_all();
+        self.doubled.shut_all();
+        Ok(())
+    }
+
+    // Ends the link or the image that a bracket began, and resolves the quotes and the delimiter runs in it.
+    pub(crate) fn finish(
+        &mut self,
+        options: Options,
+        bracket: Bracket,
+        close: usize,
+        end: usize,
+    ) -> Result<(), AllocError>
+        requires runs { bytes_of self.old.delimiters.placed.items ≤ length self.old.slots.items }
+        requires there { bracket.slot < length self.old.slots.items }
+        requires runs_there { bracket.runs ≤ length self.old.delimiters.placed.items }
+        requires quotes_there { bracket.quotes ≤ length self.old.quotes.placed.items }
+        requires settles { CanSettle (bracket.slot + 1) self.old.slots.items (drop bracket.runs self.old.delimiters.placed.items) (drop bracket.quotes self.old.quotes.placed.items) }
+        ensures table { self.new.links ≡ self.old.links }
+        ensures texts { self.new.texts ≡ self.old.texts }
+        ensures settled { OnOk result (IsSettled (bracket.slot + 1) self.old.slots.items self.new.slots.items) }
+        ensures placed { OnOk result (self.new.delimiters.placed.items ≡ take bracket.runs self.old.delimiters.placed.items) }
+        ensures quotes { OnOk result (self.new.quotes.placed.items ≡ take bracket.quotes self.old.quotes.placed.items) }
+        ensures expansion { self.new.expansion ≡ self.old.expansion }
+        ensures label { self.new.shut_close ≡ self.old.shut_close }
+        ensures brackets { self.new.brackets ≡ self.old.brackets }
+        ensures doubled { self.new.doubled ≡ self.old.doubled }
+        ensures slots { OnOk result ((text : List ℕ) (place : ℕ) → AreSlots text place self.old.slots.items → IsEnd text place close end → AreSlots text place self.new.slots.items) }
+        ensures length { OnOk result (length self.new.slots.items ≡ length self.old.slots.items + 1) }
+        ensures links { OnOk result (NoNewLink self.old.slots.items self.new.slots.items) }
+        ensures runs { OnOk result (bytes_of self.new.delimiters.placed.items ≤ bytes_of self.old.delimiters.placed.items) }
+        ensures dressed { OnOk result ((leaf : LeafTexts) (texts : List Texts) (links : List Parts) (pairs : List Pair) (spans : Spans) → IsEmphasis (siblings_from 0 (drop bracket.runs self.old.delimiters.placed.items)) pairs spans
+            → shown_slots leaf texts links self.new.slots.items ≡ dressed_behind (shown_options options) bracket pairs self.old.delimiters.placed.items self.old.quotes.placed.items (shown_slots leaf texts links (self.old.slots.items ++ (end_slot close end ∷ [])))) }
+    {
+        push_slot(&mut self.slots, SlotKind::End, close, end)?;
+        self.quotes.resolve(bracket.quotes, &mut self.slots)?;
+        self.delimiters
+            .resolve(bracket.runs, options, &mut self.slots)?;
+        Ok(())
+    }
+}

@@ -1,0 +1,265 @@
+//! What an item of a document's tree is read as: an event, or the tag and the end of an element.
+
+ghost use Rattle.std.specs.Prelude.{◌≡◌, None, List, IfOk, OnErr, option_map, IfSome, true, Some};
+ghost use Rattle.cmark_tree.specs.Zip.{Zip};
+ghost use Rattle.cmark_grammar.specs.BlockDocument.{BlockNode};
+ghost use Rattle.cmark_grammar.specs.BlockReading.{read_as};
+ghost use Rattle.cmark_grammar.specs.DrawnDocument.{kind_within};
+ghost use Rattle.cmark_walk.specs.Reads.{shown_reading, event_in, tag_in, end_in};
+ghost use Rattle.cmark_walk.specs.Walking.{Drawn, IsDrawn, Outer, StandsBelow, IsBelow, tight_below, text_of, OwnsText, texts_of, ReadsZeroCopy, task_body, is_synthesized, has_texts};
+ghost use Rattle.cmark_grammar.specs.Event as event;
+ghost use Rattle.cmark_text.specs.Shown.{shown, text_bytes, shown_tag, shown_end, level_number};
+ghost use Rattle.cmark_text.specs.ZeroCopy.{IsZeroCopy, IsLentBy};
+ghost use Rattle.cmark_grammar.specs.Tokens.{slice};
+ghost use Rattle.cmark_grammar.specs.Attributes.{attributes_of};
+ghost use Rattle.cmark_grammar.specs.Tag.{Heading, Table};
+ghost use Rattle.cmark_items.specs.ItemNodes.{columns_of, list_number};
+ghost use Rattle.cmark_grammar.specs.Tables.{delimiter_row};
+
+use crate::reading::Reading;
+use crate::walk::Walk;
+use bitflags::Flags;
+use cmark_items::{HeadingAttributes, Item, ItemBody};
+use cmark_scan::scan_table_head;
+use cmark_text::{CodeBlockKind, CowStr, Event, HeadingLevel, Tag, TagEnd};
+use std::alloc::{AllocError, Global};
+
+impl<'a> Walk<'a> {
+    // How an item among the siblings at hand is read.
+    #[inline(always)]
+    pub(crate) fn read(&self, item: Item) -> Result<Reading<'a>, AllocError>
+        requires below { IsBelow self.now }
+        requires drawn { IsDrawn self.now item }
+        requires unmarked { task_body item.body ≡ None }
+        ensures value { IfOk result (λ reading. (z : Zip Item) (above : List Outer) (node : BlockNode) → StandsBelow self.now z above → Drawn self.now.text.now (texts_of self.now) item node
+            → shown_reading reading ≡ read_as (kind_within (tight_below above) node.kind)) }
+        ensures lent { IfOk result (ReadsZeroCopy (text_of self.now) item) }
+        ensures refused { OnErr result (OwnsText item.body) }
+    {
+        if let Some(event) = self.event(item)? {
+            return Ok(Reading::Alone(event));
+        }
+        match self.tag(item)? {
+            Some(tag) => Ok(Reading::Around(tag)),
+            None => Ok(Reading::Inside),
+        }
+    }
+
+    // The event that an item stands for; none for one that has children.
+    #[inline(always)]
+    fn event(&self, item: Item) -> Result<Option<Event<'a>>, AllocError>
+        requires { IsDrawn self.now item }
+        ensures value { IfOk result (λ event. (node : BlockNode) → Drawn self.now.text.now (texts_of self.now) item node
+            → option_map shown event ≡ event_in (read_as node.kind)) }
+        ensures lent { IfOk result (λ event. IfSome event (λ e. IsZeroCopy (text_of self.now) e item.start item.end)) }
+        ensures refused { OnErr result (OwnsText item.body) }
+    {
+        match item.body {
+            ItemBody::Text { .. } => Ok(Some(Event::Text(self.slice(item)))),
+            ItemBody::Html => Ok(Some(Event::Html(self.slice(item)))),
+            ItemBody::SynthesizeText(_) | ItemBody::SynthesizeChar(_) => {
+                let event = self.synthesized(item)?;
+                Ok(Some(event))
+            }
+            ItemBody::Rule => Ok(Some(Event::Rule)),
+            _ => Ok(None),
+        }
+    }
+
+    // The text that an item stands over.
+    #[inline(always)]
+    pub(crate) fn slice(&self, item: Item) -> CowStr<'a>
+        requires { IsDrawn self.now item }
+        ensures value { text_bytes result ≡ slice self.now.text.now item.start item.end }
+        ensures lent { IsLentBy (slice self.now.text.now item.start item.end) result }
+    {
+        CowStr::Borrowed(&self.text[item.start..item.end])
+    }
+
+    // The event of a text that is written nowhere, such as the spaces that are left of a tab.
+    #[inline(never)]
+    fn synthesized(&self, item: Item) -> Result<Event<'a>, AllocError>
+        requires drawn { IsDrawn self.now item }
+        requires synthesized { is_synthesized item.body ≡ true }
+        ensures value { IfOk result (λ made. (node : BlockNode) → Drawn self.now.text.now (texts_of self.now) item node
+            → Some (shown made) ≡ event_in (read_as node.kind)) }
+        ensures lent { IfOk result (λ made. IsZeroCopy (text_of self.now) made item.start item.end) }
+    {
+        let text = match item.body {
+            ItemBody::SynthesizeText(index) => self.allocations[index].clone(self.alloc)?,
+            ItemBody::SynthesizeChar(c) => CowStr::from(c),
+            // The caller asks for no other item.
+            _ => CowStr::Borrowed(""),
+        };
+        let part = &self.text[item.start..item.end];
+        Ok(Event::Text(text.lent_by(self.alloc, part)?))
+    }
+
+    // The tag of an element among the siblings at hand; none for what is no element.
+    #[inline(always)]
+    pub(crate) fn tag(&self, item: Item) -> Result<Option<Tag<'a>>, AllocError>
+        requires below { IsBelow self.now }
+        requires drawn { IsDrawn self.now item }
+        ensures value { IfOk result (λ tag. (z : Zip Item) (above : List Outer) (node : BlockNode) → StandsBelow self.now z above → Drawn self.now.text.now (texts_of self.now) item node
+            → option_map shown_tag tag ≡ tag_in (read_as (kind_within (tight_below above) node.kind))) }
+        ensures refused { OnErr result (OwnsText item.body) }
+    {
+        match item.body {
+            ItemBody::Paragraph => Ok(if self.is_tight() {
+                None
+            } else {
+                Some(Tag::Paragraph)
+            }),
+            ItemBody::Heading(level) => Ok(Some(Tag::Heading {
+                level,
+                id: None,
+                classes: Vec::new(self.alloc),
+                attrs: Vec::new(self.alloc),
+            })),
+            ItemBody::IndentCodeBlock => Ok(Some(Tag::CodeBlock(CodeBlockKind::Indented))),
+            ItemBody::HtmlBlock => Ok(Some(Tag::HtmlBlock)),
+            ItemBody::TableHead => Ok(Some(Tag::TableHead)),
+            ItemBody::TableRow => Ok(Some(Tag::TableRow)),
+            ItemBody::TableCell => Ok(Some(Tag::TableCell)),
+            ItemBody::MetadataBlock(kind) => Ok(Some(Tag::MetadataBlock(kind))),
+            ItemBody::BlockQuote(kind) => Ok(Some(Tag::BlockQuote(kind))),
+            ItemBody::List(_, mark, number) => Ok(Some(Tag::List(first_number(mark, number)))),
+            ItemBody::ListItem(_) => Ok(Some(Tag::Item)),
+            ItemBody::DefinitionList(_) => Ok(Some(Tag::DefinitionList)),
+            ItemBody::DefinitionListTitle => Ok(Some(Tag::DefinitionListTitle)),
+            ItemBody::DefinitionListDefinition(_) => Ok(Some(Tag::DefinitionListDefinition)),
+            ItemBody::AttributedHeading(_, _)
+            | ItemBody::FencedCodeBlock(_)
+            | ItemBody::Table(_)
+            | ItemBody::FootnoteDefinition(_) => {
+                let tag = self.tag_with_texts(item)?;
+                Ok(Some(tag))
+            }
+            _ => Ok(None),
+        }
+    }
+
+    // The tag of an element that has a text of its own. It is made apart, so that no other tag waits for the room that it takes.
+    #[inline(never)]
+    fn tag_with_texts(&self, item: Item) -> Result<Tag<'a>, AllocError>
+        requires below { IsBelow self.now }
+        requires drawn { IsDrawn self.now item }
+        requires texts { has_texts item.body ≡ true }
+        ensures { IfOk result (λ tag. (z : Zip Item) (above : List Outer) (node : BlockNode) → StandsBelow self.now z above → Drawn self.now.text.now (texts_of self.now) item node
+            → Some (shown_tag tag) ≡ tag_in (read_as (kind_within (tight_below above) node.kind))) }
+    {
+        match item.body {
+            ItemBody::AttributedHeading(level, index) => {
+                let words = self.allocations[index].as_str();
+                heading(self.alloc, level, words)
+            }
+            ItemBody::FencedCodeBlock(index) => {
+                let info = self.allocations[index].clone(self.alloc)?;
+                Ok(Tag::CodeBlock(CodeBlockKind::Fenced(info)))
+            }
+            ItemBody::Table(index) => {
+                let row = self.allocations[index].as_str();
+                table(self.alloc, row)
+            }
+            ItemBody::FootnoteDefinition(index) => {
+                let label = self.allocations[index].clone(self.alloc)?;
+                Ok(Tag::FootnoteDefinition(label))
+            }
+            // The caller asks for no other item.
+            _ => Ok(Tag::Paragraph),
+        }
+    }
+
+    // The end of such an element.
+    #[inline(always)]
+    pub(crate) fn end(&self, item: Item) -> Option<TagEnd>
+        requires below { IsBelow self.now }
+        ensures { (z : Zip Item) (above : List Outer) (node : BlockNode) → StandsBelow self.now z above → Drawn self.now.text.now (texts_of self.now) item node
+            → option_map shown_end result ≡ end_in (read_as (kind_within (tight_below above) node.kind)) }
+    {
+        match item.body {
+            ItemBody::Paragraph => {
+                if self.is_tight() {
+                    None
+                } else {
+                    Some(TagEnd::Paragraph)
+                }
+            }
+            ItemBody::Heading(level) | ItemBody::AttributedHeading(level, _) => {
+                Some(TagEnd::Heading(level))
+            }
+            ItemBody::IndentCodeBlock => Some(TagEnd::CodeBlock),
+            ItemBody::FencedCodeBlock(_) => Some(TagEnd::CodeBlock),
+            ItemBody::HtmlBlock => Some(TagEnd::HtmlBlock),
+            ItemBody::Table(_) => Some(TagEnd::Table),
+            ItemBody::TableHead => Some(TagEnd::TableHead),
+            ItemBody::TableRow => Some(TagEnd::TableRow),
+            ItemBody::TableCell => Some(TagEnd::TableCell),
+            ItemBody::MetadataBlock(kind) => Some(TagEnd::MetadataBlock(kind)),
+            ItemBody::BlockQuote(kind) => Some(TagEnd::BlockQuote(kind)),
+            ItemBody::List(_, mark, number) => {
+                Some(TagEnd::List(first_number(mark, number).is_some()))
+            }
+            ItemBody::ListItem(_) => Some(TagEnd::Item),
+            ItemBody::DefinitionList(_) => Some(TagEnd::DefinitionList),
+            ItemBody::DefinitionListTitle => Some(TagEnd::DefinitionListTitle),
+            ItemBody::DefinitionListDefinition(_) => Some(TagEnd::DefinitionListDefinition),
+            ItemBody::FootnoteDefinition(_) => Some(TagEnd::FootnoteDefinition),
+            _ => None,
+        }
+    }
+
+    // Whether a paragraph among the siblings at hand stands directly in an item or a definition of a tight list (CommonMark 5.3).
+    // In a document the parent of these is a list, so this looks at two nodes.
+    #[inline(always)]
+    pub(crate) fn is_tight(&self) -> bool
+        requires { IsBelow self.now }
+        ensures { (z : Zip Item) (above : List Outer) → StandsBelow self.now z above → result ≡ tight_below above }
+    {
+        let mut parents = self.tree.walk_spine();
+        while let Some(ix) = parents.next_back() {
+            match self.tree.item(*ix).body {
+                ItemBody::List(flags, _, _) => return flags.bits() % 2 == 1,
+                ItemBody::DefinitionList(flags) => return flags.bits() % 2 == 1,
+                ItemBody::ListItem(_) | ItemBody::DefinitionListDefinition(_) => {}
+                _ => return false,
+            }
+        }
+        false
+    }
+}
+
+// The tag of a heading with these words between the braces of its attributes.
+fn heading<'a>(alloc: Global, level: HeadingLevel, words: &str) -> Result<Tag<'a>, AllocError>
+    ensures { IfOk result (λ tag. shown_tag tag ≡ Heading (level_number level) (attributes_of words.now)) }
+{
+    let HeadingAttributes { id, classes, attrs } = HeadingAttributes::read(alloc, words)?;
+    Ok(Tag::Heading {
+        level,
+        id,
+        classes,
+        attrs,
+    })
+}
+
+// The tag of a table with this delimiter row (GFM 4.10).
+fn table<'a>(alloc: Global, row: &str) -> Result<Tag<'a>, AllocError>
+    ensures { IfOk result (λ tag. shown_tag tag ≡ Table (columns_of (delimiter_row row.now))) }
+{
+    match scan_table_head(alloc, row.as_bytes())? {
+        Some(alignments) => Ok(Tag::Table(alignments)),
+        None => Ok(Tag::Table(Vec::new(alloc))),
+    }
+}
+
+// The number of the first item of a list with this character, if it is ordered (CommonMark 5.2).
+#[inline(always)]
+pub(crate) fn first_number(mark: u8, number: u64) -> Option<u64>
+    ensures { result ≡ list_number mark number }
+{
+    if mark == b'.' || mark == b')' {
+        Some(number)
+    } else {
+        None
+    }
+}

@@ -1,0 +1,84 @@
+//! The leaves in a walk over a document's tree: their lines, which are met all at once.
+
+ghost use Rattle.std.specs.Prelude.{◌≡◌, List, IfOk, OnErr, OnOk};
+ghost use Rattle.cmark_grammar.specs.SpanDocuments.{Segment, is_cell};
+ghost use Rattle.cmark_walk.specs.declared.reading.Met.TheVariants as met;
+ghost use Rattle.cmark_walk.specs.declared.reading.Stage.TheVariants as stage;
+ghost use Rattle.cmark_walk.specs.Walking.{GoesOn, LeavesTheSame, Remains, Gives, text_of, IsAt, HoldsLines, HasText, GivesStep, ComesNearer, StepsZeroCopy};
+ghost use Rattle.cmark_leaf_text.specs.declared.stretch.LeafLine.{LeafLine};
+
+use crate::kind::is_cell;
+use crate::reading::{Stage, Step};
+use crate::walk::{Walk, given};
+use cmark_leaf_text::LeafLine;
+use cmark_text::Event;
+use cmark_tree::TreeIndex;
+use std::alloc::AllocError;
+
+impl<'a> Walk<'a> {
+    // The lines of the leaf in the focus, and behind them. Whether it is the cell of a table.
+    #[inline(always)]
+    pub(crate) fn meet_leaf(
+        &mut self,
+        ix: TreeIndex,
+        lines: &mut Vec<LeafLine>,
+    ) -> Result<bool, AllocError>
+        requires at { IsAt self.old ix }
+        requires before { self.old.stage ≡ stage.Lines }
+        ensures given { IfOk result (λ is_cell. (left : List Segment) → Remains self.old left → Gives left (met.Leaf is_cell) lines.new.items self.new) }
+        ensures refused { OnErr result (LeavesTheSame self.old self.new) }
+        ensures goes_on { GoesOn self.old self.new }
+    {
+        self.gather(ix, lines)?;
+        let is_cell = is_cell(*self.tree.item(ix));
+        self.stage = Stage::Behind;
+        Ok(is_cell)
+    }
+
+    // The lines of the leaf in the focus.
+    fn gather(&self, ix: TreeIndex, lines: &mut Vec<LeafLine>) -> Result<(), AllocError>
+        requires { IsAt self.now ix }
+        ensures lines { OnOk result (HoldsLines self.now lines.new.items) }
+        ensures text { OnErr result (HasText self.now) }
+    {
+        lines.clear();
+        let Some(first) = self.tree.child(ix) else {
+            return Ok(());
+        };
+        let mut next = Some(first);
+        // No memory holds so many nodes that the count is reached.
+        for _ in 0..u64::MAX {
+            let Some(line) = next else {
+                return Ok(());
+            };
+            let item = *self.tree.item(line);
+            lines.push(LeafLine {
+                start: item.start,
+                stop: item.end,
+                past: item.end,
+            })?;
+            next = self.tree.next(line);
+        }
+        Err(AllocError)
+    }
+
+    // Out of the leaf in the focus, and past it.
+    #[inline(always)]
+    pub(crate) fn leave_leaf(&mut self, ix: TreeIndex) -> Step<'a>
+        requires at { IsAt self.old ix }
+        requires behind { self.old.stage ≡ stage.Behind }
+        ensures given { (left : List Segment) (lines : List LeafLine) → Remains self.old left → GivesStep left result lines self.new }
+        ensures nearer { ComesNearer self.old result self.new }
+        ensures lent { StepsZeroCopy (text_of self.old) result }
+        ensures goes_on { GoesOn self.old self.new }
+    {
+        let item = *self.tree.item(ix);
+        let end = self.end(item);
+        self.tree.next_sibling(ix);
+        self.stage = Stage::Before;
+        match end {
+            Some(end) => given(Event::End(end), item),
+            None => Step::Silent,
+        }
+    }
+}
