@@ -2,7 +2,7 @@
 
 ghost use Rattle.std.specs.Prelude.{◌≡◌, ◌++◌, List, IfOk, OnOk, string_bytes};
 ghost use Rattle.cmark_grammar.specs.Event.{Ranged};
-ghost use Rattle.cmark_grammar.specs.Html.{at_line_start, html};
+ghost use Rattle.cmark_grammar.specs.Html.{html};
 ghost use Rattle.cmark_grammar.specs.Questions.{Exchange};
 ghost use Rattle.cmark_html.specs.Writer.{writing};
 ghost use Rattle.cmark_text.specs.Shown.{shown_options};
@@ -30,24 +30,11 @@ pub fn to_html<E: EntityLookup>(
     ensures { IfOk result (λ html. IsHtmlOf text.now (shown_options options) (E.replacement entities.now) (string_bytes html)) }
 {
     let parser = Parser::new_ext(alloc, text, options, entities)?;
-    let mut parser = parser;
-    html_of(alloc, text.len(), &mut parser)
-}
-
-// The HTML of the events that a parser still has to give, which is lent, so that there is one way out behind which it is dropped. `len` is
-// the length of the text.
-fn html_of<'a, E: EntityLookup, F: BrokenLinkCallback<'a> + Drop>(
-    alloc: Global,
-    len: usize,
-    parser: &mut Parser<'a, E, F>,
-) -> Result<String, AllocError>
-    requires { CanGo E.replacement parser.old }
-    ensures { IfOk result (λ made. (exchanges : List Exchange) × (events : List Ranged) × Remains E.replacement parser.old exchanges events
-        × Asks F.answers parser.old exchanges parser.new × (string_bytes made ≡ html (events_of events))) }
-{
     // There is room at once for the HTML of most texts, which are longer by their elements: a string that grows is there twice.
-    let mut html = String::with_capacity(alloc, len.saturating_add(len / 8))?;
-    render(&mut html, parser)?;
+    let room = text.len().saturating_add(text.len() / 8);
+    let mut html = String::with_capacity(alloc, room)?;
+    let mut parser = parser;
+    render(&mut html, &mut parser)?;
     Ok(html)
 }
 
@@ -61,30 +48,16 @@ fn render<'a, E: EntityLookup, F: BrokenLinkCallback<'a> + Drop>(
         × Asks F.answers parser.old exchanges parser.new × (string_bytes out.new ≡ string_bytes out.old ++ html (events_of events))) }
 {
     let mut writer = Writer::new(*out.allocator());
-    write_events(out, &mut writer, parser)
-}
-
-// The same with a writer that has written nothing yet, and is lent as the parser is.
-fn write_events<'a, E: EntityLookup, F: BrokenLinkCallback<'a> + Drop>(
-    out: &mut String,
-    writer: &mut Writer<'a>,
-    parser: &mut Parser<'a, E, F>,
-) -> Result<(), AllocError>
-    requires goes { CanGo E.replacement parser.old }
-    requires begins { writing writer.old ≡ at_line_start }
-    ensures { OnOk result ((exchanges : List Exchange) × (events : List Ranged) × Remains E.replacement parser.old exchanges events
-        × Asks F.answers parser.old exchanges parser.new × (string_bytes out.new ≡ string_bytes out.old ++ html (events_of events))) }
-{
     loop {
         match parser.next_short()? {
-            Next::Short(short) => write_short(out, writer, short)?,
+            Next::Short(short) => write_short(out, &mut writer, short)?,
             Next::Long => {
-                let is_given = write_next(out, writer, parser)?;
+                let is_given = write_next(out, &mut writer, parser)?;
                 if !is_given {
-                    return finish(out, writer);
+                    return finish(out, &writer);
                 }
             }
-            Next::Over => return finish(out, writer),
+            Next::Over => return finish(out, &writer),
         }
     }
 }
