@@ -4,11 +4,11 @@ import re
 from inlines import labels, letters
 from inlines.texts import indent, is_blank, without_indent, words_of
 
-VERBATIM_NAMES = (b"pre", b"script", b"style", b"textarea")
+RAW_NAMES = (b"pre", b"script", b"style", b"textarea")
 BLOCK_NAMES = set(b"""address article aside base basefont blockquote body caption center col colgroup dd details dialog dir div dl dt
 fieldset figcaption figure footer form frame frameset h1 h2 h3 h4 h5 h6 head header hr html iframe legend li link main menu menuitem
 nav noframes ol optgroup option p param search section summary table tbody td tfoot th thead title tr track ul""".split())
-HTML_ENDS = {1: [b"</" + name + b">" for name in VERBATIM_NAMES], 2: [b"-->"], 3: [b"?>"], 4: [b">"], 5: [b"]]>"]}
+HTML_ENDS = {1: [b"</" + name + b">" for name in RAW_NAMES], 2: [b"-->"], 3: [b"?>"], 4: [b">"], 5: [b"]]>"]}
 ALERTS = {b"[!note]": "Note", b"[!tip]": "Tip", b"[!important]": "Important", b"[!warning]": "Warning", b"[!caution]": "Caution"}
 LIST_MARKER = re.compile(rb"([-+*])|(\d{1,9})([.)])")
 BLANKS = b" \t"
@@ -56,10 +56,10 @@ def underline_level(row):
 
 def fence_of(words):
     """The character of a code fence, how often it stands, and the info string."""
-    for mark in b"`~":
-        size = letters.prefix_len(lambda b, mark=mark: b == mark, words)
-        if size >= 3 and not (mark == 96 and b"`" in words[size:]):
-            return mark, size, trimmed(words[size:])
+    for delimiter in b"`~":
+        run_length = letters.prefix_len(lambda b, delimiter=delimiter: b == delimiter, words)
+        if run_length >= 3 and not (delimiter == 96 and b"`" in words[run_length:]):
+            return delimiter, run_length, trimmed(words[run_length:])
     return None
 
 
@@ -72,7 +72,7 @@ def is_lone_tag(words):
     rest = letters.behind_tag(words)
     name = words[1:].lower().removeprefix(b"/")
     name = name[:letters.prefix_len(letters.is_name_byte, name)]
-    return rest is not None and not trimmed(rest) and name not in VERBATIM_NAMES
+    return rest is not None and not trimmed(rest) and name not in RAW_NAMES
 
 
 def html_kind(words):
@@ -81,7 +81,7 @@ def html_kind(words):
         return 0
     bs = words[1:].lower()
     name, behind = cut_name(bs)
-    if name in VERBATIM_NAMES and (is_parted(behind) or behind.startswith(b">")):
+    if name in RAW_NAMES and (is_parted(behind) or behind.startswith(b">")):
         return 1
     for kind, start in ((2, b"!--"), (3, b"?"), (5, b"![cdata[")):
         if bs.startswith(start) and (kind != 5 or words.startswith(b"<![CDATA[")):
@@ -108,7 +108,7 @@ def width_behind(row, size):
 
 
 def list_marker(row):
-    """The mark of a list item, its number and the width of its prefix."""
+    """The delimiter of a list item, its number and the width of its prefix."""
     words = words_of(row.columns)
     found = LIST_MARKER.match(words)
     if not found or indent(row.columns) > 3 or is_thematic_break(words) or not is_parted(words[found.end():]):
@@ -121,7 +121,7 @@ def definition_width(row):
     return width_behind(row, 1) if indent(row.columns) <= 3 and words_of(row.columns).startswith(b":") else 0
 
 
-def quote_width(row):
+def block_quote_width(row):
     """The width of a block quote's prefix; 0 where no marker stands."""
     if indent(row.columns) > 3 or not words_of(row.columns).startswith(b">"):
         return 0
@@ -160,15 +160,15 @@ def alert_kind(row):
 
 # ## Metadata
 
-def metadata_mark(row, flags):
+def metadata_delimiter(row, flags):
     """The byte of the lines around metadata that begins here, where its option is on."""
     bs = bytes_of(row.columns).rstrip(BLANKS)
     return {b"---": b"-" if "yaml-metadata" in flags else None, b"+++": b"+" if "plus-metadata" in flags else None}.get(bs)
 
 
-def ends_metadata(mark, row):
+def ends_metadata(delimiter, row):
     bs = bytes_of(row.columns).rstrip(BLANKS)
-    return bs == mark * 3 or (mark == b"-" and bs == b"...")
+    return bs == delimiter * 3 or (delimiter == b"-" and bs == b"...")
 
 
 # ## Tables

@@ -17,11 +17,11 @@ class Block:
 
 
 def begin_of(row):
-    return first_place(row.stop, row.columns)
+    return first_place(row.content_end, row.columns)
 
 
 def start_of(row):
-    return first_place(row.stop, without_indent(row.columns))
+    return first_place(row.content_end, without_indent(row.columns))
 
 
 class Reader:
@@ -48,7 +48,7 @@ class Reader:
     def kept(self, container, row, is_second):
         """A later line behind a container's prefix; None where it lacks it. The second line of a container may not be blank behind a blank first."""
         if container.kind == "BlockQuote":
-            width = openings.quote_width(row)
+            width = openings.block_quote_width(row)
             return without(row, width) if width else None
         if container.kind == "FootnoteDefinition" and "old-footnotes" in self.flags:
             return None if is_blank_row(row) else row
@@ -65,15 +65,15 @@ class Reader:
                     return
             yield row
 
-    def extend(self, past, lines=1):
+    def extend(self, line_end, lines=1):
         for container in self.open[1:]:
-            container.end = past
+            container.end = line_end
             container.lines += lines
 
     # ## Tables
 
     def words(self, row):
-        return self.text[start_of(row):row.stop]
+        return self.text[start_of(row):row.content_end]
 
     def table_alignments(self, row, ahead):
         """The alignments of the table that a line begins with the one behind it; none where it begins none."""
@@ -105,7 +105,7 @@ class Reader:
             (marker and self.item_interrupts(marker, row, is_same, in_table))
             or (footnotes and openings.footnote_label(row))
             or (may_define and "definition-list" in self.flags and openings.definition_width(row))
-            or openings.quote_width(row) or openings.is_thematic_break(words) or openings.heading_level(words) or openings.fence_of(words)
+            or openings.block_quote_width(row) or openings.is_thematic_break(words) or openings.heading_level(words) or openings.fence_of(words)
             or 1 <= openings.html_kind(words) <= 6
             or (not in_table and words.startswith(b"|") and self.table_alignments(row, ahead)))
 
@@ -125,7 +125,7 @@ class Reader:
                 return at + 1
             self.leaf = None
             del self.open[depth:]
-        self.extend(row.past)
+        self.extend(row.line_end)
         if self.leaf is not None:
             feed = getattr(self, "feed_" + self.leaf.kind)
             if feed(row, at):
@@ -139,10 +139,10 @@ class Reader:
         may_define = self.open[depth].kind == "DefinitionListDefinition"
         if not (is_paragraph or may_begin) or self.interrupts(row, self.ahead(at, self.open[1:depth]), False, False, may_define):
             return False
-        self.extend(row.past)
+        self.extend(row.line_end)
         if is_paragraph:
             self.leaf.rows.append(row)
-            self.leaf.end = row.past
+            self.leaf.end = row.line_end
         else:
             self.begin_paragraph(row)
         return True
@@ -152,20 +152,20 @@ class Reader:
     def feed_Paragraph(self, row, at):
         level = openings.underline_level(row)
         if level:
-            self.leaf.kind, self.leaf.level, self.leaf.end = "SetextHeading", level, row.past
+            self.leaf.kind, self.leaf.level, self.leaf.end = "SetextHeading", level, row.line_end
             self.leaf = None
         elif self.interrupts(row, self.ahead(at, self.open[1:])):
             return False
         else:
             self.leaf.rows.append(row)
-            self.leaf.end = row.past
+            self.leaf.end = row.line_end
         return True
 
     def feed_FencedCode(self, row, _):
         words, fence = words_of(row.columns), self.leaf
-        size = letters.prefix_len(lambda b: b == fence.mark, words)
-        fence.end = row.past
-        if indent(row.columns) <= 3 and size >= fence.size and not openings.trimmed(words[size:]):
+        run_length = letters.prefix_len(lambda b: b == fence.delimiter, words)
+        fence.end = row.line_end
+        if indent(row.columns) <= 3 and run_length >= fence.run_length and not openings.trimmed(words[run_length:]):
             self.leaf = None
         else:
             fence.rows.append(row)
@@ -180,21 +180,21 @@ class Reader:
             return False
         del self.open[-1].entries[len(self.open[-1].entries) - len(self.leaf.waiting):]
         self.leaf.rows += self.leaf.waiting + [row]
-        self.leaf.waiting, self.leaf.end = [], row.past
+        self.leaf.waiting, self.leaf.end = [], row.line_end
         return True
 
     def feed_HtmlBlock(self, row, _):
         if self.leaf.html_kind >= 6 and is_blank_row(row):
             return False
         self.leaf.rows.append(row)
-        self.leaf.end = row.past
+        self.leaf.end = row.line_end
         if self.leaf.html_kind <= 5 and openings.holds_html_end(self.leaf.html_kind, bytes_of(row.columns)):
             self.leaf = None
         return True
 
     def feed_MetadataBlock(self, row, _):
-        self.leaf.end = row.past
-        if openings.ends_metadata(self.leaf.mark, row):
+        self.leaf.end = row.line_end
+        if openings.ends_metadata(self.leaf.delimiter, row):
             self.leaf = None
         else:
             self.leaf.rows.append(row)
@@ -206,14 +206,14 @@ class Reader:
         if self.interrupts(row, iter(()), in_table=True, may_define=False) or table.filled + missing > FILLED_CELLS:
             return False
         table.filled += missing
-        table.rows.append((row, cells[:len(table.alignments)] + [(row.past, row.past)] * missing))
-        table.end = row.past
+        table.rows.append((row, cells[:len(table.alignments)] + [(row.line_end, row.line_end)] * missing))
+        table.end = row.line_end
         return True
 
     # ## What a line begins
 
     def put(self, kind, start, row, **data):
-        block = Block(kind, start, row.past, **data)
+        block = Block(kind, start, row.line_end, **data)
         self.open[-1].entries.append(block)
         return block
 
@@ -228,9 +228,9 @@ class Reader:
 
     def begin(self, row, at):
         """What a line begins that lacks no prefix; answers the line that is read next."""
-        mark = openings.metadata_mark(row, self.flags) if len(self.open) == 1 and row is self.rows[at] else None
-        if mark and self.holds_metadata(mark, self.rows[at + 1:]):
-            self.leaf = self.put("MetadataBlock", start_of(row), row, rows=[], mark=mark)
+        delimiter = openings.metadata_delimiter(row, self.flags) if len(self.open) == 1 and row is self.rows[at] else None
+        if delimiter and self.holds_metadata(delimiter, self.rows[at + 1:]):
+            self.leaf = self.put("MetadataBlock", start_of(row), row, rows=[], delimiter=delimiter)
             return at + 1
         while not is_blank_row(row) and indent(row.columns) < 4:
             rest = self.begin_container(row)
@@ -242,12 +242,12 @@ class Reader:
         if is_blank_row(row):
             self.open[-1].entries.append(BLANK_LINE)
         else:
-            self.leaf = self.put("IndentedCode", first_place(row.stop, row.columns[4:]), row, rows=[row], waiting=[])
+            self.leaf = self.put("IndentedCode", first_place(row.content_end, row.columns[4:]), row, rows=[row], waiting=[])
         return at + 1
 
-    def holds_metadata(self, mark, later):
-        begins = later and not is_blank_row(later[0]) and not openings.ends_metadata(mark, later[0])
-        return begins and any(openings.ends_metadata(mark, row) for row in later)
+    def holds_metadata(self, delimiter, later):
+        begins = later and not is_blank_row(later[0]) and not openings.ends_metadata(delimiter, later[0])
+        return begins and any(openings.ends_metadata(delimiter, row) for row in later)
 
     def begin_container(self, row):
         """The rest of the line behind the marker of a container that it begins, which may be an alert's tag or a task; None where it begins none."""
@@ -261,7 +261,7 @@ class Reader:
             return self.begin_item(row, marker)
         if "definition-list" in self.flags and openings.definition_width(row) and self.last_sibling() in ("Paragraph", "DefinitionListDefinition"):
             return self.enter("DefinitionListDefinition", begin_of(row), row, openings.definition_width(row))
-        width = openings.quote_width(row)
+        width = openings.block_quote_width(row)
         if not width:
             return None
         alert = openings.alert_kind(without(row, width)) if "gfm" in self.flags else None
@@ -269,8 +269,8 @@ class Reader:
         return self.enter("BlockQuote", start_of(row), row, width, alert=alert)
 
     def begin_item(self, row, marker):
-        mark, number, width = marker
-        rest = self.enter("Item", begin_of(row), row, width, mark=mark, number=number)
+        delimiter, number, width = marker
+        rest = self.enter("Item", begin_of(row), row, width, delimiter=delimiter, number=number)
         is_checked = openings.task_marker(rest) if "tasklists" in self.flags else None
         if is_checked is not None:
             self.begin_paragraph(without(rest, 3), (begin_of(rest), is_checked))
@@ -291,8 +291,8 @@ class Reader:
         elif openings.heading_level(words):
             self.put("AtxHeading", start, row, line=row, level=openings.heading_level(words))
         elif openings.fence_of(words):
-            mark, size, info = openings.fence_of(words)
-            self.leaf = self.put("FencedCode", start, row, rows=[], mark=mark, size=size, info=info, indented=indent(row.columns))
+            delimiter, run_length, info = openings.fence_of(words)
+            self.leaf = self.put("FencedCode", start, row, rows=[], delimiter=delimiter, run_length=run_length, info=info, indented=indent(row.columns))
         else:
             return False
         return True
@@ -302,7 +302,7 @@ class Reader:
         more = self.definition_lines(row, at)
         if more is not None:
             self.put("LinkDefinition", start_of(row), self.rows[at + more])
-            self.extend(self.rows[at + more].past, more)
+            self.extend(self.rows[at + more].line_end, more)
             self.may_begin_lazily = True
             return at + 1 + more
         alignments = self.table_alignments(row, self.ahead(at, self.open[1:]))
@@ -322,7 +322,7 @@ class Reader:
         lines = 0
         while lines < len(later) and not self.interrupts(later[lines], iter(later[lines + 1:])) and not openings.underline_level(later[lines]):
             before = later[lines - 1] if lines else row
-            whole += (b"\r\n" if before.past - before.stop == 2 else b"\n") + bytes_of(later[lines].columns)
+            whole += (b"\r\n" if before.line_end - before.content_end == 2 else b"\n") + bytes_of(later[lines].columns)
             lines += 1
         found = labels.definition_in(whole)
         is_footnote = found and "footnotes" in self.flags and found.label.startswith(b"^") and len(found.label) > 1

@@ -39,7 +39,7 @@ def groups(entries):
     for at, (block, is_parted) in enumerate(blocks):
         last = found[-1][1][-1][0] if found else None
         goes_on = last and (
-            (block.kind == "Item" and last.kind == "Item" and last.mark == block.mark) or block.kind == "DefinitionListDefinition"
+            (block.kind == "Item" and last.kind == "Item" and last.delimiter == block.delimiter) or block.kind == "DefinitionListDefinition"
             or (last.kind == "DefinitionListDefinition" and is_title(blocks, at)))
         if goes_on:
             found[-1][1].append((block, is_parted))
@@ -90,7 +90,7 @@ def cut(found, size):
 
 def atx_stretches(block):
     behind = without_indent(without_indent(block.line.columns)[block.level:])
-    start = first_place(block.line.stop, behind)
+    start = first_place(block.line.content_end, behind)
     end = end_place(start, drop_end(is_blank, behind))
     return [Stretch(start, end)] if start < end else []
 
@@ -184,7 +184,7 @@ class Writer:
 
     def write_rows(self, block):
         for tag, (row, cells) in [("TableHead", block.head)] + [("TableRow", row) for row in block.rows]:
-            self.around((start_of(row), row.past), [tag], [], lambda cells=cells: [self.write_cell(*cell) for cell in cells])
+            self.around((start_of(row), row.line_end), [tag], [], lambda cells=cells: [self.write_cell(*cell) for cell in cells])
 
     def write_cell(self, start, end):
         bs = self.text[start:end]
@@ -196,9 +196,9 @@ class Writer:
     def pieces(self, row, count):
         """What is left of a line behind up to so many columns of indent: the spaces that are left of a tab, and the source with its line ending."""
         columns = row.columns[min(count, indent(row.columns)):]
-        place = first_place(row.stop, columns)
+        place = first_place(row.content_end, columns)
         spaces = letters.prefix_len(lambda c: c.part > 0, columns)
-        ends = [(place, row.stop), (row.past - 1, row.past)] if row.past - row.stop == 2 else [(place, row.past)]
+        ends = [(place, row.content_end), (row.line_end - 1, row.line_end)] if row.line_end - row.content_end == 2 else [(place, row.line_end)]
         return ([(place, place, " " * spaces)] if spaces else []) + [(start, end, None) for start, end in ends if start < end]
 
     def write_lines(self, found, count):
@@ -220,7 +220,7 @@ class Writer:
         self.around(span, ["CodeBlock", ["Fenced", info]], [], lambda: self.write_lines(block.rows, block.indented))
 
     def write_MetadataBlock(self, block, span, _):
-        kind = "YamlStyle" if block.mark == b"-" else "PlusesStyle"
+        kind = "YamlStyle" if block.delimiter == b"-" else "PlusesStyle"
         self.around(span, ["MetadataBlock", kind], [kind], lambda: self.write_lines(block.rows, 0))
 
     def write_HtmlBlock(self, block, span, _):

@@ -69,7 +69,7 @@ class Opener:
 class State:
     """The openers are those that are texts in the list that is being read, the nearest first."""
     at: int
-    expansion: int
+    expansion_left: int
     label_close: object = None
     openers: tuple = ()
 
@@ -131,19 +131,19 @@ class Named(NamedTuple):
     label: bytes
     link_type: str
     end: int
-    past: int
+    resume: int
 
 
 def stays(closer, s):
     return Outcome(None, replace(s, at=closer.end))
 
 
-def forms(taken, formed, past, change, s):
-    return Outcome((taken.nearer, formed), replace(s, at=past, openers=change(s.openers[taken.nearer + 1:])))
+def forms(taken, formed, resume, change, s):
+    return Outcome((taken.nearer, formed), replace(s, at=resume, openers=change(s.openers[taken.nearer + 1:])))
 
 
-def links(taken, linked, end, past, s):
-    return forms(taken, Linking(linked, end), past, lambda openers: behind_link(taken.opener.bracket.is_image, openers), s)
+def links(taken, linked, end, resume, s):
+    return forms(taken, Linking(linked, end), resume, lambda openers: behind_link(taken.opener.bracket.is_image, openers), s)
 
 
 def between(leaf, start, end):
@@ -152,21 +152,21 @@ def between(leaf, start, end):
 
 
 def inline_link(leaf, tail, taken, s):
-    lookup, past = leaf.reader.lookup, leaf.place_of(tail.behind)
+    lookup, resume = leaf.reader.lookup, leaf.place_of(tail.behind)
     title = letters.unescaped(lookup, leaf.is_cell, letters.title_lines(tail.title or b""))
-    return links(taken, Linked("Inline", letters.unescaped(lookup, leaf.is_cell, tail.destination), title, b""), past, past, s)
+    return links(taken, Linked("Inline", letters.unescaped(lookup, leaf.is_cell, tail.destination), title, b""), resume, resume, s)
 
 
 def leads(named, found, taken, s):
     title = found.title or b""
-    left = max(0, s.expansion - len(found.destination) - len(title))
+    left = max(0, s.expansion_left - len(found.destination) - len(title))
     linked = Linked(named.link_type, found.destination, title, labels.normal_form(named.label))
-    return links(taken, linked, named.end, named.past, replace(s, expansion=left))
+    return links(taken, linked, named.end, named.resume, replace(s, expansion_left=left))
 
 
 def refers(leaf, named, taken, closer, s):
     """There is no callback to ask."""
-    if s.expansion == 0:
+    if s.expansion_left == 0:
         return stays(closer, s)
     found = leaf.reader.definition(labels.fold(named.label))
     return stays(closer, s) if found is None else leads(named, found, taken, s)
@@ -283,9 +283,9 @@ def with_form(parts, closer, nearer, formed):
     return parts[:at] + [Form(parts[at].bracket, parts[at + 1:], closer, formed)]
 
 
-def reads_whole(leaf, expansion):
-    """The parts that a leaf is read as, and what is left of the expansion limit."""
-    s, parts = State(begin_of(leaf.stretches), expansion), []
+def reads_whole(leaf, expansion_left):
+    """The parts that a leaf is read as, and what is left of the reference expansion limit."""
+    s, parts = State(begin_of(leaf.stretches), expansion_left), []
     while (found := leaf.token(s.at)) is not None:
         if isinstance(found, Opens):
             parts.append(Opening(found.bracket))
@@ -296,5 +296,5 @@ def reads_whole(leaf, expansion):
             s = outcome.after
         else:
             parts.append(Single(found.item))
-            s = replace(s, at=found.past)
-    return parts, s.expansion
+            s = replace(s, at=found.resume)
+    return parts, s.expansion_left

@@ -1,7 +1,7 @@
 """Formulas between dollar signs: the definitions of Formulas. Where a definition answers no value, None is answered."""
 from typing import NamedTuple
 
-from inlines.letters import Found, first_is
+from inlines.letters import Parsed, first_is
 
 
 class Braces(NamedTuple):
@@ -59,7 +59,7 @@ def formula_to(is_display, context, braces, bs):
     for at, b in enumerate(bs):
         if not escaped and is_dollar(b) and context_of(braces) == context:
             closes = first_is(is_dollar, bs[at + 1:]) if is_display else is_ink(last)
-            return Found(bs[:at], bs[at + (2 if is_display else 1):]) if closes else None
+            return Parsed(bs[:at], bs[at + (2 if is_display else 1):]) if closes else None
         braces, escaped, last = behind_byte(escaped, b, braces), escapes_next(escaped, b), b
     return None
 

@@ -1,7 +1,7 @@
 """Labels, destinations and titles: the definitions of LinkDefinitions, Labels, Destinations and LinkTails."""
 from typing import NamedTuple
 
-from inlines.letters import (Found, and_then, behind_blanks, behind_ending, behind_start, is_blank_byte, is_content,
+from inlines.letters import (Parsed, and_then, behind_blanks, behind_ending, behind_start, is_blank_byte, is_content,
                              resolved, title_lines)
 
 
@@ -16,7 +16,7 @@ def up_to(closer, refused, over_lines, bs):
     escaped = False
     for at, b in enumerate(bs):
         if not escaped and b == closer:
-            return Found(bs[:at], bs[at + 1:])
+            return Parsed(bs[:at], bs[at + 1:])
         if (not escaped and b == refused) or (not over_lines and b in b"\n\r"):
             return None
         escaped = escapes_next(escaped, b)
@@ -55,11 +55,11 @@ def bare_in(bs):
     escaped, depth = False, 0
     for at, b in enumerate(bs):
         if ends_bare(b) or (not escaped and b == 41 and depth == 0):
-            return Found(bs[:at], bs[at:]) if depth == 0 else None
+            return Parsed(bs[:at], bs[at:]) if depth == 0 else None
         if not escaped and b == 40 and depth >= 32:
             return None
         escaped, depth = escapes_next(escaped, b), depth_after(escaped, depth, b)
-    return Found(bs, b"") if depth == 0 else None
+    return Parsed(bs, b"") if depth == 0 else None
 
 
 def nonempty(found):

@@ -83,7 +83,7 @@ def behind_blanks(bs):
     return behind_all(is_blank_byte, bs)
 
 
-class Found(NamedTuple):
+class Parsed(NamedTuple):
     bytes: bytes
     behind: bytes
 
@@ -229,7 +229,7 @@ def up_to_run(size, bs):
     goes_on = False
     for at, b in enumerate(bs):
         if is_backtick(b) and not goes_on and backticks(bs[at:]) == size:
-            return Found(bs[:at], bs[at:])
+            return Parsed(bs[:at], bs[at:])
         goes_on = is_backtick(b)
     return None
 
@@ -238,7 +238,7 @@ def code_in(bs):
     size = backticks(bs)
     if size == 0:
         return None
-    return and_then(up_to_run(size, behind_all(is_backtick, bs)), lambda found: Found(found.bytes, found.behind[size:]))
+    return and_then(up_to_run(size, behind_all(is_backtick, bs)), lambda found: Parsed(found.bytes, found.behind[size:]))
 
 
 def with_line_ends(mark, bs):
@@ -426,4 +426,4 @@ def autolink_in(bs):
     if not has_scheme(bs):
         return None
     n = prefix_len(is_uri_byte, bs)
-    return Found(bs[:n], bs[n + 1:]) if bs[n:n + 1] == b">" else None
+    return Parsed(bs[:n], bs[n + 1:]) if bs[n:n + 1] == b">" else None

@@ -13,7 +13,7 @@ TILDE, CARET = ord("~"), ord("^")
 # ## Spans and Emphasis
 
 class Pair(NamedTuple):
-    mark: int
+    delimiter: int
     begin: int
     to: int
     count: int
@@ -30,19 +30,19 @@ def can_both(run):
 def keeps_rule_of_three(opener, closer):
     if not (can_both(opener) or can_both(closer)):
         return True
-    return (opener.size + closer.size) % 3 != 0 or (opener.size % 3 == 0 and closer.size % 3 == 0)
+    return (opener.run_length + closer.run_length) % 3 != 0 or (opener.run_length % 3 == 0 and closer.run_length % 3 == 0)
 
 
-def has_same_mark(opener, closer):
-    return opener.mark == closer.mark and (closer.mark != TILDE or opener.size == closer.size)
+def has_same_delimiter(opener, closer):
+    return opener.delimiter == closer.delimiter and (closer.delimiter != TILDE or opener.run_length == closer.run_length)
 
 
 def agrees(opener, closer):
-    return closer.closes and closer.left > 0 and has_same_mark(opener, closer) and keeps_rule_of_three(opener, closer)
+    return closer.closes and closer.left > 0 and has_same_delimiter(opener, closer) and keeps_rule_of_three(opener, closer)
 
 
 def pair_of(opener, closer):
-    return Pair(closer.mark, opener.at + opener.left, closer.at, min(opener.left, closer.left))
+    return Pair(closer.delimiter, opener.at + opener.left, closer.at, min(opener.left, closer.left))
 
 
 def rest_of_opener(opener, closer):
@@ -54,11 +54,11 @@ def rest_of_closer(opener, closer):
     return closer._replace(at=closer.at + count, left=closer.left - count)
 
 
-def kinds_of(mark, count):
+def kinds_of(delimiter, count):
     """The spans that a pair becomes, the innermost first: twos, and an odd one outermost."""
-    if mark == CARET:
+    if delimiter == CARET:
         return ["Caret"] * count
-    two, one = ("DoubleTilde", "SingleTilde") if mark == TILDE else ("Strong", "Emphasis")
+    two, one = ("DoubleTilde", "SingleTilde") if delimiter == TILDE else ("Strong", "Emphasis")
     return [two] * (count // 2) + [one] * (count % 2)
 
 
@@ -70,7 +70,7 @@ def nest(kinds, begin, to, inside):
 
 
 def wrapped(pair, inside):
-    return nest(kinds_of(pair.mark, pair.count), pair.begin, pair.to, inside)
+    return nest(kinds_of(pair.delimiter, pair.count), pair.begin, pair.to, inside)
 
 
 def singles(run):
@@ -86,16 +86,16 @@ def keep(run, pieces):
     return [run] + pieces if run.left > 0 else pieces
 
 
-def shuts(closer):
-    return closer.closes and closer.left > 0 and closer.mark in (TILDE, CARET)
+def deactivates(closer):
+    return closer.closes and closer.left > 0 and closer.delimiter in (TILDE, CARET)
 
 
-def shut(piece):
-    return singles(piece) if isinstance(piece, Run) and piece.mark in (TILDE, CARET) else piece
+def deactivated(piece):
+    return singles(piece) if isinstance(piece, Run) and piece.delimiter in (TILDE, CARET) else piece
 
 
 def left_open(closer, pieces):
-    return list(map(shut, pieces)) if shuts(closer) else pieces
+    return list(map(deactivated, pieces)) if deactivates(closer) else pieces
 
 
 def closes(closer, pieces):
@@ -146,13 +146,13 @@ def runs_from(siblings):
     runs, n = [], 0
     for s in siblings:
         if is_item(s, "Delimiters"):
-            runs.append(s.data._replace(at=n, left=s.data.size))
-            n += s.data.size
+            runs.append(s.data._replace(at=n, left=s.data.run_length))
+            n += s.data.run_length
     return runs
 
 
 def run_bytes(siblings):
-    return [Item("Own", at, at + 1) for s in siblings if is_item(s, "Delimiters") for at in range(s.start, s.start + s.data.size)]
+    return [Item("Own", at, at + 1) for s in siblings if is_item(s, "Delimiters") for at in range(s.start, s.start + s.data.run_length)]
 
 
 def gaps_of(siblings):
@@ -160,7 +160,7 @@ def gaps_of(siblings):
     gaps = [[]]
     for s in siblings:
         if is_item(s, "Delimiters"):
-            gaps += [[] for _ in range(s.data.size)]
+            gaps += [[] for _ in range(s.data.run_length)]
         else:
             gaps[-1].append(s)
     return gaps
@@ -282,7 +282,7 @@ def inline_events(source, siblings):
     return events
 
 
-def reads_leaf(reader, stretches, is_cell, expansion):
-    """The events of a leaf, and what is left of the expansion limit."""
-    parts, left = reads_whole(Leaf(reader, stretches, is_cell), expansion)
+def reads_leaf(reader, stretches, is_cell, expansion_left):
+    """The events of a leaf, and what is left of the reference expansion limit."""
+    parts, left = reads_whole(Leaf(reader, stretches, is_cell), expansion_left)
     return inline_events(reader.source, dress(reader.options, siblings_of(reader.options, parts))), left

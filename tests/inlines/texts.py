@@ -22,7 +22,7 @@ FRAGMENTS = [fragment.encode() for fragment in [
     *["[[", "]]", "|"] * 3, "![[", "[[a]]", "[[a|", "|b]]", "[[[", "]]]", "[[|", "|]]", "[[]]", "]](b)", "[[a", "[[`a|b`", "[[<a b='|'>",
 ]]
 
-# the last two are long: they use up the expansion limit
+# the last two are long: they use up the reference expansion limit
 DEFINITIONS = [text.encode() for text in [
     "[a]: /u", "[A]: /second", "[b c]: <v w> \"t&amp;\\*\\\"\"", "[SS]: /s 'x\n  y'", "[ß]: /second", "[é]: /é\\_ (t)",
     "[a\\]]: /e&copy;\\]", "[*x*]: /e \"*q*\"", "[&amp;]: u(v(w))", "[!]:\n/i\n'j'", "[`]: /c", "[B\nC]: /second", "[x]: <>",
@@ -55,8 +55,8 @@ class Column(NamedTuple):
 
 class Row(NamedTuple):
     columns: list
-    stop: int
-    past: int
+    content_end: int
+    line_end: int
     lazy: bool
 
 
@@ -161,15 +161,15 @@ def later_line(containers, row):
 
 def stretches(found):
     """Lines behind their prefixes: one that begins where the one before it has ended stands in one stretch with it."""
-    begin, answer = first_place(found[0].stop, without_indent(found[0].columns)), []
+    begin, answer = first_place(found[0].content_end, without_indent(found[0].columns)), []
     for row, following in zip(found, found[1:]):
-        start = first_place(following.stop, following.columns)
-        if start != row.past:
-            answer.append(Stretch(begin, row.past))
+        start = first_place(following.content_end, following.columns)
+        if start != row.line_end:
+            answer.append(Stretch(begin, row.line_end))
             begin = start
     last = found[-1]
     words = drop_end(is_blank, without_indent(last.columns))
-    answer.append(Stretch(begin, end_place(first_place(last.stop, without_indent(last.columns)), words)))
+    answer.append(Stretch(begin, end_place(first_place(last.content_end, without_indent(last.columns)), words)))
     return [s for s in answer if s.start < s.end]
 
 
@@ -181,7 +181,7 @@ def without_closing(columns):
 
 def heading_stretches(level, row):
     behind = without_indent(without_indent(row.columns)[level:])
-    start = first_place(row.stop, behind)
+    start = first_place(row.content_end, behind)
     end = end_place(start, without_closing(drop_end(is_blank, behind)))
     return [Stretch(start, end)] if start < end else []
 

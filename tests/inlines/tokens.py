@@ -89,16 +89,16 @@ def is_right_flanking(before, after):
         not is_punctuation_there(before) or is_white_space_there(after) or is_punctuation_there(after))
 
 
-def is_delimiter_run(options, mark, size):
-    if mark in b"*_":
-        return size > 0
-    if mark == ord("~"):
-        return (options.strikethrough or options.subscript) and size in (1, 2)
-    return mark == ord("^") and options.superscript and size == 1
+def is_delimiter_run(options, delimiter, run_length):
+    if delimiter in b"*_":
+        return run_length > 0
+    if delimiter == ord("~"):
+        return (options.strikethrough or options.subscript) and run_length in (1, 2)
+    return delimiter == ord("^") and options.superscript and run_length == 1
 
 
-def is_intraword(options, mark, size):
-    return mark != ord("_") and (mark != ord("~") or size == 2 or options.subscript)
+def is_intraword(options, delimiter, run_length):
+    return delimiter != ord("_") and (delimiter != ord("~") or run_length == 2 or options.subscript)
 
 
 def opens_beside(intraword, before, after):
@@ -109,11 +109,11 @@ def closes_beside(intraword, before, after):
     return is_right_flanking(before, after) and (intraword or not is_left_flanking(before, after) or is_punctuation_there(after))
 
 
-def flanking(options, mark, size, before, after):
+def flanking(options, delimiter, run_length, before, after):
     """Whether a run can open, and whether it can close."""
-    if not is_delimiter_run(options, mark, size):
+    if not is_delimiter_run(options, delimiter, run_length):
         return False, False
-    intraword = is_intraword(options, mark, size)
+    intraword = is_intraword(options, delimiter, run_length)
     return opens_beside(intraword, before, after), closes_beside(intraword, before, after)
 
 
@@ -185,8 +185,8 @@ def quote_characters(quotes):
 # ## Items
 
 class Run(NamedTuple):
-    mark: int
-    size: int
+    delimiter: int
+    run_length: int
     at: int
     left: int
     opens: bool
@@ -209,7 +209,7 @@ class Bracket(NamedTuple):
 
 class Stands(NamedTuple):
     item: Item
-    past: int
+    resume: int
 
 
 class Opens(NamedTuple):
@@ -265,13 +265,13 @@ class Leaf:
         end = at + self.size_to(at, found.behind)
         return Stands(Item("HardBreak" if found.is_hard else "SoftBreak", at + found.before, end), self.read_on(end))
 
-    def code_or(self, at, size, found):
+    def code_or(self, at, run_length, found):
         if found is None:
-            return item_at("Own", at, at + size)
+            return item_at("Own", at, at + run_length)
         return item_at("Code", at, self.place_of(found.behind), letters.code_text(self.as_in(found.bytes)))
 
-    def escaped_backtick(self, at, size, found):
-        return item_at("Own", at, at + size) if found is None else item_at("Plain", at, at + 1)
+    def escaped_backtick(self, at, run_length, found):
+        return item_at("Own", at, at + run_length) if found is None else item_at("Plain", at, at + 1)
 
     def escape_at(self, at, bs):
         if first_is(letters.is_backtick, bs):
@@ -309,11 +309,11 @@ class Leaf:
             return self.markup_to(at, at + len(self.source_from(at)) - len(rest))
         return self.tag_or_text(at, letters.behind_tag(self.from_(at)))
 
-    def run_at(self, at, mark, size):
-        opens, closes = flanking(self.reader.options, mark, size, self.character_before(at), self.character_at(at + size))
+    def run_at(self, at, delimiter, run_length):
+        opens, closes = flanking(self.reader.options, delimiter, run_length, self.character_before(at), self.character_at(at + run_length))
         if opens or closes:
-            return item_at("Delimiters", at, at + size, Run(mark, size, 0, size, opens, closes))
-        return item_at("Plain", at, at + size)
+            return item_at("Delimiters", at, at + run_length, Run(delimiter, run_length, 0, run_length, opens, closes))
+        return item_at("Plain", at, at + run_length)
 
     def formula_or(self, kind, at, found):
         return item_at("Own", at, at + 1) if found is None else item_at(kind, at, self.place_of(found.behind), self.as_in(found.bytes))
@@ -328,10 +328,10 @@ class Leaf:
             return item_at("Written", at, at + 3, "\u2026".encode())
         return item_at("Plain", at, at + 1)
 
-    def hyphens(self, at, size):
-        if size < 2:
-            return item_at("Plain", at, at + size)
-        return item_at("Written", at, at + size, letters.dash_text(letters.dashes_of(size)))
+    def hyphens(self, at, run_length):
+        if run_length < 2:
+            return item_at("Plain", at, at + run_length)
+        return item_at("Written", at, at + run_length, letters.dash_text(letters.dashes_of(run_length)))
 
     def quote_at(self, at, b):
         return item_at("Quoted", at, at + 1, quote_beside(b == 34, self.character_before(at), self.character_at(at + 1)))
@@ -377,7 +377,7 @@ class Leaf:
         """Where a text ends that goes on with all bytes that stand for themselves and touch."""
         found = self.begins_at(end)
         while isinstance(found, Stands) and found.item.kind == "Plain" and found.item.start == end:
-            end = found.past
+            end = found.resume
             found = self.begins_at(end)
         return end
 
@@ -385,5 +385,5 @@ class Leaf:
         """What begins at a place; None at the leaf's end."""
         found = self.begins_at(at)
         if isinstance(found, Stands) and found.item.kind == "Plain":
-            return item_at("Plain", found.item.start, self.plain_end(found.past))
+            return item_at("Plain", found.item.start, self.plain_end(found.resume))
         return found

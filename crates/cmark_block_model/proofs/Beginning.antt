@@ -5,7 +5,7 @@ use Rattle.cmark_grammar.specs.Answers.{Lookup}
 use Rattle.cmark_grammar.specs.Options.{Options}
 use Rattle.cmark_grammar.specs.Rows.{Row, start_of, begin_of, words_of, is_blank_line, shown}
 use Rattle.cmark_grammar.specs.HtmlBlocks.{holds_end}
-use Rattle.cmark_grammar.specs.Containers.{Container, Quote, Item, Footnote, ListDefinition, is_alert, enter, strips, is_bare_start}
+use Rattle.cmark_grammar.specs.Containers.{Container, BlockQuote, Item, Footnote, ListDefinition, is_alert, enter, strips, is_bare_start}
 use Rattle.cmark_grammar.specs.Openings.{Leaf, ThematicBreak, AtxHeading, IndentedCode, FencedCode, HtmlBlock, LinkDefinition, Opening, Blank, Nests, Takes, Plain, opens, opens_at, MetadataBlock, Table}
 use Rattle.cmark_grammar.specs.Blocks.{Blocks, Nil as NoBlocks, BlankLine, Paragraph, SetextHeading, LeafBlock, ContainerBlock, join as join_blocks, behind_leaf, behind_container, place_in}
 use Rattle.cmark_grammar.specs.Places.{Place, Apart, BehindLazy, BehindTask, BehindTitle, is_behind_task, over_blank, is_behind_title}
@@ -18,8 +18,8 @@ use Rattle.cmark_block_model.specs.BlockPass.{with_drawn, inside_begun as inside
 use Rattle.cmark_block_model.proofs.Replay.{Level, marked, begun, item_if, item_level, level_opened, entered, leaf_level, replay, replay-join, title_level, definition_level}
 use Rattle.cmark_block_model.proofs.Tells.{Tells, tells-at}
 use Rattle.cmark_block_model.proofs.Mirror.{whole, whole-same, pass_with, bare_at, Fits, inner_at, leaf_at, container_at, containers_at, pass_at, paragraph_open}
-use Rattle.cmark_grammar.specs.Lists.{definition_mark}
-use Rattle.cmark_block_model.proofs.Marks.{Unmarked}
+use Rattle.cmark_grammar.specs.Lists.{definition_delimiter}
+use Rattle.cmark_block_model.proofs.ListDelimiters.{Unmarked}
 use Rattle.cmark_block_model.proofs.Places.{IsTidy, place-replay}
 
 module _ (text : List ℕ) (options : Options) (lookup : Lookup) where
@@ -29,30 +29,30 @@ module _ (text : List ℕ) (options : Options) (lookup : Lookup) where
   ahead-inside (o ∷ outer) c next = ahead-inside outer c (shown (strips o.container false next))
 
   container-begins : (k : Container) (r : Row) (l : Level) (outer : List OpenContainer) (n : ℕ) → container_begun k r (pass_with l outer false Closed n) ≡ pass_with (entered k r l) (outer ++ container_at text options lookup k r l ∷ []) false Closed n
-  container-begins (Quote alert) r l outer n = refl
+  container-begins (BlockQuote alert) r l outer n = refl
   container-begins (Footnote label old size) r l outer n = refl
-  container-begins (Item mark number width task) r l outer n = ap (with_drawn (marked task width r document.Nil)) (go l.inner.list)
+  container-begins (Item delimiter number width task) r l outer n = ap (with_drawn (marked task width r document.Nil)) (go l.inner.list)
     where
-      same : (z : Bool) (o : OpenList) → inside_of (Item mark number width task) (node_opened (begin_of r) document.ListItem (if z then list_goes_on o (pass_with l outer false Closed n) else list_begun mark number (begin_of r) (pass_with l outer false Closed n)))
-          ≡ pass_with (record (level_opened (begin_of r) document.ListItem (item_if z mark number (begin_of r) o l)) { inner = no_siblings }) (outer ++ record { container = Item mark number width task; around = (item_if z mark number (begin_of r) o l).inner } ∷ []) false Closed n
+      same : (z : Bool) (o : OpenList) → inside_of (Item delimiter number width task) (node_opened (begin_of r) document.ListItem (if z then list_goes_on o (pass_with l outer false Closed n) else list_begun delimiter number (begin_of r) (pass_with l outer false Closed n)))
+          ≡ pass_with (record (level_opened (begin_of r) document.ListItem (item_if z delimiter number (begin_of r) o l)) { inner = no_siblings }) (outer ++ record { container = Item delimiter number width task; around = (item_if z delimiter number (begin_of r) o l).inner } ∷ []) false Closed n
       same true o = refl
       same false o = refl
 
-      go : (o : Option OpenList) → inside_of (Item mark number width task) (node_opened (begin_of r) document.ListItem (item_begun mark number (begin_of r) (pass_with l outer false Closed n) o))
-          ≡ pass_with (record (level_opened (begin_of r) document.ListItem (item_level mark number (begin_of r) l o)) { inner = no_siblings }) (outer ++ record { container = Item mark number width task; around = (item_level mark number (begin_of r) l o).inner } ∷ []) false Closed n
+      go : (o : Option OpenList) → inside_of (Item delimiter number width task) (node_opened (begin_of r) document.ListItem (item_begun delimiter number (begin_of r) (pass_with l outer false Closed n) o))
+          ≡ pass_with (record (level_opened (begin_of r) document.ListItem (item_level delimiter number (begin_of r) l o)) { inner = no_siblings }) (outer ++ record { container = Item delimiter number width task; around = (item_level delimiter number (begin_of r) l o).inner } ∷ []) false Closed n
       go None = refl
-      go (Some o) = same (o.mark == mark) o
+      go (Some o) = same (o.delimiter == delimiter) o
   container-begins (ListDefinition width) r l outer n = title l.inner.title
     where
-      same : (z : Bool) (o : OpenList) → inside_of (ListDefinition width) (node_opened (begin_of r) document.DefinitionListDefinition (if z then list_goes_on o (pass_with l outer false Closed n) else list_begun definition_mark None (begin_of r) (pass_with l outer false Closed n)))
-          ≡ pass_with (record (level_opened (begin_of r) document.DefinitionListDefinition (item_if z definition_mark None (begin_of r) o l)) { inner = no_siblings }) (outer ++ record { container = ListDefinition width; around = (item_if z definition_mark None (begin_of r) o l).inner } ∷ []) false Closed n
+      same : (z : Bool) (o : OpenList) → inside_of (ListDefinition width) (node_opened (begin_of r) document.DefinitionListDefinition (if z then list_goes_on o (pass_with l outer false Closed n) else list_begun definition_delimiter None (begin_of r) (pass_with l outer false Closed n)))
+          ≡ pass_with (record (level_opened (begin_of r) document.DefinitionListDefinition (item_if z definition_delimiter None (begin_of r) o l)) { inner = no_siblings }) (outer ++ record { container = ListDefinition width; around = (item_if z definition_delimiter None (begin_of r) o l).inner } ∷ []) false Closed n
       same true o = refl
       same false o = refl
 
-      list : (o : Option OpenList) → inside_of (ListDefinition width) (node_opened (begin_of r) document.DefinitionListDefinition (item_begun definition_mark None (begin_of r) (pass_with l outer false Closed n) o))
-          ≡ pass_with (record (level_opened (begin_of r) document.DefinitionListDefinition (item_level definition_mark None (begin_of r) l o)) { inner = no_siblings }) (outer ++ record { container = ListDefinition width; around = (item_level definition_mark None (begin_of r) l o).inner } ∷ []) false Closed n
+      list : (o : Option OpenList) → inside_of (ListDefinition width) (node_opened (begin_of r) document.DefinitionListDefinition (item_begun definition_delimiter None (begin_of r) (pass_with l outer false Closed n) o))
+          ≡ pass_with (record (level_opened (begin_of r) document.DefinitionListDefinition (item_level definition_delimiter None (begin_of r) l o)) { inner = no_siblings }) (outer ++ record { container = ListDefinition width; around = (item_level definition_delimiter None (begin_of r) l o).inner } ∷ []) false Closed n
       list None = refl
-      list (Some o) = same (o.mark == definition_mark) o
+      list (Some o) = same (o.delimiter == definition_delimiter) o
 
       made : (o : Option OpenList) (parted : Bool) → inside_of (ListDefinition width) (node_opened (begin_of r) document.DefinitionListDefinition (title_made o parted (begin_of r) (pass_with l outer false Closed n)))
           ≡ pass_with (record (level_opened (begin_of r) document.DefinitionListDefinition (title_level o parted (begin_of r) l)) { inner = no_siblings }) (outer ++ record { container = ListDefinition width; around = (title_level o parted (begin_of r) l).inner } ∷ []) false Closed n
@@ -73,30 +73,30 @@ module _ (text : List ℕ) (options : Options) (lookup : Lookup) where
   at-blank place r ahead l b = blank-at options place r ahead (opens-blank r ahead l b) b
 
   bare-start : (k : Container) (r : Row) → is_bare_start k r ≡ true → is_blank_line (enter k r) ≡ true
-  bare-start (Quote alert) r e = absurd (true≢false (sym e))
+  bare-start (BlockQuote alert) r e = absurd (true≢false (sym e))
   bare-start (Footnote label old size) r e = absurd (true≢false (sym e))
-  bare-start (Item mark number width task) r e = e
+  bare-start (Item delimiter number width task) r e = e
   bare-start (ListDefinition width) r e = e
 
   bare-item : (k : Container) (r : Row) → is_bare_start k r ≡ true → is_item k ≡ true
-  bare-item (Quote alert) r e = absurd (true≢false (sym e))
+  bare-item (BlockQuote alert) r e = absurd (true≢false (sym e))
   bare-item (Footnote label old size) r e = absurd (true≢false (sym e))
-  bare-item (Item mark number width task) r e = refl
+  bare-item (Item delimiter number width task) r e = refl
   bare-item (ListDefinition width) r e = refl
 
   bare-none : (k : Container) (r : Row) → is_bare_start k r ≡ false → is_blank_line (enter k r) ≡ true → is_item k ≡ false
-  bare-none (Quote alert) r e b = refl
+  bare-none (BlockQuote alert) r e b = refl
   bare-none (Footnote label old size) r e b = refl
-  bare-none (Item mark number width task) r e b = absurd (true≢false (sym b ∙ e))
+  bare-none (Item delimiter number width task) r e b = absurd (true≢false (sym b ∙ e))
   bare-none (ListDefinition width) r e b = absurd (true≢false (sym b ∙ e))
 
-  pub enter-past : (k : Container) (r : Row) → (enter k r).past ≡ r.past
+  pub enter-line_end : (k : Container) (r : Row) → (enter k r).line_end ≡ r.line_end
   unfolding enter
-  enter-past k r = refl
+  enter-line_end k r = refl
 
   -- a leaf that begins
   html-begins : (z : Bool) (kind : ℕ) (closed : Blocks) (r : Row) (ahead : List Row) (l : Level) (outer : List OpenContainer) (b : Bool) (n : ℕ)
-      → html_begun text options lookup z kind r.past (pass_with (record (replay text options lookup closed l) { drawing = (inner_at text options lookup (html_lines_begun false closed kind r) ahead l).drawing; inner = (begun (replay text options lookup closed l)).inner }) outer false Closed n)
+      → html_begun text options lookup z kind r.line_end (pass_with (record (replay text options lookup closed l) { drawing = (inner_at text options lookup (html_lines_begun false closed kind r) ahead l).drawing; inner = (begun (replay text options lookup closed l)).inner }) outer false Closed n)
       ≡ pass_with (inner_at text options lookup (html_lines_begun z closed kind r) ahead l) outer (bare_at b (html_lines_begun z closed kind r)) (leaf_at text options lookup (html_lines_begun z closed kind r)) n
   html-begins true kind closed r ahead l outer b n = refl
   html-begins false kind closed r ahead l outer b n = refl
@@ -154,9 +154,9 @@ module _ (text : List ℕ) (options : Options) (lookup : Lookup) where
 
   -- an alert's first line is not blank behind the marker
   alert-whole : (k : Container) (r : Row) → is_alert k ≡ true → is_bare_start k r ≡ false
-  alert-whole (Quote alert) r e = refl
+  alert-whole (BlockQuote alert) r e = refl
   alert-whole (Footnote label old size) r e = refl
-  alert-whole (Item mark number width task) r e = absurd (true≢false (sym e))
+  alert-whole (Item delimiter number width task) r e = absurd (true≢false (sym e))
   alert-whole (ListDefinition width) r e = absurd (true≢false (sym e))
 
   bare-begins : (m : ℕ) (k : Container) (r : Row) (ahead : List Row) → is_bare_start k r ≡ false → bare_at (is_item k) (inside_begun (suc m) k r ahead) ≡ bare_at false (inside_begun (suc m) k r ahead)
@@ -253,13 +253,13 @@ module _ (text : List ℕ) (options : Options) (lookup : Lookup) where
   not-bare place true r ahead e h ne = absurd (ne (at-blank place r ahead e (h refl)))
 
   -- what has begun fits
-  pub begins-fit : (m : ℕ) (place : Place) (closed : Blocks) (r : Row) (ahead : List Row) (b : Bool) (n : ℕ) → r.lazy ≡ false → length r.columns < m → (b ≡ true → is_blank_line r ≡ true) → r.past ≡ n
+  pub begins-fit : (m : ℕ) (place : Place) (closed : Blocks) (r : Row) (ahead : List Row) (b : Bool) (n : ℕ) → r.lazy ≡ false → length r.columns < m → (b ≡ true → is_blank_line r ≡ true) → r.line_end ≡ n
       → Fits b (lines_begin_in options m place closed r ahead) ahead n
   begins-fit zero place closed r ahead b n e f h q = absurd (omega (arith, f))
   begins-fit (suc m) place closed r ahead b n e f h q =
       go (opens_at options place r ahead) refl (tells-at options place r ahead)
       (λ k o. let le : length (enter k r).columns < length r.columns = at-enter options place k r ahead o in
-      begins-fit m (place_in k) NoBlocks (enter k r) (within k (is_bare_start k r) ahead) (is_bare_start k r) n (enter-lazy options k r ∙ e) (omega (arith, f, le)) (bare-start k r) (enter-past k r ∙ q))
+      begins-fit m (place_in k) NoBlocks (enter k r) (within k (is_bare_start k r) ahead) (is_bare_start k r) n (enter-lazy options k r ∙ e) (omega (arith, f, le)) (bare-start k r) (enter-line_end k r ∙ q))
     where
       html : (z : Bool) (kind : ℕ) → b ≡ false → Fits b (html_lines_begun z closed kind r) ahead n
       html true kind nb = (nb, omega arith, λ never. refl)
@@ -313,8 +313,8 @@ module _ (text : List ℕ) (options : Options) (lookup : Lookup) where
   not-task place (ContainerBlock k first more inside after) e = not-task (behind_container k) after (behind k)
     where
       behind : (k : Container) → is_behind_task (behind_container k) ≡ false
-      behind (Quote alert) = refl
-      behind (Item mark number width task) = refl
+      behind (BlockQuote alert) = refl
+      behind (Item delimiter number width task) = refl
       behind (Footnote label old size) = refl
       behind (ListDefinition width) = refl
 
@@ -348,9 +348,9 @@ module _ (text : List ℕ) (options : Options) (lookup : Lookup) where
       → begin text options lookup r next (pass_with l outer false Closed n) ≡ pass_at text options lookup (lines_begin_at options BehindLazy NoBlocks r ahead) ahead l outer false n
   starts-behind-tag r next ahead l outer n h e a = starts-at BehindLazy NoBlocks r next ahead l outer n refl (ap (λ s. is_behind_title (place_of s)) h) e a
 
-  pub starts-fit-at : (place : Place) (closed : Blocks) (r : Row) (ahead : List Row) → r.lazy ≡ false → Fits false (lines_begin_at options place closed r ahead) ahead r.past
-  starts-fit-at place closed r ahead e = begins-fit (suc (length r.columns)) place closed r ahead false r.past e (omega arith) (λ never. absurd (true≢false (sym never))) refl
+  pub starts-fit-at : (place : Place) (closed : Blocks) (r : Row) (ahead : List Row) → r.lazy ≡ false → Fits false (lines_begin_at options place closed r ahead) ahead r.line_end
+  starts-fit-at place closed r ahead e = begins-fit (suc (length r.columns)) place closed r ahead false r.line_end e (omega arith) (λ never. absurd (true≢false (sym never))) refl
 
-  pub starts-fit : (closed : Blocks) (r : Row) (ahead : List Row) → r.lazy ≡ false → Fits false (lines_begin options closed r ahead) ahead r.past
+  pub starts-fit : (closed : Blocks) (r : Row) (ahead : List Row) → r.lazy ≡ false → Fits false (lines_begin options closed r ahead) ahead r.line_end
   unfolding lines_begin
   starts-fit closed r ahead e = starts-fit-at (place_behind Apart closed) closed r ahead e

@@ -2,7 +2,7 @@
 use Rattle.std.proofs.Common.{◌≡◌, ℕ, zero, suc, Bool, true, false, List, [], ◌∷◌, ◌++◌, take, refl, ap, ◌∙◌, sym, append_assoc, append-nil}
 use Rattle.cmark_grammar.specs.Answers.{Lookup}
 use Rattle.cmark_grammar.specs.Options.{Options}
-use Rattle.cmark_grammar.specs.Rows.{Row, start_of, begin_of, past_of, first_place}
+use Rattle.cmark_grammar.specs.Rows.{Row, start_of, begin_of, last_line_end, first_place}
 use Rattle.cmark_grammar.specs.Leaves.{closes_fence}
 use Rattle.cmark_grammar.specs.Containers.{is_bare_start, bare_after}
 use Rattle.cmark_grammar.specs.Openings.{Leaf, ThematicBreak, AtxHeading, IndentedCode, FencedCode, HtmlBlock, LinkDefinition, MetadataBlock, Table}
@@ -68,7 +68,7 @@ module _ (text : List ℕ) (options : Options) (lookup : Lookup) where
       ≡ pass_with (replay text options lookup (join_blocks (join_blocks closed (LeafBlock (leaf_in v) first had NoBlocks)) (blank_lines waiting)) l) outer bare Closed n
   verbatim-closes Indented closed first had waiting n l outer bare f =
       let c = replay text options lookup closed l in
-      ap (λ t. let q = noded document.IndentedCode (first_place first.stop (code_columns 4 first)) (past_of first had) t (begun c) in pass_with (record q { inner = record q.inner { blank = is_some waiting } }) outer bare Closed n) (sym (run-tokens text 4 (first ∷ had)))
+      ap (λ t. let q = noded document.IndentedCode (first_place first.content_end (code_columns 4 first)) (last_line_end first had) t (begun c) in pass_with (record q { inner = record q.inner { blank = is_some waiting } }) outer bare Closed n) (sym (run-tokens text 4 (first ∷ had)))
       ∙ ap (λ q. pass_with q outer bare Closed n)
       (sym (replay-join text options lookup (join_blocks closed (LeafBlock IndentedCode first had NoBlocks)) (blank_lines waiting) l
       ∙ ap (replay text options lookup (blank_lines waiting)) (replay-join text options lookup closed (LeafBlock IndentedCode first had NoBlocks) l)
@@ -100,7 +100,7 @@ module _ (text : List ℕ) (options : Options) (lookup : Lookup) where
   leaf-closes (InParagraph closed first more) b n l outer bare f =
       let c = replay text options lookup closed l in
       ap (λ p. pass_with (noded document.Paragraph (start_of first) p (join (lines_drawn text options lookup (start_of first) first more) (stretch_then text (last_begin (start_of first) first more) (words_end (last_of first more)) Nil)) (paragraph_begun c)) outer bare Closed n) (sym f.1)
-      ∙ ap (λ t. pass_with (noded document.Paragraph (start_of first) (past_of first more) t (paragraph_begun c)) outer bare Closed n) (sym (drawn-tokens text options lookup (start_of first) first more))
+      ∙ ap (λ t. pass_with (noded document.Paragraph (start_of first) (last_line_end first more) t (paragraph_begun c)) outer bare Closed n) (sym (drawn-tokens text options lookup (start_of first) first more))
       ∙ ap (λ q. pass_with q outer bare Closed n) (sym (replay-join text options lookup closed (Paragraph first more NoBlocks) l))
   leaf-closes (InLeaf closed leaf first had left) b n l outer bare f =
       leaf-left leaf left (leaf_level text options lookup leaf first (had ++ take left []) (replay text options lookup closed l)) outer bare n

@@ -18,7 +18,7 @@ use Rattle.cmark_block_model.proofs.Replay.{Level, paragraph_begun, untitled, le
 use Rattle.cmark_block_model.proofs.Mirror.{whole, kept_before, kept_push, attributes-kept, braces-kept, whole-same, last_of, last_push, last_begin, begin_push, pass_with, leaf_left, is_looked_up, Fits, lines_drawn, drawn-tokens, one_more, drawn-push, paragraph_open, paragraph_leaf, inner_at, leaf_at, pass_at}
 use Rattle.cmark_block_model.proofs.Closing.{noded, leaf-closes}
 use Rattle.cmark_block_model.proofs.Beginning.{IsFresh, starts}
-use Rattle.cmark_block_model.proofs.Marks.{Unmarked, unmarked-join}
+use Rattle.cmark_block_model.proofs.ListDelimiters.{Unmarked, unmarked-join}
 
 module _ (text : List ℕ) (options : Options) (lookup : Lookup) where
   -- a paragraph goes on
@@ -27,17 +27,17 @@ module _ (text : List ℕ) (options : Options) (lookup : Lookup) where
       ≡ pass_with (paragraph_open text options lookup first (more ++ s ∷ []) l) outer false (paragraph_leaf text options lookup first (more ++ s ∷ [])) n
   paragraph-goes first more r s l outer leaf n e =
       ap (λ x. paragraph_line text options lookup (kept_before options.heading_attributes first more) from (whole (last_of first more)) x (pass_with (paragraph_open text options lookup first more l) outer false leaf n)) (sym e)
-      ∙ go (begin_of s == past)
-      ∙ ap (λ x. goes (one_more text options lookup (begin_of s == past) from past before) (if begin_of s == past then from else begin_of s) x) (sym (last_push first more s))
-      ∙ ap (λ x. goes (one_more text options lookup (begin_of s == past) from past before) x (last_of first (more ++ s ∷ []))) (sym (begin_push (start_of first) first more s))
+      ∙ go (begin_of s == line_end)
+      ∙ ap (λ x. goes (one_more text options lookup (begin_of s == line_end) from line_end before) (if begin_of s == line_end then from else begin_of s) x) (sym (last_push first more s))
+      ∙ ap (λ x. goes (one_more text options lookup (begin_of s == line_end) from line_end before) x (last_of first (more ++ s ∷ []))) (sym (begin_push (start_of first) first more s))
       ∙ ap (λ x. goes x (last_begin (start_of first) first (more ++ s ∷ [])) (last_of first (more ++ s ∷ []))) (sym (drawn-push text options lookup (start_of first) first more s))
       ∙ ap (λ rs. goes_with rs (lines_drawn text options lookup (start_of first) first (more ++ s ∷ [])) (last_begin (start_of first) first (more ++ s ∷ [])) (last_of first (more ++ s ∷ []))) (sym (kept_push options.heading_attributes first more s))
     where
       from : ℕ
       from = last_begin (start_of first) first more
 
-      past : ℕ
-      past = (last_of first more).past
+      line_end : ℕ
+      line_end = (last_of first more).line_end
 
       before : BlockDocument
       before = lines_drawn text options lookup (start_of first) first more
@@ -48,7 +48,7 @@ module _ (text : List ℕ) (options : Options) (lookup : Lookup) where
       goes : BlockDocument → ℕ → Row → Pass
       goes d at x = goes_with (kept_lines options.heading_attributes (kept_before options.heading_attributes first more) (whole (last_of first more))) d at x
 
-      go : (z : Bool) → (if z then goes before from s else goes (join before (stretch_then text from past Nil)) (begin_of s) s) ≡ goes (one_more text options lookup z from past before) (if z then from else begin_of s) s
+      go : (z : Bool) → (if z then goes before from s else goes (join before (stretch_then text from line_end Nil)) (begin_of s) s) ≡ goes (one_more text options lookup z from line_end before) (if z then from else begin_of s) s
       go true = refl
       go false = refl
 
@@ -84,9 +84,9 @@ module _ (text : List ℕ) (options : Options) (lookup : Lookup) where
           let kept = content_of (kept_before on first more ++ whole (last_of first more) ∷ []) in
           let content = content_of (first ∷ more) in
           let tokens = paragraph_tokens text first more in
-          ap (λ t. pass_with (untitled (noded text options lookup (document.Heading level (setext_attributes on kept)) (start_of first) r.past (without_braces text on kept t) (paragraph_begun c))) outer false Closed n) (sym (drawn-tokens text options lookup (start_of first) first more))
-          ∙ ap (λ a. pass_with (untitled (noded text options lookup (document.Heading level a) (start_of first) r.past (without_braces text on kept tokens) (paragraph_begun c))) outer false Closed n) (attributes-kept on first more)
-          ∙ ap (λ t. pass_with (untitled (noded text options lookup (document.Heading level (setext_attributes on content)) (start_of first) r.past t (paragraph_begun c))) outer false Closed n) (braces-kept text on first more tokens)
+          ap (λ t. pass_with (untitled (noded text options lookup (document.Heading level (setext_attributes on kept)) (start_of first) r.line_end (without_braces text on kept t) (paragraph_begun c))) outer false Closed n) (sym (drawn-tokens text options lookup (start_of first) first more))
+          ∙ ap (λ a. pass_with (untitled (noded text options lookup (document.Heading level a) (start_of first) r.line_end (without_braces text on kept tokens) (paragraph_begun c))) outer false Closed n) (attributes-kept on first more)
+          ∙ ap (λ t. pass_with (untitled (noded text options lookup (document.Heading level (setext_attributes on content)) (start_of first) r.line_end t (paragraph_begun c))) outer false Closed n) (braces-kept text on first more tokens)
           ∙ ap (λ q. pass_with q outer false Closed n) (sym (replay-join text options lookup closed (SetextHeading level first more r NoBlocks) l))
           ∙ end outer (replay text options lookup (join_blocks closed (SetextHeading level first more r NoBlocks)) l) Closed
       go None =

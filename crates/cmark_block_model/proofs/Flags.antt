@@ -2,10 +2,10 @@
 use Rattle.std.proofs.Common.{◌≡◌, ℕ, Bool, true, false, ◌==◌, ◌||◌, ◌&&◌, not, List, refl, ap, ◌∙◌, sym, Option, arith, Some, None}
 use Rattle.cmark_grammar.specs.Options.{Options}
 use Rattle.cmark_grammar.specs.Answers.{Lookup}
-use Rattle.cmark_grammar.specs.Rows.{past_of, begin_of, Row}
-use Rattle.cmark_grammar.specs.Containers.{Quote, Item, Footnote, ListDefinition}
+use Rattle.cmark_grammar.specs.Rows.{last_line_end, begin_of, Row}
+use Rattle.cmark_grammar.specs.Containers.{BlockQuote, Item, Footnote, ListDefinition}
 use Rattle.cmark_grammar.specs.Blocks.{Blocks, Nil, BlankLine, Paragraph, SetextHeading, LeafBlock, ContainerBlock}
-use Rattle.cmark_grammar.specs.Lists.{ends_blank, ItemWith, parted, definition_mark, is_title, Other}
+use Rattle.cmark_grammar.specs.Lists.{ends_blank, ItemWith, parted, definition_delimiter, is_title, Other}
 use Rattle.cmark_grammar.specs.BlockDocument as document
 use Rattle.cmark_grammar.specs.BlockDocument.{BlockDocument, BlockKind}
 use Rattle.cmark_block_model.specs.Drawing.{Drawing, drawn, opened, closed_at, enclosed, retitled}
@@ -35,41 +35,41 @@ and-false false = refl
 pub or-and : (p a c : Bool) → ((p || a) || c) ≡ (p || ((a && true) || c))
 or-and p a c = or-assoc p a c ∙ ap (λ z. p || (z || c)) (sym (and-true a))
 
-pub same-mark : (a b : ℕ) → (a == b) ≡ true → a ≡ b
-same-mark a b e = grind (arith)
+pub same-delimiter : (a b : ℕ) → (a == b) ≡ true → a ≡ b
+same-delimiter a b e = grind (arith)
 
-pub colon-same : (o : OpenList) → (o.mark == definition_mark) ≡ true → o ≡ with_colon o
-colon-same o e = ap (λ m. record { mark = m; number = o.number; loose = o.loose; end = o.end }) (same-mark o.mark definition_mark e)
+pub colon-same : (o : OpenList) → (o.delimiter == definition_delimiter) ≡ true → o ≡ with_colon o
+colon-same o e = ap (λ m. record { delimiter = m; number = o.number; loose = o.loose; end = o.end }) (same-delimiter o.delimiter definition_delimiter e)
 
 -- a list that an item begins, and one that an item goes on with
-abbrev pub fresh : (mark : ℕ) → Option ℕ → (start : ℕ) → OpenList
-fresh mark number start = record { mark = mark; number = number; loose = false; end = start }
+abbrev pub fresh : (delimiter : ℕ) → Option ℕ → (start : ℕ) → OpenList
+fresh delimiter number start = record { delimiter = delimiter; number = number; loose = false; end = start }
 
 abbrev pub longer : OpenList → (blank : Bool) → OpenList
 longer o blank = record o { loose = o.loose || blank }
 
 -- behind an item that stands in this list
-abbrev pub item_list : OpenList → (parted : Bool) → (past : ℕ) → OpenList
-item_list o parted past = record o { loose = o.loose || parted; end = past }
+abbrev pub item_list : OpenList → (parted : Bool) → (line_end : ℕ) → OpenList
+item_list o parted line_end = record o { loose = o.loose || parted; end = line_end }
 
 module _ (text : List ℕ) (options : Options) (lookup : Lookup) where
   -- the level inside an item that stands in this list, and the level behind the item
   abbrev pub in_item : (kind : BlockKind) → (start : ℕ) → (marker : BlockDocument) → Drawing → Noted → Level
   in_item kind start marker d rs = level_of First (drawn marker (opened start kind d)) false false rs
 
-  abbrev pub behind_item : (kind : BlockKind) → (start past : ℕ) (marker : BlockDocument) (inside : Blocks) → OpenList → Drawing → (parted : Bool) → Noted → Level
-  behind_item kind start past marker inside o d p rs =
+  abbrev pub behind_item : (kind : BlockKind) → (start line_end : ℕ) (marker : BlockDocument) (inside : Blocks) → OpenList → Drawing → (parted : Bool) → Noted → Level
+  behind_item kind start line_end marker inside o d p rs =
       let i = replay text options lookup inside (in_item kind start marker d rs) in
-      level_of (InList (item_list o i.inner.parted past)) (closed_at past (ended i.inner i.drawing)) i.inner.blank p i.noted
+      level_of (InList (item_list o i.inner.parted line_end)) (closed_at line_end (ended i.inner i.drawing)) i.inner.blank p i.noted
 
   -- behind a definition that has no marker drawn in it
   abbrev pub in_definition : (start : ℕ) → Drawing → Noted → Level
   in_definition start d rs = level_of First (opened start document.DefinitionListDefinition d) false false rs
 
-  abbrev pub behind_definition : (start past : ℕ) (inside : Blocks) → OpenList → Drawing → (parted : Bool) → Noted → Level
-  behind_definition start past inside o d p rs =
+  abbrev pub behind_definition : (start line_end : ℕ) (inside : Blocks) → OpenList → Drawing → (parted : Bool) → Noted → Level
+  behind_definition start line_end inside o d p rs =
       let i = replay text options lookup inside (in_definition start d rs) in
-      level_of (InList (item_list o i.inner.parted past)) (closed_at past (ended i.inner i.drawing)) i.inner.blank p i.noted
+      level_of (InList (item_list o i.inner.parted line_end)) (closed_at line_end (ended i.inner i.drawing)) i.inner.blank p i.noted
 
   -- what is known of the blank lines behind these blocks, and of those between them, wherever they stand, and behind a paragraph
   abbrev pub KnowsBlank : Blocks → Type 0
@@ -81,41 +81,41 @@ module _ (text : List ℕ) (options : Options) (lookup : Lookup) where
   definition-blank : (first : Row) (more : List Row) (inside after : Blocks) (width : ℕ) → KnowsBlank inside → KnowsBlank after → KnowsBlank (ContainerBlock (ListDefinition width) first more inside after)
   definition-blank first more inside after width i a = (at, behind)
     where
-      one : (o1 : OpenList) (d1 : Drawing) (p1 : Bool) (rs1 : Noted) → (replay text options lookup after (behind_definition (begin_of first) (past_of first more) inside o1 d1 p1 rs1)).inner.blank ≡ ends_blank false (ends_blank true false inside) after
+      one : (o1 : OpenList) (d1 : Drawing) (p1 : Bool) (rs1 : Noted) → (replay text options lookup after (behind_definition (begin_of first) (last_line_end first more) inside o1 d1 p1 rs1)).inner.blank ≡ ends_blank false (ends_blank true false inside) after
       one o1 d1 p1 rs1 = a.0 (InList _) _ _ p1 _ ∙ ap (λ z. ends_blank false z after) (i.0 First _ false false rs1)
 
       behind : (o : Option OpenList) (d : Drawing) (blank p q : Bool) (rs : Noted) → (replay text options lookup (ContainerBlock (ListDefinition width) first more inside after) (titled o d blank p q rs)).inner.blank ≡ ends_blank false (ends_blank true false inside) after
-      behind None d blank p q rs = one (record { mark = definition_mark; number = None; loose = blank; end = begin_of first }) (enclosed (document.DefinitionList false) document.DefinitionListTitle d) p rs
+      behind None d blank p q rs = one (record { delimiter = definition_delimiter; number = None; loose = blank; end = begin_of first }) (enclosed (document.DefinitionList false) document.DefinitionListTitle d) p rs
       behind (Some o) d blank p q rs = one (longer o blank) (retitled document.DefinitionListTitle d) q rs
 
-      same : (z : Bool) (o : OpenList) (d : Drawing) (blank p : Bool) (rs : Noted) → (replay text options lookup after (left_by (ListDefinition width) (item_if z definition_mark None (begin_of first) o (level_of (InList o) d blank p rs)).inner (past_of first more)
-          (replay text options lookup inside (record (level_opened (begin_of first) document.DefinitionListDefinition (item_if z definition_mark None (begin_of first) o (level_of (InList o) d blank p rs))) { inner = no_siblings })))).inner.blank ≡ ends_blank false (ends_blank true false inside) after
+      same : (z : Bool) (o : OpenList) (d : Drawing) (blank p : Bool) (rs : Noted) → (replay text options lookup after (left_by (ListDefinition width) (item_if z definition_delimiter None (begin_of first) o (level_of (InList o) d blank p rs)).inner (last_line_end first more)
+          (replay text options lookup inside (record (level_opened (begin_of first) document.DefinitionListDefinition (item_if z definition_delimiter None (begin_of first) o (level_of (InList o) d blank p rs))) { inner = no_siblings })))).inner.blank ≡ ends_blank false (ends_blank true false inside) after
       same true o d blank p rs = one (longer o blank) d p rs
-      same false o d blank p rs = one (fresh definition_mark None (begin_of first)) (opened (begin_of first) (list_kind definition_mark None false) (list_closed (Some o) d)) (p || blank) rs
+      same false o d blank p rs = one (fresh definition_delimiter None (begin_of first)) (opened (begin_of first) (list_kind definition_delimiter None false) (list_closed (Some o) d)) (p || blank) rs
 
       at : (s : Stand) (d : Drawing) (blank p : Bool) (rs : Noted) → (replay text options lookup (ContainerBlock (ListDefinition width) first more inside after) (level_of s d blank p rs)).inner.blank ≡ ends_blank false (ends_blank true false inside) after
-      at First d blank p rs = one (fresh definition_mark None (begin_of first)) (opened (begin_of first) (list_kind definition_mark None false) d) (p || blank) rs
-      at Behind d blank p rs = one (fresh definition_mark None (begin_of first)) (opened (begin_of first) (list_kind definition_mark None false) d) (p || blank) rs
-      at (InList o) d blank p rs = same (o.mark == definition_mark) o d blank p rs
+      at First d blank p rs = one (fresh definition_delimiter None (begin_of first)) (opened (begin_of first) (list_kind definition_delimiter None false) d) (p || blank) rs
+      at Behind d blank p rs = one (fresh definition_delimiter None (begin_of first)) (opened (begin_of first) (list_kind definition_delimiter None false) d) (p || blank) rs
+      at (InList o) d blank p rs = same (o.delimiter == definition_delimiter) o d blank p rs
 
-  item-blank : (first : Row) (more : List Row) (inside after : Blocks) (mark : ℕ) (number : Option ℕ) (width : ℕ) (task : Option Bool) → KnowsBlank inside → KnowsBlank after → KnowsBlank (ContainerBlock (Item mark number width task) first more inside after)
-  item-blank first more inside after mark number width task i a = (at, behind)
+  item-blank : (first : Row) (more : List Row) (inside after : Blocks) (delimiter : ℕ) (number : Option ℕ) (width : ℕ) (task : Option Bool) → KnowsBlank inside → KnowsBlank after → KnowsBlank (ContainerBlock (Item delimiter number width task) first more inside after)
+  item-blank first more inside after delimiter number width task i a = (at, behind)
     where
-      one : (o1 : OpenList) (d1 : Drawing) (p1 : Bool) (rs1 : Noted) → (replay text options lookup after (behind_item document.ListItem (begin_of first) (past_of first more) (marked task width first document.Nil) inside o1 d1 p1 rs1)).inner.blank ≡ ends_blank false (ends_blank true false inside) after
+      one : (o1 : OpenList) (d1 : Drawing) (p1 : Bool) (rs1 : Noted) → (replay text options lookup after (behind_item document.ListItem (begin_of first) (last_line_end first more) (marked task width first document.Nil) inside o1 d1 p1 rs1)).inner.blank ≡ ends_blank false (ends_blank true false inside) after
       one o1 d1 p1 rs1 = a.0 (InList _) _ _ p1 _ ∙ ap (λ z. ends_blank false z after) (i.0 First _ false false rs1)
 
-      behind : (o : Option OpenList) (d : Drawing) (blank p q : Bool) (rs : Noted) → (replay text options lookup (ContainerBlock (Item mark number width task) first more inside after) (titled o d blank p q rs)).inner.blank ≡ ends_blank false (ends_blank true false inside) after
-      behind o d blank p q rs = one (fresh mark number (begin_of first)) (opened (begin_of first) (list_kind mark number false) (released_from o d)) (p || blank) rs
+      behind : (o : Option OpenList) (d : Drawing) (blank p q : Bool) (rs : Noted) → (replay text options lookup (ContainerBlock (Item delimiter number width task) first more inside after) (titled o d blank p q rs)).inner.blank ≡ ends_blank false (ends_blank true false inside) after
+      behind o d blank p q rs = one (fresh delimiter number (begin_of first)) (opened (begin_of first) (list_kind delimiter number false) (released_from o d)) (p || blank) rs
 
-      same : (z : Bool) (o : OpenList) (d : Drawing) (blank p : Bool) (rs : Noted) → (replay text options lookup after (left_by (Item mark number width task) (item_if z mark number (begin_of first) o (level_of (InList o) d blank p rs)).inner (past_of first more)
-          (replay text options lookup inside (record (level_drawn (marked task width first document.Nil) (level_opened (begin_of first) document.ListItem (item_if z mark number (begin_of first) o (level_of (InList o) d blank p rs)))) { inner = no_siblings })))).inner.blank ≡ ends_blank false (ends_blank true false inside) after
+      same : (z : Bool) (o : OpenList) (d : Drawing) (blank p : Bool) (rs : Noted) → (replay text options lookup after (left_by (Item delimiter number width task) (item_if z delimiter number (begin_of first) o (level_of (InList o) d blank p rs)).inner (last_line_end first more)
+          (replay text options lookup inside (record (level_drawn (marked task width first document.Nil) (level_opened (begin_of first) document.ListItem (item_if z delimiter number (begin_of first) o (level_of (InList o) d blank p rs)))) { inner = no_siblings })))).inner.blank ≡ ends_blank false (ends_blank true false inside) after
       same true o d blank p rs = one (longer o blank) d p rs
-      same false o d blank p rs = one (fresh mark number (begin_of first)) (opened (begin_of first) (list_kind mark number false) (list_closed (Some o) d)) (p || blank) rs
+      same false o d blank p rs = one (fresh delimiter number (begin_of first)) (opened (begin_of first) (list_kind delimiter number false) (list_closed (Some o) d)) (p || blank) rs
 
-      at : (s : Stand) (d : Drawing) (blank p : Bool) (rs : Noted) → (replay text options lookup (ContainerBlock (Item mark number width task) first more inside after) (level_of s d blank p rs)).inner.blank ≡ ends_blank false (ends_blank true false inside) after
-      at First d blank p rs = one (fresh mark number (begin_of first)) (opened (begin_of first) (list_kind mark number false) d) (p || blank) rs
-      at Behind d blank p rs = one (fresh mark number (begin_of first)) (opened (begin_of first) (list_kind mark number false) d) (p || blank) rs
-      at (InList o) d blank p rs = same (o.mark == mark) o d blank p rs
+      at : (s : Stand) (d : Drawing) (blank p : Bool) (rs : Noted) → (replay text options lookup (ContainerBlock (Item delimiter number width task) first more inside after) (level_of s d blank p rs)).inner.blank ≡ ends_blank false (ends_blank true false inside) after
+      at First d blank p rs = one (fresh delimiter number (begin_of first)) (opened (begin_of first) (list_kind delimiter number false) d) (p || blank) rs
+      at Behind d blank p rs = one (fresh delimiter number (begin_of first)) (opened (begin_of first) (list_kind delimiter number false) d) (p || blank) rs
+      at (InList o) d blank p rs = same (o.delimiter == delimiter) o d blank p rs
 
   -- a blank line stands behind
   pub blank_behind : (b : Blocks) → KnowsBlank b
@@ -130,12 +130,12 @@ module _ (text : List ℕ) (options : Options) (lookup : Lookup) where
   blank_behind (Paragraph first more after) = let a = blank_behind after in (λ s d blank p rs. a.1 _ _ false _ _ rs, λ o d blank p q rs. a.1 _ _ false _ _ rs)
   blank_behind (SetextHeading level first more underline after) = let a = blank_behind after in (λ s d blank p rs. a.0 Behind _ false (p || blank) rs, λ o d blank p q rs. a.0 Behind _ false (p || blank) rs)
   blank_behind (LeafBlock leaf first more after) = let a = blank_behind after in (λ s d blank p rs. a.0 Behind _ false (p || blank) _, λ o d blank p q rs. a.0 Behind _ false (p || blank) _)
-  blank_behind (ContainerBlock (Quote alert) first more inside after) = let a = blank_behind after in (λ s d blank p rs. a.0 Behind _ false (p || blank) _, λ o d blank p q rs. a.0 Behind _ false (p || blank) _)
+  blank_behind (ContainerBlock (BlockQuote alert) first more inside after) = let a = blank_behind after in (λ s d blank p rs. a.0 Behind _ false (p || blank) _, λ o d blank p q rs. a.0 Behind _ false (p || blank) _)
   blank_behind (ContainerBlock (Footnote label old size) first more inside after) =
       let i = blank_behind inside in
       let a = blank_behind after in
       (λ s d blank p rs. a.0 Behind _ _ (p || blank) _ ∙ ap (λ z. ends_blank false z after) (i.0 First _ false false _), λ o d blank p q rs. a.0 Behind _ _ (p || blank) _ ∙ ap (λ z. ends_blank false z after) (i.0 First _ false false _))
-  blank_behind (ContainerBlock (Item mark number width task) first more inside after) = item-blank first more inside after mark number width task (blank_behind inside) (blank_behind after)
+  blank_behind (ContainerBlock (Item delimiter number width task) first more inside after) = item-blank first more inside after delimiter number width task (blank_behind inside) (blank_behind after)
   blank_behind (ContainerBlock (ListDefinition width) first more inside after) = definition-blank first more inside after width (blank_behind inside) (blank_behind after)
 
   -- a paragraph's own flag, and that of a title, which forgets the blank line before it where it goes on with a list
@@ -144,7 +144,7 @@ module _ (text : List ℕ) (options : Options) (lookup : Lookup) where
   parted_before (Some o) p q = q
 
   abbrev pub title_parted : Option OpenList → (blank p q : Bool) → Blocks → Bool
-  title_parted o blank p q b = if is_title b then parted_before o p q || parted (ItemWith definition_mark) blank b else p || parted Other blank b
+  title_parted o blank p q b = if is_title b then parted_before o p q || parted (ItemWith definition_delimiter) blank b else p || parted Other blank b
 
   abbrev pub KnowsParted : Blocks → Type 0
   KnowsParted b =
@@ -154,69 +154,69 @@ module _ (text : List ℕ) (options : Options) (lookup : Lookup) where
   definition-parted : (first : Row) (more : List Row) (inside after : Blocks) (width : ℕ) → KnowsParted after → KnowsParted (ContainerBlock (ListDefinition width) first more inside after)
   definition-parted first more inside after width a = (at, behind)
     where
-      one : (o1 : OpenList) (d1 : Drawing) (p1 : Bool) (rs1 : Noted) → (replay text options lookup after (behind_definition (begin_of first) (past_of first more) inside o1 d1 p1 rs1)).inner.parted ≡ (p1 || parted (ItemWith o1.mark) (ends_blank true false inside) after)
-      one o1 d1 p1 rs1 = a.0 (InList _) _ _ p1 _ ∙ ap (λ z. p1 || parted (ItemWith o1.mark) z after) ((blank_behind inside).0 First _ false false rs1)
+      one : (o1 : OpenList) (d1 : Drawing) (p1 : Bool) (rs1 : Noted) → (replay text options lookup after (behind_definition (begin_of first) (last_line_end first more) inside o1 d1 p1 rs1)).inner.parted ≡ (p1 || parted (ItemWith o1.delimiter) (ends_blank true false inside) after)
+      one o1 d1 p1 rs1 = a.0 (InList _) _ _ p1 _ ∙ ap (λ z. p1 || parted (ItemWith o1.delimiter) z after) ((blank_behind inside).0 First _ false false rs1)
 
       forget : (p blank c : Bool) → (p || c) ≡ (p || ((blank && false) || c))
       forget p blank c = ap (λ z. p || (z || c)) (sym (and-false blank))
 
       behind : (o : Option OpenList) (d : Drawing) (blank p q : Bool) (rs : Noted) → (replay text options lookup (ContainerBlock (ListDefinition width) first more inside after) (titled (colon o) d blank p q rs)).inner.parted
-          ≡ (parted_before o p q || ((blank && false) || parted (ItemWith definition_mark) (ends_blank true false inside) after))
-      behind None d blank p q rs = one (record { mark = definition_mark; number = None; loose = blank; end = begin_of first }) (enclosed (document.DefinitionList false) document.DefinitionListTitle d) p rs ∙ forget p blank _
+          ≡ (parted_before o p q || ((blank && false) || parted (ItemWith definition_delimiter) (ends_blank true false inside) after))
+      behind None d blank p q rs = one (record { delimiter = definition_delimiter; number = None; loose = blank; end = begin_of first }) (enclosed (document.DefinitionList false) document.DefinitionListTitle d) p rs ∙ forget p blank _
       behind (Some o) d blank p q rs = one (longer (with_colon o) blank) (retitled document.DefinitionListTitle d) q rs ∙ forget q blank _
 
-      same : (z : Bool) (o : OpenList) (d : Drawing) (blank p : Bool) (rs : Noted) → (o.mark == definition_mark) ≡ z → (replay text options lookup after (left_by (ListDefinition width) (item_if z definition_mark None (begin_of first) o (level_of (InList o) d blank p rs)).inner (past_of first more)
-          (replay text options lookup inside (record (level_opened (begin_of first) document.DefinitionListDefinition (item_if z definition_mark None (begin_of first) o (level_of (InList o) d blank p rs))) { inner = no_siblings })))).inner.parted ≡ (p || ((blank && not z) || parted (ItemWith definition_mark) (ends_blank true false inside) after))
-      same true o d blank p rs e = one (longer o blank) d p rs ∙ ap (λ m. p || parted (ItemWith m) (ends_blank true false inside) after) (same-mark o.mark definition_mark e) ∙ forget p blank _
-      same false o d blank p rs e = one (fresh definition_mark None (begin_of first)) (opened (begin_of first) (list_kind definition_mark None false) (list_closed (Some o) d)) (p || blank) rs ∙ or-and p blank _
+      same : (z : Bool) (o : OpenList) (d : Drawing) (blank p : Bool) (rs : Noted) → (o.delimiter == definition_delimiter) ≡ z → (replay text options lookup after (left_by (ListDefinition width) (item_if z definition_delimiter None (begin_of first) o (level_of (InList o) d blank p rs)).inner (last_line_end first more)
+          (replay text options lookup inside (record (level_opened (begin_of first) document.DefinitionListDefinition (item_if z definition_delimiter None (begin_of first) o (level_of (InList o) d blank p rs))) { inner = no_siblings })))).inner.parted ≡ (p || ((blank && not z) || parted (ItemWith definition_delimiter) (ends_blank true false inside) after))
+      same true o d blank p rs e = one (longer o blank) d p rs ∙ ap (λ m. p || parted (ItemWith m) (ends_blank true false inside) after) (same-delimiter o.delimiter definition_delimiter e) ∙ forget p blank _
+      same false o d blank p rs e = one (fresh definition_delimiter None (begin_of first)) (opened (begin_of first) (list_kind definition_delimiter None false) (list_closed (Some o) d)) (p || blank) rs ∙ or-and p blank _
 
       at : (s : Stand) (d : Drawing) (blank p : Bool) (rs : Noted) → (replay text options lookup (ContainerBlock (ListDefinition width) first more inside after) (level_of s d blank p rs)).inner.parted ≡ (p || parted (before_of s) blank (ContainerBlock (ListDefinition width) first more inside after))
-      at First d blank p rs = one (fresh definition_mark None (begin_of first)) (opened (begin_of first) (list_kind definition_mark None false) d) (p || blank) rs ∙ or-and p blank _
-      at Behind d blank p rs = one (fresh definition_mark None (begin_of first)) (opened (begin_of first) (list_kind definition_mark None false) d) (p || blank) rs ∙ or-and p blank _
-      at (InList o) d blank p rs = same (o.mark == definition_mark) o d blank p rs refl
+      at First d blank p rs = one (fresh definition_delimiter None (begin_of first)) (opened (begin_of first) (list_kind definition_delimiter None false) d) (p || blank) rs ∙ or-and p blank _
+      at Behind d blank p rs = one (fresh definition_delimiter None (begin_of first)) (opened (begin_of first) (list_kind definition_delimiter None false) d) (p || blank) rs ∙ or-and p blank _
+      at (InList o) d blank p rs = same (o.delimiter == definition_delimiter) o d blank p rs refl
 
-  item-parted : (first : Row) (more : List Row) (inside after : Blocks) (mark : ℕ) (number : Option ℕ) (width : ℕ) (task : Option Bool) → KnowsParted after → KnowsParted (ContainerBlock (Item mark number width task) first more inside after)
-  item-parted first more inside after mark number width task a = (at, λ o d blank p q rs. one (fresh mark number (begin_of first)) (opened (begin_of first) (list_kind mark number false) (released_from (colon o) d)) (p || blank) rs ∙ or-and p blank _)
+  item-parted : (first : Row) (more : List Row) (inside after : Blocks) (delimiter : ℕ) (number : Option ℕ) (width : ℕ) (task : Option Bool) → KnowsParted after → KnowsParted (ContainerBlock (Item delimiter number width task) first more inside after)
+  item-parted first more inside after delimiter number width task a = (at, λ o d blank p q rs. one (fresh delimiter number (begin_of first)) (opened (begin_of first) (list_kind delimiter number false) (released_from (colon o) d)) (p || blank) rs ∙ or-and p blank _)
     where
-      one : (o1 : OpenList) (d1 : Drawing) (p1 : Bool) (rs1 : Noted) → (replay text options lookup after (behind_item document.ListItem (begin_of first) (past_of first more) (marked task width first document.Nil) inside o1 d1 p1 rs1)).inner.parted ≡ (p1 || parted (ItemWith o1.mark) (ends_blank true false inside) after)
-      one o1 d1 p1 rs1 = a.0 (InList _) _ _ p1 _ ∙ ap (λ z. p1 || parted (ItemWith o1.mark) z after) ((blank_behind inside).0 First _ false false rs1)
+      one : (o1 : OpenList) (d1 : Drawing) (p1 : Bool) (rs1 : Noted) → (replay text options lookup after (behind_item document.ListItem (begin_of first) (last_line_end first more) (marked task width first document.Nil) inside o1 d1 p1 rs1)).inner.parted ≡ (p1 || parted (ItemWith o1.delimiter) (ends_blank true false inside) after)
+      one o1 d1 p1 rs1 = a.0 (InList _) _ _ p1 _ ∙ ap (λ z. p1 || parted (ItemWith o1.delimiter) z after) ((blank_behind inside).0 First _ false false rs1)
 
-      same : (z : Bool) (o : OpenList) (d : Drawing) (blank p : Bool) (rs : Noted) → (o.mark == mark) ≡ z → (replay text options lookup after (left_by (Item mark number width task) (item_if z mark number (begin_of first) o (level_of (InList o) d blank p rs)).inner (past_of first more)
-          (replay text options lookup inside (record (level_drawn (marked task width first document.Nil) (level_opened (begin_of first) document.ListItem (item_if z mark number (begin_of first) o (level_of (InList o) d blank p rs)))) { inner = no_siblings })))).inner.parted ≡ (p || ((blank && not z) || parted (ItemWith mark) (ends_blank true false inside) after))
+      same : (z : Bool) (o : OpenList) (d : Drawing) (blank p : Bool) (rs : Noted) → (o.delimiter == delimiter) ≡ z → (replay text options lookup after (left_by (Item delimiter number width task) (item_if z delimiter number (begin_of first) o (level_of (InList o) d blank p rs)).inner (last_line_end first more)
+          (replay text options lookup inside (record (level_drawn (marked task width first document.Nil) (level_opened (begin_of first) document.ListItem (item_if z delimiter number (begin_of first) o (level_of (InList o) d blank p rs)))) { inner = no_siblings })))).inner.parted ≡ (p || ((blank && not z) || parted (ItemWith delimiter) (ends_blank true false inside) after))
       same true o d blank p rs e =
-          one (longer o blank) d p rs ∙ ap (λ m. p || parted (ItemWith m) (ends_blank true false inside) after) (same-mark o.mark mark e)
-          ∙ ap (λ z. p || (z || parted (ItemWith mark) (ends_blank true false inside) after)) (sym (and-false blank))
-      same false o d blank p rs e = one (fresh mark number (begin_of first)) (opened (begin_of first) (list_kind mark number false) (list_closed (Some o) d)) (p || blank) rs ∙ or-and p blank _
+          one (longer o blank) d p rs ∙ ap (λ m. p || parted (ItemWith m) (ends_blank true false inside) after) (same-delimiter o.delimiter delimiter e)
+          ∙ ap (λ z. p || (z || parted (ItemWith delimiter) (ends_blank true false inside) after)) (sym (and-false blank))
+      same false o d blank p rs e = one (fresh delimiter number (begin_of first)) (opened (begin_of first) (list_kind delimiter number false) (list_closed (Some o) d)) (p || blank) rs ∙ or-and p blank _
 
-      at : (s : Stand) (d : Drawing) (blank p : Bool) (rs : Noted) → (replay text options lookup (ContainerBlock (Item mark number width task) first more inside after) (level_of s d blank p rs)).inner.parted ≡ (p || parted (before_of s) blank (ContainerBlock (Item mark number width task) first more inside after))
-      at First d blank p rs = one (fresh mark number (begin_of first)) (opened (begin_of first) (list_kind mark number false) d) (p || blank) rs ∙ or-and p blank _
-      at Behind d blank p rs = one (fresh mark number (begin_of first)) (opened (begin_of first) (list_kind mark number false) d) (p || blank) rs ∙ or-and p blank _
-      at (InList o) d blank p rs = same (o.mark == mark) o d blank p rs refl
+      at : (s : Stand) (d : Drawing) (blank p : Bool) (rs : Noted) → (replay text options lookup (ContainerBlock (Item delimiter number width task) first more inside after) (level_of s d blank p rs)).inner.parted ≡ (p || parted (before_of s) blank (ContainerBlock (Item delimiter number width task) first more inside after))
+      at First d blank p rs = one (fresh delimiter number (begin_of first)) (opened (begin_of first) (list_kind delimiter number false) d) (p || blank) rs ∙ or-and p blank _
+      at Behind d blank p rs = one (fresh delimiter number (begin_of first)) (opened (begin_of first) (list_kind delimiter number false) d) (p || blank) rs ∙ or-and p blank _
+      at (InList o) d blank p rs = same (o.delimiter == delimiter) o d blank p rs refl
 
   paragraph-parted : (first : Row) (more : List Row) (after : Blocks) → KnowsParted after → KnowsParted (Paragraph first more after)
   paragraph-parted first more after a = (at, λ o d blank p q rs. a.1 None _ false (p || blank) p rs ∙ other (is_title after) blank p)
     where
       -- where no list is open that a title goes on with
-      other : (z blank p : Bool) → (if z then (p || blank) || parted (ItemWith definition_mark) false after else (p || blank) || parted Other false after) ≡ (p || (if z then (blank && true) || parted (ItemWith definition_mark) false after else blank || parted Other false after))
+      other : (z blank p : Bool) → (if z then (p || blank) || parted (ItemWith definition_delimiter) false after else (p || blank) || parted Other false after) ≡ (p || (if z then (blank && true) || parted (ItemWith definition_delimiter) false after else blank || parted Other false after))
       other true blank p = or-and p blank _
       other false blank p = or-assoc p blank _
 
-      joins : (z m blank p : Bool) → m ≡ true → (if z then p || parted (ItemWith definition_mark) false after else (p || blank) || parted Other false after) ≡ (p || (if z then (blank && not m) || parted (ItemWith definition_mark) false after else blank || parted Other false after))
-      joins true m blank p e = ap (λ z. p || (z || parted (ItemWith definition_mark) false after)) (sym (and-false blank) ∙ ap (λ z. blank && not z) (sym e))
+      joins : (z m blank p : Bool) → m ≡ true → (if z then p || parted (ItemWith definition_delimiter) false after else (p || blank) || parted Other false after) ≡ (p || (if z then (blank && not m) || parted (ItemWith definition_delimiter) false after else blank || parted Other false after))
+      joins true m blank p e = ap (λ z. p || (z || parted (ItemWith definition_delimiter) false after)) (sym (and-false blank) ∙ ap (λ z. blank && not z) (sym e))
       joins false m blank p e = or-assoc p blank _
 
-      apart : (z m blank p : Bool) → m ≡ false → (if z then (p || blank) || parted (ItemWith definition_mark) false after else (p || blank) || parted Other false after) ≡ (p || (if z then (blank && not m) || parted (ItemWith definition_mark) false after else blank || parted Other false after))
-      apart z m blank p e = other z blank p ∙ ap (λ y. p || (if z then (blank && not y) || parted (ItemWith definition_mark) false after else blank || parted Other false after)) (sym e)
+      apart : (z m blank p : Bool) → m ≡ false → (if z then (p || blank) || parted (ItemWith definition_delimiter) false after else (p || blank) || parted Other false after) ≡ (p || (if z then (blank && not m) || parted (ItemWith definition_delimiter) false after else blank || parted Other false after))
+      apart z m blank p e = other z blank p ∙ ap (λ y. p || (if z then (blank && not y) || parted (ItemWith definition_delimiter) false after else blank || parted Other false after)) (sym e)
 
-      list : (z : Bool) (o : OpenList) (d : Drawing) (blank p : Bool) (rs : Noted) → (o.mark == definition_mark) ≡ z
-          → (replay text options lookup after (titled (if z then Some o else None) d false (p || blank) p rs)).inner.parted ≡ (p || parted (ItemWith o.mark) blank (Paragraph first more after))
-      list true o d blank p rs e = ap (λ x. (replay text options lookup after (titled (Some x) d false (p || blank) p rs)).inner.parted) (colon-same o e) ∙ a.1 (Some o) d false (p || blank) p rs ∙ joins (is_title after) (o.mark == definition_mark) blank p e
-      list false o d blank p rs e = a.1 None d false (p || blank) p rs ∙ apart (is_title after) (o.mark == definition_mark) blank p e
+      list : (z : Bool) (o : OpenList) (d : Drawing) (blank p : Bool) (rs : Noted) → (o.delimiter == definition_delimiter) ≡ z
+          → (replay text options lookup after (titled (if z then Some o else None) d false (p || blank) p rs)).inner.parted ≡ (p || parted (ItemWith o.delimiter) blank (Paragraph first more after))
+      list true o d blank p rs e = ap (λ x. (replay text options lookup after (titled (Some x) d false (p || blank) p rs)).inner.parted) (colon-same o e) ∙ a.1 (Some o) d false (p || blank) p rs ∙ joins (is_title after) (o.delimiter == definition_delimiter) blank p e
+      list false o d blank p rs e = a.1 None d false (p || blank) p rs ∙ apart (is_title after) (o.delimiter == definition_delimiter) blank p e
 
       at : (s : Stand) (d : Drawing) (blank p : Bool) (rs : Noted) → (replay text options lookup (Paragraph first more after) (level_of s d blank p rs)).inner.parted ≡ (p || parted (before_of s) blank (Paragraph first more after))
       at First d blank p rs = a.1 None _ false (p || blank) p rs ∙ other (is_title after) blank p
       at Behind d blank p rs = a.1 None _ false (p || blank) p rs ∙ other (is_title after) blank p
-      at (InList o) d blank p rs = list (o.mark == definition_mark) o _ blank p rs refl
+      at (InList o) d blank p rs = list (o.delimiter == definition_delimiter) o _ blank p rs refl
 
   -- a blank line stands between two
   pub parted_behind : (b : Blocks) → KnowsParted b
@@ -231,12 +231,12 @@ module _ (text : List ℕ) (options : Options) (lookup : Lookup) where
   parted_behind (Paragraph first more after) = paragraph-parted first more after (parted_behind after)
   parted_behind (SetextHeading level first more underline after) = let a = parted_behind after in (λ s d blank p rs. a.0 Behind _ false (p || blank) rs ∙ or-assoc p blank _, λ o d blank p q rs. a.0 Behind _ false (p || blank) rs ∙ or-assoc p blank _)
   parted_behind (LeafBlock leaf first more after) = let a = parted_behind after in (λ s d blank p rs. a.0 Behind _ false (p || blank) _ ∙ or-assoc p blank _, λ o d blank p q rs. a.0 Behind _ false (p || blank) _ ∙ or-assoc p blank _)
-  parted_behind (ContainerBlock (Quote alert) first more inside after) = let a = parted_behind after in (λ s d blank p rs. a.0 Behind _ false (p || blank) _ ∙ or-assoc p blank _, λ o d blank p q rs. a.0 Behind _ false (p || blank) _ ∙ or-assoc p blank _)
+  parted_behind (ContainerBlock (BlockQuote alert) first more inside after) = let a = parted_behind after in (λ s d blank p rs. a.0 Behind _ false (p || blank) _ ∙ or-assoc p blank _, λ o d blank p q rs. a.0 Behind _ false (p || blank) _ ∙ or-assoc p blank _)
   parted_behind (ContainerBlock (Footnote label old size) first more inside after) =
       let i = blank_behind inside in
       let a = parted_behind after in (
         λ s d blank p rs. a.0 Behind _ _ (p || blank) _ ∙ or-assoc p blank _ ∙ ap (λ z. p || (blank || parted Other z after)) (i.0 First _ false false _),
         λ o d blank p q rs. a.0 Behind _ _ (p || blank) _ ∙ or-assoc p blank _ ∙ ap (λ z. p || (blank || parted Other z after)) (i.0 First _ false false _),
       )
-  parted_behind (ContainerBlock (Item mark number width task) first more inside after) = item-parted first more inside after mark number width task (parted_behind after)
+  parted_behind (ContainerBlock (Item delimiter number width task) first more inside after) = item-parted first more inside after delimiter number width task (parted_behind after)
   parted_behind (ContainerBlock (ListDefinition width) first more inside after) = definition-parted first more inside after width (parted_behind after)

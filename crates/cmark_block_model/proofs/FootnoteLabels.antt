@@ -3,11 +3,11 @@ use Rattle.std.proofs.Common.{◌≡◌, ◌==◌, ℕ, Bool, true, false, List,
 use Rattle.cmark_grammar.specs.Options.{Options}
 use Rattle.cmark_grammar.specs.Answers.{Lookup}
 use Rattle.cmark_grammar.specs.Labels.{normal_form}
-use Rattle.cmark_grammar.specs.Rows.{Row, past_of, begin_of, start_of}
-use Rattle.cmark_grammar.specs.Containers.{Quote, Item, Footnote, ListDefinition}
+use Rattle.cmark_grammar.specs.Rows.{Row, last_line_end, begin_of, start_of}
+use Rattle.cmark_grammar.specs.Containers.{BlockQuote, Item, Footnote, ListDefinition}
 use Rattle.cmark_grammar.specs.Openings.{Leaf, ThematicBreak, AtxHeading, IndentedCode, FencedCode, HtmlBlock, LinkDefinition, MetadataBlock, Table}
 use Rattle.cmark_grammar.specs.Blocks.{Blocks, Nil as NoBlocks, BlankLine, Paragraph, SetextHeading, LeafBlock, ContainerBlock}
-use Rattle.cmark_grammar.specs.Lists.{ListBefore, tight_behind, goes_on, definition_mark, is_title, title_tight_behind}
+use Rattle.cmark_grammar.specs.Lists.{ListBefore, tight_behind, goes_on, definition_delimiter, is_title, title_tight_behind}
 use Rattle.cmark_grammar.specs.Tokens.{fenced_lines, lines_before, paragraph_tokens}
 use Rattle.cmark_grammar.specs.Derivation.{paragraph_kind, leaf_then, item_then, document_of, list_kind}
 use Rattle.cmark_grammar.specs.BlockDocument as document
@@ -27,18 +27,18 @@ paragraph-labels true start end t d h = ap (λ r. r ++ footnote_labels d) h.labe
 paragraph-labels false start end t d h = ap (λ r. r ++ footnote_labels d) h.labels
 
 -- a list of any kind has none
-list-silent : (mark : ℕ) (number : Option ℕ) (tight : Bool) → footnote_label (list_kind mark number tight) ≡ []
-list-silent mark number tight = go (mark == definition_mark)
+list-silent : (delimiter : ℕ) (number : Option ℕ) (tight : Bool) → footnote_label (list_kind delimiter number tight) ≡ []
+list-silent delimiter number tight = go (delimiter == definition_delimiter)
   where
     go : (z : Bool) → footnote_label (if z then document.DefinitionList tight else document.BlockList number tight) ≡ []
     go true = refl
     go false = refl
 
-item-labels : (joins direct tight : Bool) (list kind : BlockKind) (start past : ℕ) (inner : BlockDocument) (s : Split) (d : BlockDocument) → footnote_label list ≡ [] → footnote_label kind ≡ [] → Joins joins direct tight s d → footnote_labels (item_then joins list (node kind start past) inner d) ≡ (footnote_labels inner ++ footnote_labels d)
-item-labels false direct tight list kind start past inner s d l k j =
+item-labels : (joins direct tight : Bool) (list kind : BlockKind) (start line_end : ℕ) (inner : BlockDocument) (s : Split) (d : BlockDocument) → footnote_label list ≡ [] → footnote_label kind ≡ [] → Joins joins direct tight s d → footnote_labels (item_then joins list (node kind start line_end) inner d) ≡ (footnote_labels inner ++ footnote_labels d)
+item-labels false direct tight list kind start line_end inner s d l k j =
     ap (λ a. a ++ ((footnote_label kind ++ (footnote_labels inner ++ [])) ++ footnote_labels d)) l ∙ ap (λ a. (a ++ (footnote_labels inner ++ [])) ++ footnote_labels d) k ∙ ap (λ r. r ++ footnote_labels d) (append-nil (footnote_labels inner))
-item-labels true direct tight list kind start past inner s d l k j =
-    ap (λ x. footnote_labels (item_then true list (node kind start past) inner x)) j.is
+item-labels true direct tight list kind start line_end inner s d l k j =
+    ap (λ x. footnote_labels (item_then true list (node kind start line_end) inner x)) j.is
     ∙ ap (λ a. a ++ ((footnote_label kind ++ (footnote_labels inner ++ footnote_labels j.items)) ++ footnote_labels j.after)) l ∙ ap (λ a. (a ++ (footnote_labels inner ++ footnote_labels j.items)) ++ footnote_labels j.after) k
     ∙ append_assoc (footnote_labels inner) (footnote_labels j.items) (footnote_labels j.after) ∙ ap (λ a. footnote_labels inner ++ (a ++ (footnote_labels j.items ++ footnote_labels j.after))) (sym j.unlabelled) ∙ ap (λ x. footnote_labels inner ++ footnote_labels x) (sym j.is)
 
@@ -46,17 +46,17 @@ marked-labels : (task : Option Bool) (width : ℕ) (first : Row) (d : BlockDocum
 marked-labels None width first d = refl
 marked-labels (Some is_checked) width first d = refl
 
-item-keeps : (mark : ℕ) (number : Option ℕ) (start : ℕ) (l : Level) (o : Option OpenList) → (item_level mark number start l o).noted.footnotes ≡ l.noted.footnotes
-item-keeps mark number start l None = refl
-item-keeps mark number start l (Some o) = go (o.mark == mark)
+item-keeps : (delimiter : ℕ) (number : Option ℕ) (start : ℕ) (l : Level) (o : Option OpenList) → (item_level delimiter number start l o).noted.footnotes ≡ l.noted.footnotes
+item-keeps delimiter number start l None = refl
+item-keeps delimiter number start l (Some o) = go (o.delimiter == delimiter)
   where
-    go : (z : Bool) → (item_if z mark number start o l).noted.footnotes ≡ l.noted.footnotes
+    go : (z : Bool) → (item_if z delimiter number start o l).noted.footnotes ≡ l.noted.footnotes
     go true = refl
     go false = refl
 
 -- a definition changes none of them
 definition-keeps : (o : Option Title) (start : ℕ) (l : Level) → (definition_level o start l).noted.footnotes ≡ l.noted.footnotes
-definition-keeps None start l = item-keeps definition_mark None start l l.inner.list
+definition-keeps None start l = item-keeps definition_delimiter None start l l.inner.list
 definition-keeps (Some t) start l = go t.list
   where
     go : (o : Option OpenList) → (title_level o t.parted start l).noted.footnotes ≡ l.noted.footnotes
@@ -83,48 +83,48 @@ module _ (text : List ℕ) (options : Options) (lookup : Lookup) where
       tight = title_tight_behind before after
 
       go : (z : Bool) → is_title after ≡ z → ((b : Option ListBefore) → (replay text options lookup (Paragraph first more after) l).noted.footnotes ≡ (l.noted.footnotes ++ footnote_labels (document_of text options lookup direct b after)))
-          → (replay text options lookup (Paragraph first more after) l).noted.footnotes ≡ (l.noted.footnotes ++ footnote_labels (if z then item_then true (document.DefinitionList tight) (node document.DefinitionListTitle (start_of first) (past_of first more)) (paragraph_tokens text first more) (document_of text options lookup direct (Some (record { mark = definition_mark; tight = tight })) after)
-          else Node (node (paragraph_kind direct) (start_of first) (past_of first more)) (paragraph_tokens text first more) (document_of text options lookup direct None after)))
+          → (replay text options lookup (Paragraph first more after) l).noted.footnotes ≡ (l.noted.footnotes ++ footnote_labels (if z then item_then true (document.DefinitionList tight) (node document.DefinitionListTitle (start_of first) (last_line_end first more)) (paragraph_tokens text first more) (document_of text options lookup direct (Some (record { delimiter = definition_delimiter; tight = tight })) after)
+          else Node (node (paragraph_kind direct) (start_of first) (last_line_end first more)) (paragraph_tokens text first more) (document_of text options lookup direct None after)))
       go true e h =
-          let d = document_of text options lookup direct (Some (record { mark = definition_mark; tight = tight })) after in
-          h (Some (record { mark = definition_mark; tight = tight }))
+          let d = document_of text options lookup direct (Some (record { delimiter = definition_delimiter; tight = tight })) after in
+          h (Some (record { delimiter = definition_delimiter; tight = tight }))
           ∙ ap (λ r. l.noted.footnotes ++ (r ++ footnote_labels d)) (sym (paragraph_plain text first more).labels)
-          ∙ ap (λ r. l.noted.footnotes ++ r) (sym (item-labels true direct tight (document.DefinitionList tight) document.DefinitionListTitle (start_of first) (past_of first more) (paragraph_tokens text first more) (split text options lookup (Some definition_mark) after) d refl refl
-          (subst (λ z. Joins z direct tight (split text options lookup (Some definition_mark) after) d) (title_goes_on text options lookup after e) (settles text options lookup after direct (Some (record { mark = definition_mark; tight = tight }))))))
+          ∙ ap (λ r. l.noted.footnotes ++ r) (sym (item-labels true direct tight (document.DefinitionList tight) document.DefinitionListTitle (start_of first) (last_line_end first more) (paragraph_tokens text first more) (split text options lookup (Some definition_delimiter) after) d refl refl
+          (subst (λ z. Joins z direct tight (split text options lookup (Some definition_delimiter) after) d) (title_goes_on text options lookup after e) (settles text options lookup after direct (Some (record { delimiter = definition_delimiter; tight = tight }))))))
       go false e h =
-          h None ∙ ap (λ r. l.noted.footnotes ++ r) (sym (paragraph-labels direct (start_of first) (past_of first more) _ (document_of text options lookup direct None after) (paragraph_plain text first more)))
+          h None ∙ ap (λ r. l.noted.footnotes ++ r) (sym (paragraph-labels direct (start_of first) (last_line_end first more) _ (document_of text options lookup direct None after) (paragraph_plain text first more)))
   labels (SetextHeading level first more underline after) direct before l =
       labels after direct None (heading_level text options lookup level first more underline l)
       ∙ ap (λ r. l.noted.footnotes ++ (r ++ footnote_labels (document_of text options lookup direct None after))) (sym (setext_plain text options.heading_attributes first more).labels)
   labels (LeafBlock leaf first more after) direct before l =
       labels after direct None (leaf_level text options lookup leaf first more l) ∙ leaf-labels leaf first more l.noted (document_of text options lookup direct None after)
-  labels (ContainerBlock (Quote alert) first more inside after) direct before l =
-      labels after direct None (left_by (Quote alert) (standing (Quote alert) first l).inner (past_of first more) (replay text options lookup inside (entered (Quote alert) first l)))
-      ∙ ap (λ r. r ++ footnote_labels (document_of text options lookup direct None after)) (labels inside false None (entered (Quote alert) first l))
+  labels (ContainerBlock (BlockQuote alert) first more inside after) direct before l =
+      labels after direct None (left_by (BlockQuote alert) (standing (BlockQuote alert) first l).inner (last_line_end first more) (replay text options lookup inside (entered (BlockQuote alert) first l)))
+      ∙ ap (λ r. r ++ footnote_labels (document_of text options lookup direct None after)) (labels inside false None (entered (BlockQuote alert) first l))
       ∙ append_assoc l.noted.footnotes (footnote_labels (document_of text options lookup false None inside)) (footnote_labels (document_of text options lookup direct None after))
   labels (ContainerBlock (Footnote label old size) first more inside after) direct before l =
       let inner = footnote_labels (document_of text options lookup false None inside) in
       let behind = footnote_labels (document_of text options lookup direct None after) in
-      labels after direct None (left_by (Footnote label old size) (standing (Footnote label old size) first l).inner (past_of first more) (replay text options lookup inside (entered (Footnote label old size) first l)))
+      labels after direct None (left_by (Footnote label old size) (standing (Footnote label old size) first l).inner (last_line_end first more) (replay text options lookup inside (entered (Footnote label old size) first l)))
       ∙ ap (λ r. r ++ behind) (labels inside false None (entered (Footnote label old size) first l))
       ∙ append_assoc (l.noted.footnotes ++ normal_form label ∷ []) inner behind
       ∙ append_assoc l.noted.footnotes (normal_form label ∷ []) (inner ++ behind)
-  labels (ContainerBlock (Item mark number width task) first more inside after) direct before l =
-      let k = Item mark number width task in
-      let t = tight_behind before mark inside after in
-      let d = document_of text options lookup direct (Some (record { mark = mark; tight = t })) after in
+  labels (ContainerBlock (Item delimiter number width task) first more inside after) direct before l =
+      let k = Item delimiter number width task in
+      let t = tight_behind before delimiter inside after in
+      let d = document_of text options lookup direct (Some (record { delimiter = delimiter; tight = t })) after in
       let j = document_of text options lookup t None inside in
       let i = marked task width first j in
-      labels after direct (Some (record { mark = mark; tight = t })) (left_by k (standing k first l).inner (past_of first more) (replay text options lookup inside (entered k first l)))
-      ∙ ap (λ r. r ++ footnote_labels d) (labels inside t None (entered k first l) ∙ ap (λ r. (entered k first l).noted.footnotes ++ r) (marked-labels task width first j) ∙ ap (λ r. r ++ footnote_labels i) (item-keeps mark number (begin_of first) l l.inner.list))
+      labels after direct (Some (record { delimiter = delimiter; tight = t })) (left_by k (standing k first l).inner (last_line_end first more) (replay text options lookup inside (entered k first l)))
+      ∙ ap (λ r. r ++ footnote_labels d) (labels inside t None (entered k first l) ∙ ap (λ r. (entered k first l).noted.footnotes ++ r) (marked-labels task width first j) ∙ ap (λ r. r ++ footnote_labels i) (item-keeps delimiter number (begin_of first) l l.inner.list))
       ∙ append_assoc l.noted.footnotes (footnote_labels i) (footnote_labels d)
-      ∙ ap (λ r. l.noted.footnotes ++ r) (sym (item-labels (goes_on mark after) direct t (list_kind mark number t) document.ListItem (begin_of first) (past_of first more) i (split text options lookup (Some mark) after) d (list-silent mark number t) refl (settles text options lookup after direct (Some (record { mark = mark; tight = t })))))
+      ∙ ap (λ r. l.noted.footnotes ++ r) (sym (item-labels (goes_on delimiter after) direct t (list_kind delimiter number t) document.ListItem (begin_of first) (last_line_end first more) i (split text options lookup (Some delimiter) after) d (list-silent delimiter number t) refl (settles text options lookup after direct (Some (record { delimiter = delimiter; tight = t })))))
   labels (ContainerBlock (ListDefinition width) first more inside after) direct before l =
       let k = ListDefinition width in
-      let t = tight_behind before definition_mark inside after in
-      let d = document_of text options lookup direct (Some (record { mark = definition_mark; tight = t })) after in
+      let t = tight_behind before definition_delimiter inside after in
+      let d = document_of text options lookup direct (Some (record { delimiter = definition_delimiter; tight = t })) after in
       let j = document_of text options lookup t None inside in
-      labels after direct (Some (record { mark = definition_mark; tight = t })) (left_by k (standing k first l).inner (past_of first more) (replay text options lookup inside (entered k first l)))
+      labels after direct (Some (record { delimiter = definition_delimiter; tight = t })) (left_by k (standing k first l).inner (last_line_end first more) (replay text options lookup inside (entered k first l)))
       ∙ ap (λ r. r ++ footnote_labels d) (labels inside t None (entered k first l) ∙ ap (λ r. r ++ footnote_labels j) (definition-keeps l.inner.title (begin_of first) l))
       ∙ append_assoc l.noted.footnotes (footnote_labels j) (footnote_labels d)
-      ∙ ap (λ r. l.noted.footnotes ++ r) (sym (item-labels (goes_on definition_mark after) direct t (document.DefinitionList t) document.DefinitionListDefinition (begin_of first) (past_of first more) j (split text options lookup (Some definition_mark) after) d refl refl (settles text options lookup after direct (Some (record { mark = definition_mark; tight = t })))))
+      ∙ ap (λ r. l.noted.footnotes ++ r) (sym (item-labels (goes_on definition_delimiter after) direct t (document.DefinitionList t) document.DefinitionListDefinition (begin_of first) (last_line_end first more) j (split text options lookup (Some definition_delimiter) after) d refl refl (settles text options lookup after direct (Some (record { delimiter = definition_delimiter; tight = t })))))

@@ -4,11 +4,11 @@ use Rattle.cmark_grammar.specs.Answers.{Lookup}
 use Rattle.cmark_grammar.specs.Options.{Options}
 use Rattle.cmark_grammar.specs.Event.{End}
 use Rattle.cmark_grammar.specs.TagEnd.{end_of}
-use Rattle.cmark_grammar.specs.Rows.{Row, without, first_place, begin_of, start_of, past_of, words_of}
-use Rattle.cmark_grammar.specs.Containers.{Quote, Item, Footnote, ListDefinition}
+use Rattle.cmark_grammar.specs.Rows.{Row, without, first_place, begin_of, start_of, last_line_end, words_of}
+use Rattle.cmark_grammar.specs.Containers.{BlockQuote, Item, Footnote, ListDefinition}
 use Rattle.cmark_grammar.specs.Openings.{Leaf, ThematicBreak as ThematicBreakLeaf, AtxHeading as AtxHeadingLeaf, IndentedCode as IndentedCodeLeaf, FencedCode as FencedCodeLeaf, HtmlBlock as HtmlBlockLeaf, LinkDefinition as LinkDefinitionLeaf, MetadataBlock as MetadataBlockLeaf, Table as TableLeaf}
 use Rattle.cmark_grammar.specs.Blocks.{Blocks, Nil as NoBlocks, BlankLine, Paragraph as ParagraphBlock, SetextHeading, LeafBlock, ContainerBlock}
-use Rattle.cmark_grammar.specs.Lists.{ListBefore, tight_behind, goes_on, definition_mark, is_title, title_tight_behind}
+use Rattle.cmark_grammar.specs.Lists.{ListBefore, tight_behind, goes_on, definition_delimiter, is_title, title_tight_behind}
 use Rattle.cmark_grammar.specs.Tokens.{Piece, end_place, piece_if, texts_then, words_end, stretch_then, stretches, html_then, html_tokens, verbatim_line, behind_hashes, heading_columns, code_pieces, fenced_lines, lines_before, paragraph_tokens}
 use Rattle.cmark_grammar.specs.Columns.{is_blank_byte, drop_end}
 use Rattle.cmark_grammar.specs.SetextAttributes.{content_of, ends_in_braces, attributes_place, texts_before, texts_if, setext_tokens}
@@ -51,12 +51,12 @@ stretch-free text start end after h = texts-free (piece_if text start end []) af
 
 stretches-free : (text : List ℕ) (begin : ℕ) (r : Row) (more : List Row) → AreNoDefinitions (stretches text begin r more)
 stretches-free text begin r [] = stretch-free text begin (words_end r) Nil tt
-stretches-free text begin r (s ∷ more) = go (begin_of s == r.past) (stretches-free text begin s more) (stretches-free text (begin_of s) s more)
+stretches-free text begin r (s ∷ more) = go (begin_of s == r.line_end) (stretches-free text begin s more) (stretches-free text (begin_of s) s more)
   where
     go : (z : Bool) → AreNoDefinitions (stretches text begin s more) → AreNoDefinitions (stretches text (begin_of s) s more)
-        → AreNoDefinitions (if z then stretches text begin s more else stretch_then text begin r.past (stretches text (begin_of s) s more))
+        → AreNoDefinitions (if z then stretches text begin s more else stretch_then text begin r.line_end (stretches text (begin_of s) s more))
     go true p q = p
-    go false p q = stretch-free text begin r.past (stretches text (begin_of s) s more) q
+    go false p q = stretch-free text begin r.line_end (stretches text (begin_of s) s more) q
 
 texts-whole : (ps : List Piece) (after : BlockDocument) → HasWholeLeaves after → HasWholeLeaves (texts_then ps after)
 texts-whole [] after h = h
@@ -67,12 +67,12 @@ stretch-whole text start end after h = texts-whole (piece_if text start end []) 
 
 stretches-whole : (text : List ℕ) (begin : ℕ) (r : Row) (more : List Row) → HasWholeLeaves (stretches text begin r more)
 stretches-whole text begin r [] = stretch-whole text begin (words_end r) Nil tt
-stretches-whole text begin r (s ∷ more) = go (begin_of s == r.past) (stretches-whole text begin s more) (stretches-whole text (begin_of s) s more)
+stretches-whole text begin r (s ∷ more) = go (begin_of s == r.line_end) (stretches-whole text begin s more) (stretches-whole text (begin_of s) s more)
   where
     go : (z : Bool) → HasWholeLeaves (stretches text begin s more) → HasWholeLeaves (stretches text (begin_of s) s more)
-        → HasWholeLeaves (if z then stretches text begin s more else stretch_then text begin r.past (stretches text (begin_of s) s more))
+        → HasWholeLeaves (if z then stretches text begin s more else stretch_then text begin r.line_end (stretches text (begin_of s) s more))
     go true p q = p
-    go false p q = stretch-whole text begin r.past (stretches text (begin_of s) s more) q
+    go false p q = stretch-whole text begin r.line_end (stretches text (begin_of s) s more) q
 
 before-free : (text : List ℕ) (at : ℕ) (d : BlockDocument) → AreNoDefinitions d → AreNoDefinitions (texts_before text at d)
 before-free text at Nil h = tt
@@ -113,16 +113,16 @@ html-whole text (r ∷ rs) = html-then-whole (verbatim_line text r.columns r) (h
 no-leaf : (kind : Bool) → kind ≡ false → (P : Type 0) → kind ≡ true → P
 no-leaf kind e P f = absurd (let q : true ≡ false = sym f ∙ e in cc)
 
-cells-whole : (text : List ℕ) (columns at past : ℕ) (cells : List (List ℕ)) → HasWholeLeaves (cells_then text columns at past cells)
-cells-whole text zero at past cells = tt
-cells-whole text (suc columns) at past [] = (λ e. tt, tt, cells-whole text columns at past [])
-cells-whole text (suc columns) at past (cell ∷ cells) =
+cells-whole : (text : List ℕ) (columns at line_end : ℕ) (cells : List (List ℕ)) → HasWholeLeaves (cells_then text columns at line_end cells)
+cells-whole text zero at line_end cells = tt
+cells-whole text (suc columns) at line_end [] = (λ e. tt, tt, cells-whole text columns at line_end [])
+cells-whole text (suc columns) at line_end (cell ∷ cells) =
     let start = at + length (take_while is_blank_byte cell) in
     let end = at + length (drop_end is_blank_byte cell) in
-    (λ e. stretch-free text start end Nil tt, stretch-whole text start end Nil tt, cells-whole text columns (suc (at + length cell)) past cells)
+    (λ e. stretch-free text start end Nil tt, stretch-whole text start end Nil tt, cells-whole text columns (suc (at + length cell)) line_end cells)
 
 row-whole : (text : List ℕ) (columns : ℕ) (r : Row) → HasWholeLeaves (row_cells text columns r)
-row-whole text columns r = cells-whole text columns (cells_start r) r.past (cells_of (words_of r))
+row-whole text columns r = cells-whole text columns (cells_start r) r.line_end (cells_of (words_of r))
 
 rows-whole : (text : List ℕ) (columns : ℕ) (rs : List Row) → HasWholeLeaves (row_tokens text columns rs)
 rows-whole text columns [] = tt
@@ -131,7 +131,7 @@ rows-whole text columns (r ∷ rs) = (λ e. no-leaf false refl _ e, row-whole te
 leaf-whole : (text : List ℕ) (options : Options) (lookup : Lookup) (leaf : Leaf) (first : Row) (more : List Row) (after : BlockDocument) → HasWholeLeaves after → HasWholeLeaves (leaf_then text options lookup leaf first more after)
 leaf-whole text options lookup ThematicBreakLeaf first more after h = (λ e. tt, tt, h)
 leaf-whole text options lookup (AtxHeadingLeaf level) first more after h =
-    let start = first_place first.stop (behind_hashes level first) in
+    let start = first_place first.content_end (behind_hashes level first) in
     let end = end_place start (heading_columns options.heading_attributes level first) in
     (λ e. stretch-free text start end Nil tt, stretch-whole text start end Nil tt, h)
 leaf-whole text options lookup IndentedCodeLeaf first more after h = (λ e. texts-free (code_pieces text 4 (first ∷ more)) Nil tt, texts-whole (code_pieces text 4 (first ∷ more)) Nil tt, h)
@@ -150,8 +150,8 @@ item-whole false list item inside after l k i a = (λ e. no-leaf _ l _ e, (k, i,
 item-whole true list item inside Nil l k i a = (λ e. no-leaf _ l _ e, (k, i, tt), tt)
 item-whole true list item inside (Node others items after) l k i a = (λ e. no-leaf _ l _ e, (k, i, a.1), a.2)
 
-list-no-leaf : (mark : ℕ) (number : Option ℕ) (tight : Bool) → is_leaf (list_kind mark number tight) ≡ false
-list-no-leaf mark number tight = go (mark == definition_mark)
+list-no-leaf : (delimiter : ℕ) (number : Option ℕ) (tight : Bool) → is_leaf (list_kind delimiter number tight) ≡ false
+list-no-leaf delimiter number tight = go (delimiter == definition_delimiter)
   where
     go : (z : Bool) → is_leaf (if z then DefinitionList tight else BlockList number tight) ≡ false
     go true = refl
@@ -172,23 +172,23 @@ document-whole text options lookup direct before NoBlocks = tt
 document-whole text options lookup direct before (BlankLine line after) = document-whole text options lookup direct before after
 document-whole text options lookup direct before (ParagraphBlock first more after) =
     let tight = title_tight_behind before after in
-    title-whole (is_title after) tight (paragraph_kind direct) (start_of first) (past_of first more) (paragraph_tokens text first more)
-    (document_of text options lookup direct (Some (record { mark = definition_mark; tight = tight })) after) (document_of text options lookup direct None after)
+    title-whole (is_title after) tight (paragraph_kind direct) (start_of first) (last_line_end first more) (paragraph_tokens text first more)
+    (document_of text options lookup direct (Some (record { delimiter = definition_delimiter; tight = tight })) after) (document_of text options lookup direct None after)
     (stretches-free text (start_of first) first more) (stretches-whole text (start_of first) first more)
-    (document-whole text options lookup direct (Some (record { mark = definition_mark; tight = tight })) after) (document-whole text options lookup direct None after)
+    (document-whole text options lookup direct (Some (record { delimiter = definition_delimiter; tight = tight })) after) (document-whole text options lookup direct None after)
 document-whole text options lookup direct before (SetextHeading level first more underline after) =
     let h = setext-free text options.heading_attributes first more in (λ e. h.0, h.1, document-whole text options lookup direct None after)
 document-whole text options lookup direct before (LeafBlock leaf first more after) = leaf-whole text options lookup leaf first more (document_of text options lookup direct None after) (document-whole text options lookup direct None after)
-document-whole text options lookup direct before (ContainerBlock (Quote alert) first more inside after) = (λ e. no-leaf false refl _ e, document-whole text options lookup false None inside, document-whole text options lookup direct None after)
+document-whole text options lookup direct before (ContainerBlock (BlockQuote alert) first more inside after) = (λ e. no-leaf false refl _ e, document-whole text options lookup false None inside, document-whole text options lookup direct None after)
 document-whole text options lookup direct before (ContainerBlock (Footnote label old size) first more inside after) = (λ e. no-leaf false refl _ e, document-whole text options lookup false None inside, document-whole text options lookup direct None after)
-document-whole text options lookup direct before (ContainerBlock (Item mark number width task) first more inside after) =
-    let tight = tight_behind before mark inside after in
-    item-whole (goes_on mark after) (list_kind mark number tight) (node ListItem (begin_of first) (past_of first more)) (task_then task (begin_of (without width first)) (begin_of (without (behind_box task width) first)) (document_of text options lookup tight None inside)) (document_of text options lookup direct (Some (record { mark = mark; tight = tight })) after) (list-no-leaf mark number tight) (λ e. no-leaf false refl _ e)
-    (task-whole task _ _ (document_of text options lookup tight None inside) (document-whole text options lookup tight None inside)) (document-whole text options lookup direct (Some (record { mark = mark; tight = tight })) after)
+document-whole text options lookup direct before (ContainerBlock (Item delimiter number width task) first more inside after) =
+    let tight = tight_behind before delimiter inside after in
+    item-whole (goes_on delimiter after) (list_kind delimiter number tight) (node ListItem (begin_of first) (last_line_end first more)) (task_then task (begin_of (without width first)) (begin_of (without (behind_box task width) first)) (document_of text options lookup tight None inside)) (document_of text options lookup direct (Some (record { delimiter = delimiter; tight = tight })) after) (list-no-leaf delimiter number tight) (λ e. no-leaf false refl _ e)
+    (task-whole task _ _ (document_of text options lookup tight None inside) (document-whole text options lookup tight None inside)) (document-whole text options lookup direct (Some (record { delimiter = delimiter; tight = tight })) after)
 document-whole text options lookup direct before (ContainerBlock (ListDefinition width) first more inside after) =
-    let tight = tight_behind before definition_mark inside after in
-    item-whole (goes_on definition_mark after) (DefinitionList tight) (node DefinitionListDefinition (begin_of first) (past_of first more)) (document_of text options lookup tight None inside) (document_of text options lookup direct (Some (record { mark = definition_mark; tight = tight })) after) refl (λ e. no-leaf false refl _ e)
-    (document-whole text options lookup tight None inside) (document-whole text options lookup direct (Some (record { mark = definition_mark; tight = tight })) after)
+    let tight = tight_behind before definition_delimiter inside after in
+    item-whole (goes_on definition_delimiter after) (DefinitionList tight) (node DefinitionListDefinition (begin_of first) (last_line_end first more)) (document_of text options lookup tight None inside) (document_of text options lookup direct (Some (record { delimiter = definition_delimiter; tight = tight })) after) refl (λ e. no-leaf false refl _ e)
+    (document-whole text options lookup tight None inside) (document-whole text options lookup direct (Some (record { delimiter = definition_delimiter; tight = tight })) after)
 
 derived-whole : (text : List ℕ) (options : Options) (lookup : Lookup) (d : BlockDocument) → Derives text options lookup d → HasWholeLeaves d
 derived-whole text options lookup d h = subst HasWholeLeaves (sym h.2) (document-whole text options lookup false None h.0)

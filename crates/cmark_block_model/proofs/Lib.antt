@@ -2,7 +2,7 @@ pub mod Beginning
 pub mod Closing
 pub mod CodeRuns
 pub mod Defines
-pub mod DefinitionMarks
+pub mod DefinitionDelimiters
 pub mod Drawings
 pub mod Draws
 pub mod Feeding
@@ -11,7 +11,7 @@ pub mod FootnoteLabels
 pub mod Keeping
 pub mod LazyLines
 pub mod LeafDrawings
-pub mod Marks
+pub mod ListDelimiters
 pub mod Mirror
 pub mod PassSamples
 pub mod Places

@@ -3,14 +3,14 @@ use Rattle.std.proofs.Common.{◌≡◌, ℕ, ◌≤◌, Bool, true, false, ◌=
 use Rattle.std.specs.Prelude.{if◌then◌else◌}
 use Rattle.cmark_grammar.specs.Options.{Options}
 use Rattle.cmark_grammar.specs.Answers.{Lookup}
-use Rattle.cmark_grammar.specs.Rows.{Row, start_of, begin_of, past_of, first_place}
+use Rattle.cmark_grammar.specs.Rows.{Row, start_of, begin_of, last_line_end, first_place}
 use Rattle.cmark_grammar.specs.Leaves.{closes_fence}
 use Rattle.cmark_grammar.specs.Containers.{Container, is_bare_start, bare_after}
 use Rattle.cmark_grammar.specs.Openings.{Leaf, ThematicBreak, AtxHeading, IndentedCode, FencedCode, HtmlBlock, LinkDefinition, MetadataBlock, Table}
 use Rattle.cmark_grammar.specs.BlocksModel.{within}
 use Rattle.cmark_grammar.specs.BlocksByLine.{Verbatim, Indented, Fenced, HtmlLines, OpenLines, Between, BehindTag, InParagraph, InLeaf, InVerbatim, InContainer, Metadata}
 use Rattle.cmark_grammar.specs.Tokens.{resolved, words_end, stretch_then, stretches, html_tokens, html_then, verbatim_line, code_columns}
-use Rattle.cmark_grammar.specs.SetextAttributes.{line_end, content_of, without_braces, setext_attributes}
+use Rattle.cmark_grammar.specs.SetextAttributes.{line_end_column, content_of, without_braces, setext_attributes}
 use Rattle.cmark_grammar.specs.BlockDocument as document
 use Rattle.cmark_grammar.specs.BlockDocument.{BlockDocument, Nil, join}
 use Rattle.cmark_grammar.specs.Metadata.{ends_metadata}
@@ -26,7 +26,7 @@ abbrev pub whole : Row → Row
 whole r = record r { lazy = false }
 
 pub whole-same : (r : Row) → r.lazy ≡ false → whole r ≡ r
-whole-same r e = ap (λ z. record { columns = r.columns; at = r.at; stop = r.stop; past = r.past; lazy = z; held = r.held }) (sym e)
+whole-same r e = ap (λ z. record { columns = r.columns; at = r.at; content_end = r.content_end; line_end = r.line_end; lazy = z; held = r.held }) (sym e)
 
 abbrev pub last_of : Row → List Row → Row
 last_of first [] = first
@@ -36,22 +36,22 @@ pub last_push : (first : Row) (more : List Row) (r : Row) → last_of first (mor
 last_push first [] r = refl
 last_push first (s ∷ more) r = last_push s more r
 
-pub past_push : (first : Row) (more : List Row) (r : Row) → past_of first (more ++ r ∷ []) ≡ r.past
-past_push first [] r = refl
-past_push first (s ∷ more) r = past_push s more r
+pub line_end_push : (first : Row) (more : List Row) (r : Row) → last_line_end first (more ++ r ∷ []) ≡ r.line_end
+line_end_push first [] r = refl
+line_end_push first (s ∷ more) r = line_end_push s more r
 
 -- where the stretch begins that the last of these lines stands in, if the one of the first begins there
 abbrev pub last_begin : (begin : ℕ) → Row → List Row → ℕ
 last_begin begin first [] = begin
-last_begin begin first (r ∷ more) = if begin_of r == first.past then last_begin begin r more else last_begin (begin_of r) r more
+last_begin begin first (r ∷ more) = if begin_of r == first.line_end then last_begin begin r more else last_begin (begin_of r) r more
 
 pub begin_push : (begin : ℕ) (first : Row) (more : List Row) (r : Row)
-    → last_begin begin first (more ++ r ∷ []) ≡ (if begin_of r == (last_of first more).past then last_begin begin first more else begin_of r)
+    → last_begin begin first (more ++ r ∷ []) ≡ (if begin_of r == (last_of first more).line_end then last_begin begin first more else begin_of r)
 begin_push begin first [] r = refl
-begin_push begin first (s ∷ more) r = go (begin_of s == first.past) (begin_push begin s more r) (begin_push (begin_of s) s more r)
+begin_push begin first (s ∷ more) r = go (begin_of s == first.line_end) (begin_push begin s more r) (begin_push (begin_of s) s more r)
   where
     touches : Bool
-    touches = begin_of r == (last_of s more).past
+    touches = begin_of r == (last_of s more).line_end
 
     go : (z : Bool) → last_begin begin s (more ++ r ∷ []) ≡ (if touches then last_begin begin s more else begin_of r)
         → last_begin (begin_of s) s (more ++ r ∷ []) ≡ (if touches then last_begin (begin_of s) s more else begin_of r)
@@ -78,7 +78,7 @@ kept_push true first (s ∷ more) r = ap (λ rs. whole first ∷ rs) (kept_push 
 content-kept : (first : Row) (more : List Row) → content_of (kept_before true first more ++ whole (last_of first more) ∷ []) ≡ content_of (first ∷ more)
 content-kept first [] = refl
 content-kept first (r ∷ []) = refl
-content-kept first (r ∷ (s ∷ more)) = ap (λ cs. first.columns ++ line_end first ∷ cs) (content-kept r (s ∷ more))
+content-kept first (r ∷ (s ∷ more)) = ap (λ cs. first.columns ++ line_end_column first ∷ cs) (content-kept r (s ∷ more))
 
 pub attributes-kept : (attributes : Bool) (first : Row) (more : List Row)
     → setext_attributes attributes (content_of (kept_before attributes first more ++ whole (last_of first more) ∷ [])) ≡ setext_attributes attributes (content_of (first ∷ more))
@@ -91,7 +91,7 @@ braces-kept text false first more d = refl
 braces-kept text true first more d = ap (λ cs. without_braces text true cs d) (content-kept first more)
 
 abbrev pub pass_with : Level → List OpenContainer → Bool → OpenLeaf → ℕ → Pass
-pass_with l outer bare leaf past = record { drawing = l.drawing; inner = l.inner; outer = outer; bare = bare; leaf = leaf; past = past; references = l.noted.references; footnotes = l.noted.footnotes }
+pass_with l outer bare leaf line_end = record { drawing = l.drawing; inner = l.inner; outer = outer; bare = bare; leaf = leaf; line_end = line_end; references = l.noted.references; footnotes = l.noted.footnotes }
 
 abbrev pub leaf_left : Leaf → ℕ → OpenLeaf
 leaf_left ThematicBreak left = Closed
@@ -131,63 +131,63 @@ AreBefore closes (r ∷ rs) = (closes r ≡ false) × AreBefore closes rs
 -- what is known of what is open: bare of the container around, where the last line ended, and the lines ahead
 abbrev pub FitsVerbatim : Verbatim → Row → (had waiting : List Row) → ℕ → Type 0
 FitsVerbatim Indented first had waiting n = Unit {0}
-FitsVerbatim (Fenced fence) first had waiting n = (waiting ≡ []) × (past_of first had ≡ n) × AreBefore (closes_fence fence) had
-FitsVerbatim (HtmlLines kind) first had waiting n = (waiting ≡ []) × (past_of first had ≡ n)
-FitsVerbatim (Metadata kind) first had waiting n = (waiting ≡ []) × (past_of first had ≡ n) × AreBefore (ends_metadata kind) had
+FitsVerbatim (Fenced fence) first had waiting n = (waiting ≡ []) × (last_line_end first had ≡ n) × AreBefore (closes_fence fence) had
+FitsVerbatim (HtmlLines kind) first had waiting n = (waiting ≡ []) × (last_line_end first had ≡ n)
+FitsVerbatim (Metadata kind) first had waiting n = (waiting ≡ []) × (last_line_end first had ≡ n) × AreBefore (ends_metadata kind) had
 
 abbrev pub Fits : Bool → OpenLines → List Row → ℕ → Type 0
 Fits bare (Between closed) ahead n = Unit {0}
 Fits bare BehindTag ahead n = bare ≡ false
-Fits bare (InParagraph closed first more) ahead n = (bare ≡ false) × (past_of first more ≡ n)
+Fits bare (InParagraph closed first more) ahead n = (bare ≡ false) × (last_line_end first more ≡ n)
 Fits bare (InLeaf closed leaf first had left) ahead n = (bare ≡ false) × (left ≤ length ahead) × (is_looked_up leaf ≡ false → left ≡ 0)
 Fits bare (InVerbatim closed verbatim first had waiting) ahead n = (bare ≡ false) × FitsVerbatim verbatim first had waiting n
 Fits bare (InContainer closed k first more inside) ahead n =
-    (bare ≡ false) × (past_of first more ≡ n) × Fits (bare_after (is_bare_start k first) more) inside (within k (bare_after (is_bare_start k first) more) ahead) n
+    (bare ≡ false) × (last_line_end first more ≡ n) × Fits (bare_after (is_bare_start k first) more) inside (within k (bare_after (is_bare_start k first) more) ahead) n
 
 module _ (text : List ℕ) (options : Options) (lookup : Lookup) where
   -- the stretches of a paragraph but the last
   abbrev pub lines_drawn : (begin : ℕ) → Row → List Row → BlockDocument
   lines_drawn begin first [] = Nil
-  lines_drawn begin first (r ∷ more) = if begin_of r == first.past then lines_drawn begin r more else stretch_then text begin first.past (lines_drawn (begin_of r) r more)
+  lines_drawn begin first (r ∷ more) = if begin_of r == first.line_end then lines_drawn begin r more else stretch_then text begin first.line_end (lines_drawn (begin_of r) r more)
 
   pub drawn-tokens : (begin : ℕ) (first : Row) (more : List Row) → stretches text begin first more ≡ join (lines_drawn begin first more) (stretch_then text (last_begin begin first more) (words_end (last_of first more)) Nil)
   drawn-tokens begin first [] = refl
-  drawn-tokens begin first (r ∷ more) = go (begin_of r == first.past) (drawn-tokens begin r more) (drawn-tokens (begin_of r) r more)
+  drawn-tokens begin first (r ∷ more) = go (begin_of r == first.line_end) (drawn-tokens begin r more) (drawn-tokens (begin_of r) r more)
     where
       last : ℕ → BlockDocument
       last at = stretch_then text at (words_end (last_of r more)) Nil
 
       go : (z : Bool) → stretches text begin r more ≡ join (lines_drawn begin r more) (last (last_begin begin r more)) → stretches text (begin_of r) r more ≡ join (lines_drawn (begin_of r) r more) (last (last_begin (begin_of r) r more))
-          → (if z then stretches text begin r more else stretch_then text begin first.past (stretches text (begin_of r) r more))
-          ≡ join (if z then lines_drawn begin r more else stretch_then text begin first.past (lines_drawn (begin_of r) r more)) (last (if z then last_begin begin r more else last_begin (begin_of r) r more))
+          → (if z then stretches text begin r more else stretch_then text begin first.line_end (stretches text (begin_of r) r more))
+          ≡ join (if z then lines_drawn begin r more else stretch_then text begin first.line_end (lines_drawn (begin_of r) r more)) (last (if z then last_begin begin r more else last_begin (begin_of r) r more))
       go true p q = p
-      go false p q = ap (stretch_then text begin first.past) q ∙ sym (stretch-join text begin first.past (lines_drawn (begin_of r) r more) (last (last_begin (begin_of r) r more)))
+      go false p q = ap (stretch_then text begin first.line_end) q ∙ sym (stretch-join text begin first.line_end (lines_drawn (begin_of r) r more) (last (last_begin (begin_of r) r more)))
 
   -- what one more line draws
-  abbrev pub one_more : Bool → (begin past : ℕ) → BlockDocument → BlockDocument
-  one_more touches begin past before = if touches then before else join before (stretch_then text begin past Nil)
+  abbrev pub one_more : Bool → (begin line_end : ℕ) → BlockDocument → BlockDocument
+  one_more touches begin line_end before = if touches then before else join before (stretch_then text begin line_end Nil)
 
   pub drawn-push : (begin : ℕ) (first : Row) (more : List Row) (r : Row)
-      → lines_drawn begin first (more ++ r ∷ []) ≡ one_more (begin_of r == (last_of first more).past) (last_begin begin first more) (last_of first more).past (lines_drawn begin first more)
+      → lines_drawn begin first (more ++ r ∷ []) ≡ one_more (begin_of r == (last_of first more).line_end) (last_begin begin first more) (last_of first more).line_end (lines_drawn begin first more)
   drawn-push begin first [] r = refl
-  drawn-push begin first (s ∷ more) r = go (begin_of s == first.past) (drawn-push begin s more r) (drawn-push (begin_of s) s more r)
+  drawn-push begin first (s ∷ more) r = go (begin_of s == first.line_end) (drawn-push begin s more r) (drawn-push (begin_of s) s more r)
     where
       touches : Bool
-      touches = begin_of r == (last_of s more).past
+      touches = begin_of r == (last_of s more).line_end
 
-      past : ℕ
-      past = (last_of s more).past
+      line_end : ℕ
+      line_end = (last_of s more).line_end
 
-      inside : (z : Bool) (at : ℕ) (d : BlockDocument) → stretch_then text begin first.past (one_more z at past d) ≡ one_more z at past (stretch_then text begin first.past d)
+      inside : (z : Bool) (at : ℕ) (d : BlockDocument) → stretch_then text begin first.line_end (one_more z at line_end d) ≡ one_more z at line_end (stretch_then text begin first.line_end d)
       inside true at d = refl
-      inside false at d = sym (stretch-join text begin first.past d (stretch_then text at past Nil))
+      inside false at d = sym (stretch-join text begin first.line_end d (stretch_then text at line_end Nil))
 
-      go : (z : Bool) → lines_drawn begin s (more ++ r ∷ []) ≡ one_more touches (last_begin begin s more) past (lines_drawn begin s more)
-          → lines_drawn (begin_of s) s (more ++ r ∷ []) ≡ one_more touches (last_begin (begin_of s) s more) past (lines_drawn (begin_of s) s more)
-          → (if z then lines_drawn begin s (more ++ r ∷ []) else stretch_then text begin first.past (lines_drawn (begin_of s) s (more ++ r ∷ [])))
-          ≡ one_more touches (if z then last_begin begin s more else last_begin (begin_of s) s more) past (if z then lines_drawn begin s more else stretch_then text begin first.past (lines_drawn (begin_of s) s more))
+      go : (z : Bool) → lines_drawn begin s (more ++ r ∷ []) ≡ one_more touches (last_begin begin s more) line_end (lines_drawn begin s more)
+          → lines_drawn (begin_of s) s (more ++ r ∷ []) ≡ one_more touches (last_begin (begin_of s) s more) line_end (lines_drawn (begin_of s) s more)
+          → (if z then lines_drawn begin s (more ++ r ∷ []) else stretch_then text begin first.line_end (lines_drawn (begin_of s) s (more ++ r ∷ [])))
+          ≡ one_more touches (if z then last_begin begin s more else last_begin (begin_of s) s more) line_end (if z then lines_drawn begin s more else stretch_then text begin first.line_end (lines_drawn (begin_of s) s more))
       go true p q = p
-      go false p q = ap (stretch_then text begin first.past) q ∙ inside touches (last_begin (begin_of s) s more) (lines_drawn (begin_of s) s more)
+      go false p q = ap (stretch_then text begin first.line_end) q ∙ inside touches (last_begin (begin_of s) s more) (lines_drawn (begin_of s) s more)
 
   pub html-push : (rs : List Row) (r : Row) → html_tokens text (rs ++ r ∷ []) ≡ join (html_tokens text rs) (html_then (verbatim_line text r.columns r) Nil)
   html-push [] r = refl
@@ -200,7 +200,7 @@ module _ (text : List ℕ) (options : Options) (lookup : Lookup) where
 
   abbrev pub verbatim_level : Verbatim → Row → List Row → Level → Level
   verbatim_level Indented first had l =
-      level_drawn (texts_of (code_run text 4 no_run (first ∷ had)).done) (level_opened (first_place first.stop (code_columns 4 first)) document.IndentedCode (begun l))
+      level_drawn (texts_of (code_run text 4 no_run (first ∷ had)).done) (level_opened (first_place first.content_end (code_columns 4 first)) document.IndentedCode (begun l))
   verbatim_level (Fenced fence) first had l =
       level_drawn (texts_of (code_run text fence.indented no_run had).done) (level_opened (start_of first) (document.FencedCode (resolved lookup fence.info)) (begun l))
   verbatim_level (HtmlLines kind) first had l =
@@ -209,7 +209,7 @@ module _ (text : List ℕ) (options : Options) (lookup : Lookup) where
       level_drawn (texts_of (code_run text 0 no_run had).done) (level_opened (start_of first) (document.MetadataBlock kind) (begun l))
 
   abbrev pub verbatim_leaf : Verbatim → Row → (had waiting : List Row) → OpenLeaf
-  verbatim_leaf Indented first had waiting = InIndented (code_run text 4 no_run (first ∷ had)).waits (past_of first had) waiting
+  verbatim_leaf Indented first had waiting = InIndented (code_run text 4 no_run (first ∷ had)).waits (last_line_end first had) waiting
   verbatim_leaf (Fenced fence) first had waiting = InFenced fence (code_run text fence.indented no_run had).waits
   verbatim_leaf (HtmlLines kind) first had waiting = InHtml kind
   verbatim_leaf (Metadata kind) first had waiting = InMetadata kind (code_run text 0 no_run had).waits

@@ -3,22 +3,22 @@ use Rattle.std.proofs.Common.{◌≡◌, ℕ, Bool, true, false, ◌==◌, List,
 use Rattle.std.specs.Prelude.{if◌then◌else◌}
 use Rattle.cmark_grammar.specs.Answers.{Lookup}
 use Rattle.cmark_grammar.specs.Options.{Options}
-use Rattle.cmark_grammar.specs.Rows.{past_of, begin_of}
-use Rattle.cmark_grammar.specs.Containers.{Quote, Item, Footnote, ListDefinition}
+use Rattle.cmark_grammar.specs.Rows.{last_line_end, begin_of}
+use Rattle.cmark_grammar.specs.Containers.{BlockQuote, Item, Footnote, ListDefinition}
 use Rattle.cmark_grammar.specs.Openings.{Leaf, ThematicBreak, AtxHeading, IndentedCode, FencedCode, HtmlBlock, LinkDefinition, MetadataBlock, Table}
 use Rattle.cmark_grammar.specs.Blocks.{Blocks, Nil, BlankLine, Paragraph, SetextHeading, LeafBlock, ContainerBlock, behind_leaf}
 use Rattle.cmark_grammar.specs.BlocksModel.{place_behind}
-use Rattle.cmark_grammar.specs.Lists.{definition_mark}
+use Rattle.cmark_grammar.specs.Lists.{definition_delimiter}
 use Rattle.cmark_grammar.specs.Places.{Place, Apart, BehindLazy, BehindTask, BehindTitle, is_behind_title, over_blank}
 use Rattle.cmark_block_model.specs.OpenBlocks.{OpenList, Title, Siblings}
 use Rattle.cmark_block_model.specs.BlockPass.{definitions_in, list_behind, place_with, place_of}
-use Rattle.cmark_block_model.proofs.Flags.{same-mark}
-use Rattle.cmark_block_model.proofs.Marks.{Unmarked}
+use Rattle.cmark_block_model.proofs.Flags.{same-delimiter}
+use Rattle.cmark_block_model.proofs.ListDelimiters.{Unmarked}
 use Rattle.cmark_block_model.proofs.Replay.{Level, item_if, item_level, title_level, definition_level, paragraph_level, heading_level, leaf_level, left_by, standing, entered, blank_level, replay}
 
 abbrev pub IsColon : Option OpenList → Type 0
 IsColon None = Unit {0}
-IsColon (Some o) = (o.mark == definition_mark) ≡ true
+IsColon (Some o) = (o.delimiter == definition_delimiter) ≡ true
 
 -- where a list is open the last block is no paragraph, and only a definition list stays open before one
 abbrev pub IsTidy : Option Title → Option OpenList → Type 0
@@ -28,9 +28,9 @@ IsTidy (Some t) (Some o) = ⊥
 
 colon-in : (list : Option OpenList) → IsColon (definitions_in list)
 colon-in None = tt
-colon-in (Some o) = go (o.mark == definition_mark) refl
+colon-in (Some o) = go (o.delimiter == definition_delimiter) refl
   where
-    go : (z : Bool) → (o.mark == definition_mark) ≡ z → IsColon (if z then Some o else None)
+    go : (z : Bool) → (o.delimiter == definition_delimiter) ≡ z → IsColon (if z then Some o else None)
     go true e = e
     go false e = tt
 
@@ -54,23 +54,23 @@ leaf-title (Table alignments) = refl
 abbrev pub Left : Siblings → (behind : Bool) → Type 0
 Left s behind = (parted : Bool) (end : ℕ) → IsTidy s.title (list_behind s.list parted end) × (is_behind_title (place_with s.title (definitions_in (list_behind s.list parted end))) ≡ behind)
 
-marked-place : (o : OpenList) (z : Bool) → (o.mark == definition_mark) ≡ z → is_behind_title (place_with None (definitions_in (Some o))) ≡ z
+marked-place : (o : OpenList) (z : Bool) → (o.delimiter == definition_delimiter) ≡ z → is_behind_title (place_with None (definitions_in (Some o))) ≡ z
 marked-place o true e = ap (λ y. is_behind_title (place_with None (if y then Some o else None))) e
 marked-place o false e = ap (λ y. is_behind_title (place_with None (if y then Some o else None))) e
 
-item-left : (mark : ℕ) (number : Option ℕ) (start : ℕ) (l : Level) (list : Option OpenList) (behind : Bool) → IsTidy l.inner.title list → (mark == definition_mark) ≡ behind → Left (item_level mark number start l list).inner behind
-item-left mark number start l None behind tidy e = λ parted end. (tt, marked-place _ behind e)
-item-left mark number start l (Some o) behind tidy e = go (o.mark == mark) refl l.inner.title tidy refl
+item-left : (delimiter : ℕ) (number : Option ℕ) (start : ℕ) (l : Level) (list : Option OpenList) (behind : Bool) → IsTidy l.inner.title list → (delimiter == definition_delimiter) ≡ behind → Left (item_level delimiter number start l list).inner behind
+item-left delimiter number start l None behind tidy e = λ parted end. (tt, marked-place _ behind e)
+item-left delimiter number start l (Some o) behind tidy e = go (o.delimiter == delimiter) refl l.inner.title tidy refl
   where
     other : Bool → ℕ → OpenList
     other parted end = record o { loose = (o.loose || l.inner.blank) || parted; end = end }
 
-    go : (z : Bool) → (o.mark == mark) ≡ z → (title : Option Title) → IsTidy title (Some o) → l.inner.title ≡ title → Left (item_if z mark number start o l).inner behind
+    go : (z : Bool) → (o.delimiter == delimiter) ≡ z → (title : Option Title) → IsTidy title (Some o) → l.inner.title ≡ title → Left (item_if z delimiter number start o l).inner behind
     go false f title t is = λ parted end. (tt, marked-place _ behind e)
     go true f (Some x) t is = absurd (let z : ⊥ = t in z)
     go true f None t is = λ parted end. (
       subst (λ x. IsTidy x (Some (other parted end))) (sym is) tt,
-      ap (λ x. is_behind_title (place_with x (definitions_in (Some (other parted end))))) is ∙ marked-place (other parted end) behind (ap (λ m. m == definition_mark) (same-mark o.mark mark f) ∙ e),
+      ap (λ x. is_behind_title (place_with x (definitions_in (Some (other parted end))))) is ∙ marked-place (other parted end) behind (ap (λ m. m == definition_delimiter) (same-delimiter o.delimiter delimiter f) ∙ e),
     )
 
 title-left : (o : Option OpenList) (parted : Bool) (start : ℕ) (l : Level) → IsColon o → Left (title_level o parted start l).inner true
@@ -78,7 +78,7 @@ title-left None parted start l c = λ p end. (tt, refl)
 title-left (Some o) parted start l c = λ p end. (tt, marked-place _ true c)
 
 definition-left : (title : Option Title) (start : ℕ) (l : Level) → l.inner.title ≡ title → IsTidy title l.inner.list → Left (definition_level title start l).inner true
-definition-left None start l is tidy = item-left definition_mark None start l l.inner.list true (subst (λ x. IsTidy x l.inner.list) (sym is) tidy) refl
+definition-left None start l is tidy = item-left definition_delimiter None start l l.inner.list true (subst (λ x. IsTidy x l.inner.list) (sym is) tidy) refl
 definition-left (Some t) start l is tidy = title-left t.list t.parted start l (go l.inner.list tidy)
   where
     go : (list : Option OpenList) → IsTidy (Some t) list → IsColon t.list
@@ -93,17 +93,17 @@ module _ (text : List ℕ) (options : Options) (lookup : Lookup) where
   place-replay (Paragraph first more after) place l u t e = place-replay after BehindTitle (paragraph_level text options lookup first more l) u (colon-in l.inner.list) refl
   place-replay (SetextHeading level first more underline after) place l u t e = place-replay after Apart (heading_level text options lookup level first more underline l) u tt refl
   place-replay (LeafBlock leaf first more after) place l u t e = place-replay after (behind_leaf leaf) (leaf_level text options lookup leaf first more l) u tt (sym (leaf-title leaf))
-  place-replay (ContainerBlock (Quote alert) first more inside after) place l u t e =
-      place-replay after Apart (left_by (Quote alert) (standing (Quote alert) first l).inner (past_of first more) (replay text options lookup inside (entered (Quote alert) first l))) u.1 tt refl
+  place-replay (ContainerBlock (BlockQuote alert) first more inside after) place l u t e =
+      place-replay after Apart (left_by (BlockQuote alert) (standing (BlockQuote alert) first l).inner (last_line_end first more) (replay text options lookup inside (entered (BlockQuote alert) first l))) u.1 tt refl
   place-replay (ContainerBlock (Footnote label old size) first more inside after) place l u t e =
-      place-replay after Apart (left_by (Footnote label old size) (standing (Footnote label old size) first l).inner (past_of first more) (replay text options lookup inside (entered (Footnote label old size) first l))) u.1 tt refl
-  place-replay (ContainerBlock (Item mark number width task) first more inside after) place l u t e =
-      let k = Item mark number width task in
+      place-replay after Apart (left_by (Footnote label old size) (standing (Footnote label old size) first l).inner (last_line_end first more) (replay text options lookup inside (entered (Footnote label old size) first l))) u.1 tt refl
+  place-replay (ContainerBlock (Item delimiter number width task) first more inside after) place l u t e =
+      let k = Item delimiter number width task in
       let i = replay text options lookup inside (entered k first l) in
-      let x = item-left mark number (begin_of first) l l.inner.list false t u.0 i.inner.parted (past_of first more) in
-      place-replay after Apart (left_by k (standing k first l).inner (past_of first more) i) u.1 x.0 x.1
+      let x = item-left delimiter number (begin_of first) l l.inner.list false t u.0 i.inner.parted (last_line_end first more) in
+      place-replay after Apart (left_by k (standing k first l).inner (last_line_end first more) i) u.1 x.0 x.1
   place-replay (ContainerBlock (ListDefinition width) first more inside after) place l u t e =
       let k = ListDefinition width in
       let i = replay text options lookup inside (entered k first l) in
-      let x = definition-left l.inner.title (begin_of first) l refl t i.inner.parted (past_of first more) in
-      place-replay after BehindTitle (left_by k (standing k first l).inner (past_of first more) i) u.1 x.0 x.1
+      let x = definition-left l.inner.title (begin_of first) l refl t i.inner.parted (last_line_end first more) in
+      place-replay after BehindTitle (left_by k (standing k first l).inner (last_line_end first more) i) u.1 x.0 x.1

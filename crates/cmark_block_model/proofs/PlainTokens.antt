@@ -38,12 +38,12 @@ stretch_plain text start end after h = texts_plain (piece_if text start end []) 
 
 stretches_plain : (text : List ℕ) (begin : ℕ) (r : Row) (more : List Row) → IsPlain (stretches text begin r more)
 stretches_plain text begin r [] = stretch_plain text begin (words_end r) Nil nil_plain
-stretches_plain text begin r (s ∷ more) = go (begin_of s == r.past) (stretches_plain text begin s more) (stretches_plain text (begin_of s) s more)
+stretches_plain text begin r (s ∷ more) = go (begin_of s == r.line_end) (stretches_plain text begin s more) (stretches_plain text (begin_of s) s more)
   where
     go : (z : Bool) → IsPlain (stretches text begin s more) → IsPlain (stretches text (begin_of s) s more)
-        → IsPlain (if z then stretches text begin s more else stretch_then text begin r.past (stretches text (begin_of s) s more))
+        → IsPlain (if z then stretches text begin s more else stretch_then text begin r.line_end (stretches text (begin_of s) s more))
     go true p q = p
-    go false p q = stretch_plain text begin r.past (stretches text (begin_of s) s more) q
+    go false p q = stretch_plain text begin r.line_end (stretches text (begin_of s) s more) q
 
 pub paragraph_plain : (text : List ℕ) (r : Row) (more : List Row) → IsPlain (paragraph_tokens text r more)
 paragraph_plain text r more = stretches_plain text (start_of r) r more
@@ -59,12 +59,12 @@ pieces_before_plain text at (p ∷ ps) after h = go (nat_lt p.end at) (pieces_be
 
 stretches_before_plain : (text : List ℕ) (at begin : ℕ) (r : Row) (more : List Row) → IsPlain (texts_before text at (stretches text begin r more))
 stretches_before_plain text at begin r [] = pieces_before_plain text at (piece_if text begin (words_end r) []) Nil nil_plain
-stretches_before_plain text at begin r (s ∷ more) = go (begin_of s == r.past) (stretches_before_plain text at begin s more) (stretches_before_plain text at (begin_of s) s more)
+stretches_before_plain text at begin r (s ∷ more) = go (begin_of s == r.line_end) (stretches_before_plain text at begin s more) (stretches_before_plain text at (begin_of s) s more)
   where
     go : (z : Bool) → IsPlain (texts_before text at (stretches text begin s more)) → IsPlain (texts_before text at (stretches text (begin_of s) s more))
-        → IsPlain (texts_before text at (if z then stretches text begin s more else stretch_then text begin r.past (stretches text (begin_of s) s more)))
+        → IsPlain (texts_before text at (if z then stretches text begin s more else stretch_then text begin r.line_end (stretches text (begin_of s) s more)))
     go true p q = p
-    go false p q = pieces_before_plain text at (piece_if text begin r.past []) (stretches text (begin_of s) s more) q
+    go false p q = pieces_before_plain text at (piece_if text begin r.line_end []) (stretches text (begin_of s) s more) q
 
 pub setext_plain : (text : List ℕ) (attributes : Bool) (r : Row) (more : List Row) → IsPlain (setext_tokens text attributes r more)
 setext_plain text false r more = paragraph_plain text r more
@@ -84,7 +84,7 @@ html_tokens_plain text (r ∷ rs) = html_then_plain (verbatim_line text r.column
 
 pub heading_plain : (text : List ℕ) (attributes : Bool) (level : ℕ) (r : Row) → IsPlain (heading_tokens text attributes level r)
 heading_plain text attributes level r =
-    stretch_plain text (first_place r.stop (behind_hashes level r)) (end_place (first_place r.stop (behind_hashes level r)) (heading_columns attributes level r)) Nil nil_plain
+    stretch_plain text (first_place r.content_end (behind_hashes level r)) (end_place (first_place r.content_end (behind_hashes level r)) (heading_columns attributes level r)) Nil nil_plain
 
 pub code_plain : (text : List ℕ) (most : ℕ) (rs : List Row) → IsPlain (code_tokens text most rs)
 code_plain text most rs = texts_plain (code_pieces text most rs) Nil nil_plain
@@ -114,23 +114,23 @@ cell_plain start end inside after h k = record {
   labels = ap (λ r. r ++ footnote_labels after) h.labels ∙ k.labels;
 }
 
-cells_plain : (text : List ℕ) (columns at past : ℕ) (cells : List (List ℕ)) → IsPlain (cells_then text columns at past cells)
-cells_plain text zero at past cells = nil_plain
-cells_plain text (suc columns) at past [] = cell_plain past past Nil (cells_then text columns at past []) nil_plain (cells_plain text columns at past [])
-cells_plain text (suc columns) at past (cell ∷ cells) =
-    cell_plain at (at + length cell) (cell_tokens text at cell) (cells_then text columns (suc (at + length cell)) past cells)
-    (stretch_plain text (at + length (take_while is_blank_byte cell)) (at + length (drop_end is_blank_byte cell)) Nil nil_plain) (cells_plain text columns (suc (at + length cell)) past cells)
+cells_plain : (text : List ℕ) (columns at line_end : ℕ) (cells : List (List ℕ)) → IsPlain (cells_then text columns at line_end cells)
+cells_plain text zero at line_end cells = nil_plain
+cells_plain text (suc columns) at line_end [] = cell_plain line_end line_end Nil (cells_then text columns at line_end []) nil_plain (cells_plain text columns at line_end [])
+cells_plain text (suc columns) at line_end (cell ∷ cells) =
+    cell_plain at (at + length cell) (cell_tokens text at cell) (cells_then text columns (suc (at + length cell)) line_end cells)
+    (stretch_plain text (at + length (take_while is_blank_byte cell)) (at + length (drop_end is_blank_byte cell)) Nil nil_plain) (cells_plain text columns (suc (at + length cell)) line_end cells)
 
 row_plain : (text : List ℕ) (columns : ℕ) (r : Row) → IsPlain (row_cells text columns r)
-row_plain text columns r = cells_plain text columns (cells_start r) r.past (cells_of (words_of r))
+row_plain text columns r = cells_plain text columns (cells_start r) r.line_end (cells_of (words_of r))
 
 rows_plain : (text : List ℕ) (columns : ℕ) (rs : List Row) → IsPlain (row_tokens text columns rs)
 rows_plain text columns [] = nil_plain
-rows_plain text columns (r ∷ rs) = table_row_plain (start_of r) r.past (row_cells text columns r) (row_tokens text columns rs) (row_plain text columns r) (rows_plain text columns rs)
+rows_plain text columns (r ∷ rs) = table_row_plain (start_of r) r.line_end (row_cells text columns r) (row_tokens text columns rs) (row_plain text columns r) (rows_plain text columns rs)
 
 pub table_plain : (text : List ℕ) (columns : ℕ) (head : Row) (more : List Row) → IsPlain (table_tokens text columns head more)
 table_plain text columns head more =
-    head_plain (start_of head) head.past (row_cells text columns head) (row_tokens text columns (drop 1 more)) (row_plain text columns head) (rows_plain text columns (drop 1 more))
+    head_plain (start_of head) head.line_end (row_cells text columns head) (row_tokens text columns (drop 1 more)) (row_plain text columns head) (rows_plain text columns (drop 1 more))
 
 pub join-nil : (d : BlockDocument) → join d Nil ≡ d
 join-nil Nil = refl

@@ -4,15 +4,15 @@ use Rattle.std.specs.Prelude.{ℕ, Bool, true, false, ◌==◌, ◌||◌, List, 
 use Rattle.cmark_grammar.specs.Options.{Options}
 use Rattle.cmark_grammar.specs.Answers.{Lookup}
 use Rattle.cmark_grammar.specs.SetextAttributes.{content_of, setext_attributes, setext_tokens}
-use Rattle.cmark_grammar.specs.Rows.{Row, without, start_of, begin_of, past_of}
+use Rattle.cmark_grammar.specs.Rows.{Row, without, start_of, begin_of, last_line_end}
 use Rattle.cmark_grammar.specs.Labels.{normal_form}
-use Rattle.cmark_grammar.specs.Containers.{Container, Quote, Item, Footnote, ListDefinition}
+use Rattle.cmark_grammar.specs.Containers.{Container, BlockQuote, Item, Footnote, ListDefinition}
 use Rattle.cmark_grammar.specs.Openings.{Leaf, ThematicBreak, AtxHeading, IndentedCode, FencedCode, HtmlBlock, LinkDefinition, MetadataBlock, Table}
 use Rattle.cmark_grammar.specs.Blocks.{Blocks, Nil, BlankLine, Paragraph, SetextHeading, LeafBlock, ContainerBlock, join}
 use Rattle.cmark_grammar.specs.Tokens.{paragraph_tokens}
 use Rattle.cmark_grammar.specs.TaskItems.{behind_box}
-use Rattle.cmark_grammar.specs.Derivation.{stop_of, reference_of, leaf_then, task_then, list_kind}
-use Rattle.cmark_grammar.specs.Lists.{definition_mark}
+use Rattle.cmark_grammar.specs.Derivation.{last_content_end, reference_of, leaf_then, task_then, list_kind}
+use Rattle.cmark_grammar.specs.Lists.{definition_delimiter}
 use Rattle.cmark_grammar.specs.BlockDocument as document
 use Rattle.cmark_grammar.specs.BlockDocument.{BlockDocument, BlockKind, Reference, Node, node}
 use Rattle.cmark_block_model.specs.Drawing.{Drawing, drawn, opened, closed_at, retitled, enclosed}
@@ -43,28 +43,28 @@ paragraph_begun l = record l { drawing = ended_but (definitions_in l.inner.list)
 abbrev pub untitled : Level → Level
 untitled l = record l { drawing = title_released l.inner.title l.drawing; inner = record l.inner { title = None } }
 
-abbrev pub list_level : (mark : ℕ) → Option ℕ → (start : ℕ) → Level → Level
-list_level mark number start l = let q = begun l in record q {
-  drawing = opened start (list_kind mark number false) q.drawing;
-  inner = record q.inner { list = Some (record { mark = mark; number = number; loose = false; end = start }) };
+abbrev pub list_level : (delimiter : ℕ) → Option ℕ → (start : ℕ) → Level → Level
+list_level delimiter number start l = let q = begun l in record q {
+  drawing = opened start (list_kind delimiter number false) q.drawing;
+  inner = record q.inner { list = Some (record { delimiter = delimiter; number = number; loose = false; end = start }) };
 }
 
 abbrev pub same_list : OpenList → Level → Level
 same_list o l = record l { inner = record l.inner { blank = false; list = Some (record o { loose = o.loose || l.inner.blank }) } }
 
-abbrev pub item_if : Bool → (mark : ℕ) → Option ℕ → (start : ℕ) → OpenList → Level → Level
-item_if true mark number start o l = same_list o l
-item_if false mark number start o l = list_level mark number start l
+abbrev pub item_if : Bool → (delimiter : ℕ) → Option ℕ → (start : ℕ) → OpenList → Level → Level
+item_if true delimiter number start o l = same_list o l
+item_if false delimiter number start o l = list_level delimiter number start l
 
-abbrev pub item_level : (mark : ℕ) → Option ℕ → (start : ℕ) → Level → Option OpenList → Level
-item_level mark number start l None = list_level mark number start l
-item_level mark number start l (Some o) = item_if (o.mark == mark) mark number start o l
+abbrev pub item_level : (delimiter : ℕ) → Option ℕ → (start : ℕ) → Level → Option OpenList → Level
+item_level delimiter number start l None = list_level delimiter number start l
+item_level delimiter number start l (Some o) = item_if (o.delimiter == delimiter) delimiter number start o l
 
 -- a definition begins behind a title
 abbrev pub title_level : Option OpenList → (parted : Bool) → (start : ℕ) → Level → Level
 title_level None parted start l = record l {
   drawing = enclosed (document.DefinitionList false) document.DefinitionListTitle l.drawing;
-  inner = record l.inner { blank = false; list = Some (record { mark = definition_mark; number = None; loose = l.inner.blank; end = start }); title = None };
+  inner = record l.inner { blank = false; list = Some (record { delimiter = definition_delimiter; number = None; loose = l.inner.blank; end = start }); title = None };
 }
 title_level (Some o) parted start l = record l {
   drawing = retitled document.DefinitionListTitle l.drawing;
@@ -72,7 +72,7 @@ title_level (Some o) parted start l = record l {
 }
 
 abbrev pub definition_level : Option Title → (start : ℕ) → Level → Level
-definition_level None start l = item_level definition_mark None start l l.inner.list
+definition_level None start l = item_level definition_delimiter None start l l.inner.list
 definition_level (Some t) start l = title_level t.list t.parted start l
 
 abbrev pub level_opened : (start : ℕ) → BlockKind → Level → Level
@@ -91,9 +91,9 @@ footnote_level label l = record l { noted = record l.noted { footnotes = l.noted
 
 -- a container begins: its node is open, and these are the siblings that it stands behind
 abbrev pub standing : Container → Row → Level → Level
-standing (Quote alert) r l = level_opened (start_of r) (document.BlockQuote alert) (begun l)
+standing (BlockQuote alert) r l = level_opened (start_of r) (document.BlockQuote alert) (begun l)
 standing (Footnote label old size) r l = level_opened (start_of r) (document.FootnoteDefinition (normal_form label)) (footnote_level label (begun l))
-standing (Item mark number width task) r l = level_drawn (marked task width r document.Nil) (level_opened (begin_of r) document.ListItem (item_level mark number (begin_of r) l l.inner.list))
+standing (Item delimiter number width task) r l = level_drawn (marked task width r document.Nil) (level_opened (begin_of r) document.ListItem (item_level delimiter number (begin_of r) l l.inner.list))
 standing (ListDefinition width) r l = level_opened (begin_of r) document.DefinitionListDefinition (definition_level l.inner.title (begin_of r) l)
 
 abbrev pub entered : Container → Row → Level → Level
@@ -112,11 +112,11 @@ blank_level l = record l { inner = record l.inner { blank = l.inner.has_block } 
 module _ (text : List ℕ) (options : Options) (lookup : Lookup) where
   abbrev pub paragraph_level : Row → List Row → Level → Level
   paragraph_level first more l =
-      level_drawn (Node (node document.Paragraph (start_of first) (past_of first more)) (paragraph_tokens text first more) document.Nil) (paragraph_begun l)
+      level_drawn (Node (node document.Paragraph (start_of first) (last_line_end first more)) (paragraph_tokens text first more) document.Nil) (paragraph_begun l)
 
   abbrev pub heading_level : (level : ℕ) → Row → List Row → Row → Level → Level
   heading_level level first more underline l =
-      untitled (level_drawn (Node (node (document.Heading level (setext_attributes options.heading_attributes (content_of (first ∷ more)))) (start_of first) underline.past) (setext_tokens text options.heading_attributes first more) document.Nil) (paragraph_begun l))
+      untitled (level_drawn (Node (node (document.Heading level (setext_attributes options.heading_attributes (content_of (first ∷ more)))) (start_of first) underline.line_end) (setext_tokens text options.heading_attributes first more) document.Nil) (paragraph_begun l))
 
   abbrev pub leaf_drawing : Leaf → Row → List Row → Drawing → Drawing
   leaf_drawing ThematicBreak first more d = drawn (leaf_then text options lookup ThematicBreak first more document.Nil) d
@@ -136,7 +136,7 @@ module _ (text : List ℕ) (options : Options) (lookup : Lookup) where
   leaf_noted (HtmlBlock kind) first more n = n
   leaf_noted (MetadataBlock kind) first more n = n
   leaf_noted (Table alignments) first more n = n
-  leaf_noted (LinkDefinition definition) first more n = record n { references = n.references ++ reference_of lookup definition (start_of first) (stop_of first more) ∷ [] }
+  leaf_noted (LinkDefinition definition) first more n = record n { references = n.references ++ reference_of lookup definition (start_of first) (last_content_end first more) ∷ [] }
 
   abbrev pub leaf_level : Leaf → Row → List Row → Level → Level
   leaf_level leaf first more l =
@@ -150,7 +150,7 @@ module _ (text : List ℕ) (options : Options) (lookup : Lookup) where
   replay (SetextHeading level first more underline after) l = replay after (heading_level level first more underline l)
   replay (LeafBlock leaf first more after) l = replay after (leaf_level leaf first more l)
   replay (ContainerBlock k first more inside after) l =
-      replay after (left_by k (standing k first l).inner (past_of first more) (replay inside (entered k first l)))
+      replay after (left_by k (standing k first l).inner (last_line_end first more) (replay inside (entered k first l)))
 
   pub replay-join : (a b : Blocks) (l : Level) → replay (join a b) l ≡ replay b (replay a l)
   replay-join Nil b l = refl
@@ -159,4 +159,4 @@ module _ (text : List ℕ) (options : Options) (lookup : Lookup) where
   replay-join (SetextHeading level first more underline after) b l = replay-join after b (heading_level level first more underline l)
   replay-join (LeafBlock leaf first more after) b l = replay-join after b (leaf_level leaf first more l)
   replay-join (ContainerBlock k first more inside after) b l =
-      replay-join after b (left_by k (standing k first l).inner (past_of first more) (replay inside (entered k first l)))
+      replay-join after b (left_by k (standing k first l).inner (last_line_end first more) (replay inside (entered k first l)))

@@ -9,11 +9,11 @@ use Rattle.cmark_grammar.specs.Openings.{Leaf, ThematicBreak, AtxHeading, Indent
 use Rattle.cmark_grammar.specs.Blocks.{Nil as NoBlocks, ContainerBlock, join as join_blocks, behind_leaf}
 use Rattle.cmark_grammar.specs.Places.{allows_lazy}
 use Rattle.cmark_grammar.specs.BlocksModel.{within}
-use Rattle.cmark_grammar.specs.BlocksByLine.{Verbatim, Indented, Fenced, HtmlLines, further_if, OpenLines, Between, BehindTag, InParagraph, InLeaf, InVerbatim, InContainer, close_lines, lines_take_lazy, lines_kept_or, verbatim_line, lines_begin, lines_feed, Metadata}
+use Rattle.cmark_grammar.specs.BlocksByLine.{Verbatim, Indented, Fenced, HtmlLines, continuation_if, OpenLines, Between, BehindTag, InParagraph, InLeaf, InVerbatim, InContainer, close_lines, lines_take_lazy, lines_kept_or, verbatim_line, lines_begin, lines_feed, Metadata}
 use Rattle.cmark_grammar.proofs.BlockLaws.{strip_lazy, strip_whole}
 use Rattle.cmark_grammar.proofs.BlocksSound.{is_both}
 use Rattle.cmark_block_model.specs.OpenBlocks.{OpenContainer, Closed, takes_lazy, Pass}
-use Rattle.cmark_block_model.specs.BlockPass.{ahead_in, begin, leaf_closed, leaf_fed, lazy_fed, containers_closed, Kept, is_last, kept_if, kept_by, line_with}
+use Rattle.cmark_block_model.specs.BlockPass.{ahead_in, begin, leaf_closed, leaf_fed, lazy_fed, containers_closed, LineKeepers, is_last, kept_if, kept_by, line_with}
 use Rattle.cmark_block_model.proofs.Replay.{Level, entered, replay}
 use Rattle.cmark_block_model.proofs.Mirror.{pass_with, leaf_left, verbatim_leaf, Fits, inner_at, leaf_at, container_at, containers_at, pass_at, bare_at}
 use Rattle.cmark_block_model.proofs.Flags.{and-true, and-false}
@@ -23,8 +23,8 @@ use Rattle.cmark_block_model.proofs.Feeding.{paragraph-feeds, leaf-feeds}
 use Rattle.cmark_block_model.proofs.VerbatimLines.{verbatim-feeds}
 use Rattle.cmark_block_model.proofs.LazyLines.{container-goes, lazy-feeds}
 use Rattle.cmark_block_model.proofs.Keeping.{kept-ahead, off-ahead}
-use Rattle.cmark_block_model.proofs.Marks.{unmarked-join}
-use Rattle.cmark_block_model.proofs.DefinitionMarks.{OpenUnmarked}
+use Rattle.cmark_block_model.proofs.ListDelimiters.{unmarked-join}
+use Rattle.cmark_block_model.proofs.DefinitionDelimiters.{OpenUnmarked}
 
 module _ (text : List ℕ) (options : Options) (lookup : Lookup) where
   takes-lazy : (o : OpenLines) → takes_lazy (leaf_at text options lookup o) ≡ lines_take_lazy o
@@ -60,7 +60,7 @@ module _ (text : List ℕ) (options : Options) (lookup : Lookup) where
   bare-flag (InVerbatim closed verbatim first had waiting) b ahead n l f = sym f.0
   bare-flag (InContainer closed k first more inside) b ahead n l f = and-false (bare_at (bare_after (is_bare_start k first) more) inside) ∙ sym f.0
 
-  abbrev pub fed : Kept text options lookup → List Row → Pass → Pass
+  abbrev pub fed : LineKeepers text options lookup → List Row → Pass → Pass
   fed w next p = line_with text options lookup w.missed w.kept w.left next p
 
   pub simulates : (o : OpenLines) (b : Bool) (r : Row) (next ahead : List Row) (l : Level) (outer : List OpenContainer) (n : ℕ) → IsFresh text options lookup l → OpenUnmarked o → r.lazy ≡ false → ahead_in text options lookup outer next ≡ ahead → Fits b o (r ∷ ahead) n
@@ -82,7 +82,7 @@ module _ (text : List ℕ) (options : Options) (lookup : Lookup) where
       let i = InVerbatim closed v first had waiting in
       ap (λ o. leaf_fed text options lookup (leaf_at text options lookup i) r next (pass_with (inner_at text options lookup i (r ∷ ahead) l) o false (leaf_at text options lookup i) n)) (append-nil outer)
       ∙ verbatim-feeds text options lookup v closed first had waiting r next ahead l outer b n e a h u f
-      ∙ ap (λ z. pass_at text options lookup (verbatim_line (further_if z v r) closed v first had waiting r (lines_begin options (close_lines i) r ahead)) ahead l outer false n) (sym e)
+      ∙ ap (λ z. pass_at text options lookup (verbatim_line (continuation_if z v r) closed v first had waiting r (lines_begin options (close_lines i) r ahead)) ahead l outer false n) (sym e)
   simulates (InContainer closed k first more inside) b r next ahead l outer n h u e a f =
       ap (λ z. fed (kept_if text options lookup (keeps k z r) (λ s. kept_by text options lookup (outer ++ v ∷ []) cs (bare_at bare inside) s) (record { kept = outer; missed = v ∷ cs; left = r })) next p)
       (bare-flag inside bare (within k bare (r ∷ ahead)) n (entered k first c) f.2)

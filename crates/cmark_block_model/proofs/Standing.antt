@@ -1,6 +1,6 @@
 -- A level behind no block, behind a blank line alone, behind a block that is no item, or behind an item of a list that is open.
 use Rattle.std.specs.Prelude.{ℕ, Bool, true, false, Option, Some, None}
-use Rattle.cmark_grammar.specs.Lists.{Before, NoBlock, Other, ItemWith, definition_mark}
+use Rattle.cmark_grammar.specs.Lists.{Before, NoBlock, Other, ItemWith, definition_delimiter}
 use Rattle.cmark_block_model.specs.Drawing.{Drawing}
 use Rattle.cmark_block_model.specs.OpenBlocks.{OpenList}
 use Rattle.cmark_block_model.proofs.Replay.{Noted, Level}
@@ -28,12 +28,12 @@ list_of (InList o) = Some o
 abbrev pub before_of : Stand → Before
 before_of First = NoBlock
 before_of Behind = Other
-before_of (InList o) = ItemWith o.mark
+before_of (InList o) = ItemWith o.delimiter
 
-abbrev pub mark_of : Stand → Option ℕ
-mark_of First = None
-mark_of Behind = None
-mark_of (InList o) = Some o.mark
+abbrev pub delimiter_of : Stand → Option ℕ
+delimiter_of First = None
+delimiter_of Behind = None
+delimiter_of (InList o) = Some o.delimiter
 
 abbrev pub level_of : Stand → Drawing → (blank parted : Bool) → Noted → Level
 level_of stand d blank parted noted = record {
@@ -52,7 +52,7 @@ titled list d blank parted before noted = record {
 
 -- a list of the character of definitions
 abbrev pub with_colon : OpenList → OpenList
-with_colon o = record o { mark = definition_mark }
+with_colon o = record o { delimiter = definition_delimiter }
 
 abbrev pub colon : Option OpenList → Option OpenList
 colon None = None

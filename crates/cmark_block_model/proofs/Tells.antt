@@ -3,7 +3,7 @@ use Rattle.std.proofs.Common.{◌≡◌, ℕ, Bool, true, false, List, length, r
 use Rattle.std.specs.Prelude.{if◌then◌else◌, nat_le}
 use Rattle.cmark_grammar.specs.Options.{Options}
 use Rattle.cmark_grammar.specs.Rows.{Row, words_of, is_blank_line, indent_of}
-use Rattle.cmark_grammar.specs.Leaves.{Fence, counted, is_thematic_break, is_atx_heading, run, fence_of, code_further}
+use Rattle.cmark_grammar.specs.Leaves.{Fence, counted, is_thematic_break, is_atx_heading, run, fence_of, code_continuation}
 use Rattle.cmark_grammar.specs.Footnotes.{footnotes_in}
 use Rattle.cmark_grammar.specs.HtmlBlocks.{html_kind}
 use Rattle.cmark_grammar.specs.LinkDefinitions.{Defined, definition_in, bytes_over}
@@ -11,11 +11,11 @@ use Rattle.cmark_grammar.specs.Containers.{Container, container_of}
 use Rattle.cmark_grammar.specs.Openings.{ThematicBreak, AtxHeading, IndentedCode, FencedCode, HtmlBlock, LinkDefinition, Opening, Blank, Nests, Takes, Plain, or_else, nests_if, fenced_if, html_if, break_if, heading_if, text_lines, defined_if, definition_of, leaf_of, opens, opens_at, MetadataBlock, metadata_begun, whole_opens, table_if, text_of, Table, begins_no_link}
 use Rattle.cmark_grammar.specs.Alignment.{Alignment}
 use Rattle.cmark_grammar.specs.TableRows.{table_head}
-use Rattle.cmark_grammar.specs.Metadata.{metadata_kind, metadata_further, holds_metadata}
+use Rattle.cmark_grammar.specs.Metadata.{metadata_kind, metadata_continuation, holds_metadata}
 use Rattle.cmark_grammar.specs.MetadataBlockKind.{MetadataBlockKind}
 use Rattle.cmark_grammar.specs.Places.{Place}
 use Rattle.cmark_grammar.proofs.BlockLaws.{at-either}
-use Rattle.cmark_block_model.proofs.Marks.{IsUnmarked, SomeUnmarked, container-unmarked}
+use Rattle.cmark_block_model.proofs.ListDelimiters.{IsUnmarked, SomeUnmarked, container-unmarked}
 
 -- one that begins nothing is blank, an item has no colon for its marker, and a break or heading takes no further line
 abbrev pub Tells : Row → Opening → Type 0
@@ -69,7 +69,7 @@ tells-metadata : (r : Row) (o : Option MetadataBlockKind) (ahead : List Row) →
 tells-metadata r None ahead = tt
 tells-metadata r (Some kind) ahead = go (holds_metadata kind ahead)
   where
-    go : (z : Bool) → Tells r (if z then Takes (MetadataBlock kind) (counted (metadata_further kind) ahead) else Plain)
+    go : (z : Bool) → Tells r (if z then Takes (MetadataBlock kind) (counted (metadata_continuation kind) ahead) else Plain)
     go true = tt
     go false = tt
 
@@ -96,7 +96,7 @@ module _ (options : Options) where
   unfolding opens
   tells r ahead = go r.lazy refl
     where
-      opened : (b : Bool) → r.lazy ≡ false → is_blank_line r ≡ b → (c : Bool) → Tells r (if b then Blank else if c then Takes IndentedCode (counted code_further ahead) else or_else (nests_if (container_of options r)) (leaf_of options r ahead))
+      opened : (b : Bool) → r.lazy ≡ false → is_blank_line r ≡ b → (c : Bool) → Tells r (if b then Blank else if c then Takes IndentedCode (counted code_continuation ahead) else or_else (nests_if (container_of options r)) (leaf_of options r ahead))
       opened true l e c = (l, e)
       opened false l e true = tt
       opened false l e false = tells-or r (nests_if (container_of options r)) (leaf_of options r ahead) (tells-nests r (container_of options r) (container-unmarked options r)) (tells-leaf r ahead)

@@ -28,7 +28,7 @@ use Rattle.cmark_block_model.proofs.Mirror.{pass_with, Fits, containers_at, bare
 use Rattle.cmark_block_model.proofs.Closing.{leaf-closes, containers-close}
 use Rattle.cmark_block_model.proofs.Keeping.{feed-fits}
 use Rattle.cmark_block_model.proofs.Simulation.{simulates}
-use Rattle.cmark_block_model.proofs.DefinitionMarks.{OpenUnmarked, feed-unmarked}
+use Rattle.cmark_block_model.proofs.DefinitionDelimiters.{OpenUnmarked, feed-unmarked}
 
 abbrev nothing_noted : Noted
 nothing_noted = record { references = []; footnotes = [] }
@@ -40,7 +40,7 @@ bottom = record { drawing = nothing_drawn; inner = no_siblings; noted = nothing_
 -- where the last of these lines ends
 abbrev pub end_behind : ℕ → List Row → ℕ
 end_behind n [] = n
-end_behind n (r ∷ rs) = end_behind r.past rs
+end_behind n (r ∷ rs) = end_behind r.line_end rs
 
 module _ (text : List ℕ) (options : Options) (lookup : Lookup) where
   shown-whole : (rs : List Row) → AreWhole options rs → shown rs ≡ rs
@@ -51,23 +51,23 @@ module _ (text : List ℕ) (options : Options) (lookup : Lookup) where
   shown-first r rs e = ap (λ z. show_as z r (shown rs)) e
 
   one-fed : (r : Row) (rs : List Row) (o : OpenLines) (n : ℕ) → AreWhole options (r ∷ rs) → OpenUnmarked o → Fits false o (shown (r ∷ rs)) n
-      → line_fed text options lookup r rs (pass_at text options lookup o (shown (r ∷ rs)) bottom [] false n) ≡ pass_at text options lookup (lines_feed options o r (shown rs)) (shown rs) bottom [] false r.past
+      → line_fed text options lookup r rs (pass_at text options lookup o (shown (r ∷ rs)) bottom [] false n) ≡ pass_at text options lookup (lines_feed options o r (shown rs)) (shown rs) bottom [] false r.line_end
   one-fed r rs o n h u f =
       ap (λ x. line_fed text options lookup r rs (pass_at text options lookup o x bottom [] false n)) (shown-first r rs h.0)
-      ∙ ap {A = Pass} {B = Pass} (λ q. record q { past = r.past }) (simulates text options lookup o false r rs (shown rs) bottom [] n refl u h.0 (sym (shown-whole rs h.1)) (subst (λ x. Fits false o x n) (shown-first r rs h.0) f))
+      ∙ ap {A = Pass} {B = Pass} (λ q. record q { line_end = r.line_end }) (simulates text options lookup o false r rs (shown rs) bottom [] n refl u h.0 (sym (shown-whole rs h.1)) (subst (λ x. Fits false o x n) (shown-first r rs h.0) f))
 
-  next-fits : (r : Row) (rs : List Row) (o : OpenLines) (n : ℕ) → AreWhole options (r ∷ rs) → Fits false o (shown (r ∷ rs)) n → Fits false (lines_feed options o r (shown rs)) (shown rs) r.past
+  next-fits : (r : Row) (rs : List Row) (o : OpenLines) (n : ℕ) → AreWhole options (r ∷ rs) → Fits false o (shown (r ∷ rs)) n → Fits false (lines_feed options o r (shown rs)) (shown rs) r.line_end
   next-fits r rs o n h f = feed-fits text options lookup o false r (shown rs) n h.0 (subst (λ x. Fits false o x n) (shown-first r rs h.0) f)
 
   all-fed : (rs : List Row) (o : OpenLines) (n : ℕ) → AreWhole options rs → OpenUnmarked o → Fits false o (shown rs) n
       → lines_fed text options lookup rs (pass_at text options lookup o (shown rs) bottom [] false n) ≡ pass_at text options lookup (lines_feed_all options o rs) [] bottom [] false (end_behind n rs)
   all-fed [] o n h u f = refl
   all-fed (r ∷ rs) o n h u f =
-      ap (lines_fed text options lookup rs) (one-fed r rs o n h u f) ∙ all-fed rs (lines_feed options o r (shown rs)) r.past h.1 (feed-unmarked options o r (shown rs) u) (next-fits r rs o n h f)
+      ap (lines_fed text options lookup rs) (one-fed r rs o n h u f) ∙ all-fed rs (lines_feed options o r (shown rs)) r.line_end h.1 (feed-unmarked options o r (shown rs) u) (next-fits r rs o n h f)
 
   all-fit : (rs : List Row) (o : OpenLines) (n : ℕ) → AreWhole options rs → Fits false o (shown rs) n → Fits false (lines_feed_all options o rs) [] (end_behind n rs)
   all-fit [] o n h f = f
-  all-fit (r ∷ rs) o n h f = all-fit rs (lines_feed options o r (shown rs)) r.past h.1 (next-fits r rs o n h f)
+  all-fit (r ∷ rs) o n h f = all-fit rs (lines_feed options o r (shown rs)) r.line_end h.1 (next-fits r rs o n h f)
 
   abbrev pub done : Level → Bool → ℕ → Pass
   done l bare n = let q = pass_with l [] bare Closed n in record q { drawing = ended q.inner q.drawing }

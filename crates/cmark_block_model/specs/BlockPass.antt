@@ -3,16 +3,16 @@ use Rattle.std.specs.Prelude.{ℕ, zero, suc, Bool, true, false, ◌==◌, ◌&&
 use Rattle.cmark_grammar.specs.Answers.{Lookup}
 use Rattle.cmark_grammar.specs.Columns.{Column}
 use Rattle.cmark_grammar.specs.Options.{Options}
-use Rattle.cmark_grammar.specs.Rows.{Row, rows, without, shown, first_place, begin_of, start_of, past_of, words_of}
-use Rattle.cmark_grammar.specs.Leaves.{Further, GoesOn, Closes, Waits, Stops, underlines, code_further, closes_fence}
-use Rattle.cmark_grammar.specs.HtmlBlocks.{holds_end, html_further}
-use Rattle.cmark_grammar.specs.Containers.{Container, Quote, Item, Footnote, ListDefinition, is_alert, enter, keeps, strips}
+use Rattle.cmark_grammar.specs.Rows.{Row, rows, without, shown, first_place, begin_of, start_of, last_line_end, words_of}
+use Rattle.cmark_grammar.specs.Leaves.{Continuation, GoesOn, Closes, Waits, Stops, underlines, code_continuation, closes_fence}
+use Rattle.cmark_grammar.specs.HtmlBlocks.{holds_end, html_continuation}
+use Rattle.cmark_grammar.specs.Containers.{Container, BlockQuote, Item, Footnote, ListDefinition, is_alert, enter, keeps, strips}
 use Rattle.cmark_grammar.specs.Openings.{Leaf, ThematicBreak, AtxHeading, IndentedCode, FencedCode, HtmlBlock, LinkDefinition, Opening, Blank, Nests, Takes, Plain, opens_at, texts, lazily, MetadataBlock, Table}
 use Rattle.cmark_grammar.specs.Tokens.{Piece, resolved, words_end, stretch_then, heading_tokens, heading_attributes, verbatim_line, html_then, code_columns}
 use Rattle.cmark_grammar.specs.SetextAttributes.{content_of, setext_attributes}
 use Rattle.cmark_grammar.specs.TableTokens.{table_tokens}
-use Rattle.cmark_grammar.specs.Derivation.{stop_of, reference_of, task_then, list_kind}
-use Rattle.cmark_grammar.specs.Lists.{definition_mark}
+use Rattle.cmark_grammar.specs.Derivation.{last_content_end, reference_of, task_then, list_kind}
+use Rattle.cmark_grammar.specs.Lists.{definition_delimiter}
 use Rattle.cmark_grammar.specs.BlockDocument as document
 use Rattle.cmark_grammar.specs.BlockDocument.{BlockDocument, BlockKind, Nil, Node, node}
 use Rattle.cmark_grammar.specs.BlockQuoteKind.{BlockQuoteKind}
@@ -28,12 +28,12 @@ use Rattle.cmark_block_model.specs.OpenBlocks.{OpenList, Title, Siblings, no_sib
 -- the list closed, if one is open
 abbrev pub list_closed : Option OpenList → Drawing → Drawing
 list_closed None d = d
-list_closed (Some l) d = closed_as (list_kind l.mark l.number (not l.loose)) l.end d
+list_closed (Some l) d = closed_as (list_kind l.delimiter l.number (not l.loose)) l.end d
 
 -- a paragraph that is drawn in a definition list, and is no title, put behind that list, which is closed
 abbrev pub released_from : Option OpenList → Drawing → Drawing
 released_from None d = d
-released_from (Some l) d = released (list_kind l.mark l.number (not l.loose)) l.end d
+released_from (Some l) d = released (list_kind l.delimiter l.number (not l.loose)) l.end d
 
 abbrev pub title_released : Option Title → Drawing → Drawing
 title_released None d = d
@@ -46,7 +46,7 @@ ended s d = list_closed s.list (title_released s.title d)
 -- a list that is open, if it is one of definitions
 abbrev pub definitions_in : Option OpenList → Option OpenList
 definitions_in None = None
-definitions_in (Some l) = if l.mark == definition_mark then Some l else None
+definitions_in (Some l) = if l.delimiter == definition_delimiter then Some l else None
 
 -- one more block that is no item, a paragraph, one more item of a list, and an item that has ended with these blocks in it
 abbrev pub siblings_with_block : Siblings → Siblings
@@ -84,25 +84,25 @@ abbrev pub place_of : Siblings → Place
 place_of s = place_with s.title (definitions_in s.list)
 
 -- an item begins a list
-abbrev pub list_begun : (mark : ℕ) → Option ℕ → (start : ℕ) → Pass → Pass
-list_begun mark number start p = let q = block_begun p in record q {
-  drawing = opened start (list_kind mark number false) q.drawing;
-  inner = record q.inner { list = Some (record { mark = mark; number = number; loose = false; end = start }) };
+abbrev pub list_begun : (delimiter : ℕ) → Option ℕ → (start : ℕ) → Pass → Pass
+list_begun delimiter number start p = let q = block_begun p in record q {
+  drawing = opened start (list_kind delimiter number false) q.drawing;
+  inner = record q.inner { list = Some (record { delimiter = delimiter; number = number; loose = false; end = start }) };
 }
 
 -- an item goes on with a list
 abbrev pub list_goes_on : OpenList → Pass → Pass
 list_goes_on l p = record p { inner = siblings_with_item l p.inner }
 
-abbrev pub item_begun : (mark : ℕ) → Option ℕ → (start : ℕ) → Pass → Option OpenList → Pass
-item_begun mark number start p None = list_begun mark number start p
-item_begun mark number start p (Some l) = if l.mark == mark then list_goes_on l p else list_begun mark number start p
+abbrev pub item_begun : (delimiter : ℕ) → Option ℕ → (start : ℕ) → Pass → Option OpenList → Pass
+item_begun delimiter number start p None = list_begun delimiter number start p
+item_begun delimiter number start p (Some l) = if l.delimiter == delimiter then list_goes_on l p else list_begun delimiter number start p
 
 -- a definition begins behind its title, which the paragraph becomes: in the definition list that was open before it, or in one that it begins
 abbrev pub title_made : Option OpenList → (parted : Bool) → (start : ℕ) → Pass → Pass
 title_made None parted start p = record p {
   drawing = enclosed (document.DefinitionList false) document.DefinitionListTitle p.drawing;
-  inner = record p.inner { blank = false; list = Some (record { mark = definition_mark; number = None; loose = p.inner.blank; end = start }); title = None };
+  inner = record p.inner { blank = false; list = Some (record { delimiter = definition_delimiter; number = None; loose = p.inner.blank; end = start }); title = None };
 }
 title_made (Some l) parted start p = record p {
   drawing = retitled document.DefinitionListTitle p.drawing;
@@ -111,7 +111,7 @@ title_made (Some l) parted start p = record p {
 
 -- or behind another definition
 abbrev pub definition_behind : Option Title → (start : ℕ) → Pass → Pass
-definition_behind None start p = item_begun definition_mark None start p p.inner.list
+definition_behind None start p = item_begun definition_delimiter None start p p.inner.list
 definition_behind (Some t) start p = title_made t.list t.parted start p
 
 abbrev pub inside_of : Container → Pass → Pass
@@ -121,8 +121,8 @@ abbrev pub node_opened : (start : ℕ) → BlockKind → Pass → Pass
 node_opened start kind p = record p { drawing = opened start kind p.drawing }
 
 -- a container begins at a place
-abbrev pub quote_begun : (alert : Option BlockQuoteKind) → (start : ℕ) → Pass → Pass
-quote_begun alert start p = inside_of (Quote alert) (node_opened start (document.BlockQuote alert) (block_begun p))
+abbrev pub block_quote_begun : (alert : Option BlockQuoteKind) → (start : ℕ) → Pass → Pass
+block_quote_begun alert start p = inside_of (BlockQuote alert) (node_opened start (document.BlockQuote alert) (block_begun p))
 
 -- a footnote's label is noted, behind those before
 abbrev pub footnote_noted : (label : List ℕ) → Pass → Pass
@@ -131,8 +131,8 @@ footnote_noted label p = record p { footnotes = p.footnotes ++ normal_form label
 abbrev pub footnote_begun : (label : List ℕ) → (old : Bool) → (size start : ℕ) → Pass → Pass
 footnote_begun label old size start p = inside_of (Footnote label old size) (node_opened start (document.FootnoteDefinition (normal_form label)) (footnote_noted label (block_begun p)))
 
-abbrev pub item_begun_in : (mark : ℕ) → Option ℕ → (width : ℕ) → Option Bool → (start : ℕ) → Pass → Pass
-item_begun_in mark number width task start p = inside_of (Item mark number width task) (node_opened start document.ListItem (item_begun mark number start p p.inner.list))
+abbrev pub item_begun_in : (delimiter : ℕ) → Option ℕ → (width : ℕ) → Option Bool → (start : ℕ) → Pass → Pass
+item_begun_in delimiter number width task start p = inside_of (Item delimiter number width task) (node_opened start document.ListItem (item_begun delimiter number start p p.inner.list))
 
 abbrev pub definition_begun_in : (width start : ℕ) → Pass → Pass
 definition_begun_in width start p = inside_of (ListDefinition width) (node_opened start document.DefinitionListDefinition (definition_behind p.inner.title start p))
@@ -142,30 +142,30 @@ with_drawn document p = record p { drawing = drawn document p.drawing }
 
 -- a container begins on a line
 abbrev pub container_begun : Container → Row → Pass → Pass
-container_begun (Quote alert) r p = quote_begun alert (start_of r) p
+container_begun (BlockQuote alert) r p = block_quote_begun alert (start_of r) p
 container_begun (Footnote label old size) r p = footnote_begun label old size (start_of r) p
-container_begun (Item mark number width task) r p =
-    with_drawn (task_then task (begin_of (without width r)) (begin_of (without (behind_box task width) r)) Nil) (item_begun_in mark number width task (begin_of r) p)
+container_begun (Item delimiter number width task) r p =
+    with_drawn (task_then task (begin_of (without width r)) (begin_of (without (behind_box task width) r)) Nil) (item_begun_in delimiter number width task (begin_of r) p)
 container_begun (ListDefinition width) r p = definition_begun_in width (begin_of r) p
 
 -- the siblings that a closed container stands behind
 abbrev pub behind_container : Container → (end : ℕ) → (inside around : Siblings) → Siblings
-behind_container (Quote alert) end inside around = around
+behind_container (BlockQuote alert) end inside around = around
 behind_container (Footnote label old size) end inside around = record around { blank = inside.blank }
-behind_container (Item mark number width task) end inside around = siblings_behind_item end inside around
+behind_container (Item delimiter number width task) end inside around = siblings_behind_item end inside around
 behind_container (ListDefinition width) end inside around = siblings_behind_item end inside around
 
 -- the innermost container closed
 abbrev pub container_closed : OpenContainer → List OpenContainer → Pass → Pass
 container_closed c outer p = record p {
-  drawing = closed_at p.past (ended p.inner p.drawing);
-  inner = behind_container c.container p.past p.inner c.around;
+  drawing = closed_at p.line_end (ended p.inner p.drawing);
+  inner = behind_container c.container p.line_end p.inner c.around;
   outer = outer;
 }
 
 abbrev pub is_item : Container → Bool
-is_item (Quote alert) = false
-is_item (Item mark number width task) = true
+is_item (BlockQuote alert) = false
+is_item (Item delimiter number width task) = true
 is_item (Footnote label old size) = false
 is_item (ListDefinition width) = true
 
@@ -200,14 +200,14 @@ module _ (text : List ℕ) (options : Options) (lookup : Lookup) where
   abbrev pub close_leaf : OpenLeaf → Pass → Pass
   close_leaf Closed p = p
   close_leaf BehindTag p = record p { leaf = Closed }
-  close_leaf (InParagraph before from last) p = node_closed p.past (with_drawn (last_stretch from last) p)
+  close_leaf (InParagraph before from last) p = node_closed p.line_end (with_drawn (last_stretch from last) p)
   close_leaf (InDefinition left) p = record p { leaf = Closed }
   close_leaf (InTable left) p = record p { leaf = Closed }
   close_leaf (InIndented waits end blank) p =
       let q = node_closed end (with_drawn (texts_of (rest_of waits)) p) in record q { inner = record q.inner { blank = is_some blank } }
-  close_leaf (InFenced fence waits) p = node_closed p.past (with_drawn (texts_of (rest_of waits)) p)
-  close_leaf (InHtml kind) p = node_closed p.past p
-  close_leaf (InMetadata kind waits) p = node_closed p.past (with_drawn (texts_of (rest_of waits)) p)
+  close_leaf (InFenced fence waits) p = node_closed p.line_end (with_drawn (texts_of (rest_of waits)) p)
+  close_leaf (InHtml kind) p = node_closed p.line_end p
+  close_leaf (InMetadata kind waits) p = node_closed p.line_end (with_drawn (texts_of (rest_of waits)) p)
 
   abbrev pub leaf_closed : Pass → Pass
   leaf_closed p = close_leaf p.leaf p
@@ -226,8 +226,8 @@ module _ (text : List ℕ) (options : Options) (lookup : Lookup) where
 
   abbrev pub paragraph_line : (before : List Row) → (from : ℕ) → (last : Row) → Row → Pass → Pass
   paragraph_line before from last r p =
-      if begin_of r == last.past then record p { leaf = InParagraph (kept_lines options.heading_attributes before last) from r }
-      else let q = with_drawn (stretch_then text from last.past Nil) p in record q { leaf = InParagraph (kept_lines options.heading_attributes before last) (begin_of r) r }
+      if begin_of r == last.line_end then record p { leaf = InParagraph (kept_lines options.heading_attributes before last) from r }
+      else let q = with_drawn (stretch_then text from last.line_end Nil) p in record q { leaf = InParagraph (kept_lines options.heading_attributes before last) (begin_of r) r }
 
   -- a paragraph that an underline makes a heading: what was drawn of it loses the attributes at its end
   abbrev pub heading_closed : (level : ℕ) → (content : List Column) → (end : ℕ) → Drawing → Drawing
@@ -236,7 +236,7 @@ module _ (text : List ℕ) (options : Options) (lookup : Lookup) where
   -- and is no title
   abbrev pub heading_made : (level : ℕ) → (before : List Row) → (from : ℕ) → (last : Row) → Row → Pass → Pass
   heading_made level before from last r p = let q = with_drawn (last_stretch from last) p in record q {
-    drawing = title_released q.inner.title (heading_closed level (content_of (before ++ last ∷ [])) r.past q.drawing);
+    drawing = title_released q.inner.title (heading_closed level (content_of (before ++ last ∷ [])) r.line_end q.drawing);
     inner = record q.inner { title = None };
     leaf = Closed;
   }
@@ -246,13 +246,13 @@ module _ (text : List ℕ) (options : Options) (lookup : Lookup) where
   code_drawn most r waits leaf p = let run = code_line text most r waits in let q = with_drawn (texts_of run.done) p in record q { leaf = leaf run.waits }
 
   abbrev pub indented_line : Row → Option Piece → Pass → Pass
-  indented_line r waits p = code_drawn 4 r waits (λ left. InIndented left r.past []) p
+  indented_line r waits p = code_drawn 4 r waits (λ left. InIndented left r.line_end []) p
 
   -- blank lines that turn out to belong to indented code
   abbrev pub indented_lines : List Row → Option Piece → (end : ℕ) → Pass → Pass
   indented_lines [] waits end p = record p { leaf = InIndented waits end [] }
   indented_lines (r ∷ rs) waits end p =
-      let run = code_line text 4 r waits in indented_lines rs run.waits r.past (with_drawn (texts_of run.done) p)
+      let run = code_line text 4 r waits in indented_lines rs run.waits r.line_end (with_drawn (texts_of run.done) p)
 
   abbrev pub html_line : Row → Pass → Pass
   html_line r p = with_drawn (html_then (verbatim_line text r.columns r) Nil) p
@@ -263,22 +263,22 @@ module _ (text : List ℕ) (options : Options) (lookup : Lookup) where
 
   -- a leaf begins on a line; of a link reference definition and of a table so many of the lines ahead are read
   abbrev pub leaf_begun : Leaf → (more : ℕ) → Row → (ahead : List Row) → Pass → Pass
-  leaf_begun ThematicBreak more r ahead p = with_drawn (Node (node document.ThematicBreak (start_of r) r.past) Nil Nil) (block_begun p)
+  leaf_begun ThematicBreak more r ahead p = with_drawn (Node (node document.ThematicBreak (start_of r) r.line_end) Nil Nil) (block_begun p)
   leaf_begun (AtxHeading level) more r ahead p =
-      with_drawn (Node (node (document.Heading level (heading_attributes options.heading_attributes level r)) (start_of r) r.past) (heading_tokens text options.heading_attributes level r) Nil) (block_begun p)
-  leaf_begun IndentedCode more r ahead p = indented_line r None (node_opened (first_place r.stop (code_columns 4 r)) document.IndentedCode (block_begun p))
+      with_drawn (Node (node (document.Heading level (heading_attributes options.heading_attributes level r)) (start_of r) r.line_end) (heading_tokens text options.heading_attributes level r) Nil) (block_begun p)
+  leaf_begun IndentedCode more r ahead p = indented_line r None (node_opened (first_place r.content_end (code_columns 4 r)) document.IndentedCode (block_begun p))
   leaf_begun (FencedCode fence) more r ahead p =
       let q = node_opened (start_of r) (document.FencedCode (resolved lookup fence.info)) (block_begun p) in record q { leaf = InFenced fence None }
   leaf_begun (HtmlBlock kind) more r ahead p =
-      html_begun (nat_le kind 5 && holds_end kind (words_of r)) kind r.past (html_line r (node_opened (begin_of r) document.HtmlBlock (block_begun p)))
+      html_begun (nat_le kind 5 && holds_end kind (words_of r)) kind r.line_end (html_line r (node_opened (begin_of r) document.HtmlBlock (block_begun p)))
   leaf_begun (LinkDefinition definition) more r ahead p =
       let q = block_begun p in record q {
         leaf = InDefinition more;
-        references = q.references ++ reference_of lookup definition (start_of r) (stop_of r (take more ahead)) ∷ [];
+        references = q.references ++ reference_of lookup definition (start_of r) (last_content_end r (take more ahead)) ∷ [];
       }
   leaf_begun (MetadataBlock kind) more r ahead p = let q = node_opened (start_of r) (document.MetadataBlock kind) (block_begun p) in record q { leaf = InMetadata kind None }
   leaf_begun (Table alignments) more r ahead p =
-      let q = with_drawn (Node (node (document.Table alignments) (start_of r) (past_of r (take more ahead))) (table_tokens text (length alignments) r (take more ahead)) Nil) (block_begun p) in record q { leaf = InTable more }
+      let q = with_drawn (Node (node (document.Table alignments) (start_of r) (last_line_end r (take more ahead))) (table_tokens text (length alignments) r (take more ahead)) Nil) (block_begun p) in record q { leaf = InTable more }
 
   abbrev pub begin_as : Opening → (Container → Pass) → Row → (ahead : List Row) → (bare : Bool) → Pass → Pass
   begin_as Blank inside r ahead bare p = record p { inner = record p.inner { blank = p.inner.has_block }; bare = bare }
@@ -300,15 +300,15 @@ module _ (text : List ℕ) (options : Options) (lookup : Lookup) where
   underlined_or (Some level) underlined other = underlined level
   underlined_or None underlined other = other
 
-  abbrev pub indented_further : Further → Option Piece → (end : ℕ) → List Row → Row → List Row → Pass → Pass
-  indented_further GoesOn waits end blank r next p = indented_lines (blank ++ r ∷ []) waits end p
-  indented_further Closes waits end blank r next p = begin r next (leaf_closed p)
-  indented_further Waits waits end blank r next p = record p { leaf = InIndented waits end (blank ++ r ∷ []) }
-  indented_further Stops waits end blank r next p = begin r next (leaf_closed p)
+  abbrev pub indented_continuation : Continuation → Option Piece → (end : ℕ) → List Row → Row → List Row → Pass → Pass
+  indented_continuation GoesOn waits end blank r next p = indented_lines (blank ++ r ∷ []) waits end p
+  indented_continuation Closes waits end blank r next p = begin r next (leaf_closed p)
+  indented_continuation Waits waits end blank r next p = record p { leaf = InIndented waits end (blank ++ r ∷ []) }
+  indented_continuation Stops waits end blank r next p = begin r next (leaf_closed p)
 
-  abbrev pub html_goes_on : Further → Row → List Row → Pass → Pass
+  abbrev pub html_goes_on : Continuation → Row → List Row → Pass → Pass
   html_goes_on GoesOn r next p = html_line r p
-  html_goes_on Closes r next p = node_closed r.past (html_line r p)
+  html_goes_on Closes r next p = node_closed r.line_end (html_line r p)
   html_goes_on Waits r next p = html_line r p
   html_goes_on Stops r next p = begin r next (leaf_closed p)
 
@@ -323,12 +323,12 @@ module _ (text : List ℕ) (options : Options) (lookup : Lookup) where
   leaf_fed (InDefinition (suc left)) r next p = record p { leaf = InDefinition left }
   leaf_fed (InTable zero) r next p = begin r next (leaf_closed p)
   leaf_fed (InTable (suc left)) r next p = record p { leaf = InTable left }
-  leaf_fed (InIndented waits end blank) r next p = indented_further (code_further r) waits end blank r next p
+  leaf_fed (InIndented waits end blank) r next p = indented_continuation (code_continuation r) waits end blank r next p
   leaf_fed (InFenced fence waits) r next p =
-      if closes_fence fence r then node_closed r.past (with_drawn (texts_of (rest_of waits)) p) else code_drawn fence.indented r waits (InFenced fence) p
-  leaf_fed (InHtml kind) r next p = html_goes_on (html_further kind r) r next p
+      if closes_fence fence r then node_closed r.line_end (with_drawn (texts_of (rest_of waits)) p) else code_drawn fence.indented r waits (InFenced fence) p
+  leaf_fed (InHtml kind) r next p = html_goes_on (html_continuation kind r) r next p
   leaf_fed (InMetadata kind waits) r next p =
-      if ends_metadata kind r then node_closed r.past (with_drawn (texts_of (rest_of waits)) p) else code_drawn 0 r waits (InMetadata kind) p
+      if ends_metadata kind r then node_closed r.line_end (with_drawn (texts_of (rest_of waits)) p) else code_drawn 0 r waits (InMetadata kind) p
 
   -- a lazy line: it goes on with a paragraph, or begins one behind a definition or an alert's tag
   abbrev pub lazy_fed : OpenLeaf → Row → Pass → Pass
@@ -343,7 +343,7 @@ module _ (text : List ℕ) (options : Options) (lookup : Lookup) where
   lazy_fed (InTable left) r p = p
 
   -- the containers that keep a line, those that do not, and what is left of the line
-  pub record Kept : Type 0 where
+  pub record LineKeepers : Type 0 where
     pub kept : List OpenContainer
     pub missed : List OpenContainer
     pub left : Row
@@ -352,11 +352,11 @@ module _ (text : List ℕ) (options : Options) (lookup : Lookup) where
   is_last [] = true
   is_last (c ∷ cs) = false
 
-  abbrev pub kept_if : Option Row → (Row → Kept) → Kept → Kept
+  abbrev pub kept_if : Option Row → (Row → LineKeepers) → LineKeepers → LineKeepers
   kept_if (Some s) on off = on s
   kept_if None on off = off
 
-  abbrev pub kept_by : (outer : List OpenContainer) → List OpenContainer → (bare : Bool) → Row → Kept
+  abbrev pub kept_by : (outer : List OpenContainer) → List OpenContainer → (bare : Bool) → Row → LineKeepers
   kept_by outer [] bare r = record { kept = outer; missed = []; left = r }
   kept_by outer (c ∷ cs) bare r =
       kept_if (keeps c.container (bare && is_last cs) r) (λ s. kept_by (outer ++ c ∷ []) cs bare s) (record { kept = outer; missed = c ∷ cs; left = r })
@@ -370,7 +370,7 @@ module _ (text : List ℕ) (options : Options) (lookup : Lookup) where
 
   -- one more line, with the whole lines behind it
   abbrev pub line_fed : Row → (next : List Row) → Pass → Pass
-  line_fed r next p = let w = kept_by [] p.outer p.bare r in let q = line_with w.missed w.kept w.left next (record p { bare = false }) in record q { past = r.past }
+  line_fed r next p = let w = kept_by [] p.outer p.bare r in let q = line_with w.missed w.kept w.left next (record p { bare = false }) in record q { line_end = r.line_end }
 
   abbrev pub lines_fed : List Row → Pass → Pass
   lines_fed [] p = p

@@ -11,7 +11,7 @@ use Rattle.cmark_block_model.specs.Drawing.{Drawing, nothing_drawn}
 -- a list to which further items may come, or titles and definitions: its character, the number of its first item, whether it is known to be loose, and
 -- where its last item ends
 pub record OpenList : Type 0 where
-  pub mark : ℕ
+  pub delimiter : ℕ
   pub number : Option ℕ
   pub loose : Bool
   pub end : ℕ
@@ -77,9 +77,9 @@ pub record Pass : Type 0 where
   pub outer : List OpenContainer
   pub bare : Bool
   pub leaf : OpenLeaf
-  pub past : ℕ
+  pub line_end : ℕ
   pub references : List Reference
   pub footnotes : List (List ℕ)
 
 abbrev pub at_start : Pass
-at_start = record { drawing = nothing_drawn; inner = no_siblings; outer = []; bare = false; leaf = Closed; past = 0; references = []; footnotes = [] }
+at_start = record { drawing = nothing_drawn; inner = no_siblings; outer = []; bare = false; leaf = Closed; line_end = 0; references = []; footnotes = [] }

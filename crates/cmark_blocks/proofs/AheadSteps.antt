@@ -14,7 +14,7 @@ use Rattle.cmark_grammar.specs.Openings.{interrupts, text_lines, put_if, is_none
 use Rattle.cmark_blocks.specs.TablesAhead.{block_interrupts}
 use Rattle.cmark_lines.proofs.LazyRows.{whole-texts}
 use Rattle.cmark_grammar.proofs.RowPlaces.{kept-behind}
-use Rattle.cmark_block_model.specs.BlockPass.{Kept, kept_by, kept_if, ahead_in}
+use Rattle.cmark_block_model.specs.BlockPass.{LineKeepers, kept_by, kept_if, ahead_in}
 use Rattle.cmark_block_model.specs.OpenBlocks.{OpenContainer}
 
 module _ (text : List ℕ) (options : Options) (lookup : Lookup) where
@@ -23,11 +23,11 @@ module _ (text : List ℕ) (options : Options) (lookup : Lookup) where
   ahead-none (c ∷ cs) = ahead-none cs
 
   -- what is known of a line ahead, where it is known which containers keep it
-  pub record Sees (cs : List OpenContainer) (r : Row) (more : List Row) (w : Kept text options lookup) : Type 0 where
+  pub record Sees (cs : List OpenContainer) (r : Row) (more : List Row) (w : LineKeepers text options lookup) : Type 0 where
     pub kept : w.missed ≡ [] → ahead_in text options lookup cs (r ∷ more) ≡ w.left ∷ ahead_in text options lookup cs more
     pub missed : (c : OpenContainer) (others : List OpenContainer) → w.missed ≡ c ∷ others → ahead_in text options lookup cs (r ∷ more) ≡ []
     pub whole : w.left.lazy ≡ false
-    pub same : w.left.past ≡ r.past
+    pub same : w.left.line_end ≡ r.line_end
 
   pub sees : (outer cs : List OpenContainer) (r : Row) (more : List Row) → r.lazy ≡ false → Sees cs r more (kept_by text options lookup outer cs false r)
   sees outer [] r more whole = record { kept = λ e. refl; missed = λ c others e. absurd (let q : [] ≡ c ∷ others = e in cc); whole = whole; same = refl }
@@ -48,7 +48,7 @@ module _ (text : List ℕ) (options : Options) (lookup : Lookup) where
             kept = λ none. inside ∙ ih.kept none;
             missed = λ d others some. inside ∙ ih.missed d others some;
             whole = ih.whole;
-            same = ih.same ∙ sym (ap (λ t. t.past) n.1.1);
+            same = ih.same ∙ sym (ap (λ t. t.line_end) n.1.1);
           }
       go None e later = record {
         kept = λ none. absurd (let q : c ∷ cs ≡ [] = none in cc);
@@ -105,17 +105,17 @@ module _ (text : List ℕ) (options : Options) (lookup : Lookup) where
 
   -- the next whole line of the text, in front of those behind it
   pub next-line : (T : List ℕ) (start place : ℕ) (line : LineRest) (cs : List OpenContainer) (seen : Option LineRest) → T ≡ text → start ≡ place →
-      rows_from start (lines (drop start T)) ≡ row_of line ∷ rows_from (row_of line).past (lines (drop (row_of line).past T)) →
-      ((more : List Row) → MatchOption seen (ahead_in text options lookup cs (row_of line ∷ more) ≡ []) (λ rest. ((row_of rest).past ≡ (row_of line).past) × (ahead_in text options lookup cs (row_of line ∷ more) ≡ row_of rest ∷ ahead_in text options lookup cs more))) →
-      MatchOption seen (ahead_in text options lookup cs (lines_at text place) ≡ []) (λ rest. ahead_in text options lookup cs (lines_at text place) ≡ row_of rest ∷ ahead_in text options lookup cs (lines_at text (row_of rest).past))
+      rows_from start (lines (drop start T)) ≡ row_of line ∷ rows_from (row_of line).line_end (lines (drop (row_of line).line_end T)) →
+      ((more : List Row) → MatchOption seen (ahead_in text options lookup cs (row_of line ∷ more) ≡ []) (λ rest. ((row_of rest).line_end ≡ (row_of line).line_end) × (ahead_in text options lookup cs (row_of line ∷ more) ≡ row_of rest ∷ ahead_in text options lookup cs more))) →
+      MatchOption seen (ahead_in text options lookup cs (lines_at text place) ≡ []) (λ rest. ahead_in text options lookup cs (lines_at text place) ≡ row_of rest ∷ ahead_in text options lookup cs (lines_at text (row_of rest).line_end))
   next-line T start place line cs seen is at first sees =
-      go seen (sees (lines_at text (row_of line).past))
+      go seen (sees (lines_at text (row_of line).line_end))
     where
-      there : lines_at text place ≡ row_of line ∷ lines_at text (row_of line).past
-      there = subst (λ p. lines_at text p ≡ row_of line ∷ lines_at text (row_of line).past) at (subst (λ t. lines_at t start ≡ row_of line ∷ lines_at t (row_of line).past) is first)
+      there : lines_at text place ≡ row_of line ∷ lines_at text (row_of line).line_end
+      there = subst (λ p. lines_at text p ≡ row_of line ∷ lines_at text (row_of line).line_end) at (subst (λ t. lines_at t start ≡ row_of line ∷ lines_at t (row_of line).line_end) is first)
 
-      go : (seen : Option LineRest) → MatchOption seen (ahead_in text options lookup cs (row_of line ∷ lines_at text (row_of line).past) ≡ []) (λ rest. ((row_of rest).past ≡ (row_of line).past) × (ahead_in text options lookup cs (row_of line ∷ lines_at text (row_of line).past) ≡ row_of rest ∷ ahead_in text options lookup cs (lines_at text (row_of line).past))) →
-          MatchOption seen (ahead_in text options lookup cs (lines_at text place) ≡ []) (λ rest. ahead_in text options lookup cs (lines_at text place) ≡ row_of rest ∷ ahead_in text options lookup cs (lines_at text (row_of rest).past))
+      go : (seen : Option LineRest) → MatchOption seen (ahead_in text options lookup cs (row_of line ∷ lines_at text (row_of line).line_end) ≡ []) (λ rest. ((row_of rest).line_end ≡ (row_of line).line_end) × (ahead_in text options lookup cs (row_of line ∷ lines_at text (row_of line).line_end) ≡ row_of rest ∷ ahead_in text options lookup cs (lines_at text (row_of line).line_end))) →
+          MatchOption seen (ahead_in text options lookup cs (lines_at text place) ≡ []) (λ rest. ahead_in text options lookup cs (lines_at text place) ≡ row_of rest ∷ ahead_in text options lookup cs (lines_at text (row_of rest).line_end))
       go None e = ap (ahead_in text options lookup cs) there ∙ e
       go (Some rest) e = ap (ahead_in text options lookup cs) there ∙ e.1 ∙ ap (λ p. row_of rest ∷ ahead_in text options lookup cs (lines_at text p)) (sym e.0)
 

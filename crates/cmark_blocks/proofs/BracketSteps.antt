@@ -3,16 +3,16 @@ use Rattle.std.proofs.Common.{◌≡◌, ℕ, ◌-◌, Bool, true, false, ◌==�
 use Rattle.std.specs.Prelude.{if◌then◌else◌, nat_le}
 use Rattle.cmark_grammar.specs.Columns.{bytes_of}
 use Rattle.cmark_grammar.specs.Letters.{first_is}
-use Rattle.cmark_grammar.specs.LinkDefinitions.{Found, put, escapes_next, up_to, is_label, label_if, label_in, behind_colon, with_label, definition_in, further_bytes}
+use Rattle.cmark_grammar.specs.LinkDefinitions.{Parsed, put, escapes_next, up_to, is_label, label_if, label_in, behind_colon, with_label, definition_in, further_bytes}
 use Rattle.cmark_grammar.specs.Rows.{Row}
 use Rattle.cmark_blocks.specs.Brackets.{is_colon, lacks_colon, begins_none}
 
 -- no colon stands behind what was read
-abbrev LacksColon : Option Found → Type 0
+abbrev LacksColon : Option Parsed → Type 0
 LacksColon None = Unit {0}
 LacksColon (Some found) = first_is is_colon found.behind ≡ false
 
-put-lacks : (b : ℕ) (o : Option Found) → LacksColon o → LacksColon (put b o)
+put-lacks : (b : ℕ) (o : Option Parsed) → LacksColon o → LacksColon (put b o)
 put-lacks b None h = tt
 put-lacks b (Some found) h = h
 
@@ -29,7 +29,7 @@ module _ (more : List ℕ) (no_colon : first_is is_colon more ≡ false) where
   up_to-lacks escaped [] e = absurd (true≢false (sym e))
   up_to-lacks escaped (b ∷ bs) e = go (not escaped) (b == 93) (b == 91) e (up_to-lacks (escapes_next escaped b) bs)
     where
-      further : Option Found
+      further : Option Parsed
       further = up_to (escapes_next escaped b) 93 91 true (bs ++ more)
 
       go : (n x y : Bool) → (if n && x then not (first_is is_colon bs) else if n && y then true else lacks_colon (escapes_next escaped b) bs) ≡ true →
@@ -40,11 +40,11 @@ module _ (more : List ℕ) (no_colon : first_is is_colon more ≡ false) where
       go true false false q ih = put-lacks b further (ih q)
       go false x y q ih = put-lacks b further (ih q)
 
-  none-behind : (label : Found) (behind : List ℕ) → first_is is_colon behind ≡ false → behind_colon label behind ≡ None
+  none-behind : (label : Parsed) (behind : List ℕ) → first_is is_colon behind ≡ false → behind_colon label behind ≡ None
   none-behind label [] e = refl
   none-behind label (b ∷ bs) e = ap (λ z. if z then behind_colon label (58 ∷ bs) else None) e
 
-  label-lacks : (o : Option Found) → LacksColon o → with_label (label_if o) ≡ None
+  label-lacks : (o : Option Parsed) → LacksColon o → with_label (label_if o) ≡ None
   label-lacks None h = refl
   label-lacks (Some found) h = go (is_label found.bytes)
     where
@@ -63,7 +63,7 @@ module _ (more : List ℕ) (no_colon : first_is is_colon more ≡ false) where
 -- further lines stand behind a line end
 pub further-lacks : (r : Row) (more : List Row) → first_is is_colon (further_bytes r more) ≡ false
 further-lacks r [] = refl
-further-lacks r (s ∷ more) = go (nat_le 2 (r.past - r.stop))
+further-lacks r (s ∷ more) = go (nat_le 2 (r.line_end - r.content_end))
   where
     go : (z : Bool) → first_is is_colon ((if z then 13 ∷ 10 ∷ [] else 10 ∷ []) ++ (bytes_of s.columns ++ further_bytes s more)) ≡ false
     go true = refl

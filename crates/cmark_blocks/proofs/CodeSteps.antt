@@ -4,14 +4,14 @@ use Rattle.std.specs.Prelude.{if◌then◌else◌, nat_le}
 use Rattle.cmark_grammar.specs.Answers.{Lookup}
 use Rattle.cmark_grammar.specs.Options.{Options}
 use Rattle.cmark_grammar.specs.Leaves as grammar
-use Rattle.cmark_grammar.specs.Leaves.{Fence, closes_fence, fence_further}
+use Rattle.cmark_grammar.specs.Leaves.{Fence, closes_fence, fence_continuation}
 use Rattle.cmark_grammar.specs.Rows.{Row, without, begin_of, first_place, indent_of}
 use Rattle.cmark_grammar.specs.Tokens.{Piece, code_columns}
 use Rattle.cmark_lines.specs.Rests.{row_of}
 use Rattle.cmark_lines.specs.declared.line_rest.LineRest.{LineRest}
-use Rattle.cmark_lines.specs.Verbatims.{shown_further}
-use Rattle.cmark_lines.specs.declared.verbatim.Further.{Further}
-use Rattle.cmark_lines.specs.declared.verbatim.Further.TheVariants.{GoesOn, Closes, Waits, Stops}
+use Rattle.cmark_lines.specs.Continuations.{shown_continuation}
+use Rattle.cmark_lines.specs.declared.continuation.Continuation.{Continuation}
+use Rattle.cmark_lines.specs.declared.continuation.Continuation.TheVariants.{GoesOn, Closes, Waits, Stops}
 use Rattle.cmark_leaves.specs.Stretches.{shown_waits}
 use Rattle.cmark_leaves.specs.declared.stretch.Stretch.{Stretch}
 use Rattle.cmark_block_model.specs.BlockPass.{leaf_fed, node_closed, with_drawn, code_drawn}
@@ -21,32 +21,32 @@ use Rattle.cmark_blocks.specs.declared.state.OpenLeaf.TheVariants as leaf
 use Rattle.cmark_blocks.specs.Runs.{IsFence, ShowsLeaf}
 
 -- where a line begins behind so many columns of indent at most
-pub code-place : (most : ℕ) (r s : Row) → s ≡ without (min most (indent_of r)) r → begin_of s ≡ first_place r.stop (code_columns most r)
-code-place most r s is = ap begin_of is ∙ ap (λ n. first_place r.stop (drop n r.columns)) (sym (least most (indent_of r)))
+pub code-place : (most : ℕ) (r s : Row) → s ≡ without (min most (indent_of r)) r → begin_of s ≡ first_place r.content_end (code_columns most r)
+code-place most r s is = ap begin_of is ∙ ap (λ n. first_place r.content_end (drop n r.columns)) (sym (least most (indent_of r)))
   where
     least : (a b : ℕ) → (if nat_le a b then a else b) ≡ min a b
     least a b = grind (arith)
 
 -- indented code that is open
-pub indented-shown : (text : List ℕ) (waits : Option Stretch) (left : Option Piece) (end past : ℕ) (blanks : List LineRest) (rows : List Row) →
-    shown_waits text waits ≡ left → end ≡ past → map row_of blanks ≡ rows → ShowsLeaf text (leaf.Indented waits end) blanks (model.InIndented left past rows)
-indented-shown text waits left end past blanks rows w e b =
-    sym (ap (λ x. model.InIndented x end (map row_of blanks)) w ∙ ap (λ x. model.InIndented left x (map row_of blanks)) e ∙ ap (model.InIndented left past) b)
+pub indented-shown : (text : List ℕ) (waits : Option Stretch) (left : Option Piece) (end line_end : ℕ) (blanks : List LineRest) (rows : List Row) →
+    shown_waits text waits ≡ left → end ≡ line_end → map row_of blanks ≡ rows → ShowsLeaf text (leaf.Indented waits end) blanks (model.InIndented left line_end rows)
+indented-shown text waits left end line_end blanks rows w e b =
+    sym (ap (λ x. model.InIndented x end (map row_of blanks)) w ∙ ap (λ x. model.InIndented left x (map row_of blanks)) e ∙ ap (model.InIndented left line_end) b)
 
 -- what a line does to fenced code does not hang on the info string
-fence-further : (x : Further) (fence : Fence) (mark size indent : ℕ) (r : Row) → IsFence fence mark size indent →
-    ((info : List ℕ) → shown_further x ≡ fence_further (record { indented = indent; mark = mark; size = size; info = info }) r) → shown_further x ≡ fence_further fence r
-fence-further x fence mark size indent r same further =
-    further fence.info
-    ∙ ap {A = ℕ} (λ n. fence_further (record { indented = indent; mark = n; size = size; info = fence.info }) r) (sym same.0)
-    ∙ ap {A = ℕ} (λ n. fence_further (record { indented = indent; mark = fence.mark; size = n; info = fence.info }) r) (sym same.1)
-    ∙ ap {A = ℕ} (λ n. fence_further (record { indented = n; mark = fence.mark; size = fence.size; info = fence.info }) r) (sym same.2)
+fence-continuation : (x : Continuation) (fence : Fence) (delimiter run_length indent : ℕ) (r : Row) → IsFence fence delimiter run_length indent →
+    ((info : List ℕ) → shown_continuation x ≡ fence_continuation (record { indented = indent; delimiter = delimiter; run_length = run_length; info = info }) r) → shown_continuation x ≡ fence_continuation fence r
+fence-continuation x fence delimiter run_length indent r same continuation =
+    continuation fence.info
+    ∙ ap {A = ℕ} (λ n. fence_continuation (record { indented = indent; delimiter = n; run_length = run_length; info = fence.info }) r) (sym same.0)
+    ∙ ap {A = ℕ} (λ n. fence_continuation (record { indented = indent; delimiter = fence.delimiter; run_length = n; info = fence.info }) r) (sym same.1)
+    ∙ ap {A = ℕ} (λ n. fence_continuation (record { indented = n; delimiter = fence.delimiter; run_length = fence.run_length; info = fence.info }) r) (sym same.2)
 
-is-closed : (b : Bool) (x : Further) → shown_further x ≡ (if b then grammar.Closes else grammar.GoesOn) → x ≡ Closes → b ≡ true
+is-closed : (b : Bool) (x : Continuation) → shown_continuation x ≡ (if b then grammar.Closes else grammar.GoesOn) → x ≡ Closes → b ≡ true
 is-closed true x e is = refl
-is-closed false x e is = absurd (let q : grammar.Closes ≡ grammar.GoesOn = sym (ap shown_further is) ∙ e in cc)
+is-closed false x e is = absurd (let q : grammar.Closes ≡ grammar.GoesOn = sym (ap shown_continuation is) ∙ e in cc)
 
-goes-on : (b : Bool) (x : Further) → shown_further x ≡ (if b then grammar.Closes else grammar.GoesOn) → x ≢ Closes → b ≡ false
+goes-on : (b : Bool) (x : Continuation) → shown_continuation x ≡ (if b then grammar.Closes else grammar.GoesOn) → x ≢ Closes → b ≡ false
 goes-on false x e not = refl
 goes-on true GoesOn e not = absurd (let q : grammar.GoesOn ≡ grammar.Closes = e in cc)
 goes-on true Closes e not = absurd (not refl)
@@ -55,17 +55,17 @@ goes-on true Stops e not = absurd (let q : grammar.Stops ≡ grammar.Closes = e 
 
 -- a closing fence, and a line of code behind an opening one
 module _ (text : List ℕ) (options : Options) (lookup : Lookup) (fence : Fence) (waits : Option Piece) (r : Row) (next : List Row) (m : model.Pass)
-    (x : Further) (mark size indent : ℕ) (same : IsFence fence mark size indent) (is : m.leaf ≡ model.InFenced fence waits)
-    (further : (info : List ℕ) → shown_further x ≡ fence_further (record { indented = indent; mark = mark; size = size; info = info }) r) where
-  pub fence-closes : x ≡ Closes → leaf_fed text options lookup m.leaf r next m ≡ node_closed r.past (with_drawn (texts_of (rest_of waits)) m)
+    (x : Continuation) (delimiter run_length indent : ℕ) (same : IsFence fence delimiter run_length indent) (is : m.leaf ≡ model.InFenced fence waits)
+    (continuation : (info : List ℕ) → shown_continuation x ≡ fence_continuation (record { indented = indent; delimiter = delimiter; run_length = run_length; info = info }) r) where
+  pub fence-closes : x ≡ Closes → leaf_fed text options lookup m.leaf r next m ≡ node_closed r.line_end (with_drawn (texts_of (rest_of waits)) m)
   fence-closes closes =
       ap (λ l. leaf_fed text options lookup l r next m) is
-      ∙ ap (λ b. if b then node_closed r.past (with_drawn (texts_of (rest_of waits)) m) else code_drawn text options lookup fence.indented r waits (model.InFenced fence) m)
-      (is-closed (closes_fence fence r) x (fence-further x fence mark size indent r same further) closes)
+      ∙ ap (λ b. if b then node_closed r.line_end (with_drawn (texts_of (rest_of waits)) m) else code_drawn text options lookup fence.indented r waits (model.InFenced fence) m)
+      (is-closed (closes_fence fence r) x (fence-continuation x fence delimiter run_length indent r same continuation) closes)
 
   pub fence-goes-on : x ≢ Closes → leaf_fed text options lookup m.leaf r next m ≡ code_drawn text options lookup indent r waits (model.InFenced fence) m
   fence-goes-on not =
       ap (λ l. leaf_fed text options lookup l r next m) is
-      ∙ ap (λ b. if b then node_closed r.past (with_drawn (texts_of (rest_of waits)) m) else code_drawn text options lookup fence.indented r waits (model.InFenced fence) m)
-      (goes-on (closes_fence fence r) x (fence-further x fence mark size indent r same further) not)
+      ∙ ap (λ b. if b then node_closed r.line_end (with_drawn (texts_of (rest_of waits)) m) else code_drawn text options lookup fence.indented r waits (model.InFenced fence) m)
+      (goes-on (closes_fence fence r) x (fence-continuation x fence delimiter run_length indent r same continuation) not)
       ∙ ap (λ n. code_drawn text options lookup n r waits (model.InFenced fence) m) same.2

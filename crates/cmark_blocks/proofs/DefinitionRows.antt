@@ -4,7 +4,7 @@ use Rattle.std.proofs.lemmas.Option.{same_Some}
 use Rattle.std.specs.Prelude.{if◌then◌else◌, nat_le}
 use Rattle.cmark_grammar.specs.Answers.{Lookup}
 use Rattle.cmark_grammar.specs.Blocks.{place_in}
-use Rattle.cmark_grammar.specs.Containers.{Container, Quote, Item, Footnote, ListDefinition, begins_with, width_with, is_alert, enter}
+use Rattle.cmark_grammar.specs.Containers.{Container, BlockQuote, Item, Footnote, ListDefinition, begins_with, width_with, is_alert, enter}
 use Rattle.cmark_grammar.specs.DefinitionLists.{begins_definition, definition_at, definition_marker, definition_width, is_marker}
 use Rattle.cmark_grammar.specs.Letters.{first_is, is_letter}
 use Rattle.cmark_grammar.specs.Openings.{Nests, opens, opens_at, definition_or, text_begun}
@@ -68,8 +68,8 @@ opens-definition options s r ahead width is =
 
 -- inside a container that began nothing stands yet
 pub inside-place : (k : Container) (r : Row) (m : model.Pass) → Apart ≡ place_of (container_begun k r m).inner
-inside-place (Quote alert) r m = refl
-inside-place (Item mark number width task) r m = refl
+inside-place (BlockQuote alert) r m = refl
+inside-place (Item delimiter number width task) r m = refl
 inside-place (Footnote label old size) r m = refl
 inside-place (ListDefinition width) r m = refl
 

@@ -4,7 +4,7 @@ use Rattle.std.specs.Prelude.{string_bytes}
 use Rattle.cmark_grammar.specs.Answers.{Lookup}
 use Rattle.cmark_grammar.specs.BlockDocument.{Reference}
 use Rattle.cmark_grammar.specs.Containers.{Container}
-use Rattle.cmark_grammar.specs.Derivation.{stop_of}
+use Rattle.cmark_grammar.specs.Derivation.{last_content_end}
 use Rattle.cmark_grammar.specs.Labels.{fold}
 use Rattle.cmark_grammar.specs.Leaves.{underlines}
 use Rattle.cmark_grammar.specs.LinkDefinitions.{Defined, definition_in, further_bytes, bytes_over, line_ends}
@@ -42,13 +42,13 @@ take-texts options (r ∷ ahead) n le = go (texts options r ahead && is_none (un
 
 module _ (text : List ℕ) (options : Options) (lookup : Lookup) (m : model.Pass) (inside : Container → model.Pass) (r : Row) (ahead : List Row) (bare : Bool) where
   -- a definition that stands in front of the paragraph's text
-  pub begins-definition : (found : Defined) (start stop more : ℕ) → Some found ≡ definition_in (bytes_over r (text_lines options ahead)) → start ≡ start_of r →
-      more ≡ length (text_lines options ahead) - line_ends found.behind → stop ≡ stop_of r (take more (text_lines options ahead)) →
-      definition_begun lookup found.definition start stop more m ≡ begin_as text options lookup (bracket_of options r ahead) inside r ahead bare m
-  begins-definition found start stop more is first count last =
-      ap (λ s. definition_begun lookup found.definition s stop more m) first
-      ∙ ap (λ e. definition_begun lookup found.definition (start_of r) e more m) (last ∙ ap (stop_of r) (take-texts options ahead more (omega (arith, count))))
-      ∙ ap (λ n. definition_begun lookup found.definition (start_of r) (stop_of r (take n ahead)) n m) count
+  pub begins-definition : (found : Defined) (start content_end more : ℕ) → Some found ≡ definition_in (bytes_over r (text_lines options ahead)) → start ≡ start_of r →
+      more ≡ length (text_lines options ahead) - line_ends found.behind → content_end ≡ last_content_end r (take more (text_lines options ahead)) →
+      definition_begun lookup found.definition start content_end more m ≡ begin_as text options lookup (bracket_of options r ahead) inside r ahead bare m
+  begins-definition found start content_end more is first count last =
+      ap (λ s. definition_begun lookup found.definition s content_end more m) first
+      ∙ ap (λ e. definition_begun lookup found.definition (start_of r) e more m) (last ∙ ap (last_content_end r) (take-texts options ahead more (omega (arith, count))))
+      ∙ ap (λ n. definition_begun lookup found.definition (start_of r) (last_content_end r (take n ahead)) n m) count
       ∙ ap (λ o. begin_as text options lookup (or_else (defined_if (length (text_lines options ahead)) o) (table_if options (table_head options r ahead) ahead)) inside r ahead bare m) is
 
   -- none does
@@ -70,7 +70,7 @@ module _ {E : Type 0} (replacement : E → Lookup) (text : List ℕ) (options : 
     outer = runs.outer;
     bare = runs.bare;
     leaf = runs.leaf;
-    past = runs.past;
+    line_end = runs.line_end;
     references = same;
     footnotes = runs.footnotes;
   }
@@ -92,7 +92,7 @@ whole-of replacement pass old new false e h = h.1
 module _ (text : List ℕ) (options : Options) (lookup : Lookup) (m : model.Pass) (first : LineRest) (gathered : Gathered) (holds : Holds text options lookup m first gathered) where
   -- the lines that were not gathered
   abbrev pub left : List Row
-  left = texts_at text options lookup m (row_of gathered.last).past
+  left = texts_at text options lookup m (row_of gathered.last).line_end
 
   abbrev pub left_bytes : List ℕ
   left_bytes = further_bytes (row_of gathered.last) left
@@ -100,21 +100,21 @@ module _ (text : List ℕ) (options : Options) (lookup : Lookup) (m : model.Pass
   -- the definition in front of what was gathered is the paragraph's
   pub decided : (paragraph : List ℕ) → paragraph ≡ string_bytes gathered.text →
       definition_in (string_bytes gathered.text ++ left_bytes) ≡ option_map (defined_before left_bytes) (definition_in (string_bytes gathered.text)) →
-      option_map (defined_before left_bytes) (definition_in paragraph) ≡ definition_in (bytes_over (row_of first) (texts_at text options lookup m (row_of first).past))
+      option_map (defined_before left_bytes) (definition_in paragraph) ≡ definition_in (bytes_over (row_of first) (texts_at text options lookup m (row_of first).line_end))
   decided paragraph is decides =
       ap (λ bs. option_map (defined_before left_bytes) (definition_in bs)) is ∙ sym decides
       ∙ ap definition_in (ap (λ bs. bs ++ left_bytes) holds.bytes ∙ ap (λ r. bytes_over (row_of first) holds.lines ++ further_bytes r left) (sym holds.last)
       ∙ sym (bytes-split (row_of first) holds.lines left) ∙ ap (bytes_over (row_of first)) (sym holds.ahead))
 
   -- it takes as many lines
-  pub lines-taken : (behind : List ℕ) → gathered.lines - line_ends behind ≡ length (texts_at text options lookup m (row_of first).past) - line_ends (behind ++ left_bytes)
+  pub lines-taken : (behind : List ℕ) → gathered.lines - line_ends behind ≡ length (texts_at text options lookup m (row_of first).line_end) - line_ends (behind ++ left_bytes)
   lines-taken behind =
       let count = holds.count in
-      let all : length (texts_at text options lookup m (row_of first).past) ≡ length holds.lines + length left = ap length holds.ahead ∙ length-append holds.lines left in
+      let all : length (texts_at text options lookup m (row_of first).line_end) ≡ length holds.lines + length left = ap length holds.ahead ∙ length-append holds.lines left in
       let ends : line_ends (behind ++ left_bytes) ≡ line_ends behind + length left =
-      ends-behind behind left_bytes ∙ ap (λ n. line_ends behind + n) (texts-end text options lookup m.outer (row_of gathered.last).past (row_of gathered.last)) in
+      ends-behind behind left_bytes ∙ ap (λ n. line_ends behind + n) (texts-end text options lookup m.outer (row_of gathered.last).line_end (row_of gathered.last)) in
       ap (λ n. n - line_ends behind) (sym count) ∙ same (length holds.lines) (line_ends behind) (length left) ∙ ap (λ n. n - (line_ends behind + length left)) (sym all)
-      ∙ ap (λ n. length (texts_at text options lookup m (row_of first).past) - n) (sym ends)
+      ∙ ap (λ n. length (texts_at text options lookup m (row_of first).line_end) - n) (sym ends)
     where
       same : (a b k : ℕ) → a - b ≡ a + k - (b + k)
       same a b k = omega arith

@@ -42,14 +42,14 @@ module _ {E : Type 0} (replacement : E → Lookup) (text : List ℕ) (options : 
 
 module _ (text : List ℕ) (options : Options) (lookup : Lookup) (r : Row) (m : model.Pass) where
   -- a line that touches the last one, or not
-  pub line-touches : (before : List Row) (from : ℕ) (last : Row) → begin_of r ≡ last.past → paragraph_line text options lookup before from last r m ≡ record m { leaf = model.InParagraph (kept_lines options.heading_attributes before last) from r }
+  pub line-touches : (before : List Row) (from : ℕ) (last : Row) → begin_of r ≡ last.line_end → paragraph_line text options lookup before from last r m ≡ record m { leaf = model.InParagraph (kept_lines options.heading_attributes before last) from r }
   line-touches before from last e =
-      ap (λ z. if z then record m { leaf = model.InParagraph (kept_lines options.heading_attributes before last) from r } else record (with_drawn (stretch_then text from last.past Nil) m) { leaf = model.InParagraph (kept_lines options.heading_attributes before last) (begin_of r) r }) (equal-true (begin_of r) last.past e)
+      ap (λ z. if z then record m { leaf = model.InParagraph (kept_lines options.heading_attributes before last) from r } else record (with_drawn (stretch_then text from last.line_end Nil) m) { leaf = model.InParagraph (kept_lines options.heading_attributes before last) (begin_of r) r }) (equal-true (begin_of r) last.line_end e)
 
-  pub line-apart : (before : List Row) (from : ℕ) (last : Row) → begin_of r ≢ last.past
-      → paragraph_line text options lookup before from last r m ≡ record (with_drawn (stretch_then text from last.past Nil) m) { leaf = model.InParagraph (kept_lines options.heading_attributes before last) (begin_of r) r }
+  pub line-apart : (before : List Row) (from : ℕ) (last : Row) → begin_of r ≢ last.line_end
+      → paragraph_line text options lookup before from last r m ≡ record (with_drawn (stretch_then text from last.line_end Nil) m) { leaf = model.InParagraph (kept_lines options.heading_attributes before last) (begin_of r) r }
   line-apart before from last e =
-      ap (λ z. if z then record m { leaf = model.InParagraph (kept_lines options.heading_attributes before last) from r } else record (with_drawn (stretch_then text from last.past Nil) m) { leaf = model.InParagraph (kept_lines options.heading_attributes before last) (begin_of r) r }) (equal-false (begin_of r) last.past e)
+      ap (λ z. if z then record m { leaf = model.InParagraph (kept_lines options.heading_attributes before last) from r } else record (with_drawn (stretch_then text from last.line_end Nil) m) { leaf = model.InParagraph (kept_lines options.heading_attributes before last) (begin_of r) r }) (equal-false (begin_of r) last.line_end e)
 
 module _ (text : List ℕ) (options : Options) (lookup : Lookup) (r : Row) (next : List Row) (m : model.Pass) where
   -- behind a paragraph
@@ -150,9 +150,9 @@ and-false false false e = refl
 and-false a true e = absurd (true≢false e)
 
 -- the lines of a text from a place on
-pub first-line : (T text : List ℕ) (start place : ℕ) (r : Row) → T ≡ text → start ≡ place → lines_at T start ≡ r ∷ lines_at T r.past → lines_at text place ≡ r ∷ lines_at text r.past
+pub first-line : (T text : List ℕ) (start place : ℕ) (r : Row) → T ≡ text → start ≡ place → lines_at T start ≡ r ∷ lines_at T r.line_end → lines_at text place ≡ r ∷ lines_at text r.line_end
 first-line T text start place r is at first =
-    subst (λ p. lines_at text p ≡ r ∷ lines_at text r.past) at (subst (λ t. lines_at t start ≡ r ∷ lines_at t r.past) is first)
+    subst (λ p. lines_at text p ≡ r ∷ lines_at text r.line_end) at (subst (λ t. lines_at t start ≡ r ∷ lines_at t r.line_end) is first)
 
 pub no-lines : (text : List ℕ) (place : ℕ) → length text ≤ place → lines_at text place ≡ []
 no-lines text place le = ap (λ (l : List ℕ). rows_from place (lines l)) (drop_all place text le)
@@ -162,21 +162,21 @@ module _ {E : Type 0} (replacement : E → Lookup) (old : Pass E) where
   feeds-start text options lookup m runs = (m, runs, refl)
 
   pub feeds-step : (line : LineRest) (T : List ℕ) (mid new : Pass E) → FeedsSoFar replacement old mid → Feeds replacement line mid new → T ≡ mid.text.now →
-      lines_at T mid.past ≡ row_of line ∷ lines_at T (row_of line).past → FeedsSoFar replacement old new
+      lines_at T mid.line_end ≡ row_of line ∷ lines_at T (row_of line).line_end → FeedsSoFar replacement old new
   feeds-step line T mid new so_far feeds is first text options lookup m runs =
       let before = so_far text options lookup m runs in
       let r = row_of line in
-      let there = first-line T text mid.past before.0.past r (is ∙ before.1.text_is) before.1.past first in (
-        line_fed text options lookup r (lines_at text r.past) before.0,
+      let there = first-line T text mid.line_end before.0.line_end r (is ∙ before.1.text_is) before.1.line_end first in (
+        line_fed text options lookup r (lines_at text r.line_end) before.0,
         feeds text options lookup before.0 before.1,
         before.2 ∙ ap (λ (rs : List Row). lines_fed text options lookup rs before.0) there,
       )
 
-  pub feeds-end : (mid : Pass E) → FeedsSoFar replacement old mid → length mid.text.now ≤ mid.past → FeedsAll replacement old mid
+  pub feeds-end : (mid : Pass E) → FeedsSoFar replacement old mid → length mid.text.now ≤ mid.line_end → FeedsAll replacement old mid
   feeds-end mid so_far end text options lookup m runs =
       let before = so_far text options lookup m runs in
-      let over : length text ≤ before.0.past = omega (arith, end, before.1.past, ap length before.1.text_is) in
-      subst (λ p. Runs replacement text options lookup p mid) (sym (before.2 ∙ ap (λ (rs : List Row). lines_fed text options lookup rs before.0) (no-lines text before.0.past over))) before.1
+      let over : length text ≤ before.0.line_end = omega (arith, end, before.1.line_end, ap length before.1.text_is) in
+      subst (λ p. Runs replacement text options lookup p mid) (sym (before.2 ∙ ap (λ (rs : List Row). lines_fed text options lookup rs before.0) (no-lines text before.0.line_end over))) before.1
 
 -- outside of containers
 pub is-zero : (n : ℕ) → (n == 0) ≡ true → n ≡ 0
@@ -188,9 +188,9 @@ shows-none [] (m ∷ ms) e s = absurd s
 shows-none (c ∷ cs) ms e s = absurd (omega (arith, e))
 
 pub fed-outside : (text : List ℕ) (options : Options) (lookup : Lookup) (r : Row) (next : List Row) (m : model.Pass) (cs : List OpenContainer) → length cs ≡ 0 → ShowsContainers cs m.outer →
-    record (leaf_fed text options lookup m.leaf r next (record m { bare = false })) { past = r.past } ≡ line_fed text options lookup r next m
+    record (leaf_fed text options lookup m.leaf r next (record m { bare = false })) { line_end = r.line_end } ≡ line_fed text options lookup r next m
 fed-outside text options lookup r next m cs none shows =
-    ap (λ outer. let w = kept_by text options lookup [] outer m.bare r in let q = line_with text options lookup w.missed w.kept w.left next (record m { bare = false }) in record q { past = r.past })
+    ap (λ outer. let w = kept_by text options lookup [] outer m.bare r in let q = line_with text options lookup w.missed w.kept w.left next (record m { bare = false }) in record q { line_end = r.line_end })
     (sym (shows-none cs m.outer none shows))
 
 -- a line that others miss goes on with a paragraph where neither it nor a table that it begins interrupts one

@@ -67,8 +67,8 @@ module _ (options : Options) (r : Row) (whole : r.lazy ≡ false) (blank : is_bl
     bytes = sym (ap (λ n. bytes_of (drop n r.columns)) flush) ∙ words
 
     begins-only : (open_as : Opening) → OpensAs options open_as r → BeginsOnly options open_as r
-    begins-only open_as told = record {
-      opens_as = told;
+    begins-only open_as in_text = record {
+      opens_as = in_text;
       defines_not = λ place. other-defines-not options place r (ap (begins_with 58) words ∙ colon);
       metadata_not = λ ahead. ap (λ kind. metadata_begun kind ahead) (no-metadata options r b bs bytes dash plus);
     }

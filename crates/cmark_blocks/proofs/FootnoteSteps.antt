@@ -84,7 +84,7 @@ module _ {E : Type 0} (replacement : E → Lookup) (text : List ℕ) (options : 
     outer = runs.outer;
     bare = runs.bare;
     leaf = runs.leaf;
-    past = runs.past;
+    line_end = runs.line_end;
     references = λ folded. ap (λ r. option_map shown_definition (definition r folded)) same ∙ runs.references folded;
     footnotes = labels-noted label m.footnotes (tables pass.builder.allocations).footnotes (tables b.allocations).footnotes runs.footnotes notes;
   }

@@ -4,7 +4,7 @@ use Rattle.std.specs.Prelude.{string_bytes}
 use Rattle.cmark_grammar.specs.Answers.{Lookup}
 use Rattle.cmark_grammar.specs.Columns.{bytes_of, indent, without_indent}
 use Rattle.cmark_grammar.specs.LinkDefinitions.{line_end_of, further_bytes, bytes_over}
-use Rattle.cmark_grammar.specs.Derivation.{stop_of}
+use Rattle.cmark_grammar.specs.Derivation.{last_content_end}
 use Rattle.cmark_grammar.specs.Options.{Options}
 use Rattle.cmark_grammar.specs.Rows.{Row, words_of, begin_of, start_of}
 use Rattle.cmark_grammar.specs.Tokens.{slice}
@@ -12,20 +12,20 @@ use Rattle.cmark_grammar.proofs.RowPlaces.{drop-Runs}
 use Rattle.cmark_lines.proofs.RestSteps.{rest-runs}
 use Rattle.cmark_lines.specs.Rests.{row_of}
 use Rattle.cmark_lines.specs.declared.line_rest.LineRest.{LineRest}
-use Rattle.cmark_leaves.specs.TextColumns.{AreTold}
-use Rattle.cmark_leaves.proofs.ColumnCuts.{bytes-slice, drop-told}
+use Rattle.cmark_leaves.specs.TextColumns.{StandInText}
+use Rattle.cmark_leaves.proofs.ColumnCuts.{bytes-slice, drop-in_text}
 use Rattle.cmark_block_model.specs.OpenBlocks as model
 use Rattle.cmark_blocks.specs.declared.gathered.Gathered.{Gathered}
 use Rattle.cmark_blocks.specs.Gathered.{last_of, texts_at, Holds}
 
 -- the bytes of a line stand in the text, one behind the other
-pub rest-slice : (text : List ℕ) (rest : LineRest) → AreTold text (row_of rest).columns → bytes_of (row_of rest).columns ≡ slice text (begin_of (row_of rest)) (row_of rest).stop
-rest-slice text rest told = bytes-slice text (begin_of (row_of rest)) (row_of rest).columns (row_of rest).stop (rest-runs rest) told
+pub rest-slice : (text : List ℕ) (rest : LineRest) → StandInText text (row_of rest).columns → bytes_of (row_of rest).columns ≡ slice text (begin_of (row_of rest)) (row_of rest).content_end
+rest-slice text rest in_text = bytes-slice text (begin_of (row_of rest)) (row_of rest).columns (row_of rest).content_end (rest-runs rest) in_text
 
-pub words-slice : (text : List ℕ) (rest : LineRest) → AreTold text (row_of rest).columns → words_of (row_of rest) ≡ slice text (start_of (row_of rest)) (row_of rest).stop
-words-slice text rest told =
+pub words-slice : (text : List ℕ) (rest : LineRest) → StandInText text (row_of rest).columns → words_of (row_of rest) ≡ slice text (start_of (row_of rest)) (row_of rest).content_end
+words-slice text rest in_text =
     let r = row_of rest in
-    bytes-slice text (start_of r) (without_indent r.columns) r.stop (drop-Runs (indent r.columns) (begin_of r) r.columns r.stop (rest-runs rest)).0 (drop-told text (indent r.columns) r.columns told)
+    bytes-slice text (start_of r) (without_indent r.columns) r.content_end (drop-Runs (indent r.columns) (begin_of r) r.columns r.content_end (rest-runs rest)).0 (drop-in_text text (indent r.columns) r.columns in_text)
 
 -- further lines, one part behind the other
 pub further-splits : (first : Row) (lines more : List Row) → further_bytes first (lines ++ more) ≡ further_bytes first lines ++ further_bytes (last_of first lines) more
@@ -47,12 +47,12 @@ last-more first (s ∷ lines) r = last-more s lines r
 module _ (text : List ℕ) (options : Options) (lookup : Lookup) (m : model.Pass) where
   -- one more line
   pub holds-more : (first rest : LineRest) (old : Gathered) (made : String Global) (count : ℕ) → Holds text options lookup m first old →
-      texts_at text options lookup m (row_of old.last).past ≡ row_of rest ∷ texts_at text options lookup m (row_of rest).past →
+      texts_at text options lookup m (row_of old.last).line_end ≡ row_of rest ∷ texts_at text options lookup m (row_of rest).line_end →
       string_bytes made ≡ string_bytes old.text ++ (line_end_of (row_of old.last) ++ bytes_of (row_of rest).columns) → count ≡ old.lines + 1 →
       Holds text options lookup m first (record { text = made; lines = count; last = rest })
   holds-more first rest old made count h next bytes more = record {
     lines = h.lines ++ row_of rest ∷ [];
-    ahead = h.ahead ∙ ap (λ rs. h.lines ++ rs) next ∙ sym (append_assoc h.lines (row_of rest ∷ []) (texts_at text options lookup m (row_of rest).past));
+    ahead = h.ahead ∙ ap (λ rs. h.lines ++ rs) next ∙ sym (append_assoc h.lines (row_of rest ∷ []) (texts_at text options lookup m (row_of rest).line_end));
     bytes =
         bytes ∙ ap (λ bs. bs ++ (line_end_of (row_of old.last) ++ bytes_of (row_of rest).columns)) h.bytes
         ∙ ap (λ r. bytes_over (row_of first) h.lines ++ (line_end_of r ++ bytes_of (row_of rest).columns)) (sym h.last)
@@ -63,10 +63,10 @@ module _ (text : List ℕ) (options : Options) (lookup : Lookup) (m : model.Pass
   }
 
 -- where lines end
-pub stop-none : (r : Row) (n : ℕ) → stop_of r (take n []) ≡ r.stop
-stop-none r zero = refl
-stop-none r (suc n) = refl
+pub content_end-none : (r : Row) (n : ℕ) → last_content_end r (take n []) ≡ r.content_end
+content_end-none r zero = refl
+content_end-none r (suc n) = refl
 
-pub stop-next : (r s : Row) (rs : List Row) (n : ℕ) → 0 < n → stop_of r (take n (s ∷ rs)) ≡ stop_of s (take (n - 1) rs)
-stop-next r s rs zero lt = absurd (omega (arith, lt))
-stop-next r s rs (suc n) lt = ap (λ k. stop_of s (take k rs)) (let e : n ≡ suc n - 1 = omega arith in e)
+pub content_end-next : (r s : Row) (rs : List Row) (n : ℕ) → 0 < n → last_content_end r (take n (s ∷ rs)) ≡ last_content_end s (take (n - 1) rs)
+content_end-next r s rs zero lt = absurd (omega (arith, lt))
+content_end-next r s rs (suc n) lt = ap (λ k. last_content_end s (take k rs)) (let e : n ≡ suc n - 1 = omega arith in e)

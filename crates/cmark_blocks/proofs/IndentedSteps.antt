@@ -4,7 +4,7 @@ use Rattle.std.proofs.lemmas.List.{map-append}
 use Rattle.std.proofs.lemmas.Grind.{take_at_read}
 use Rattle.cmark_grammar.specs.Answers.{Lookup}
 use Rattle.cmark_grammar.specs.Leaves as grammar
-use Rattle.cmark_grammar.specs.Leaves.{code_further}
+use Rattle.cmark_grammar.specs.Leaves.{code_continuation}
 use Rattle.cmark_grammar.specs.Options.{Options}
 use Rattle.cmark_grammar.specs.Rows.{Row}
 use Rattle.cmark_grammar.specs.Tokens.{Piece}
@@ -12,10 +12,10 @@ use Rattle.cmark_lines.specs.Rests.{row_of}
 use Rattle.cmark_lines.specs.declared.line_rest.LineRest.{LineRest}
 use Rattle.cmark_leaves.specs.Stretches.{shown_waits}
 use Rattle.cmark_leaves.specs.declared.stretch.Stretch.{Stretch}
-use Rattle.cmark_lines.specs.Verbatims.{shown_further}
-use Rattle.cmark_lines.specs.declared.verbatim.Further.{Further}
-use Rattle.cmark_lines.specs.declared.verbatim.Further.TheVariants.{Closes, Stops}
-use Rattle.cmark_block_model.specs.BlockPass.{leaf_fed, leaf_closed, indented_lines, indented_further, begin}
+use Rattle.cmark_lines.specs.Continuations.{shown_continuation}
+use Rattle.cmark_lines.specs.declared.continuation.Continuation.{Continuation}
+use Rattle.cmark_lines.specs.declared.continuation.Continuation.TheVariants.{Closes, Stops}
+use Rattle.cmark_block_model.specs.BlockPass.{leaf_fed, leaf_closed, indented_lines, indented_continuation, begin}
 use Rattle.cmark_block_model.specs.CodeLines.{code_line, texts_of}
 use Rattle.cmark_block_model.specs.Drawing.{Drawing, drawn}
 use Rattle.cmark_block_model.specs.OpenBlocks as model
@@ -61,24 +61,24 @@ rows-more lines i line within is =
 module _ (text : List ℕ) (options : Options) (lookup : Lookup) where
   -- lines of indented code are drawn, and none waits
   lines-fed : (r : Row) (rs : List Row) (waits : Option Piece) (end : ℕ) (m : model.Pass) → indented_lines text options lookup (rs ++ r ∷ []) waits end m
-      ≡ record m { drawing = lines_drawn text (rs ++ r ∷ []) waits m.drawing; leaf = model.InIndented (waits_behind text (rs ++ r ∷ []) waits) r.past [] }
+      ≡ record m { drawing = lines_drawn text (rs ++ r ∷ []) waits m.drawing; leaf = model.InIndented (waits_behind text (rs ++ r ∷ []) waits) r.line_end [] }
   lines-fed r [] waits end m = refl
-  lines-fed r (s ∷ rs) waits end m = lines-fed r rs (code_line text 4 s waits).waits s.past (record m { drawing = drawn (texts_of (code_line text 4 s waits).done) m.drawing })
+  lines-fed r (s ∷ rs) waits end m = lines-fed r rs (code_line text 4 s waits).waits s.line_end (record m { drawing = drawn (texts_of (code_line text 4 s waits).done) m.drawing })
 
   -- a further line of indented code
   module _ (r : Row) (next : List Row) (m : model.Pass) (waits : Option Piece) (end : ℕ) (blank : List Row) (is : m.leaf ≡ model.InIndented waits end blank) where
-    further-fed : (f : grammar.Further) → code_further r ≡ f → leaf_fed text options lookup m.leaf r next m ≡ indented_further text options lookup f waits end blank r next m
-    further-fed f e = ap (λ l. leaf_fed text options lookup l r next m) is ∙ ap (λ x. indented_further text options lookup x waits end blank r next m) e
+    continuation-fed : (f : grammar.Continuation) → code_continuation r ≡ f → leaf_fed text options lookup m.leaf r next m ≡ indented_continuation text options lookup f waits end blank r next m
+    continuation-fed f e = ap (λ l. leaf_fed text options lookup l r next m) is ∙ ap (λ x. indented_continuation text options lookup x waits end blank r next m) e
 
-    pub indented-goes-on : code_further r ≡ grammar.GoesOn → leaf_fed text options lookup m.leaf r next m
-        ≡ record m { drawing = lines_drawn text (blank ++ r ∷ []) waits m.drawing; leaf = model.InIndented (waits_behind text (blank ++ r ∷ []) waits) r.past [] }
-    indented-goes-on e = further-fed grammar.GoesOn e ∙ lines-fed r blank waits end m
+    pub indented-goes-on : code_continuation r ≡ grammar.GoesOn → leaf_fed text options lookup m.leaf r next m
+        ≡ record m { drawing = lines_drawn text (blank ++ r ∷ []) waits m.drawing; leaf = model.InIndented (waits_behind text (blank ++ r ∷ []) waits) r.line_end [] }
+    indented-goes-on e = continuation-fed grammar.GoesOn e ∙ lines-fed r blank waits end m
 
-    pub indented-waits : code_further r ≡ grammar.Waits → leaf_fed text options lookup m.leaf r next m ≡ record m { leaf = model.InIndented waits end (blank ++ r ∷ []) }
-    indented-waits e = further-fed grammar.Waits e
+    pub indented-waits : code_continuation r ≡ grammar.Waits → leaf_fed text options lookup m.leaf r next m ≡ record m { leaf = model.InIndented waits end (blank ++ r ∷ []) }
+    indented-waits e = continuation-fed grammar.Waits e
 
-    pub indented-stops : (x : Further) → shown_further x ≡ code_further r → (x ≡ Closes) ⊎ (x ≡ Stops) → leaf_fed text options lookup m.leaf r next m ≡ begin text options lookup r next (leaf_closed text options lookup m)
-    indented-stops x further = ⊎_elim (λ e. further-fed grammar.Closes (sym further ∙ ap shown_further e)) (λ e. further-fed grammar.Stops (sym further ∙ ap shown_further e))
+    pub indented-stops : (x : Continuation) → shown_continuation x ≡ code_continuation r → (x ≡ Closes) ⊎ (x ≡ Stops) → leaf_fed text options lookup m.leaf r next m ≡ begin text options lookup r next (leaf_closed text options lookup m)
+    indented-stops x continuation = ⊎_elim (λ e. continuation-fed grammar.Closes (sym continuation ∙ ap shown_continuation e)) (λ e. continuation-fed grammar.Stops (sym continuation ∙ ap shown_continuation e))
 
 -- the open leaf, and the blank lines that wait behind it
 pub runs-waiting : {E : Type 0} (replacement : E → Lookup) (text : List ℕ) (options : Options) (lookup : Lookup) (m : model.Pass) (pass : Pass E) (open_leaf : OpenLeaf) (blanks : Vec LineRest Global) (l : model.OpenLeaf) →
@@ -92,7 +92,7 @@ runs-waiting replacement text options lookup m pass open_leaf blanks l runs show
   outer = runs.outer;
   bare = runs.bare;
   leaf = shows;
-  past = runs.past;
+  line_end = runs.line_end;
   references = runs.references;
   footnotes = runs.footnotes;
 }

@@ -25,7 +25,7 @@ use Rattle.cmark_scan.specs.declared.leaf.CodeFence.{CodeFence}
 use Rattle.cmark_lines.specs.Opened.{InfoStands}
 use Rattle.cmark_lines.specs.Rests.{row_of}
 use Rattle.cmark_lines.specs.declared.line_rest.LineRest.{LineRest}
-use Rattle.cmark_leaves.proofs.ColumnCuts.{bytes-slice, drop-told, words-runs}
+use Rattle.cmark_leaves.proofs.ColumnCuts.{bytes-slice, drop-in_text, words-runs}
 use Rattle.cmark_leaves.proofs.WordSteps.{last-text}
 use Rattle.cmark_leaves.specs.TextColumns.{IsRead}
 
@@ -36,11 +36,11 @@ take-fewer (suc n) (suc m) [] le = refl
 take-fewer (suc n) (suc m) (x ∷ xs) le = ap (λ l. x ∷ l) (take-fewer n m xs (omega (arith, le)))
 
 -- a slice of a slice
-slice-slice : (text : List ℕ) (start stop a b : ℕ) → a ≤ b → start + b ≤ stop → slice_range (slice text start stop) a b ≡ slice_range text (start + a) (start + b)
-slice-slice text start stop a b le within =
-    ap (λ n. take (b - a) (drop a (take n (drop start text)))) (let s : stop - start ≡ a + ((b - a) + (stop - (start + b))) = omega (arith, le, within) in s)
-    ∙ ap (take (b - a)) (drop-take a ((b - a) + (stop - (start + b))) (drop start text))
-    ∙ take-fewer (b - a) ((b - a) + (stop - (start + b))) (drop a (drop start text)) (omega arith)
+slice-slice : (text : List ℕ) (start content_end a b : ℕ) → a ≤ b → start + b ≤ content_end → slice_range (slice text start content_end) a b ≡ slice_range text (start + a) (start + b)
+slice-slice text start content_end a b le within =
+    ap (λ n. take (b - a) (drop a (take n (drop start text)))) (let s : content_end - start ≡ a + ((b - a) + (content_end - (start + b))) = omega (arith, le, within) in s)
+    ∙ ap (take (b - a)) (drop-take a ((b - a) + (content_end - (start + b))) (drop start text))
+    ∙ take-fewer (b - a) ((b - a) + (content_end - (start + b))) (drop a (drop start text)) (omega arith)
     ∙ ap (take (b - a)) (drop-drop a start text)
     ∙ ap (λ n. take n (drop (start + a) text)) (let s : b - a ≡ (start + b) - (start + a) = omega arith in s)
 
@@ -50,8 +50,8 @@ pub info-slice : (text : List ℕ) (rest : LineRest) (fence : CodeFence) (words 
 info-slice text rest fence words read stands begin =
     let r = row_of rest in
     ap (λ n. slice_range text (n + fence.info_start) (n + fence.info_end)) begin
-    ∙ sym (slice-slice text (start_of r) r.stop fence.info_start fence.info_end stands.0 stands.1)
-    ∙ ap (λ bs. slice_range bs fence.info_start fence.info_end) (sym (bytes-slice text (start_of r) (without_indent r.columns) r.stop (words-runs rest) (drop-told text (indent r.columns) r.columns read.told)))
+    ∙ sym (slice-slice text (start_of r) r.content_end fence.info_start fence.info_end stands.0 stands.1)
+    ∙ ap (λ bs. slice_range bs fence.info_start fence.info_end) (sym (bytes-slice text (start_of r) (without_indent r.columns) r.content_end (words-runs rest) (drop-in_text text (indent r.columns) r.columns read.in_text)))
 
 -- a text was kept, and a node of fenced code with it as its info string was opened
 pub draws-fenced : (text : List ℕ) (old new : Builder) (kept : Allocations) (info : CowStr) (index : CowIndex) (start : ℕ) (bytes : List ℕ) (d : Drawing) →

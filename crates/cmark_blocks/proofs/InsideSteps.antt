@@ -55,6 +55,6 @@ pub first-all : (text : List ℕ) (options : Options) (lookup : Lookup) (ms : Li
 first-all text options lookup ms count at r more rest le i = inside-all text options lookup (take count ms) at r more (row_of rest) (none-left ms count at le) i
 
 -- inside of all of them
-pub told-inside : (text : List ℕ) (options : Options) (lookup : Lookup) (cs : List OpenContainer) (ms : List model.OpenContainer) (count : ℕ) (r : Row) (next : List Row) (told : Bool) → ShowsContainers cs ms → length cs ≤ count →
-    told ≡ block_interrupts options true r (ahead_in text options lookup (take count ms) next) → told ≡ block_interrupts options true r (ahead_in text options lookup ms next)
-told-inside text options lookup cs ms count r next told shows all is = is ∙ ap (λ l. block_interrupts options true r (ahead_in text options lookup l next)) (shows-all cs ms count shows all).0
+pub in_text-inside : (text : List ℕ) (options : Options) (lookup : Lookup) (cs : List OpenContainer) (ms : List model.OpenContainer) (count : ℕ) (r : Row) (next : List Row) (in_text : Bool) → ShowsContainers cs ms → length cs ≤ count →
+    in_text ≡ block_interrupts options true r (ahead_in text options lookup (take count ms) next) → in_text ≡ block_interrupts options true r (ahead_in text options lookup ms next)
+in_text-inside text options lookup cs ms count r next in_text shows all is = is ∙ ap (λ l. block_interrupts options true r (ahead_in text options lookup l next)) (shows-all cs ms count shows all).0

@@ -14,7 +14,7 @@ use Rattle.cmark_lines.specs.Starts.{Shows}
 use Rattle.cmark_lines.specs.declared.container.Container.{Container}
 use Rattle.cmark_lines.specs.declared.container.Container.TheVariants as container
 use Rattle.cmark_lines.specs.declared.line_rest.LineRest.{LineRest}
-use Rattle.cmark_block_model.specs.BlockPass.{Kept, kept_by, kept_if, is_last}
+use Rattle.cmark_block_model.specs.BlockPass.{LineKeepers, kept_by, kept_if, is_last}
 use Rattle.cmark_block_model.specs.OpenBlocks as model
 use Rattle.cmark_blocks.specs.declared.state.OpenContainer.{OpenContainer}
 use Rattle.cmark_blocks.specs.KeepingContainers.{IsBehind}
@@ -96,18 +96,18 @@ module _ (text : List ℕ) (options : Options) (lookup : Lookup) where
       ap (λ l. kept_by text options lookup (take k ms) l bare (row_of rest)) at.behind
       ∙ ap (λ o. kept_if text options lookup o (λ t. kept_by text options lookup (take k ms ++ at.m ∷ []) (drop (suc k) ms) bare t) (record { kept = take k ms; missed = at.m ∷ drop (suc k) ms; left = row_of rest }))
       (ap (λ b. keeps at.m.container (bare && b) (row_of rest)) (last-is cs ms k s lt) ∙ sym (keep at.m.container at.shows.0))
-      ∙ ap {A = List model.OpenContainer} {B = Kept text options lookup} (λ l. record { kept = take k ms; missed = l; left = row_of rest }) (sym at.behind)
+      ∙ ap {A = List model.OpenContainer} {B = LineKeepers text options lookup} (λ l. record { kept = take k ms; missed = l; left = row_of rest }) (sym at.behind)
 
   pub keeps-all : (cs : List OpenContainer) (ms : List model.OpenContainer) (k : ℕ) (bare : Bool) (rest : LineRest) → ShowsContainers cs ms → length cs ≤ k →
       kept_by text options lookup (take k ms) (drop k ms) bare (row_of rest) ≡ record { kept = take k ms; missed = drop k ms; left = row_of rest }
   keeps-all cs ms k bare rest s le =
       let e = (shows-all cs ms k s le).1 in
       ap (λ l. kept_by text options lookup (take k ms) l bare (row_of rest)) e
-      ∙ ap {A = List model.OpenContainer} {B = Kept text options lookup} (λ l. record { kept = take k ms; missed = l; left = row_of rest }) (sym e)
+      ∙ ap {A = List model.OpenContainer} {B = LineKeepers text options lookup} (λ l. record { kept = take k ms; missed = l; left = row_of rest }) (sym e)
 
 -- what is left is behind the prefixes of the containers that keep the line
 pub behind-more : (line rest inside : LineRest) (k : Container) (bare : Bool) → ((g : grammar.Container) → Shows k g → Some (row_of inside) ≡ keeps g bare (row_of rest)) → IsBehind line rest → IsBehind line inside
-behind-more line rest inside container.Quote bare keep h = behind-next line rest inside (grammar.Quote None) bare (keep (grammar.Quote None) tt) h
+behind-more line rest inside container.BlockQuote bare keep h = behind-next line rest inside (grammar.BlockQuote None) bare (keep (grammar.BlockQuote None) tt) h
 behind-more line rest inside (container.Footnote old) bare keep h =
     behind-next line rest inside (grammar.Footnote [] old 0) bare (keep (grammar.Footnote [] old 0) refl) h
 behind-more line rest inside (container.Item width) bare keep h =

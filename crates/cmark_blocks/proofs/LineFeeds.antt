@@ -37,7 +37,7 @@ pub ends-behind : (bs cs : List ℕ) → line_ends (bs ++ cs) ≡ line_ends bs +
 ends-behind bs cs = sum_by-append (λ x. cond (x == 10) 1 0) bs cs
 
 one-end : (r : Row) → line_ends (line_end_of r) ≡ 1
-one-end r = go (nat_le 2 (r.past - r.stop))
+one-end r = go (nat_le 2 (r.line_end - r.content_end))
   where
     go : (z : Bool) → line_ends (if z then 13 ∷ 10 ∷ [] else 10 ∷ []) ≡ 1
     go true = refl

@@ -6,7 +6,7 @@ use Rattle.cmark_grammar.specs.Answers.{Lookup}
 use Rattle.cmark_grammar.specs.Alerts.{alert_in}
 use Rattle.cmark_grammar.specs.BlockQuoteKind.{BlockQuoteKind}
 use Rattle.cmark_grammar.specs.Blocks.{place_in}
-use Rattle.cmark_grammar.specs.Containers.{Quote, is_alert, marker_width, enter}
+use Rattle.cmark_grammar.specs.Containers.{BlockQuote, is_alert, marker_width, enter}
 use Rattle.cmark_grammar.specs.Leaves.{run, underline_of, underlines}
 use Rattle.cmark_grammar.specs.Metadata.{metadata_kind}
 use Rattle.cmark_grammar.specs.Openings.{Leaf, Blank, Takes, Plain, or_else, interrupts, metadata_begun, whole_opens, opens}
@@ -29,8 +29,8 @@ use Rattle.cmark_lines.specs.declared.opening.Opening.TheVariants as opening
 use Rattle.cmark_text.specs.declared.kind.BlockQuoteKind as found
 use Rattle.cmark_text.specs.declared.kind.HeadingLevel.{HeadingLevel}
 use Rattle.cmark_text.specs.Shown.{level_number, shown_block_quote_kind, shown_options}
-use Rattle.cmark_leaves.specs.TextColumns.{AreTold}
-use Rattle.cmark_leaves.proofs.TextColumnSteps.{without-told}
+use Rattle.cmark_leaves.specs.TextColumns.{StandInText}
+use Rattle.cmark_leaves.proofs.TextColumnSteps.{without-in_text}
 use Rattle.cmark_block_model.specs.BlockPass.{ahead_in, begin, begin_as, begin_in, leaf_begun, container_begun, inside_begun, is_item, place_of}
 use Rattle.cmark_block_model.specs.OpenBlocks as model
 use Rattle.cmark_blocks.specs.Ahead.{lines_at}
@@ -49,7 +49,7 @@ opened-fits options r open_as is opens_as e =
 
 -- the number of an item that begins is told by its character
 pub start-numbered : (options : Options) (r : Row) (open_as : Opening) (start : ContainerStart) → OpensAs options open_as r → open_as ≡ opening.Nests start → HasNumber start
-start-numbered options r open_as (begun.Quote inside) opens_as e = tt
+start-numbered options r open_as (begun.BlockQuote inside) opens_as e = tt
 start-numbered options r open_as (begun.Item item inside) opens_as e = opened-fits options r open_as (opening.Nests (begun.Item item inside)) opens_as e
 start-numbered options r open_as (begun.Footnote footnote inside) opens_as e = tt
 
@@ -62,12 +62,12 @@ pub start-enters : (r : Row) (open_as : Opening) (start : ContainerStart) → op
 start-enters r open_as start nests has = subst (λ (x : Opening). HasInside x r) nests has
 
 -- the kind of a block quote that begins
-pub quote-told : (options : Options) (r : Row) (start : ContainerStart) (inside : LineRest) (alert : Option BlockQuoteKind) → start ≡ begun.Quote inside → alert ≡ alert_in options (row_of inside) → shown_start options r start ≡ Quote alert
-quote-told options r start inside alert is told = ap (shown_start options r) is ∙ ap Quote (sym told)
+pub block_quote-in_text : (options : Options) (r : Row) (start : ContainerStart) (inside : LineRest) (alert : Option BlockQuoteKind) → start ≡ begun.BlockQuote inside → alert ≡ alert_in options (row_of inside) → shown_start options r start ≡ BlockQuote alert
+block_quote-in_text options r start inside alert is in_text = ap (shown_start options r) is ∙ ap BlockQuote (sym in_text)
 
-pub alert-told : (kind : Option found.BlockQuoteKind) (some : Bool) → is_some kind ≡ some → is_alert (Quote (option_map shown_block_quote_kind kind)) ≡ some
-alert-told None some e = e
-alert-told (Some kind) some e = e
+pub alert-in_text : (kind : Option found.BlockQuoteKind) (some : Bool) → is_some kind ≡ some → is_alert (BlockQuote (option_map shown_block_quote_kind kind)) ≡ some
+alert-in_text None some e = e
+alert-in_text (Some kind) some e = e
 
 -- the level of a heading
 pub heading-level : (options : Options) (r : Row) (open_as : Opening) (level : HeadingLevel) → OpensAs options open_as r → open_as ≡ opening.AtxHeading level → level_number level ≡ run 35 (words_of r)
@@ -81,39 +81,39 @@ module _ (r : Row) (open_as : Opening) (start : ContainerStart) (nests : open_as
     pub inside-row : (options : Options) → row_of inside ≡ without (marker_width (shown_start options r start) r) r
     inside-row options = ap row_of behind ∙ enters options
 
-    pub inside-past : (row_of inside).past ≡ r.past
-    inside-past = ap (λ (s : Row). s.past) (inside-row no_options)
+    pub inside-line_end : (row_of inside).line_end ≡ r.line_end
+    inside-line_end = ap (λ (s : Row). s.line_end) (inside-row no_options)
 
-    pub inside-read : (text : List ℕ) → InsideIsIn text open_as → AreTold text r.columns → IsRead text inside
-    inside-read text placed told = record {
+    pub inside-read : (text : List ℕ) → InsideIsIn text open_as → StandInText text r.columns → IsRead text inside
+    inside-read text placed in_text = record {
       placed = subst (IsIn text) (sym behind) (subst (InsideIsIn text) nests placed);
-      told = subst (λ (s : Row). AreTold text s.columns) (sym (inside-row no_options)) (without-told text (marker_width (shown_start no_options r start) r) r told);
+      in_text = subst (λ (s : Row). StandInText text s.columns) (sym (inside-row no_options)) (without-in_text text (marker_width (shown_start no_options r start) r) r in_text);
     }
 
   module _ (text : List ℕ) (options : Options) (lookup : Lookup) (bare : Bool) (columns : ℕ) (m : model.Pass) (opens_as : OpensAs options open_as r)
-      (none : metadata_begun (metadata_kind options r) (ahead_in text options lookup m.outer (lines_at text r.past)) ≡ Plain) (plain : definition_at options (place_of m.inner) r ≡ None) where
-    begins-nested : begin_in text options lookup (suc columns) (place_of m.inner) r (lines_at text r.past) bare m ≡ nested text options lookup columns (lines_at text r.past) r m (shown_start options r start)
+      (none : metadata_begun (metadata_kind options r) (ahead_in text options lookup m.outer (lines_at text r.line_end)) ≡ Plain) (plain : definition_at options (place_of m.inner) r ≡ None) where
+    begins-nested : begin_in text options lookup (suc columns) (place_of m.inner) r (lines_at text r.line_end) bare m ≡ nested text options lookup columns (lines_at text r.line_end) r m (shown_start options r start)
     begins-nested =
-        let ahead = ahead_in text options lookup m.outer (lines_at text r.past) in
-        ap (λ o. begin_as text options lookup o (nested text options lookup columns (lines_at text r.past) r m) r ahead bare m)
+        let ahead = ahead_in text options lookup m.outer (lines_at text r.line_end) in
+        ap (λ o. begin_as text options lookup o (nested text options lookup columns (lines_at text r.line_end) r m) r ahead bare m)
         (opens-anywhere options m.inner r ahead plain ∙ opens_as ahead ∙ ap (λ o. or_else o (opened options open_as r ahead)) none ∙ ap (λ (x : Opening). opened options x r ahead) nests)
 
     pub taken-begins : length r.columns ≤ columns → takes_line (shown_start options r start) ≡ true →
-        begin_in text options lookup (suc columns) (place_of m.inner) r (lines_at text r.past) bare m ≡ line_taken text options lookup (shown_start options r start) r (container_begun (shown_start options r start) r m)
+        begin_in text options lookup (suc columns) (place_of m.inner) r (lines_at text r.line_end) bare m ≡ line_taken text options lookup (shown_start options r start) r (container_begun (shown_start options r start) r m)
     taken-begins le taken =
-        begins-nested ∙ nested-taken text options lookup columns (lines_at text r.past) r m (shown_start options r start) le (start-text options r start enters) taken
+        begins-nested ∙ nested-taken text options lookup columns (lines_at text r.line_end) r m (shown_start options r start) le (start-text options r start enters) taken
 
     pub inside-begins : (inside : LineRest) → inside ≡ inside_of start → (item : Bool) → takes_line (shown_start options r start) ≡ false → item ≡ is_item (shown_start options r start) →
-        begin_in text options lookup (suc columns) (place_of m.inner) r (lines_at text r.past) bare m
-        ≡ begin_in text options lookup columns (place_of (container_begun (shown_start options r start) r m).inner) (row_of inside) (lines_at text (row_of inside).past) item (container_begun (shown_start options r start) r m)
+        begin_in text options lookup (suc columns) (place_of m.inner) r (lines_at text r.line_end) bare m
+        ≡ begin_in text options lookup columns (place_of (container_begun (shown_start options r start) r m).inner) (row_of inside) (lines_at text (row_of inside).line_end) item (container_begun (shown_start options r start) r m)
     inside-begins inside behind item left is =
         let k = shown_start options r start in
         begins-nested
-        ∙ nested-on text options lookup columns (lines_at text r.past) r m k left
-        ∙ ap (λ (s : Row). begin_in text options lookup columns Apart s (lines_at text r.past) (is_item k) (container_begun k r m)) (sym (inside-row inside behind options))
-        ∙ ap (λ (p : ℕ). begin_in text options lookup columns Apart (row_of inside) (lines_at text p) (is_item k) (container_begun k r m)) (sym (inside-past inside behind))
-        ∙ ap (λ (b : Bool). begin_in text options lookup columns Apart (row_of inside) (lines_at text (row_of inside).past) b (container_begun k r m)) (sym is)
-        ∙ ap (λ (pl : Place). begin_in text options lookup columns pl (row_of inside) (lines_at text (row_of inside).past) item (container_begun k r m)) (inside-place k r m)
+        ∙ nested-on text options lookup columns (lines_at text r.line_end) r m k left
+        ∙ ap (λ (s : Row). begin_in text options lookup columns Apart s (lines_at text r.line_end) (is_item k) (container_begun k r m)) (sym (inside-row inside behind options))
+        ∙ ap (λ (p : ℕ). begin_in text options lookup columns Apart (row_of inside) (lines_at text p) (is_item k) (container_begun k r m)) (sym (inside-line_end inside behind))
+        ∙ ap (λ (b : Bool). begin_in text options lookup columns Apart (row_of inside) (lines_at text (row_of inside).line_end) b (container_begun k r m)) (sym is)
+        ∙ ap (λ (pl : Place). begin_in text options lookup columns pl (row_of inside) (lines_at text (row_of inside).line_end) item (container_begun k r m)) (inside-place k r m)
 
 -- a container was begun, and what it left of its line
 module _ {E : Type 0} (replacement : E → Lookup) (rest : LineRest) (open_as : Opening) (start : ContainerStart) (nests : open_as ≡ opening.Nests start) (has : HasInside open_as (row_of rest)) (old new : Pass E) (opens_as : OpensAs (shown_options old.options) open_as (row_of rest)) where
@@ -129,14 +129,14 @@ module _ {E : Type 0} (replacement : E → Lookup) (rest : LineRest) (open_as : 
       let b = begins text options lookup m runs in (
         container_begun (shown_start options (row_of rest) start) (row_of rest) m,
         b.2,
-        inside-past (row_of rest) open_as start nests has inside.0 behind,
+        inside-line_end (row_of rest) open_as start nests has inside.0 behind,
         inside-begins (row_of rest) open_as start nests has text options lookup bare columns m (opens_here text options lookup m runs) (none text options lookup m runs) (sym (plain text options lookup m runs)) inside.0 behind inside.1 b.0 b.1,
       )
 
 pub container-read : (r : Row) (open_as : Opening) (start : ContainerStart) → open_as ≡ opening.Nests start → HasInside open_as r → (entered : Option (LineRest × Bool)) (text : List ℕ) → IfSome entered (λ inside. inside.0 ≡ inside_of start) →
-    InsideIsIn text open_as → AreTold text r.columns → IfSome entered (λ inside. IsRead text inside.0)
-container-read r open_as start nests has None text behind placed told = tt
-container-read r open_as start nests has (Some inside) text behind placed told = inside-read r open_as start nests has inside.0 behind text placed told
+    InsideIsIn text open_as → StandInText text r.columns → IfSome entered (λ inside. IsRead text inside.0)
+container-read r open_as start nests has None text behind placed in_text = tt
+container-read r open_as start nests has (Some inside) text behind placed in_text = inside-read r open_as start nests has inside.0 behind text placed in_text
 
 -- a line that begins no container, or metadata
 module _ (text : List ℕ) (options : Options) (lookup : Lookup) (r : Row) (next : List Row) (columns : ℕ) (bare : Bool) (m : model.Pass) where
@@ -170,9 +170,9 @@ module _ {E : Type 0} (replacement : E → Lookup) (line : LineRest) (old : Pass
       go before.0 before.1 before.2 before.3 before.4
     where
       go : (columns : ℕ) (p : model.Pass) → length (row_of rest).columns ≤ columns → Runs replacement text options lookup p mid →
-          (begin text options lookup (row_of line) (lines_at text (row_of line).past) m ≡ begin_in text options lookup (suc columns) (place_of p.inner) (row_of rest) (lines_at text (row_of rest).past) bare p) →
+          (begin text options lookup (row_of line) (lines_at text (row_of line).line_end) m ≡ begin_in text options lookup (suc columns) (place_of p.inner) (row_of rest) (lines_at text (row_of rest).line_end) bare p) →
           (columns : ℕ) × (p : model.Pass) × (length (row_of inside).columns ≤ columns) × Runs replacement text options lookup p new
-          × (begin text options lookup (row_of line) (lines_at text (row_of line).past) m ≡ begin_in text options lookup (suc columns) (place_of p.inner) (row_of inside) (lines_at text (row_of inside).past) item p)
+          × (begin text options lookup (row_of line) (lines_at text (row_of line).line_end) m ≡ begin_in text options lookup (suc columns) (place_of p.inner) (row_of inside) (lines_at text (row_of inside).line_end) item p)
       go zero p le now same = absurd (omega (arith, le, shorter))
       go (suc n) p le now same = let r = first text options lookup (suc n) p le now in (n, r.0, omega (arith, le, shorter), r.1, same ∙ r.3)
 

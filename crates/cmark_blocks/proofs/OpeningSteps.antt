@@ -3,13 +3,13 @@ use Rattle.std.proofs.Common.{◌≡◌, ℕ, suc, Bool, true, false, ◌==◌, 
 use Rattle.std.specs.Prelude.{unwrap_or}
 use Rattle.cmark_grammar.specs.Rows.{Row, words_of, is_blank_line, indent_of}
 use Rattle.cmark_grammar.specs.BlockQuoteKind.{BlockQuoteKind}
-use Rattle.cmark_grammar.specs.Containers.{Container, Quote, Item, Footnote, ListDefinition, Marker, is_bullet, is_delimiter, digits, number_of, delimited, marker_of, item_with, item_of, container_with, container_of, footnote_or, footnote_with, footnote_of, is_quote, width_with, with_task}
+use Rattle.cmark_grammar.specs.Containers.{Container, BlockQuote, Item, Footnote, ListDefinition, Marker, is_bullet, is_delimiter, digits, number_of, delimited, marker_of, item_with, item_of, container_with, container_of, footnote_or, footnote_with, footnote_of, is_block_quote, width_with, with_task}
 use Rattle.cmark_grammar.specs.Footnotes.{Footnotes, Off, Gfm, Old, footnotes_in, footnote_in}
 use Rattle.cmark_grammar.specs.HtmlBlocks.{html_kind}
-use Rattle.cmark_grammar.specs.Leaves.{Fence, is_parted, run, is_thematic_break, is_atx_heading, fence_of, counted, code_further}
-use Rattle.cmark_grammar.specs.LinkDefinitions.{Found, Defined, definition_in, bytes_over}
+use Rattle.cmark_grammar.specs.Leaves.{Fence, is_parted, run, is_thematic_break, is_atx_heading, fence_of, counted, code_continuation}
+use Rattle.cmark_grammar.specs.LinkDefinitions.{Parsed, Defined, definition_in, bytes_over}
 use Rattle.cmark_grammar.specs.Openings.{AtxHeading, ThematicBreak, IndentedCode, FencedCode, HtmlBlock, LinkDefinition, MetadataBlock, Table, Opening, Blank, Nests, Takes, Plain, or_else, nests_if, html_if, break_if, heading_if, fenced_if, defined_if, begins_no_link, metadata_begun, text_lines, definition_of, table_if, text_of, leaf_of, whole_opens, opens}
-use Rattle.cmark_grammar.specs.Metadata.{metadata_kind, metadata_further, holds_metadata}
+use Rattle.cmark_grammar.specs.Metadata.{metadata_kind, metadata_continuation, holds_metadata}
 use Rattle.cmark_grammar.specs.MetadataBlockKind.{MetadataBlockKind}
 use Rattle.cmark_grammar.specs.Options.{Options}
 use Rattle.cmark_grammar.specs.Alignment.{Alignment}
@@ -17,27 +17,27 @@ use Rattle.cmark_grammar.specs.TableRows.{table_head}
 use Rattle.cmark_items.specs.ItemNodes.{list_number}
 
 -- the number of an item is told by its character
-abbrev pub Numbered : (mark : ℕ) → Option ℕ → Type 0
-Numbered mark number = list_number mark (unwrap_or number 0) ≡ number
+abbrev pub Numbered : (delimiter : ℕ) → Option ℕ → Type 0
+Numbered delimiter number = list_number delimiter (unwrap_or number 0) ≡ number
 
 abbrev pub MarkerNumbered : Option Marker → Type 0
 MarkerNumbered None = Unit {0}
-MarkerNumbered (Some m) = Numbered m.mark m.number
+MarkerNumbered (Some m) = Numbered m.delimiter m.number
 
 abbrev pub ContainerNumbered : Option Container → Type 0
 ContainerNumbered None = Unit {0}
-ContainerNumbered (Some (Quote alert)) = Unit {0}
+ContainerNumbered (Some (BlockQuote alert)) = Unit {0}
 ContainerNumbered (Some (Footnote label old size)) = Unit {0}
 ContainerNumbered (Some (ListDefinition width)) = Unit {0}
-ContainerNumbered (Some (Item mark number width task)) = Numbered mark number
+ContainerNumbered (Some (Item delimiter number width task)) = Numbered delimiter number
 
 -- an item has a number that its character tells, a heading this level
 abbrev pub Fits : (level : ℕ) → Opening → Type 0
 Fits level Blank = Unit {0}
-Fits level (Nests (Quote alert)) = Unit {0}
+Fits level (Nests (BlockQuote alert)) = Unit {0}
 Fits level (Nests (Footnote label old size)) = Unit {0}
 Fits level (Nests (ListDefinition width)) = Unit {0}
-Fits level (Nests (Item mark number width task)) = Numbered mark number
+Fits level (Nests (Item delimiter number width task)) = Numbered delimiter number
 Fits level (Takes ThematicBreak more) = Unit {0}
 Fits level (Takes (AtxHeading n) more) = n ≡ level
 Fits level (Takes IndentedCode more) = Unit {0}
@@ -64,7 +64,7 @@ delimited-numbered : (ds : List ℕ) (rest : List ℕ) → MarkerNumbered (delim
 delimited-numbered ds [] = tt
 delimited-numbered ds (b ∷ bs) = go (nat_lt 0 (length ds)) (nat_le (length ds) 9) (is_delimiter b) refl
   where
-    go : (x y z : Bool) → is_delimiter b ≡ z → MarkerNumbered (if x && (y && z) then Some (record { mark = b; number = Some (number_of ds); size = suc (length ds) }) else None)
+    go : (x y z : Bool) → is_delimiter b ≡ z → MarkerNumbered (if x && (y && z) then Some (record { delimiter = b; number = Some (number_of ds); size = suc (length ds) }) else None)
     go true true true ez = ap (λ t. if t then Some (number_of ds) else None) ez
     go true true false ez = tt
     go true false z ez = tt
@@ -74,7 +74,7 @@ marker-numbered : (bs : List ℕ) → MarkerNumbered (marker_of bs)
 marker-numbered [] = tt
 marker-numbered (b ∷ bs) = go (is_bullet b) refl
   where
-    go : (z : Bool) → is_bullet b ≡ z → MarkerNumbered (if z then Some (record { mark = b; number = None; size = 1 }) else delimited (digits (b ∷ bs)) (drop (length (digits (b ∷ bs))) (b ∷ bs)))
+    go : (z : Bool) → is_bullet b ≡ z → MarkerNumbered (if z then Some (record { delimiter = b; number = None; size = 1 }) else delimited (digits (b ∷ bs)) (drop (length (digits (b ∷ bs))) (b ∷ bs)))
     go true e = ap (λ t. if t then Some 0 else None) (bullet_no_delimiter b e)
     go false e = delimited-numbered (digits (b ∷ bs)) (drop (length (digits (b ∷ bs))) (b ∷ bs))
 
@@ -82,16 +82,16 @@ item-numbered : (r : Row) (m : Option Marker) → MarkerNumbered m → Container
 item-numbered r None n = tt
 item-numbered r (Some m) n = by (is_parted (drop m.size (words_of r)) && not (is_thematic_break (words_of r)))
   where
-    by : (t : Bool) → ContainerNumbered (if t then Some (Item m.mark m.number (width_with m.size r) None) else None)
+    by : (t : Bool) → ContainerNumbered (if t then Some (Item m.delimiter m.number (width_with m.size r) None) else None)
     by true = n
     by false = tt
 
 task-numbered : (options : Options) (r : Row) (k : Option Container) → ContainerNumbered k → ContainerNumbered (with_task options r k)
 task-numbered options r None n = tt
-task-numbered options r (Some (Quote alert)) n = tt
+task-numbered options r (Some (BlockQuote alert)) n = tt
 task-numbered options r (Some (Footnote label old size)) n = tt
 task-numbered options r (Some (ListDefinition width)) n = tt
-task-numbered options r (Some (Item mark number width task)) n = n
+task-numbered options r (Some (Item delimiter number width task)) n = n
 
 container-numbered : (k : Option Container) (quoted : Bool) (alert : Option BlockQuoteKind) → ContainerNumbered k → ContainerNumbered (container_with k quoted alert)
 container-numbered (Some k) quoted alert n = n
@@ -102,12 +102,12 @@ footnote-numbered : (footnotes : Footnotes) (r : Row) (other : Option Container)
 footnote-numbered Off r other n = n
 footnote-numbered Gfm r other n = by (footnote_in (words_of r))
   where
-    by : (o : Option Found) → ContainerNumbered (footnote_or (footnote_with false r o) other)
+    by : (o : Option Parsed) → ContainerNumbered (footnote_or (footnote_with false r o) other)
     by None = n
     by (Some found) = tt
 footnote-numbered Old r other n = by (footnote_in (words_of r))
   where
-    by : (o : Option Found) → ContainerNumbered (footnote_or (footnote_with true r o) other)
+    by : (o : Option Parsed) → ContainerNumbered (footnote_or (footnote_with true r o) other)
     by None = n
     by (Some found) = tt
 
@@ -119,10 +119,10 @@ module _ (level : ℕ) where
   else-fits (Takes leaf more) second f g = f
 
   nests-fits : (k : Option Container) → ContainerNumbered k → Fits level (nests_if k)
-  nests-fits (Some (Quote alert)) n = tt
+  nests-fits (Some (BlockQuote alert)) n = tt
   nests-fits (Some (Footnote label old size)) n = tt
   nests-fits (Some (ListDefinition width)) n = tt
-  nests-fits (Some (Item mark number width task)) n = n
+  nests-fits (Some (Item delimiter number width task)) n = n
   nests-fits None n = tt
 
   html-fits : (r : Row) (ahead : List Row) (kind : Option ℕ) → Fits level (html_if r ahead kind)
@@ -145,7 +145,7 @@ module _ (level : ℕ) where
   metadata-fits None ahead = tt
   metadata-fits (Some kind) ahead = by (holds_metadata kind ahead)
     where
-      by : (t : Bool) → Fits level (if t then Takes (MetadataBlock kind) (counted (metadata_further kind) ahead) else Plain)
+      by : (t : Bool) → Fits level (if t then Takes (MetadataBlock kind) (counted (metadata_continuation kind) ahead) else Plain)
       by true = tt
       by false = tt
 
@@ -189,13 +189,13 @@ opens-fits options r ahead = by r.lazy
     level : ℕ
     level = run 35 (words_of r)
 
-    whole : (blank indented : Bool) → Fits level (if blank then Blank else if indented then Takes IndentedCode (counted code_further ahead) else or_else (nests_if (container_of options r)) (leaf_of options r ahead))
+    whole : (blank indented : Bool) → Fits level (if blank then Blank else if indented then Takes IndentedCode (counted code_continuation ahead) else or_else (nests_if (container_of options r)) (leaf_of options r ahead))
     whole true indented = tt
     whole false true = tt
     whole false false =
         else-fits level (nests_if (container_of options r)) (leaf_of options r ahead)
         (nests-fits level (container_of options r)
-        (footnote-numbered (footnotes_in options) r _ (container-numbered (with_task options r (item_of r)) (is_quote r) _
+        (footnote-numbered (footnotes_in options) r _ (container-numbered (with_task options r (item_of r)) (is_block_quote r) _
         (task-numbered options r (item_of r) (item-numbered r (marker_of (words_of r)) (marker-numbered (words_of r)))))))
         (leaf-fits options r ahead)
 

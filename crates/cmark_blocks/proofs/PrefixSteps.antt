@@ -14,7 +14,7 @@ use Rattle.cmark_tree.proofs.Entries.{node_at-within}
 use Rattle.cmark_items.specs.declared.item.Item.{Item}
 use Rattle.cmark_scan.specs.LineStart.{row_from}
 use Rattle.cmark_scan.specs.declared.line_start.LineStart.{LineStart}
-use Rattle.cmark_blocks.specs.Prefixes.{container_in, in_front, containers_of, Kept, one_more, kept_if, kept}
+use Rattle.cmark_blocks.specs.Prefixes.{container_in, in_front, containers_of, LineKeepers, one_more, kept_if, kept}
 use Rattle.cmark_grammar.specs.Options.{Options}
 
 -- a node of the tree has this item
@@ -66,29 +66,29 @@ module _ (options : Options) where
       ap (λ ks. ks ++ in_front (container_in options v.place.item.body) []) (containers-path up) ∙ sym (containers-push (items_on up) v.place.item)
 
   -- what is kept behind so many containers
-  abbrev pub behind : ℕ → Kept → Kept
+  abbrev pub behind : ℕ → LineKeepers → LineKeepers
   behind n k = record { count = n + k.count; rest = k.rest }
 
-  behind-none : (k : Kept) → k ≡ behind 0 k
-  behind-none k = ap {A = ℕ} {B = Kept} (λ n. record { count = n; rest = k.rest }) (let e : k.count ≡ 0 + k.count = omega arith in e)
+  behind-none : (k : LineKeepers) → k ≡ behind 0 k
+  behind-none k = ap {A = ℕ} {B = LineKeepers} (λ n. record { count = n; rest = k.rest }) (let e : k.count ≡ 0 + k.count = omega arith in e)
 
   behind-end : (n : ℕ) (r : Row) → behind n (record { count = 0; rest = r }) ≡ record { count = n; rest = r }
-  behind-end n r = ap {A = ℕ} {B = Kept} (λ m. record { count = m; rest = r }) (let e : n + 0 ≡ n = omega arith in e)
+  behind-end n r = ap {A = ℕ} {B = LineKeepers} (λ m. record { count = m; rest = r }) (let e : n + 0 ≡ n = omega arith in e)
 
-  behind-more : (n m : ℕ) (k : Kept) → m ≡ suc n → behind n (one_more k) ≡ behind m k
-  behind-more n m k e = ap {A = ℕ} {B = Kept} (λ c. record { count = c; rest = k.rest }) (let q : n + suc k.count ≡ m + k.count = omega (arith, e) in q)
+  behind-more : (n m : ℕ) (k : LineKeepers) → m ≡ suc n → behind n (one_more k) ≡ behind m k
+  behind-more n m k e = ap {A = ℕ} {B = LineKeepers} (λ c. record { count = c; rest = k.rest }) (let q : n + suc k.count ≡ m + k.count = omega (arith, e) in q)
 
   -- so many containers of a path keep a line, which is this behind their prefixes; these nodes of the path are left
-  pub record Further (tree : Tree Item) (up : List (Level Item)) (old line : LineStart) (count : ℕ) (rest : List TreeIndex) : Type 0 where
+  pub record Continuation (tree : Tree Item) (up : List (Level Item)) (old line : LineStart) (count : ℕ) (rest : List TreeIndex) : Type 0 where
     pub items : List Item
     pub have : HaveItems tree rest items
-    pub same : (at past : ℕ) → kept (containers_of options up) (row_from at past old) ≡ behind count (kept (containers_in items) (row_from at past line))
+    pub same : (at line_end : ℕ) → kept (containers_of options up) (row_from at line_end old) ≡ behind count (kept (containers_in items) (row_from at line_end line))
 
-  pub further-first : (tree : Tree Item) (z : Zip Item) (line : LineStart) (rest : List TreeIndex) → Holds tree z → rest ≡ spine_of z.up → Further tree z.up line line 0 rest
+  pub further-first : (tree : Tree Item) (z : Zip Item) (line : LineStart) (rest : List TreeIndex) → Holds tree z → rest ≡ spine_of z.up → Continuation tree z.up line line 0 rest
   further-first tree z line rest h e = record {
     items = items_on z.up;
     have = subst (λ ixs. HaveItems tree ixs (items_on z.up)) (sym e) (have-path tree z.up (siblings z) h.forest.stands);
-    same = λ at past. ap (λ ks. kept ks (row_from at past line)) (containers-path z.up) ∙ behind-none (kept (containers_in (items_on z.up)) (row_from at past line));
+    same = λ at line_end. ap (λ ks. kept ks (row_from at line_end line)) (containers-path z.up) ∙ behind-none (kept (containers_in (items_on z.up)) (row_from at line_end line));
   }
 
   module _ (tree : Tree Item) (up : List (Level Item)) (old line : LineStart) (count : ℕ) where
@@ -98,68 +98,68 @@ module _ (options : Options) where
       pub items : List Item
       pub has : HasItem tree ix.ix item
       pub have : HaveItems tree rest items
-      pub same : (at past : ℕ) → kept (containers_of options up) (row_from at past old) ≡ behind count (kept (in_front (container_in options item.body) (containers_in items)) (row_from at past line))
+      pub same : (at line_end : ℕ) → kept (containers_of options up) (row_from at line_end old) ≡ behind count (kept (in_front (container_in options item.body) (containers_in items)) (row_from at line_end line))
 
-    pub next : (ix : TreeIndex) (rest : List TreeIndex) → Further tree up old line count (ix ∷ rest) → Next ix rest
+    pub next : (ix : TreeIndex) (rest : List TreeIndex) → Continuation tree up old line count (ix ∷ rest) → Next ix rest
     next ix rest f = go f.items f.have f.same
       where
-        go : (items : List Item) → HaveItems tree (ix ∷ rest) items → ((at past : ℕ) → kept (containers_of options up) (row_from at past old) ≡ behind count (kept (containers_in items) (row_from at past line))) → Next ix rest
+        go : (items : List Item) → HaveItems tree (ix ∷ rest) items → ((at line_end : ℕ) → kept (containers_of options up) (row_from at line_end old) ≡ behind count (kept (containers_in items) (row_from at line_end line))) → Next ix rest
         go [] h s = absurd h
         go (i ∷ is) h s = record { item = i; items = is; has = h.0; have = h.1; same = s }
 
     -- all nodes of the path were passed
-    pub over : (rest : List TreeIndex) → length rest ≡ 0 → Further tree up old line count rest → (at past : ℕ) → kept (containers_of options up) (row_from at past old) ≡ record { count = count; rest = row_from at past line }
-    over (ix ∷ rest) none f at past = absurd (omega (arith, none))
-    over [] none f at past = go f.items f.have (f.same at past)
+    pub over : (rest : List TreeIndex) → length rest ≡ 0 → Continuation tree up old line count rest → (at line_end : ℕ) → kept (containers_of options up) (row_from at line_end old) ≡ record { count = count; rest = row_from at line_end line }
+    over (ix ∷ rest) none f at line_end = absurd (omega (arith, none))
+    over [] none f at line_end = go f.items f.have (f.same at line_end)
       where
-        go : (items : List Item) → HaveItems tree [] items → kept (containers_of options up) (row_from at past old) ≡ behind count (kept (containers_in items) (row_from at past line))
-            → kept (containers_of options up) (row_from at past old) ≡ record { count = count; rest = row_from at past line }
-        go [] h s = s ∙ behind-end count (row_from at past line)
+        go : (items : List Item) → HaveItems tree [] items → kept (containers_of options up) (row_from at line_end old) ≡ behind count (kept (containers_in items) (row_from at line_end line))
+            → kept (containers_of options up) (row_from at line_end old) ≡ record { count = count; rest = row_from at line_end line }
+        go [] h s = s ∙ behind-end count (row_from at line_end line)
         go (i ∷ is) h s = absurd h
 
-    module _ (ix : TreeIndex) (rest : List TreeIndex) (f : Further tree up old line count (ix ∷ rest)) where
+    module _ (ix : TreeIndex) (rest : List TreeIndex) (f : Continuation tree up old line count (ix ∷ rest)) where
       pub next-node : HasNode tree ix.ix
       next-node = let n = next ix rest f in node_at-within tree.nodes ix.ix n.has.0 n.has.1
 
       module _ (item : Item) (is : (e : Entry Item) → entry_at tree ix.ix ≡ Some e → item ≡ e.item) (o : Option grammar.Container) (found : o ≡ container_in options item.body) where
         -- what the containers from the next node on keep
-        ahead : (n : Next ix rest) (at past : ℕ) → kept (containers_of options up) (row_from at past old) ≡ behind count (kept (in_front o (containers_in n.items)) (row_from at past line))
-        ahead n at past =
-            n.same at past
-            ∙ ap (λ z. behind count (kept (in_front z (containers_in n.items)) (row_from at past line))) (ap (λ i. container_in options i.body) (sym (is n.has.0 n.has.1 ∙ n.has.2)) ∙ sym found)
+        ahead : (n : Next ix rest) (at line_end : ℕ) → kept (containers_of options up) (row_from at line_end old) ≡ behind count (kept (in_front o (containers_in n.items)) (row_from at line_end line))
+        ahead n at line_end =
+            n.same at line_end
+            ∙ ap (λ z. behind count (kept (in_front z (containers_in n.items)) (row_from at line_end line))) (ap (λ i. container_in options i.body) (sym (is n.has.0 n.has.1 ∙ n.has.2)) ∙ sym found)
 
         -- the node is no container
-        pub passed : o ≡ None → Further tree up old line count rest
+        pub passed : o ≡ None → Continuation tree up old line count rest
         passed none =
             let n = next ix rest f in
             record {
               items = n.items;
               have = n.have;
-              same = λ at past. ahead n at past ∙ ap (λ z. behind count (kept (in_front z (containers_in n.items)) (row_from at past line))) none;
+              same = λ at line_end. ahead n at line_end ∙ ap (λ z. behind count (kept (in_front z (containers_in n.items)) (row_from at line_end line))) none;
             }
 
         module _ (k : grammar.Container) (some : o ≡ Some k) where
-          tried : (n : Next ix rest) (at past : ℕ) → kept (containers_of options up) (row_from at past old)
-              ≡ behind count (kept_if (keeps k false (row_from at past line)) (kept (containers_in n.items)) (record { count = 0; rest = row_from at past line }))
-          tried n at past = ahead n at past ∙ ap (λ z. behind count (kept (in_front z (containers_in n.items)) (row_from at past line))) some
+          tried : (n : Next ix rest) (at line_end : ℕ) → kept (containers_of options up) (row_from at line_end old)
+              ≡ behind count (kept_if (keeps k false (row_from at line_end line)) (kept (containers_in n.items)) (record { count = 0; rest = row_from at line_end line }))
+          tried n at line_end = ahead n at line_end ∙ ap (λ z. behind count (kept (in_front z (containers_in n.items)) (row_from at line_end line))) some
 
           -- the container keeps the line
-          pub taken : (new : LineStart) → ((at past : ℕ) → Some (row_from at past new) ≡ keeps k false (row_from at past line)) → (more : ℕ) → more ≡ suc count → Further tree up old new more rest
+          pub taken : (new : LineStart) → ((at line_end : ℕ) → Some (row_from at line_end new) ≡ keeps k false (row_from at line_end line)) → (more : ℕ) → more ≡ suc count → Continuation tree up old new more rest
           taken new keep more one =
               let n = next ix rest f in
               record {
                 items = n.items;
                 have = n.have;
-                same = λ at past.
-                    tried n at past
-                    ∙ ap (λ z. behind count (kept_if z (kept (containers_in n.items)) (record { count = 0; rest = row_from at past line }))) (sym (keep at past))
-                    ∙ behind-more count more (kept (containers_in n.items) (row_from at past new)) one;
+                same = λ at line_end.
+                    tried n at line_end
+                    ∙ ap (λ z. behind count (kept_if z (kept (containers_in n.items)) (record { count = 0; rest = row_from at line_end line }))) (sym (keep at line_end))
+                    ∙ behind-more count more (kept (containers_in n.items) (row_from at line_end new)) one;
               }
 
           -- it lacks its prefix
-          pub lacked : ((at past : ℕ) → None ≡ keeps k false (row_from at past line)) → (at past : ℕ) → kept (containers_of options up) (row_from at past old) ≡ record { count = count; rest = row_from at past line }
-          lacked keep at past =
+          pub lacked : ((at line_end : ℕ) → None ≡ keeps k false (row_from at line_end line)) → (at line_end : ℕ) → kept (containers_of options up) (row_from at line_end old) ≡ record { count = count; rest = row_from at line_end line }
+          lacked keep at line_end =
               let n = next ix rest f in
-              tried n at past
-              ∙ ap (λ z. behind count (kept_if z (kept (containers_in n.items)) (record { count = 0; rest = row_from at past line }))) (sym (keep at past))
-              ∙ behind-end count (row_from at past line)
+              tried n at line_end
+              ∙ ap (λ z. behind count (kept_if z (kept (containers_in n.items)) (record { count = 0; rest = row_from at line_end line }))) (sym (keep at line_end))
+              ∙ behind-end count (row_from at line_end line)

@@ -40,20 +40,20 @@ shows-none [] m s = s
 shows-none (n ∷ ms) m s = s
 
 -- an item goes on with a list of its character, and else begins one
-module _ (mark : ℕ) (number : Option ℕ) (start : ℕ) (p : model.Pass) where
-  pub goes-on : (o : Option model.OpenList) (l : model.OpenList) → list_of mark o ≡ Some l → item_begun mark number start p o ≡ list_goes_on l p
+module _ (delimiter : ℕ) (number : Option ℕ) (start : ℕ) (p : model.Pass) where
+  pub goes-on : (o : Option model.OpenList) (l : model.OpenList) → list_of delimiter o ≡ Some l → item_begun delimiter number start p o ≡ list_goes_on l p
   goes-on None l e = absurd (let q : None ≡ Some l = e in cc)
-  goes-on (Some k) l e = go (k.mark == mark) e
+  goes-on (Some k) l e = go (k.delimiter == delimiter) e
     where
-      go : (b : Bool) → (if b then Some k else None) ≡ Some l → (if b then list_goes_on k p else list_begun mark number start p) ≡ list_goes_on l p
+      go : (b : Bool) → (if b then Some k else None) ≡ Some l → (if b then list_goes_on k p else list_begun delimiter number start p) ≡ list_goes_on l p
       go true e = ap (λ x. list_goes_on x p) (same_Some k l e)
       go false e = absurd (let q : None ≡ Some l = e in cc)
 
-  pub begins : (o : Option model.OpenList) → list_of mark o ≡ None → item_begun mark number start p o ≡ list_begun mark number start p
+  pub begins : (o : Option model.OpenList) → list_of delimiter o ≡ None → item_begun delimiter number start p o ≡ list_begun delimiter number start p
   begins None e = refl
-  begins (Some k) e = go (k.mark == mark) e
+  begins (Some k) e = go (k.delimiter == delimiter) e
     where
-      go : (b : Bool) → (if b then Some k else None) ≡ None → (if b then list_goes_on k p else list_begun mark number start p) ≡ list_begun mark number start p
+      go : (b : Bool) → (if b then Some k else None) ≡ None → (if b then list_goes_on k p else list_begun delimiter number start p) ≡ list_begun delimiter number start p
       go true e = absurd (let q : Some k ≡ None = e in cc)
       go false e = refl
 
@@ -69,7 +69,7 @@ module _ {E : Type 0} (replacement : E → Lookup) (text : List ℕ) (options : 
     outer = runs.outer;
     bare = runs.bare;
     leaf = runs.leaf;
-    past = runs.past;
+    line_end = runs.line_end;
     references = λ folded. ap (λ d. option_map shown_definition (definition d.references folded)) same ∙ runs.references folded;
     footnotes = λ folded. ap (λ d. footnote d.footnotes folded) same ∙ runs.footnotes folded;
   }
@@ -85,7 +85,7 @@ module _ {E : Type 0} (replacement : E → Lookup) (text : List ℕ) (options : 
     outer = runs.outer;
     bare = runs.bare;
     leaf = runs.leaf;
-    past = runs.past;
+    line_end = runs.line_end;
     references = runs.references;
     footnotes = runs.footnotes;
   }
@@ -104,7 +104,7 @@ module _ {E : Type 0} (replacement : E → Lookup) (text : List ℕ) (options : 
     outer = shows;
     bare = runs.bare;
     leaf = runs.leaf;
-    past = runs.past;
+    line_end = runs.line_end;
     references = runs.references;
     footnotes = runs.footnotes;
   }
@@ -120,7 +120,7 @@ module _ {E : Type 0} (replacement : E → Lookup) (text : List ℕ) (options : 
     outer = runs.outer;
     bare = runs.bare;
     leaf = shows;
-    past = runs.past;
+    line_end = runs.line_end;
     references = runs.references;
     footnotes = runs.footnotes;
   }
@@ -140,7 +140,7 @@ module _ {E : Type 0} (replacement : E → Lookup) (text : List ℕ) (options : 
     outer = runs.outer;
     bare = runs.bare;
     leaf = (refl, none);
-    past = runs.past;
+    line_end = runs.line_end;
     references = runs.references;
     footnotes = runs.footnotes;
   }
@@ -156,14 +156,14 @@ module _ {E : Type 0} (replacement : E → Lookup) (text : List ℕ) (options : 
     outer = runs.outer;
     bare = refl;
     leaf = runs.leaf;
-    past = runs.past;
+    line_end = runs.line_end;
     references = runs.references;
     footnotes = runs.footnotes;
   }
 
   -- where the next line begins
-  pub runs-past : (past there : ℕ) → Runs replacement text options lookup m pass → past ≡ there → Runs replacement text options lookup (record m { past = there }) (record pass { past = past })
-  runs-past past there runs same = record {
+  pub runs-line_end : (line_end there : ℕ) → Runs replacement text options lookup m pass → line_end ≡ there → Runs replacement text options lookup (record m { line_end = there }) (record pass { line_end = line_end })
+  runs-line_end line_end there runs same = record {
     text_is = runs.text_is;
     options_is = runs.options_is;
     lookup_is = runs.lookup_is;
@@ -172,7 +172,7 @@ module _ {E : Type 0} (replacement : E → Lookup) (text : List ℕ) (options : 
     outer = runs.outer;
     bare = runs.bare;
     leaf = runs.leaf;
-    past = same;
+    line_end = same;
     references = runs.references;
     footnotes = runs.footnotes;
   }
@@ -188,7 +188,7 @@ module _ {E : Type 0} (replacement : E → Lookup) (text : List ℕ) (options : 
     outer = runs.outer;
     bare = runs.bare;
     leaf = runs.leaf;
-    past = runs.past;
+    line_end = runs.line_end;
     references = runs.references;
     footnotes = runs.footnotes;
   }

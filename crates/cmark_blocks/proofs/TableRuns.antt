@@ -5,7 +5,7 @@ use Rattle.cmark_grammar.specs.Answers.{Lookup}
 use Rattle.cmark_grammar.specs.BlockDocument.{BlockDocument, TableRow, Node, Nil, node}
 use Rattle.cmark_grammar.specs.Openings.{interrupts, count_rows}
 use Rattle.cmark_grammar.specs.Options.{Options}
-use Rattle.cmark_grammar.specs.Rows.{Row, start_of, past_of}
+use Rattle.cmark_grammar.specs.Rows.{Row, start_of, last_line_end}
 use Rattle.cmark_grammar.specs.TableRows.{count_missing, most_filled, one_more_if}
 use Rattle.cmark_grammar.specs.TableTokens.{row_cells, row_tokens}
 use Rattle.cmark_items.specs.Tables.{tables, defined}
@@ -27,16 +27,16 @@ use Rattle.cmark_blocks.proofs.RunSteps.{runs-builder}
 module _ {E : Type 0} (replacement : E → Lookup) (text : List ℕ) (options : Options) (lookup : Lookup) (m : model.Pass) (columns : ℕ) (delimiter : Row) where
   -- the rows behind a line, where so many cells may be filled in
   abbrev rows_behind : (left : ℕ) → Row → List Row
-  rows_behind left r = rows_taken options columns left (ahead_in text options lookup m.outer (lines_at text r.past))
+  rows_behind left r = rows_taken options columns left (ahead_in text options lookup m.outer (lines_at text r.line_end))
 
   abbrev row_node : Row → BlockDocument
-  row_node r = Node (node TableRow (start_of r) r.past) (row_cells text columns r) Nil
+  row_node r = Node (node TableRow (start_of r) r.line_end) (row_cells text columns r) Nil
 
   -- one more row was drawn
   pub one-row-more : (left count missing : ℕ) (last row : Row) (old : Pass E) (b : Builder) → RowsLeft replacement text options lookup m columns left count delimiter last old →
-      rows_taken options columns left (ahead_in text options lookup m.outer (lines_at text last.past)) ≡ row ∷ rows_taken options columns (left - count_missing columns row) (ahead_in text options lookup m.outer (lines_at text row.past)) →
+      rows_taken options columns left (ahead_in text options lookup m.outer (lines_at text last.line_end)) ≡ row ∷ rows_taken options columns (left - count_missing columns row) (ahead_in text options lookup m.outer (lines_at text row.line_end)) →
       missing ≡ count_missing columns row →
-      ((d : Drawing) → Draws text old.builder d → Draws text b (drawn (Node (node TableRow (start_of row) row.past) (row_cells text columns row) Nil) d)) →
+      ((d : Drawing) → Draws text old.builder d → Draws text b (drawn (Node (node TableRow (start_of row) row.line_end) (row_cells text columns row) Nil) d)) →
       defined (tables b.allocations) ≡ defined (tables old.builder.allocations) →
       RowsLeft replacement text options lookup m columns (left - missing) (count + 1) delimiter row (record old { builder = b })
   one-row-more left count missing last row old b before next same draws references =
@@ -46,26 +46,26 @@ module _ {E : Type 0} (replacement : E → Lookup) (text : List ℕ) (options : 
         runs = runs-builder replacement text options lookup (record m { drawing = before.drawing }) old b (drawn (row_node row) before.drawing) before.runs (draws before.drawing before.runs.drawing) references;
         draws =
             before.draws ∙ ap (λ rs. drawn (row_tokens text columns rs) before.drawing) next
-            ∙ drawn-node (node TableRow (start_of row) row.past) (row_cells text columns row) (row_tokens text columns (rows_behind (left - count_missing columns row) row)) before.drawing;
+            ∙ drawn-node (node TableRow (start_of row) row.line_end) (row_cells text columns row) (row_tokens text columns (rows_behind (left - count_missing columns row) row)) before.drawing;
         counts = before.counts ∙ ap (λ rs. count + length rs) next ∙ one-more count (length (rows_behind (left - count_missing columns row) row));
-        ends = before.ends ∙ ap (past_of last) next;
+        ends = before.ends ∙ ap (last_line_end last) next;
       })
     where
       one-more : (a b : ℕ) → a + suc b ≡ a + 1 + b
       one-more a b = omega arith
 
   -- none is left
-  pub rows-drawn : (left count past : ℕ) (last : Row) (now : Pass E) → RowsLeft replacement text options lookup m columns left count delimiter last now →
-      rows_taken options columns left (ahead_in text options lookup m.outer (lines_at text last.past)) ≡ [] → past ≡ last.past →
-      let taken = rows_taken options columns most_filled (ahead_in text options lookup m.outer (lines_at text delimiter.past)) in
-      Runs replacement text options lookup (record m { drawing = drawn (row_tokens text columns taken) m.drawing }) now × (count ≡ length taken) × (past ≡ past_of delimiter taken)
-  rows-drawn left count past last now before none place = (
+  pub rows-drawn : (left count line_end : ℕ) (last : Row) (now : Pass E) → RowsLeft replacement text options lookup m columns left count delimiter last now →
+      rows_taken options columns left (ahead_in text options lookup m.outer (lines_at text last.line_end)) ≡ [] → line_end ≡ last.line_end →
+      let taken = rows_taken options columns most_filled (ahead_in text options lookup m.outer (lines_at text delimiter.line_end)) in
+      Runs replacement text options lookup (record m { drawing = drawn (row_tokens text columns taken) m.drawing }) now × (count ≡ length taken) × (line_end ≡ last_line_end delimiter taken)
+  rows-drawn left count line_end last now before none place = (
     subst (λ (d : Drawing). Runs replacement text options lookup (record m { drawing = d }) now)
         (sym (before.draws ∙ ap (λ rs. drawn (row_tokens text columns rs) before.drawing) none ∙ drawn-Nil before.drawing)) before.runs,
     (let counts : length (rows_behind most_filled delimiter) ≡ count + length (rows_behind left last) = before.counts in
         let left_none : length (rows_behind left last) ≡ 0 = ap length none in
         omega (arith, counts, left_none)),
-    place ∙ sym (before.ends ∙ ap (past_of last) none),
+    place ∙ sym (before.ends ∙ ap (last_line_end last) none),
   )
 
 -- as many of the lines ahead are its rows as are counted

@@ -115,10 +115,10 @@ module _ (options : Options) (r : Row) (ahead : List Row) where
       nothing false = refl
 
 -- a head was told, or that the line is none
-pub head-told : (options : Options) (r : Row) (ahead : List Row) (behind : LineRest → List Row) (told : Option (ℕ × LineRest)) →
-    MatchOption told (table_head options r ahead ≡ None) (λ head. IsHead options r ahead head.0 (row_of head.1) (behind head.1)) → is_some told ≡ is_some_head (table_head options r ahead)
-head-told options r ahead behind None none = sym (ap is_some_head none)
-head-told options r ahead behind (Some head) some = sym (ap is_some_head some.is)
+pub head-in_text : (options : Options) (r : Row) (ahead : List Row) (behind : LineRest → List Row) (in_text : Option (ℕ × LineRest)) →
+    MatchOption in_text (table_head options r ahead ≡ None) (λ head. IsHead options r ahead head.0 (row_of head.1) (behind head.1)) → is_some in_text ≡ is_some_head (table_head options r ahead)
+head-in_text options r ahead behind None none = sym (ap is_some_head none)
+head-in_text options r ahead behind (Some head) some = sym (ap is_some_head some.is)
 
 -- the rows ahead
 module _ (options : Options) (columns left : ℕ) (r : Row) (ahead : List Row) where
@@ -142,11 +142,11 @@ module _ (options : Options) (columns left : ℕ) (r : Row) (ahead : List Row) w
       nothing true = refl
       nothing false = refl
 
-pub less-told : (left missing cells : ℕ) → ltb left missing ≡ true → missing ≡ cells → left < cells
-less-told left missing cells e same = let lt = ltb-true left missing e in omega (arith, lt, same)
+pub less-in_text : (left missing cells : ℕ) → ltb left missing ≡ true → missing ≡ cells → left < cells
+less-in_text left missing cells e same = let lt = ltb-true left missing e in omega (arith, lt, same)
 
-pub fits-told : (left missing cells : ℕ) → ltb left missing ≡ false → missing ≡ cells → cells ≤ left
-fits-told left missing cells e same = let le = ltb-false left missing e in omega (arith, le, same)
+pub fits-in_text : (left missing cells : ℕ) → ltb left missing ≡ false → missing ≡ cells → cells ≤ left
+fits-in_text left missing cells e same = let le = ltb-false left missing e in omega (arith, le, same)
 
 -- what a line begins that begins no other leaf
 module _ (text : List ℕ) (options : Options) (lookup : Lookup) (m : model.Pass) (inside : Container → model.Pass) (r : Row) (ahead : List Row) (bare : Bool) where

@@ -4,7 +4,7 @@ use Rattle.std.specs.Prelude.{if◌then◌else◌}
 use Rattle.std.proofs.lemmas.List.Sums.{take_while-cons}
 use Rattle.cmark_grammar.specs.Answers.{Lookup}
 use Rattle.cmark_grammar.specs.Columns.{Column, is_blank, is_blank_byte, without_indent, bytes_of}
-use Rattle.cmark_grammar.specs.Containers.{Container, Quote, Item, Footnote, ListDefinition, is_alert, marker_width, enter}
+use Rattle.cmark_grammar.specs.Containers.{Container, BlockQuote, Item, Footnote, ListDefinition, is_alert, marker_width, enter}
 use Rattle.cmark_grammar.specs.Leaves.{are_blank}
 use Rattle.cmark_grammar.specs.Letters.{first_is}
 use Rattle.cmark_grammar.specs.Openings.{Blank, Plain, opens, opens_at}
@@ -93,22 +93,22 @@ behind-box options r is_checked e = go (is_blank_line (without 3 r)) refl
 
 -- the line behind an item's task marker holds text
 abbrev pub HasText : Container → Row → Type 0
-HasText (Quote alert) r = Unit {0}
-HasText (Item mark number width None) r = Unit {0}
-HasText (Item mark number width (Some is_checked)) r = is_blank_line (enter (Item mark number width (Some is_checked)) r) ≡ false
+HasText (BlockQuote alert) r = Unit {0}
+HasText (Item delimiter number width None) r = Unit {0}
+HasText (Item delimiter number width (Some is_checked)) r = is_blank_line (enter (Item delimiter number width (Some is_checked)) r) ≡ false
 HasText (Footnote label old size) r = Unit {0}
 HasText (ListDefinition width) r = Unit {0}
 
-item-text : (options : Options) (r s : Row) (mark : ℕ) (number : Option ℕ) (width : ℕ) (task : Option Bool) → s ≡ without width r → task_in options s ≡ task → HasText (Item mark number width task) r
+item-text : (options : Options) (r s : Row) (delimiter : ℕ) (number : Option ℕ) (width : ℕ) (task : Option Bool) → s ≡ without width r → task_in options s ≡ task → HasText (Item delimiter number width task) r
 unfolding enter
-item-text options r s mark number width None is told = tt
-item-text options r s mark number width (Some is_checked) is told =
-    ap (λ cs. is_bare (without_indent cs)) (sym (drop-drop 3 width r.columns)) ∙ sym (ap (λ (x : Row). is_blank_line (without 3 x)) is) ∙ behind-box options s is_checked told
+item-text options r s delimiter number width None is in_text = tt
+item-text options r s delimiter number width (Some is_checked) is in_text =
+    ap (λ cs. is_bare (without_indent cs)) (sym (drop-drop 3 width r.columns)) ∙ sym (ap (λ (x : Row). is_blank_line (without 3 x)) is) ∙ behind-box options s is_checked in_text
 
 pub start-text : (options : Options) (r : Row) (start : ContainerStart) → Enters r start → HasText (shown_start options r start) r
-start-text options r (begun.Quote inside) enters = tt
+start-text options r (begun.BlockQuote inside) enters = tt
 start-text options r (begun.Item item inside) enters =
-    item-text options r (row_of inside) item.mark item.number item.width (task_in options (row_of inside)) (enters options) refl
+    item-text options r (row_of inside) item.delimiter item.number item.width (task_in options (row_of inside)) (enters options) refl
 start-text options r (begun.Footnote footnote inside) enters = tt
 
 -- text behind a task marker is a paragraph
@@ -140,10 +140,10 @@ module _ (text : List ℕ) (options : Options) (lookup : Lookup) (columns : ℕ)
   -- the container goes on to what stands behind its marker
   pub nested-on : (k : Container) → takes_line k ≡ false → nested k ≡ begin_in text options lookup columns Apart (without (marker_width k r) r) next (is_item k) (container_begun k r m)
   unfolding enter
-  nested-on (Quote None) e = refl
-  nested-on (Quote (Some kind)) e = absurd (let q : true ≡ false = e in cc)
-  nested-on (Item mark number width None) e = refl
-  nested-on (Item mark number width (Some is_checked)) e = absurd (let q : true ≡ false = e in cc)
+  nested-on (BlockQuote None) e = refl
+  nested-on (BlockQuote (Some kind)) e = absurd (let q : true ≡ false = e in cc)
+  nested-on (Item delimiter number width None) e = refl
+  nested-on (Item delimiter number width (Some is_checked)) e = absurd (let q : true ≡ false = e in cc)
   nested-on (Footnote label old size) e = refl
   nested-on (ListDefinition width) e = refl
 
@@ -151,40 +151,40 @@ module _ (text : List ℕ) (options : Options) (lookup : Lookup) (columns : ℕ)
 pub nested-taken : (text : List ℕ) (options : Options) (lookup : Lookup) (columns : ℕ) (next : List Row) (r : Row) (m : model.Pass) (k : Container) →
     length r.columns ≤ columns → HasText k r → takes_line k ≡ true → nested text options lookup columns next r m k ≡ line_taken text options lookup k r (container_begun k r m)
 unfolding enter
-nested-taken text options lookup columns next r m (Quote None) le has e = absurd (let q : false ≡ true = e in cc)
-nested-taken text options lookup columns next r m (Quote (Some kind)) le has e = refl
-nested-taken text options lookup columns next r m (Item mark number width None) le has e = absurd (let q : false ≡ true = e in cc)
-nested-taken text options lookup zero next r m (Item mark number width (Some is_checked)) le has e =
+nested-taken text options lookup columns next r m (BlockQuote None) le has e = absurd (let q : false ≡ true = e in cc)
+nested-taken text options lookup columns next r m (BlockQuote (Some kind)) le has e = refl
+nested-taken text options lookup columns next r m (Item delimiter number width None) le has e = absurd (let q : false ≡ true = e in cc)
+nested-taken text options lookup zero next r m (Item delimiter number width (Some is_checked)) le has e =
     absurd (let blank = none-blank (width + 3) r le in let q : true ≡ false = sym blank ∙ has in cc)
-nested-taken text options lookup (suc n) next r m (Item mark number width (Some is_checked)) le has e =
-    let k : Container = Item mark number width (Some is_checked) in
+nested-taken text options lookup (suc n) next r m (Item delimiter number width (Some is_checked)) le has e =
+    let k : Container = Item delimiter number width (Some is_checked) in
     let p = container_begun k r m in
     let ahead = ahead_in text options lookup p.outer next in
     ap
     (λ o. begin_as text options lookup o
-    (λ k. inside_begun (is_alert k) (container_begun k (enter (Item mark number width (Some is_checked)) r) p)
-    (begin_in text options lookup n (place_in k) (enter k (enter (Item mark number width (Some is_checked)) r)) next (is_item k) (container_begun k (enter (Item mark number width (Some is_checked)) r) p)))
-    (enter (Item mark number width (Some is_checked)) r) ahead true p)
+    (λ k. inside_begun (is_alert k) (container_begun k (enter (Item delimiter number width (Some is_checked)) r) p)
+    (begin_in text options lookup n (place_in k) (enter k (enter (Item delimiter number width (Some is_checked)) r)) next (is_item k) (container_begun k (enter (Item delimiter number width (Some is_checked)) r) p)))
+    (enter (Item delimiter number width (Some is_checked)) r) ahead true p)
     (text-opens options (enter k r) ahead has)
 nested-taken text options lookup columns next r m (Footnote label old size) le has e = absurd (let q : false ≡ true = e in cc)
 nested-taken text options lookup columns next r m (ListDefinition width) le has e = absurd (let q : false ≡ true = e in cc)
 
 -- an item with no task marker is begun with nothing in it
-pub item-alone : (r : Row) (m : model.Pass) (mark : ℕ) (number : Option ℕ) (width : ℕ) → container_begun (Item mark number width None) r m ≡ item_begun_in mark number width None (begin_of r) m
-item-alone r m mark number width =
-    let p : model.Pass = item_begun_in mark number width None (begin_of r) m in
+pub item-alone : (r : Row) (m : model.Pass) (delimiter : ℕ) (number : Option ℕ) (width : ℕ) → container_begun (Item delimiter number width None) r m ≡ item_begun_in delimiter number width None (begin_of r) m
+item-alone r m delimiter number width =
+    let p : model.Pass = item_begun_in delimiter number width None (begin_of r) m in
     ap {A = BlockDocument} {B = model.Pass} (λ here. record p { drawing = record p.drawing { here = here } }) (join-nil p.drawing.here)
 
 -- an item with a task marker is begun with the marker, and with the paragraph behind it
-pub item-taken : (text : List ℕ) (options : Options) (lookup : Lookup) (m : model.Pass) (r inside behind : Row) (mark : ℕ) (number : Option ℕ) (width : ℕ) (is_checked : Bool) (at from : ℕ) →
+pub item-taken : (text : List ℕ) (options : Options) (lookup : Lookup) (m : model.Pass) (r inside behind : Row) (delimiter : ℕ) (number : Option ℕ) (width : ℕ) (is_checked : Bool) (at from : ℕ) →
     inside ≡ without width r → behind ≡ without 3 inside → at ≡ begin_of r → from ≡ begin_of inside →
-    paragraph_begun text options lookup behind (with_drawn (task_then (Some is_checked) from (begin_of behind) Nil) (item_begun_in mark number width (Some is_checked) at m))
-    ≡ line_taken text options lookup (Item mark number width (Some is_checked)) r (container_begun (Item mark number width (Some is_checked)) r m)
+    paragraph_begun text options lookup behind (with_drawn (task_then (Some is_checked) from (begin_of behind) Nil) (item_begun_in delimiter number width (Some is_checked) at m))
+    ≡ line_taken text options lookup (Item delimiter number width (Some is_checked)) r (container_begun (Item delimiter number width (Some is_checked)) r m)
 unfolding enter
-item-taken text options lookup m r inside behind mark number width is_checked at from is_inside is_behind at_is from_is =
+item-taken text options lookup m r inside behind delimiter number width is_checked at from is_inside is_behind at_is from_is =
     let last : Row = without (width + 3) r in
     let e : behind ≡ last = is_behind ∙ ap (without 3) is_inside ∙ ap {A = List Column} {B = Row} (λ cs. record r { columns = cs }) (drop-drop 3 width r.columns) in
     let f : from ≡ begin_of (without width r) = from_is ∙ ap begin_of is_inside in
-    ap (λ (b : Row). paragraph_begun text options lookup b (with_drawn (task_then (Some is_checked) from (begin_of b) Nil) (item_begun_in mark number width (Some is_checked) at m))) e
-    ∙ ap (λ (n : ℕ). paragraph_begun text options lookup last (with_drawn (task_then (Some is_checked) n (begin_of last) Nil) (item_begun_in mark number width (Some is_checked) at m))) f
-    ∙ ap (λ (n : ℕ). paragraph_begun text options lookup last (with_drawn (task_then (Some is_checked) (begin_of (without width r)) (begin_of last) Nil) (item_begun_in mark number width (Some is_checked) n m))) at_is
+    ap (λ (b : Row). paragraph_begun text options lookup b (with_drawn (task_then (Some is_checked) from (begin_of b) Nil) (item_begun_in delimiter number width (Some is_checked) at m))) e
+    ∙ ap (λ (n : ℕ). paragraph_begun text options lookup last (with_drawn (task_then (Some is_checked) n (begin_of last) Nil) (item_begun_in delimiter number width (Some is_checked) at m))) f
+    ∙ ap (λ (n : ℕ). paragraph_begun text options lookup last (with_drawn (task_then (Some is_checked) (begin_of (without width r)) (begin_of last) Nil) (item_begun_in delimiter number width (Some is_checked) n m))) at_is

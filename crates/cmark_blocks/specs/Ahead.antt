@@ -22,31 +22,31 @@ module _ {E : Type 0} (replacement : E → Lookup) where
   SeenInside pass line seen =
       (text : List ℕ) (options : Options) (lookup : Lookup) (m : model.Pass) (more : List Row) → Runs replacement text options lookup m pass →
       MatchOption seen (ahead_in text options lookup m.outer (row_of line ∷ more) ≡ [])
-      (λ rest. ((row_of rest).past ≡ (row_of line).past) × (ahead_in text options lookup m.outer (row_of line ∷ more) ≡ row_of rest ∷ ahead_in text options lookup m.outer more))
+      (λ rest. ((row_of rest).line_end ≡ (row_of line).line_end) × (ahead_in text options lookup m.outer (row_of line ∷ more) ≡ row_of rest ∷ ahead_in text options lookup m.outer more))
 
   -- the same inside so many of the containers, the outermost ones
   abbrev pub SeenInsideFirst : Pass E → (count : ℕ) → LineRest → Option LineRest → Type 0
   SeenInsideFirst pass count line seen =
       (text : List ℕ) (options : Options) (lookup : Lookup) (m : model.Pass) (more : List Row) → Runs replacement text options lookup m pass →
       let inside = ahead_in text options lookup (take count m.outer) in
-      MatchOption seen (inside (row_of line ∷ more) ≡ []) (λ rest. ((row_of rest).past ≡ (row_of line).past) × (inside (row_of line ∷ more) ≡ row_of rest ∷ inside more))
+      MatchOption seen (inside (row_of line ∷ more) ≡ []) (λ rest. ((row_of rest).line_end ≡ (row_of line).line_end) × (inside (row_of line ∷ more) ≡ row_of rest ∷ inside more))
 
   abbrev pub SeesNextInside : Pass E → (count : ℕ) → LineRest → Option LineRest → Type 0
   SeesNextInside pass count last next =
       (text : List ℕ) (options : Options) (lookup : Lookup) (m : model.Pass) → Runs replacement text options lookup m pass →
       let lines_from = λ (at : ℕ). ahead_in text options lookup (take count m.outer) (lines_at text at) in
-      MatchOption next (lines_from (row_of last).past ≡ []) (λ rest. lines_from (row_of last).past ≡ row_of rest ∷ lines_from (row_of rest).past)
+      MatchOption next (lines_from (row_of last).line_end ≡ []) (λ rest. lines_from (row_of last).line_end ≡ row_of rest ∷ lines_from (row_of rest).line_end)
 
   -- the line behind this one is seen inside the containers as this; where none is left, or one of them misses it, nothing is seen
   abbrev pub SeesNext : Pass E → LineRest → Option LineRest → Type 0
   SeesNext pass last next =
       (text : List ℕ) (options : Options) (lookup : Lookup) (m : model.Pass) → Runs replacement text options lookup m pass →
       let lines_from = λ (at : ℕ). ahead_in text options lookup m.outer (lines_at text at) in
-      MatchOption next (lines_from (row_of last).past ≡ []) (λ rest. lines_from (row_of last).past ≡ row_of rest ∷ lines_from (row_of rest).past)
+      MatchOption next (lines_from (row_of last).line_end ≡ []) (λ rest. lines_from (row_of last).line_end ≡ row_of rest ∷ lines_from (row_of rest).line_end)
 
   -- the paragraph that this line is in goes on with that one, or ends
   abbrev pub GoesOnWith : Pass E → LineRest → Option LineRest → Type 0
   GoesOnWith pass last next =
       (text : List ℕ) (options : Options) (lookup : Lookup) (m : model.Pass) → Runs replacement text options lookup m pass →
       let texts_at = λ (at : ℕ). text_lines options (ahead_in text options lookup m.outer (lines_at text at)) in
-      MatchOption next (texts_at (row_of last).past ≡ []) (λ rest. texts_at (row_of last).past ≡ row_of rest ∷ texts_at (row_of rest).past)
+      MatchOption next (texts_at (row_of last).line_end ≡ []) (λ rest. texts_at (row_of last).line_end ≡ row_of rest ∷ texts_at (row_of rest).line_end)

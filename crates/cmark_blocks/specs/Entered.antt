@@ -1,9 +1,9 @@
 -- What a line begins, one container or leaf after the other.
 use Rattle.std.specs.Prelude.{◌≡◌, ◌≤◌, ℕ, suc, Bool, true, false, List, length, unwrap_or, Option, Some, None, MatchOption}
 use Rattle.cmark_grammar.specs.Answers.{Lookup}
-use Rattle.cmark_grammar.specs.Containers.{Container, Quote, Item, Footnote, ListDefinition, is_alert, enter}
+use Rattle.cmark_grammar.specs.Containers.{Container, BlockQuote, Item, Footnote, ListDefinition, is_alert, enter}
 use Rattle.cmark_grammar.specs.Leaves.{counted}
-use Rattle.cmark_grammar.specs.Metadata.{metadata_kind, metadata_further, holds_metadata}
+use Rattle.cmark_grammar.specs.Metadata.{metadata_kind, metadata_continuation, holds_metadata}
 use Rattle.cmark_grammar.specs.MetadataBlockKind.{MetadataBlockKind}
 use Rattle.cmark_grammar.specs.Openings as grammar
 use Rattle.cmark_grammar.specs.Openings.{MetadataBlock, Takes, Plain, or_else, metadata_begun, opens}
@@ -32,29 +32,29 @@ OpensAs options open_as r = (ahead : List Row) → opens options r ahead ≡ or_
 -- the metadata block that a line begins, if it begins one
 abbrev pub metadata_taken : Option MetadataBlockKind → List Row → grammar.Opening
 metadata_taken None ahead = Plain
-metadata_taken (Some kind) ahead = Takes (MetadataBlock kind) (counted (metadata_further kind) ahead)
+metadata_taken (Some kind) ahead = Takes (MetadataBlock kind) (counted (metadata_continuation kind) ahead)
 
 abbrev pub IsNoContainer : Opening → Type 0
 IsNoContainer open_as = (start : ContainerStart) → open_as ≡ opening.Nests start → ⊥
 
 -- the number of an item is told by its character
 abbrev pub HasNumber : ContainerStart → Type 0
-HasNumber (begun.Quote inside) = Unit {0}
-HasNumber (begun.Item item inside) = list_number item.mark (unwrap_or item.number 0) ≡ item.number
+HasNumber (begun.BlockQuote inside) = Unit {0}
+HasNumber (begun.Item item inside) = list_number item.delimiter (unwrap_or item.number 0) ≡ item.number
 HasNumber (begun.Footnote footnote inside) = Unit {0}
 
 -- whether nothing of a line is left to begin behind a container's marker: it is the tag of an alert, or the paragraph behind a task marker
 abbrev pub takes_line : Container → Bool
-takes_line (Quote alert) = is_alert (Quote alert)
-takes_line (Item mark number width None) = false
-takes_line (Item mark number width (Some is_checked)) = true
+takes_line (BlockQuote alert) = is_alert (BlockQuote alert)
+takes_line (Item delimiter number width None) = false
+takes_line (Item delimiter number width (Some is_checked)) = true
 takes_line (Footnote label old size) = false
 takes_line (ListDefinition width) = false
 
 -- the whole line of such a container was taken
 abbrev pub line_taken : List ℕ → Options → Lookup → Container → Row → model.Pass → model.Pass
-line_taken text options lookup (Quote alert) r p = record p { leaf = model.BehindTag }
-line_taken text options lookup (Item mark number width task) r p = paragraph_begun text options lookup (enter (Item mark number width task) r) p
+line_taken text options lookup (BlockQuote alert) r p = record p { leaf = model.BehindTag }
+line_taken text options lookup (Item delimiter number width task) r p = paragraph_begun text options lookup (enter (Item delimiter number width task) r) p
 line_taken text options lookup (Footnote label old size) r p = p
 line_taken text options lookup (ListDefinition width) r p = p
 
@@ -63,13 +63,13 @@ module _ {E : Type 0} (replacement : E → Lookup) where
   abbrev pub HoldsMetadata : Pass E → (kind : MetadataBlockKind) → LineRest → Bool → Type 0
   HoldsMetadata pass kind rest holds =
       (text : List ℕ) (options : Options) (lookup : Lookup) (m : model.Pass) → Runs replacement text options lookup m pass →
-      holds ≡ holds_metadata kind (ahead_in text options lookup m.outer (lines_at text (row_of rest).past))
+      holds ≡ holds_metadata kind (ahead_in text options lookup m.outer (lines_at text (row_of rest).line_end))
 
   -- whether a line begins metadata, and of which kind
   abbrev pub TellsMetadata : Pass E → LineRest → Option MetadataBlockKind → Type 0
   TellsMetadata pass rest kind =
       (text : List ℕ) (options : Options) (lookup : Lookup) (m : model.Pass) → Runs replacement text options lookup m pass →
-      let ahead = ahead_in text options lookup m.outer (lines_at text (row_of rest).past) in
+      let ahead = ahead_in text options lookup m.outer (lines_at text (row_of rest).line_end) in
       metadata_begun (metadata_kind options (row_of rest)) ahead ≡ metadata_taken kind ahead
 
   -- the width of the definition that a line begins, if it begins one
@@ -82,7 +82,7 @@ module _ {E : Type 0} (replacement : E → Lookup) where
   abbrev pub BeginsAs : Opening → (bare : Bool) → LineRest → Pass E → Pass E → Type 0
   BeginsAs open_as bare rest old new =
       (text : List ℕ) (options : Options) (lookup : Lookup) (m : model.Pass) (inside : Container → model.Pass) → Runs replacement text options lookup m old →
-      let ahead = ahead_in text options lookup m.outer (lines_at text (row_of rest).past) in
+      let ahead = ahead_in text options lookup m.outer (lines_at text (row_of rest).line_end) in
       Runs replacement text options lookup (begin_as text options lookup (opened options open_as (row_of rest) ahead) inside (row_of rest) ahead bare m) new
 
   -- a container was begun on a line: with the whole line, where nothing of it is left behind the marker, or alone
@@ -97,15 +97,15 @@ module _ {E : Type 0} (replacement : E → Lookup) where
   -- behind the marker of a container that was begun, the rest of the line begins what is left
   abbrev pub Enters : List ℕ → Options → Lookup → (columns : ℕ) → (bare : Bool) → LineRest → model.Pass → LineRest × Bool → Pass E → Type 0
   Enters text options lookup columns bare rest m entered new =
-      (p : model.Pass) × Runs replacement text options lookup p new × ((row_of entered.0).past ≡ (row_of rest).past)
-      × (begin_in text options lookup (suc columns) (place_of m.inner) (row_of rest) (lines_at text (row_of rest).past) bare m
-      ≡ begin_in text options lookup columns (place_of p.inner) (row_of entered.0) (lines_at text (row_of entered.0).past) entered.1 p)
+      (p : model.Pass) × Runs replacement text options lookup p new × ((row_of entered.0).line_end ≡ (row_of rest).line_end)
+      × (begin_in text options lookup (suc columns) (place_of m.inner) (row_of rest) (lines_at text (row_of rest).line_end) bare m
+      ≡ begin_in text options lookup columns (place_of p.inner) (row_of entered.0) (lines_at text (row_of entered.0).line_end) entered.1 p)
 
   -- the first thing that a line begins was begun, where no more columns are left of the line than these
   abbrev pub BeginsFirst : (bare : Bool) → LineRest → Option (LineRest × Bool) → Pass E → Pass E → Type 0
   BeginsFirst bare rest entered old new =
       (text : List ℕ) (options : Options) (lookup : Lookup) (columns : ℕ) (m : model.Pass) → length (row_of rest).columns ≤ columns → Runs replacement text options lookup m old →
-      MatchOption entered (Runs replacement text options lookup (begin_in text options lookup (suc columns) (place_of m.inner) (row_of rest) (lines_at text (row_of rest).past) bare m) new)
+      MatchOption entered (Runs replacement text options lookup (begin_in text options lookup (suc columns) (place_of m.inner) (row_of rest) (lines_at text (row_of rest).line_end) bare m) new)
       (λ inside. Enters text options lookup columns bare rest m inside new)
 
   -- some of the containers were begun that a line begins: what is left of the line begins what is left
@@ -113,4 +113,4 @@ module _ {E : Type 0} (replacement : E → Lookup) where
   BeginsSoFar line bare rest old now =
       (text : List ℕ) (options : Options) (lookup : Lookup) (m : model.Pass) → Runs replacement text options lookup m old →
       (columns : ℕ) × (p : model.Pass) × (length (row_of rest).columns ≤ columns) × Runs replacement text options lookup p now
-      × (begin text options lookup (row_of line) (lines_at text (row_of line).past) m ≡ begin_in text options lookup (suc columns) (place_of p.inner) (row_of rest) (lines_at text (row_of rest).past) bare p)
+      × (begin text options lookup (row_of line) (lines_at text (row_of line).line_end) m ≡ begin_in text options lookup (suc columns) (place_of p.inner) (row_of rest) (lines_at text (row_of rest).line_end) bare p)

@@ -24,7 +24,7 @@ last_of first (r ∷ more) = last_of r more
 -- what holds whatever the containers are: the last line stands in the text, and each line behind the first took a byte at least
 pub record IsGathered (text : List ℕ) (gathered : Gathered) : Type 0 where
   pub read : IsRead text gathered.last
-  pub few : gathered.lines ≤ (row_of gathered.last).past
+  pub few : gathered.lines ≤ (row_of gathered.last).line_end
 
 module _ (text : List ℕ) (options : Options) (lookup : Lookup) (m : model.Pass) where
   -- the lines from a place on with which a paragraph goes on inside the open containers
@@ -34,7 +34,7 @@ module _ (text : List ℕ) (options : Options) (lookup : Lookup) (m : model.Pass
   -- the text of some of these lines behind the first line, up to the last one, was gathered
   pub record Holds (first : LineRest) (gathered : Gathered) : Type 0 where
     pub lines : List Row
-    pub ahead : texts_at (row_of first).past ≡ lines ++ texts_at (row_of gathered.last).past
+    pub ahead : texts_at (row_of first).line_end ≡ lines ++ texts_at (row_of gathered.last).line_end
     pub bytes : string_bytes gathered.text ≡ bytes_over (row_of first) lines
     pub count : length lines ≡ gathered.lines
     pub last : last_of (row_of first) lines ≡ row_of gathered.last
@@ -47,16 +47,16 @@ module _ {E : Type 0} (replacement : E → Lookup) where
   -- no line more goes on with the paragraph
   abbrev pub IsWhole : Pass E → Gathered → Type 0
   IsWhole pass gathered =
-      (text : List ℕ) (options : Options) (lookup : Lookup) (m : model.Pass) → Runs replacement text options lookup m pass → texts_at text options lookup m (row_of gathered.last).past ≡ []
+      (text : List ℕ) (options : Options) (lookup : Lookup) (m : model.Pass) → Runs replacement text options lookup m pass → texts_at text options lookup m (row_of gathered.last).line_end ≡ []
 
   -- one more line at least was gathered; or else no line is left
   abbrev pub GathersMore : Pass E → Gathered → (more : Bool) → Gathered → Type 0
-  GathersMore pass old true new = ((first : LineRest) → Gathers pass first old → Gathers pass first new) × ((row_of old.last).past < (row_of new.last).past)
+  GathersMore pass old true new = ((first : LineRest) → Gathers pass first old → Gathers pass first new) × ((row_of old.last).line_end < (row_of new.last).line_end)
   GathersMore pass old false new = ((first : LineRest) → Gathers pass first old → Gathers pass first new) × IsWhole pass new
 
   -- the definition in front of what was gathered stands in front of the whole text of the paragraph, and if none does, none stands there
   abbrev pub Decides : Pass E → Gathered → Type 0
   Decides pass gathered =
       (text : List ℕ) (options : Options) (lookup : Lookup) (m : model.Pass) → Runs replacement text options lookup m pass →
-      let behind = further_bytes (row_of gathered.last) (texts_at text options lookup m (row_of gathered.last).past) in
+      let behind = further_bytes (row_of gathered.last) (texts_at text options lookup m (row_of gathered.last).line_end) in
       definition_in (string_bytes gathered.text ++ behind) ≡ option_map (defined_before behind) (definition_in (string_bytes gathered.text))

@@ -22,31 +22,31 @@ module _ {E : Type 0} (replacement : E → Lookup) where
   abbrev pub IsLazy : Pass E → (kept : ℕ) → LineRest → Bool → Type 0
   IsLazy pass kept rest lazy =
       (text : List ℕ) (options : Options) (lookup : Lookup) (m : model.Pass) (c : model.OpenContainer) (others : List model.OpenContainer) → drop kept m.outer ≡ c ∷ others → Runs replacement text options lookup m pass →
-      lazy ≡ (lazily options c.container (row_of rest) (ahead_in text options lookup (take kept m.outer) (lines_at text (row_of rest).past)) && takes_lazy m.leaf)
+      lazy ≡ (lazily options c.container (row_of rest) (ahead_in text options lookup (take kept m.outer) (lines_at text (row_of rest).line_end)) && takes_lazy m.leaf)
 
   -- what so many containers left of a line was fed to the pass; the others miss the line
   abbrev pub FeedsRest : (kept : ℕ) → LineRest → Pass E → Pass E → Type 0
   FeedsRest kept rest old new =
       (text : List ℕ) (options : Options) (lookup : Lookup) (m : model.Pass) → Runs replacement text options lookup m old →
-      Runs replacement text options lookup (line_with text options lookup (drop kept m.outer) (take kept m.outer) (row_of rest) (lines_at text (row_of rest).past) m) new
+      Runs replacement text options lookup (line_with text options lookup (drop kept m.outer) (take kept m.outer) (row_of rest) (lines_at text (row_of rest).line_end) m) new
 
   -- one more whole line was fed to the pass
   abbrev pub Feeds : LineRest → Pass E → Pass E → Type 0
   Feeds line old new =
       (text : List ℕ) (options : Options) (lookup : Lookup) (m : model.Pass) → Runs replacement text options lookup m old →
-      Runs replacement text options lookup (line_fed text options lookup (row_of line) (lines_at text (row_of line).past) m) new
+      Runs replacement text options lookup (line_fed text options lookup (row_of line) (lines_at text (row_of line).line_end) m) new
 
   -- some of the lines from this place on were fed to the pass
   abbrev pub FeedsSoFar : Pass E → Pass E → Type 0
   FeedsSoFar old now =
       (text : List ℕ) (options : Options) (lookup : Lookup) (m : model.Pass) → Runs replacement text options lookup m old →
-      (p : model.Pass) × Runs replacement text options lookup p now × (lines_fed text options lookup (lines_at text m.past) m ≡ lines_fed text options lookup (lines_at text p.past) p)
+      (p : model.Pass) × Runs replacement text options lookup p now × (lines_fed text options lookup (lines_at text m.line_end) m ≡ lines_fed text options lookup (lines_at text p.line_end) p)
 
   -- all lines from this place on were fed to the pass
   abbrev pub FeedsAll : Pass E → Pass E → Type 0
   FeedsAll old new =
       (text : List ℕ) (options : Options) (lookup : Lookup) (m : model.Pass) → Runs replacement text options lookup m old →
-      Runs replacement text options lookup (lines_fed text options lookup (lines_at text m.past) m) new
+      Runs replacement text options lookup (lines_fed text options lookup (lines_at text m.line_end) m) new
 
   -- everything was closed
   abbrev pub ClosesEverything : Pass E → Pass E → Type 0

@@ -1,7 +1,7 @@
 -- Link reference definitions that were found (CommonMark 4.7).
 use Rattle.std.specs.Prelude.{◌≡◌, ℕ, List, [], ◌∷◌, ◌++◌, take}
 use Rattle.cmark_grammar.specs.Answers.{Lookup}
-use Rattle.cmark_grammar.specs.Derivation.{stop_of, reference_of}
+use Rattle.cmark_grammar.specs.Derivation.{last_content_end, reference_of}
 use Rattle.cmark_grammar.specs.LinkDefinitions.{Definition}
 use Rattle.cmark_grammar.specs.Options.{Options}
 use Rattle.cmark_lines.specs.Rests.{row_of}
@@ -22,7 +22,7 @@ definition_begun lookup definition start end more p = let q = definition_kept lo
 
 module _ {E : Type 0} (replacement : E → Lookup) where
   -- the line and so many behind it, as far as a paragraph goes on, end here
-  abbrev pub StopsAt : Pass E → LineRest → (more : ℕ) → (stop : ℕ) → Type 0
-  StopsAt pass first more stop =
+  abbrev pub StopsAt : Pass E → LineRest → (more : ℕ) → (content_end : ℕ) → Type 0
+  StopsAt pass first more content_end =
       (text : List ℕ) (options : Options) (lookup : Lookup) (m : model.Pass) → Runs replacement text options lookup m pass →
-      stop ≡ stop_of (row_of first) (take more (texts_at text options lookup m (row_of first).past))
+      content_end ≡ last_content_end (row_of first) (take more (texts_at text options lookup m (row_of first).line_end))

@@ -17,7 +17,7 @@ abbrev pub item_of_width : ℕ → grammar.Container
 item_of_width width = grammar.Item 45 None width None
 
 abbrev pub shown_container : Container → grammar.Container
-shown_container container.Quote = grammar.Quote None
+shown_container container.BlockQuote = grammar.BlockQuote None
 shown_container (container.Item width) = item_of_width width
 shown_container (container.Footnote old) = grammar.Footnote [] old 0
 shown_container (container.Definition width) = grammar.ListDefinition width
@@ -25,7 +25,7 @@ shown_container (container.Definition width) = grammar.ListDefinition width
 -- the container that a node is: a block quote, a list item, a definition of a definition list, or a footnote definition, which the options say how to read, and
 -- else none
 abbrev pub container_in : Options → ItemBody → Option grammar.Container
-container_in options (body.BlockQuote kind) = Some (grammar.Quote None)
+container_in options (body.BlockQuote kind) = Some (grammar.BlockQuote None)
 container_in options (body.ListItem width) = Some (item_of_width width)
 container_in options (body.DefinitionListDefinition width) = Some (grammar.ListDefinition width)
 container_in options (body.FootnoteDefinition label) = Some (grammar.Footnote [] options.old_footnotes 0)
@@ -42,18 +42,18 @@ containers_of options [] = []
 containers_of options (v ∷ up) = containers_of options up ++ in_front (container_in options v.place.item.body) []
 
 -- how many containers keep a line, and what is left of it behind their prefixes
-pub record Kept : Type 0 where
+pub record LineKeepers : Type 0 where
   pub count : ℕ
   pub rest : Row
 
-abbrev pub one_more : Kept → Kept
+abbrev pub one_more : LineKeepers → LineKeepers
 one_more k = record { count = suc k.count; rest = k.rest }
 
-abbrev pub kept_if : Option Row → (Row → Kept) → Kept → Kept
+abbrev pub kept_if : Option Row → (Row → LineKeepers) → LineKeepers → LineKeepers
 kept_if (Some s) further none = one_more (further s)
 kept_if None further none = none
 
 -- these containers, one inside the other, keep the line in turn, up to the first that does not
-abbrev pub kept : List grammar.Container → Row → Kept
+abbrev pub kept : List grammar.Container → Row → LineKeepers
 kept [] r = record { count = 0; rest = r }
 kept (k ∷ ks) r = kept_if (keeps k false r) (kept ks) (record { count = 0; rest = r })

@@ -26,8 +26,8 @@ use Rattle.cmark_blocks.specs.declared.state.Pass.{Pass}
 use Rattle.cmark_blocks.specs.Footnotes.{HasLabels}
 use Rattle.cmark_blocks.specs.Shown.{shown_siblings, ShowsContainers}
 
-abbrev pub IsFence : Fence → (mark size indent : ℕ) → Type 0
-IsFence fence mark size indent = (fence.mark ≡ mark) × (fence.size ≡ size) × (fence.indented ≡ indent)
+abbrev pub IsFence : Fence → (delimiter run_length indent : ℕ) → Type 0
+IsFence fence delimiter run_length indent = (fence.delimiter ≡ delimiter) × (fence.run_length ≡ run_length) × (fence.indented ≡ indent)
 
 -- the open leaf, with the blank lines behind indented code, or the lines of a paragraph before its last one, where they are kept
 abbrev pub ShowsLeaf : List ℕ → OpenLeaf → List LineRest → model.OpenLeaf → Type 0
@@ -37,8 +37,8 @@ ShowsLeaf text (leaf.Paragraph from last) lines m = m ≡ model.InParagraph (map
 ShowsLeaf text (leaf.Definition left) blanks m = (m ≡ model.InDefinition left) × (blanks ≡ [])
 ShowsLeaf text (leaf.Table left) blanks m = (m ≡ model.InTable left) × (blanks ≡ [])
 ShowsLeaf text (leaf.Indented waits end) blanks m = m ≡ model.InIndented (shown_waits text waits) end (map row_of blanks)
-ShowsLeaf text (leaf.Fenced mark size indent waits) blanks m =
-    (fence : Fence) × IsFence fence mark size indent × (m ≡ model.InFenced fence (shown_waits text waits)) × (blanks ≡ [])
+ShowsLeaf text (leaf.Fenced delimiter run_length indent waits) blanks m =
+    (fence : Fence) × IsFence fence delimiter run_length indent × (m ≡ model.InFenced fence (shown_waits text waits)) × (blanks ≡ [])
 ShowsLeaf text (leaf.Html kind) blanks m = (m ≡ model.InHtml (kind_number kind)) × (blanks ≡ [])
 ShowsLeaf text (leaf.Metadata kind waits) blanks m = (m ≡ model.InMetadata (shown_metadata_block_kind kind) (shown_waits text waits)) × (blanks ≡ [])
 
@@ -50,7 +50,7 @@ IsVerbatim (leaf.Paragraph from last) waits = ⊥
 IsVerbatim (leaf.Definition left) waits = ⊥
 IsVerbatim (leaf.Table left) waits = ⊥
 IsVerbatim (leaf.Indented others end) waits = ⊥
-IsVerbatim (leaf.Fenced mark size indent others) waits = waits ≡ others
+IsVerbatim (leaf.Fenced delimiter run_length indent others) waits = waits ≡ others
 IsVerbatim (leaf.Html kind) waits = waits ≡ None
 IsVerbatim (leaf.Metadata kind others) waits = waits ≡ others
 
@@ -62,7 +62,7 @@ IsLastRead text (leaf.Paragraph from last) = IsRead text last
 IsLastRead text (leaf.Definition left) = Unit {0}
 IsLastRead text (leaf.Table left) = Unit {0}
 IsLastRead text (leaf.Indented waits end) = Unit {0}
-IsLastRead text (leaf.Fenced mark size indent waits) = Unit {0}
+IsLastRead text (leaf.Fenced delimiter run_length indent waits) = Unit {0}
 IsLastRead text (leaf.Html kind) = Unit {0}
 IsLastRead text (leaf.Metadata kind waits) = Unit {0}
 
@@ -71,7 +71,7 @@ module _ {E : Type 0} where
   -- begins, and the lines that are kept are read in the text
   pub record IsGood (pass : Pass E) : Type 0 where
     pub placed : IsPlaced pass.builder.tree
-    pub begins : IsCharBoundary pass.text.now pass.past
+    pub begins : IsCharBoundary pass.text.now pass.line_end
     pub lines : AreRead pass.text.now pass.blank_lines.items
     pub last : IsLastRead pass.text.now pass.leaf
 
@@ -89,6 +89,6 @@ module _ {E : Type 0} (replacement : E → Lookup) where
     pub outer : ShowsContainers pass.outer.items m.outer
     pub bare : pass.bare ≡ m.bare
     pub leaf : ShowsLeaf text pass.leaf pass.blank_lines.items m.leaf
-    pub past : pass.past ≡ m.past
+    pub line_end : pass.line_end ≡ m.line_end
     pub references : (folded : List ℕ) → option_map shown_definition (definition (tables pass.builder.allocations).references folded) ≡ option_map shown_reference (first_with fold folded m.references)
     pub footnotes : HasLabels m.footnotes (tables pass.builder.allocations).footnotes

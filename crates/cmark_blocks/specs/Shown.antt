@@ -9,7 +9,7 @@ use Rattle.cmark_blocks.specs.declared.siblings.Title.{Title}
 use Rattle.cmark_blocks.specs.declared.state.OpenContainer.{OpenContainer}
 
 abbrev pub shown_list : OpenList → model.OpenList
-shown_list l = record { mark = l.mark; number = list_number l.mark l.number; loose = l.loose; end = l.end }
+shown_list l = record { delimiter = l.delimiter; number = list_number l.delimiter l.number; loose = l.loose; end = l.end }
 
 abbrev pub shown_title : Title → model.Title
 shown_title t = record { list = option_map shown_list t.list; parted = t.parted }
@@ -18,9 +18,9 @@ abbrev pub shown_siblings : Siblings → model.Siblings
 shown_siblings s = record { has_block = s.has_block; blank = s.blank; parted = s.parted; list = option_map shown_list s.list; title = option_map shown_title s.title }
 
 -- the list, if it has this character
-abbrev pub list_of : (mark : ℕ) → Option model.OpenList → Option model.OpenList
-list_of mark None = None
-list_of mark (Some l) = if l.mark == mark then Some l else None
+abbrev pub list_of : (delimiter : ℕ) → Option model.OpenList → Option model.OpenList
+list_of delimiter None = None
+list_of delimiter (Some l) = if l.delimiter == delimiter then Some l else None
 
 abbrev pub ShowsContainer : OpenContainer → model.OpenContainer → Type 0
 ShowsContainer c m = Shows c.container m.container × (shown_siblings c.around ≡ m.around)

@@ -100,33 +100,33 @@ module _ {E : Type 0} (replacement : E → Lookup) where
   abbrev pub BeginsText : LineRest → Pass E → Pass E → Type 0
   BeginsText rest old new =
       (text : List ℕ) (options : Options) (lookup : Lookup) (m : model.Pass) (inside : Container → model.Pass) (bare : Bool) → Runs replacement text options lookup m old →
-      let ahead = ahead_in text options lookup m.outer (lines_at text (row_of rest).past) in
+      let ahead = ahead_in text options lookup m.outer (lines_at text (row_of rest).line_end) in
       Runs replacement text options lookup (begin_as text options lookup (table_if options (table_head options (row_of rest) ahead) ahead) inside (row_of rest) ahead bare m) new
 
   -- a line that may begin a link reference definition began one, or else a table or a paragraph
   abbrev pub BeginsBracket : LineRest → Pass E → Pass E → Type 0
   BeginsBracket rest old new =
       (text : List ℕ) (options : Options) (lookup : Lookup) (m : model.Pass) (inside : Container → model.Pass) (bare : Bool) → Runs replacement text options lookup m old →
-      let ahead = ahead_in text options lookup m.outer (lines_at text (row_of rest).past) in
+      let ahead = ahead_in text options lookup m.outer (lines_at text (row_of rest).line_end) in
       Runs replacement text options lookup (begin_as text options lookup (bracket_of options (row_of rest) ahead) inside (row_of rest) ahead bare m) new
 
   -- all that a line begins was begun
   abbrev pub Begins : LineRest → Pass E → Pass E → Type 0
   Begins rest old new =
       (text : List ℕ) (options : Options) (lookup : Lookup) (m : model.Pass) → Runs replacement text options lookup m old →
-      Runs replacement text options lookup (begin text options lookup (row_of rest) (lines_at text (row_of rest).past) m) new
+      Runs replacement text options lookup (begin text options lookup (row_of rest) (lines_at text (row_of rest).line_end) m) new
 
   -- the leaf was closed, and all that a line begins was begun
   abbrev pub BeginsAnew : LineRest → Pass E → Pass E → Type 0
   BeginsAnew rest old new =
       (text : List ℕ) (options : Options) (lookup : Lookup) (m : model.Pass) → Runs replacement text options lookup m old →
-      Runs replacement text options lookup (begin text options lookup (row_of rest) (lines_at text (row_of rest).past) (leaf_closed text options lookup m)) new
+      Runs replacement text options lookup (begin text options lookup (row_of rest) (lines_at text (row_of rest).line_end) (leaf_closed text options lookup m)) new
 
   -- a line that lacks no prefix was fed to the open leaf
   abbrev pub FeedsLeaf : LineRest → Pass E → Pass E → Type 0
   FeedsLeaf rest old new =
       (text : List ℕ) (options : Options) (lookup : Lookup) (m : model.Pass) → Runs replacement text options lookup m old →
-      Runs replacement text options lookup (leaf_fed text options lookup m.leaf (row_of rest) (lines_at text (row_of rest).past) m) new
+      Runs replacement text options lookup (leaf_fed text options lookup m.leaf (row_of rest) (lines_at text (row_of rest).line_end) m) new
 
   -- a lazy line was fed to the open leaf
   abbrev pub FeedsLazily : LineRest → Pass E → Pass E → Type 0

@@ -4,7 +4,7 @@ use Rattle.cmark_grammar.specs.Answers.{Lookup}
 use Rattle.cmark_grammar.specs.DefinitionLists.{begins_definition}
 use Rattle.cmark_grammar.specs.Openings.{Table, count_rows}
 use Rattle.cmark_grammar.specs.Options.{Options}
-use Rattle.cmark_grammar.specs.Rows.{Row, past_of, words_of}
+use Rattle.cmark_grammar.specs.Rows.{Row, last_line_end, words_of}
 use Rattle.cmark_grammar.specs.TableRows.{count_missing, most_filled, table_head, table_interrupts}
 use Rattle.cmark_grammar.specs.Tables.{delimiter_row}
 use Rattle.cmark_grammar.specs.TableTokens.{row_tokens}
@@ -38,50 +38,50 @@ module _ {E : Type 0} (replacement : E → Lookup) where
   TellsHead pass count rest found =
       (text : List ℕ) (options : Options) (lookup : Lookup) (m : model.Pass) → Runs replacement text options lookup m pass →
       let lines_from = λ (at : ℕ). ahead_in text options lookup (take count m.outer) (lines_at text at) in
-      MatchOption found (table_head options (row_of rest) (lines_from (row_of rest).past) ≡ None)
-      (λ head. IsHead options (row_of rest) (lines_from (row_of rest).past) head.0 (row_of head.1) (lines_from (row_of head.1).past))
+      MatchOption found (table_head options (row_of rest) (lines_from (row_of rest).line_end) ≡ None)
+      (λ head. IsHead options (row_of rest) (lines_from (row_of rest).line_end) head.0 (row_of head.1) (lines_from (row_of head.1).line_end))
 
   -- whether a line begins a table that interrupts a paragraph
   abbrev pub TellsInterrupts : Pass E → (count : ℕ) → LineRest → Bool → Type 0
   TellsInterrupts pass count rest interrupts =
       (text : List ℕ) (options : Options) (lookup : Lookup) (m : model.Pass) → Runs replacement text options lookup m pass →
-      interrupts ≡ table_interrupts options (row_of rest) (ahead_in text options lookup (take count m.outer) (lines_at text (row_of rest).past))
+      interrupts ≡ table_interrupts options (row_of rest) (ahead_in text options lookup (take count m.outer) (lines_at text (row_of rest).line_end))
 
   -- whether a line interrupts as a table or, where definitions may begin, as one
   abbrev pub TellsBlock : Pass E → (count : ℕ) → (may_define : Bool) → LineRest → Bool → Type 0
   TellsBlock pass count may_define rest interrupts =
       (text : List ℕ) (options : Options) (lookup : Lookup) (m : model.Pass) → Runs replacement text options lookup m pass →
-      interrupts ≡ block_interrupts options may_define (row_of rest) (ahead_in text options lookup (take count m.outer) (lines_at text (row_of rest).past))
+      interrupts ≡ block_interrupts options may_define (row_of rest) (ahead_in text options lookup (take count m.outer) (lines_at text (row_of rest).line_end))
 
   -- the table that this line is in goes on with that one, or ends
   abbrev pub GoesOnWithRow : Pass E → (columns left : ℕ) → LineRest → Option LineRest → Type 0
   GoesOnWithRow pass columns left last next =
       (text : List ℕ) (options : Options) (lookup : Lookup) (m : model.Pass) → Runs replacement text options lookup m pass →
       let rows_at = λ (fill at : ℕ). rows_taken options columns fill (ahead_in text options lookup m.outer (lines_at text at)) in
-      MatchOption next (rows_at left (row_of last).past ≡ [])
-      (λ row. rows_at left (row_of last).past ≡ row_of row ∷ rows_at (left - count_missing columns (row_of row)) (row_of row).past)
+      MatchOption next (rows_at left (row_of last).line_end ≡ [])
+      (λ row. rows_at left (row_of last).line_end ≡ row_of row ∷ rows_at (left - count_missing columns (row_of row)) (row_of row).line_end)
 
   -- the rows behind a delimiter row were drawn: so many, and up to this place
-  abbrev pub DrawsRows : (columns : ℕ) → LineRest → (count past : ℕ) → Pass E → Pass E → Type 0
-  DrawsRows columns delimiter count past old new =
+  abbrev pub DrawsRows : (columns : ℕ) → LineRest → (count line_end : ℕ) → Pass E → Pass E → Type 0
+  DrawsRows columns delimiter count line_end old new =
       (text : List ℕ) (options : Options) (lookup : Lookup) (m : model.Pass) → Runs replacement text options lookup m old →
-      let taken = rows_taken options columns most_filled (ahead_in text options lookup m.outer (lines_at text (row_of delimiter).past)) in
+      let taken = rows_taken options columns most_filled (ahead_in text options lookup m.outer (lines_at text (row_of delimiter).line_end)) in
       Runs replacement text options lookup (record m { drawing = drawn (row_tokens text columns taken) m.drawing }) new
-      × (count ≡ length taken) × (past ≡ past_of (row_of delimiter) taken)
+      × (count ≡ length taken) × (line_end ≡ last_line_end (row_of delimiter) taken)
 
   -- some of them were: these are still to come
   pub record RowsLeft (text : List ℕ) (options : Options) (lookup : Lookup) (m : model.Pass) (columns left count : ℕ) (delimiter last : Row) (now : Pass E) : Type 0 where
     pub drawing : Drawing
     pub runs : Runs replacement text options lookup (record m { drawing = drawing }) now
     pub draws :
-        drawn (row_tokens text columns (rows_taken options columns most_filled (ahead_in text options lookup m.outer (lines_at text delimiter.past)))) m.drawing
-        ≡ drawn (row_tokens text columns (rows_taken options columns left (ahead_in text options lookup m.outer (lines_at text last.past)))) drawing
+        drawn (row_tokens text columns (rows_taken options columns most_filled (ahead_in text options lookup m.outer (lines_at text delimiter.line_end)))) m.drawing
+        ≡ drawn (row_tokens text columns (rows_taken options columns left (ahead_in text options lookup m.outer (lines_at text last.line_end)))) drawing
     pub counts :
-        length (rows_taken options columns most_filled (ahead_in text options lookup m.outer (lines_at text delimiter.past)))
-        ≡ count + length (rows_taken options columns left (ahead_in text options lookup m.outer (lines_at text last.past)))
+        length (rows_taken options columns most_filled (ahead_in text options lookup m.outer (lines_at text delimiter.line_end)))
+        ≡ count + length (rows_taken options columns left (ahead_in text options lookup m.outer (lines_at text last.line_end)))
     pub ends :
-        past_of delimiter (rows_taken options columns most_filled (ahead_in text options lookup m.outer (lines_at text delimiter.past)))
-        ≡ past_of last (rows_taken options columns left (ahead_in text options lookup m.outer (lines_at text last.past)))
+        last_line_end delimiter (rows_taken options columns most_filled (ahead_in text options lookup m.outer (lines_at text delimiter.line_end)))
+        ≡ last_line_end last (rows_taken options columns left (ahead_in text options lookup m.outer (lines_at text last.line_end)))
 
   abbrev pub DrawsRowsSoFar : (columns left count : ℕ) → (delimiter last : LineRest) → Pass E → Pass E → Type 0
   DrawsRowsSoFar columns left count delimiter last old now =
@@ -92,6 +92,6 @@ module _ {E : Type 0} (replacement : E → Lookup) where
   BeginsTable columns delimiter rest old new =
       (text : List ℕ) (options : Options) (lookup : Lookup) (m : model.Pass) → Runs replacement text options lookup m old →
       let alignments = columns_of (delimiter_row (words_of (row_of delimiter))) in
-      let behind = ahead_in text options lookup m.outer (lines_at text (row_of delimiter).past) in
+      let behind = ahead_in text options lookup m.outer (lines_at text (row_of delimiter).line_end) in
       length alignments ≡ columns →
       Runs replacement text options lookup (leaf_begun text options lookup (Table alignments) (suc (count_rows options columns most_filled behind)) (row_of rest) (row_of delimiter ∷ behind) m) new

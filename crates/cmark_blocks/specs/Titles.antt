@@ -1,6 +1,6 @@
 -- Paragraphs that may be titles of definitions.
 use Rattle.std.specs.Prelude.{ℕ, Bool, false, ◌||◌, Option, Some, None}
-use Rattle.cmark_grammar.specs.Lists.{definition_mark}
+use Rattle.cmark_grammar.specs.Lists.{definition_delimiter}
 use Rattle.cmark_block_model.specs.BlockPass.{ended_but, definitions_in, siblings_with_paragraph}
 use Rattle.cmark_block_model.specs.OpenBlocks.{OpenList, Title, Siblings, Pass}
 
@@ -15,5 +15,5 @@ list_around (Some t) = t.list
 
 -- the siblings where the last one, a paragraph, is made the title of a definition
 abbrev pub with_title : Option OpenList → (parted : Bool) → (start : ℕ) → Siblings → Siblings
-with_title None parted start s = record s { blank = false; list = Some (record { mark = definition_mark; number = None; loose = s.blank; end = start }); title = None }
+with_title None parted start s = record s { blank = false; list = Some (record { delimiter = definition_delimiter; number = None; loose = s.blank; end = start }); title = None }
 with_title (Some l) parted start s = record s { blank = false; parted = parted; list = Some (record l { loose = l.loose || s.blank }); title = None }

@@ -5,7 +5,7 @@ ghost use Rattle.cmark_grammar.specs.Leaves.{underlines};
 ghost use Rattle.cmark_grammar.specs.Openings.{interrupts, is_none};
 ghost use Rattle.cmark_text.specs.Shown.{shown_options};
 ghost use Rattle.cmark_grammar.specs.Rows.{Row};
-ghost use Rattle.cmark_leaves.specs.TextColumns.{AreTold};
+ghost use Rattle.cmark_leaves.specs.TextColumns.{StandInText};
 ghost use Rattle.cmark_lines.specs.Rests.{IsIn, row_of};
 
 use crate::state::Pass;
@@ -55,10 +55,10 @@ impl<'a, E: EntityLookup> Pass<'a, E> {
         requires within { IsIn self.now.text.now last }
         ensures next { SeesNextInside E.replacement self.now count last.entry result }
         ensures placed { IfSome result (IsIn self.now.text.now) }
-        ensures told { IfSome result (λ rest. AreTold self.now.text.now (row_of rest).columns) }
-        ensures further { IfSome result (λ rest. (row_of last.entry).past < (row_of rest).past) }
+        ensures in_text { IfSome result (λ rest. StandInText self.now.text.now (row_of rest).columns) }
+        ensures further { IfSome result (λ rest. (row_of last.entry).line_end < (row_of rest).line_end) }
     {
-        let start = last.past();
+        let start = last.line_end();
         if start == self.text.len() {
             return None;
         }
@@ -73,10 +73,10 @@ impl<'a, E: EntityLookup> Pass<'a, E> {
         requires within { IsIn self.now.text.now last }
         ensures next { SeesNext E.replacement self.now last.entry result }
         ensures placed { IfSome result (IsIn self.now.text.now) }
-        ensures told { IfSome result (λ rest. AreTold self.now.text.now (row_of rest).columns) }
-        ensures further { IfSome result (λ rest. (row_of last.entry).past < (row_of rest).past) }
+        ensures in_text { IfSome result (λ rest. StandInText self.now.text.now (row_of rest).columns) }
+        ensures further { IfSome result (λ rest. (row_of last.entry).line_end < (row_of rest).line_end) }
     {
-        let start = last.past();
+        let start = last.line_end();
         if start == self.text.len() {
             return None;
         }
@@ -90,8 +90,8 @@ impl<'a, E: EntityLookup> Pass<'a, E> {
         requires within { IsIn self.now.text.now last }
         ensures next { GoesOnWith E.replacement self.now last.entry result }
         ensures placed { IfSome result (IsIn self.now.text.now) }
-        ensures told { IfSome result (λ rest. AreTold self.now.text.now (row_of rest).columns) }
-        ensures further { IfSome result (λ rest. (row_of last.entry).past < (row_of rest).past) }
+        ensures in_text { IfSome result (λ rest. StandInText self.now.text.now (row_of rest).columns) }
+        ensures further { IfSome result (λ rest. (row_of last.entry).line_end < (row_of rest).line_end) }
     {
         let rest = self.line_ahead(last)?;
         if is_text(rest, self.options) && !self.block_interrupts(self.outer.len(), rest, true) {

@@ -4,7 +4,7 @@ ghost use Rattle.std.specs.Prelude.{◌≡◌, List, ℕ, Option, OnOk, IfOk, fa
 ghost use Rattle.cmark_tree.specs.Building.{IsPlaced};
 ghost use Rattle.cmark_items.specs.Tables.{tables, defined};
 ghost use Rattle.cmark_grammar.specs.Leaves as grammar;
-ghost use Rattle.cmark_grammar.specs.Leaves.{code_further};
+ghost use Rattle.cmark_grammar.specs.Leaves.{code_continuation};
 ghost use Rattle.cmark_lines.specs.Rests.{row_of};
 ghost use Rattle.cmark_blocks.specs.IndentedLines.{DrawsLines};
 ghost use Rattle.cmark_grammar.specs.Openings.{IndentedCode, FencedCode};
@@ -19,7 +19,7 @@ use crate::state::{OpenLeaf, Pass};
 use cmark_builder::Builder;
 use cmark_items::ItemBody;
 use cmark_leaves::{Stretch, draw_code_line, draw_stretch};
-use cmark_lines::{CodeFence, Further, LineRest, Verbatim};
+use cmark_lines::{CodeFence, CodeOrHtml, Continuation, LineRest};
 use cmark_scan_parts::unescape;
 use cmark_text::{CowStr, EntityLookup};
 use std::alloc::AllocError;
@@ -71,7 +71,7 @@ impl<'a, E: EntityLookup> Pass<'a, E> {
         let code = rest.without_indent_upto(4);
         self.builder.open(code.begin(), ItemBody::IndentCodeBlock)?;
         let waits = draw_code_line(&mut self.builder, rest, 4, None)?;
-        self.leaf = OpenLeaf::Indented(waits, rest.past());
+        self.leaf = OpenLeaf::Indented(waits, rest.line_end());
         Ok(())
     }
 
@@ -106,34 +106,38 @@ impl<'a, E: EntityLookup> Pass<'a, E> {
         let index = self.builder.allocations.allocate_cow(info)?;
         let body = ItemBody::FencedCodeBlock(index);
         self.builder.open(rest.words_begin(), body)?;
-        self.leaf = OpenLeaf::Fenced(fence.mark, fence.size, indent, None);
+        self.leaf = OpenLeaf::Fenced(fence.delimiter, fence.run_length, indent, None);
         Ok(())
     }
 
     /// One more line behind an opening fence: the closing fence, or a line of code.
     pub(crate) fn feed_fenced(
         &mut self,
-        mark: u8,
-        size: usize,
+        delimiter: u8,
+        run_length: usize,
         indent: usize,
         waits: Option<Stretch>,
         rest: LineRest<'a>,
     ) -> Result<(), AllocError>
         requires good { IsGood self.old }
-        requires is { self.old.leaf ≡ leaf.Fenced mark size indent waits }
+        requires is { self.old.leaf ≡ leaf.Fenced delimiter run_length indent waits }
         ensures good { IsGood self.new }
         ensures runs { OnOk result (FeedsLeaf E.replacement rest.entry self.old self.new) }
         ensures text { self.new.text ≡ self.old.text }
     {
-        let fence = Verbatim::Fenced { mark, size, indent };
-        if let Further::Closes = fence.further(rest) {
+        let fence = CodeOrHtml::Fenced {
+            delimiter,
+            run_length,
+            indent,
+        };
+        if let Continuation::Closes = fence.continuation(rest) {
             draw_stretch(&mut self.builder, waits)?;
-            self.builder.close(rest.past());
+            self.builder.close(rest.line_end());
             self.leaf = OpenLeaf::Closed;
             return Ok(());
         }
         let left = draw_code_line(&mut self.builder, rest, indent, waits)?;
-        self.leaf = OpenLeaf::Fenced(mark, size, indent, left);
+        self.leaf = OpenLeaf::Fenced(delimiter, run_length, indent, left);
         Ok(())
     }
 
@@ -146,7 +150,7 @@ impl<'a, E: EntityLookup> Pass<'a, E> {
     ) -> Result<(), AllocError>
         requires good { IsGood self.old }
         requires is { self.old.leaf ≡ leaf.Indented waits end }
-        requires goes_on { code_further (row_of rest) ≡ grammar.GoesOn }
+        requires goes_on { code_continuation (row_of rest) ≡ grammar.GoesOn }
         ensures good { IsGood self.new }
         ensures runs { OnOk result (FeedsLeaf E.replacement rest.entry self.old self.new) }
         ensures text { self.new.text ≡ self.old.text }
@@ -154,7 +158,7 @@ impl<'a, E: EntityLookup> Pass<'a, E> {
         let waits = draw_blank_lines(&mut self.builder, &self.blank_lines, waits)?;
         let left = draw_code_line(&mut self.builder, rest, 4, waits)?;
         self.blank_lines.clear();
-        self.leaf = OpenLeaf::Indented(left, rest.past());
+        self.leaf = OpenLeaf::Indented(left, rest.line_end());
         Ok(())
     }
 
@@ -163,7 +167,7 @@ impl<'a, E: EntityLookup> Pass<'a, E> {
         requires good { IsGood self.old }
         requires line { IsRead self.old.text.now rest }
         requires is { (waits : Option Stretch) × (end : ℕ) × (self.old.leaf ≡ leaf.Indented waits end) }
-        requires waits { code_further (row_of rest) ≡ grammar.Waits }
+        requires waits { code_continuation (row_of rest) ≡ grammar.Waits }
         ensures good { IsGood self.new }
         ensures runs { OnOk result (FeedsLeaf E.replacement rest.entry self.old self.new) }
         ensures text { self.new.text ≡ self.old.text }
@@ -187,16 +191,16 @@ impl<'a, E: EntityLookup> Pass<'a, E> {
         ensures runs { OnOk result (FeedsLeaf E.replacement rest.entry self.old self.new) }
         ensures text { self.new.text ≡ self.old.text }
     {
-        match Verbatim::Indented.further(rest) {
-            Further::GoesOn => {
+        match CodeOrHtml::Indented.continuation(rest) {
+            Continuation::GoesOn => {
                 self.add_to_indented(waits, end, rest)?;
                 Ok(())
             }
-            Further::Waits => {
+            Continuation::Waits => {
                 self.keep_blank_line(rest)?;
                 Ok(())
             }
-            Further::Closes | Further::Stops => {
+            Continuation::Closes | Continuation::Stops => {
                 self.begin_anew(rest)?;
                 Ok(())
             }

@@ -6,7 +6,7 @@ ghost use Rattle.cmark_items.specs.ItemNodes.{list_number};
 ghost use Rattle.cmark_text.specs.Shown.{shown_block_quote_kind, shown_options};
 ghost use Rattle.cmark_lines.specs.Starts.{Shows, inside_of, Enters, HasMarker};
 ghost use Rattle.cmark_blocks.specs.Shown.{shown_siblings, ShowsContainer};
-ghost use Rattle.cmark_block_model.specs.BlockPass.{inside_of as stepped_inside, quote_begun, item_begun_in, definition_begun_in, behind_container};
+ghost use Rattle.cmark_block_model.specs.BlockPass.{inside_of as stepped_inside, block_quote_begun, item_begun_in, definition_begun_in, behind_container};
 ghost use Rattle.cmark_block_model.specs.OpenBlocks as model;
 ghost use Rattle.cmark_lines.specs.Rests.{IsIn, row_of};
 ghost use Rattle.cmark_blocks.specs.Entered.{HasNumber, BeginsContainer, DefinesAs};
@@ -65,9 +65,9 @@ impl<'a, E: EntityLookup> Pass<'a, E> {
         ensures bare { self.new.bare ≡ self.old.bare }
     {
         match start {
-            ContainerStart::Quote(inside) => {
+            ContainerStart::BlockQuote(inside) => {
                 let alert = inside.alert_kind(reads_alerts(self.options));
-                self.begin_quote(alert, rest.words_begin())?;
+                self.begin_block_quote(alert, rest.words_begin())?;
                 if alert.is_some() {
                     self.leaf = OpenLeaf::BehindTag;
                     return Ok(None);
@@ -145,30 +145,30 @@ impl<'a, E: EntityLookup> Pass<'a, E> {
     }
 
     /// A block quote begins at this byte offset; where it is an alert, one of this kind.
-    pub(crate) fn begin_quote(
+    pub(crate) fn begin_block_quote(
         &mut self,
         alert: Option<BlockQuoteKind>,
         start: usize,
     ) -> Result<(), AllocError>
         requires { IsGood self.old }
         ensures good { IsGood self.new }
-        ensures runs { OnOk result (Steps E.replacement self.old self.new (quote_begun (option_map shown_block_quote_kind alert) start)) }
+        ensures runs { OnOk result (Steps E.replacement self.old self.new (block_quote_begun (option_map shown_block_quote_kind alert) start)) }
         ensures text { self.new.text ≡ self.old.text }
         ensures leaf { self.new.leaf ≡ self.old.leaf }
         ensures bare { self.new.bare ≡ self.old.bare }
     {
         self.begin_block();
         self.builder.open(start, ItemBody::BlockQuote(alert))?;
-        self.enter(Container::Quote)?;
+        self.enter(Container::BlockQuote)?;
         Ok(())
     }
 
     /// An item begins at this byte offset. Whether a task marker stands behind its marker is not seen here.
     pub(crate) fn begin_item(&mut self, item: ItemStart, start: usize) -> Result<(), AllocError>
         requires good { IsGood self.old }
-        requires number { list_number item.mark (unwrap_or item.number 0) ≡ item.number }
+        requires number { list_number item.delimiter (unwrap_or item.number 0) ≡ item.number }
         ensures good { IsGood self.new }
-        ensures runs { OnOk result ((task : Option Bool) → Steps E.replacement self.old self.new (item_begun_in item.mark item.number item.width task start)) }
+        ensures runs { OnOk result ((task : Option Bool) → Steps E.replacement self.old self.new (item_begun_in item.delimiter item.number item.width task start)) }
         ensures text { self.new.text ≡ self.old.text }
         ensures leaf { self.new.leaf ≡ self.old.leaf }
         ensures bare { self.new.bare ≡ self.old.bare }
@@ -240,8 +240,8 @@ impl<'a, E: EntityLookup> Pass<'a, E> {
     {
         self.close_list();
         if let Some(open) = self.outer.pop() {
-            self.builder.close(self.past);
-            self.inner = open.siblings_behind(self.inner, self.past);
+            self.builder.close(self.line_end);
+            self.inner = open.siblings_behind(self.inner, self.line_end);
         }
     }
 
@@ -266,7 +266,7 @@ impl OpenContainer {
         ensures { (m : model.OpenContainer) → ShowsContainer self m → shown_siblings result ≡ behind_container m.container end (shown_siblings inside) m.around }
     {
         match self.container {
-            Container::Quote => self.around,
+            Container::BlockQuote => self.around,
             Container::Footnote { .. } => Siblings {
                 blank: inside.blank,
                 ..self.around

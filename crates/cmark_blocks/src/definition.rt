@@ -66,7 +66,7 @@ impl<'a, E: EntityLookup> Pass<'a, E> {
     ghost use Rattle.cmark_blocks.specs.LinkDefinitions.{definition_kept, definition_begun, StopsAt};
 
     /// Where the line ends that stands so many lines behind this one, in the paragraph that this one may begin.
-    fn stop_behind(&self, rest: LineRest<'a>, more: usize) -> usize
+    fn content_end_behind(&self, rest: LineRest<'a>, more: usize) -> usize
         requires bare { self.now.bare ≡ false }
         requires within { IsIn self.now.text.now rest }
         ensures { StopsAt E.replacement self.now rest.entry more result }
@@ -75,12 +75,12 @@ impl<'a, E: EntityLookup> Pass<'a, E> {
         let mut left = more;
         while left > 0 {
             let Some(next) = self.text_ahead(last) else {
-                return last.stop();
+                return last.content_end();
             };
             last = next;
             left -= 1;
         }
-        last.stop()
+        last.content_end()
     }
 
     /// Keeps a definition with these bytes of the text, unless there is one of its label: then its parts are not read.
@@ -147,7 +147,7 @@ impl<'a, E: EntityLookup> Pass<'a, E> {
         };
         let behind = line_ends_behind(paragraph, definition.end);
         let more = gathered.lines.saturating_sub(behind);
-        let end = self.stop_behind(rest, more);
+        let end = self.content_end_behind(rest, more);
         self.begin_definition(&definition, rest.words_begin()..end, more)?;
         Ok(())
     }

@@ -76,8 +76,8 @@ impl<'a, E: EntityLookup> Pass<'a, E> {
             OpenLeaf::Definition(left) => self.feed_definition(left, rest),
             OpenLeaf::Table(left) => self.feed_table(left, rest),
             OpenLeaf::Indented(waits, end) => self.feed_indented(waits, end, rest),
-            OpenLeaf::Fenced(mark, size, indent, waits) => {
-                self.feed_fenced(mark, size, indent, waits, rest)
+            OpenLeaf::Fenced(delimiter, run_length, indent, waits) => {
+                self.feed_fenced(delimiter, run_length, indent, waits, rest)
             }
             OpenLeaf::Html(kind) => self.feed_html(kind, rest),
             OpenLeaf::Metadata(kind, waits) => self.feed_metadata(kind, waits, rest),
@@ -151,12 +151,12 @@ impl<'a, E: EntityLookup> Pass<'a, E> {
         ensures good { IsGood self.new }
         ensures runs { OnOk result (Feeds E.replacement line.entry self.old self.new) }
         ensures text { self.new.text ≡ self.old.text }
-        ensures past { OnOk result (self.new.past ≡ (row_of line.entry).past) }
+        ensures line_end { OnOk result (self.new.line_end ≡ (row_of line.entry).line_end) }
     {
         if self.outer.is_empty() {
             self.bare = false;
             self.feed_leaf(line)?;
-            self.past = line.past();
+            self.line_end = line.line_end();
             return Ok(());
         }
         self.feed_inside(line)?;
@@ -171,12 +171,12 @@ impl<'a, E: EntityLookup> Pass<'a, E> {
         ensures good { IsGood self.new }
         ensures runs { OnOk result (Feeds E.replacement line.entry self.old self.new) }
         ensures text { self.new.text ≡ self.old.text }
-        ensures past { OnOk result (self.new.past ≡ (row_of line.entry).past) }
+        ensures line_end { OnOk result (self.new.line_end ≡ (row_of line.entry).line_end) }
     {
         let (kept, rest) = self.kept_by(line);
         self.bare = false;
         self.feed_rest(kept, rest)?;
-        self.past = line.past();
+        self.line_end = line.line_end();
         Ok(())
     }
 }

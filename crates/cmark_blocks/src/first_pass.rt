@@ -31,8 +31,8 @@ impl<'a, E: EntityLookup> Pass<'a, E> {
         ensures runs { OnOk result (FeedsAll E.replacement self.old self.new) }
         ensures text { self.new.text ≡ self.old.text }
     {
-        while self.past < self.text.len() {
-            let line = LineRest::new(self.text.as_bytes(), self.past);
+        while self.line_end < self.text.len() {
+            let line = LineRest::new(self.text.as_bytes(), self.line_end);
             self.feed(line)?;
         }
         Ok(())

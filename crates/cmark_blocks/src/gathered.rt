@@ -29,7 +29,7 @@ pub(crate) fn words_in<'a>(text: &'a str, rest: LineRest<'a>) -> &'a str
     requires { IsRead text.now rest }
     ensures { result.now ≡ words_of (row_of rest.entry) }
 {
-    &text[rest.words_begin()..rest.stop()]
+    &text[rest.words_begin()..rest.content_end()]
 }
 
 /// The bytes of a line of this text, up to its ending.
@@ -37,14 +37,14 @@ fn bytes_in<'a>(text: &'a str, rest: LineRest<'a>) -> &'a str
     requires { IsRead text.now rest }
     ensures { result.now ≡ bytes_of (row_of rest.entry).columns }
 {
-    &text[rest.begin()..rest.stop()]
+    &text[rest.begin()..rest.content_end()]
 }
 
 /// The line end between this line and the next: CR LF if it has two bytes, or else LF.
 fn line_end_of(rest: LineRest<'_>) -> &'static str
     ensures { result.now ≡ line_end_of (row_of rest.entry) }
 {
-    if rest.past() - rest.stop() >= 2 {
+    if rest.line_end() - rest.content_end() >= 2 {
         "\r\n"
     } else {
         "\n"

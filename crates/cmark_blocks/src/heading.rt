@@ -136,7 +136,7 @@ impl<'a, E: EntityLookup> Pass<'a, E> {
         let body = heading_body(&mut self.builder, level, CowStr::Borrowed(words))?;
         self.builder.open(rest.words_begin(), body)?;
         draw_heading(&mut self.builder, rest, attributes)?;
-        self.builder.close(rest.past());
+        self.builder.close(rest.line_end());
         Ok(())
     }
 
@@ -164,7 +164,7 @@ impl<'a, E: EntityLookup> Pass<'a, E> {
         )?;
         draw_last_lines(&mut self.builder, from, last)?;
         let body = setext_body(&mut self.builder, level, found)?;
-        self.builder.close_as(rest.past(), body);
+        self.builder.close_as(rest.line_end(), body);
         self.release_title();
         self.inner.title = None;
         self.blank_lines.clear();

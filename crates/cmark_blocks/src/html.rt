@@ -7,7 +7,7 @@ ghost use Rattle.cmark_scan.specs.HtmlLines.{kind_number};
 use crate::state::{OpenLeaf, Pass};
 use cmark_items::ItemBody;
 use cmark_leaves::draw_html_line;
-use cmark_lines::{Further, HtmlKind, LineRest, Verbatim, ends_at_once};
+use cmark_lines::{CodeOrHtml, Continuation, HtmlKind, LineRest, ends_at_once};
 use cmark_text::EntityLookup;
 use std::alloc::AllocError;
 
@@ -33,7 +33,7 @@ impl<'a, E: EntityLookup> Pass<'a, E> {
         self.builder.open(rest.begin(), ItemBody::HtmlBlock)?;
         draw_html_line(&mut self.builder, rest)?;
         if ends_at_once(kind, rest) {
-            self.builder.close(rest.past());
+            self.builder.close(rest.line_end());
             self.leaf = OpenLeaf::Closed;
         } else {
             self.leaf = OpenLeaf::Html(kind);
@@ -51,14 +51,14 @@ impl<'a, E: EntityLookup> Pass<'a, E> {
         ensures runs { OnOk result (FeedsLeaf E.replacement rest.entry self.old self.new) }
         ensures text { self.new.text ≡ self.old.text }
     {
-        let further = Verbatim::Html(kind).further(rest);
-        if let Further::Stops = further {
+        let continuation = CodeOrHtml::Html(kind).continuation(rest);
+        if let Continuation::Stops = continuation {
             self.begin_anew(rest)?;
             return Ok(());
         }
         draw_html_line(&mut self.builder, rest)?;
-        if let Further::Closes = further {
-            self.builder.close(rest.past());
+        if let Continuation::Closes = continuation {
+            self.builder.close(rest.line_end());
             self.leaf = OpenLeaf::Closed;
         }
         Ok(())

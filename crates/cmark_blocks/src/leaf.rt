@@ -23,7 +23,7 @@ impl<'a, E: EntityLookup> Pass<'a, E> {
         ensures bare { self.new.bare ≡ self.old.bare }
     {
         draw_stretch(&mut self.builder, waits)?;
-        self.builder.close(self.past);
+        self.builder.close(self.line_end);
         self.leaf = OpenLeaf::Closed;
         Ok(())
     }

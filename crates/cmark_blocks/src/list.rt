@@ -7,7 +7,7 @@ ghost use Rattle.cmark_block_model.specs.BlockPass.{title_released, ended, block
 ghost use Rattle.cmark_blocks.specs.Titles.{text_block_begun};
 ghost use Rattle.cmark_blocks.specs.Shown.{shown_list};
 
-use crate::siblings::{DEFINITION_MARK, OpenList, Title};
+use crate::siblings::{DEFINITION_DELIMITER, OpenList, Title};
 use crate::state::Pass;
 use bitflags::Flags;
 use cmark_items::{ItemBody, ListFlags};
@@ -29,13 +29,13 @@ fn list_flags(loose: bool) -> ListFlags
 impl OpenList {
     /// The list as an item of the tree.
     fn body(self) -> ItemBody
-        ensures { shape result ≡ Element (list_kind self.mark (list_number self.mark self.number) (not self.loose)) }
+        ensures { shape result ≡ Element (list_kind self.delimiter (list_number self.delimiter self.number) (not self.loose)) }
     {
         let flags = list_flags(self.loose);
-        if self.mark == DEFINITION_MARK {
+        if self.delimiter == DEFINITION_DELIMITER {
             ItemBody::DefinitionList(flags)
         } else {
-            ItemBody::List(flags, self.mark, self.number)
+            ItemBody::List(flags, self.delimiter, self.number)
         }
     }
 }
@@ -133,9 +133,9 @@ impl<'a, E: EntityLookup> Pass<'a, E> {
     /// A list begins at this byte offset with this item.
     fn begin_list(&mut self, item: ItemStart, start: usize) -> Result<(), AllocError>
         requires good { IsGood self.old }
-        requires number { list_number item.mark (unwrap_or item.number 0) ≡ item.number }
+        requires number { list_number item.delimiter (unwrap_or item.number 0) ≡ item.number }
         ensures good { IsGood self.new }
-        ensures runs { OnOk result (Steps E.replacement self.old self.new (list_begun item.mark item.number start)) }
+        ensures runs { OnOk result (Steps E.replacement self.old self.new (list_begun item.delimiter item.number start)) }
         ensures text { self.new.text ≡ self.old.text }
         ensures leaf { self.new.leaf ≡ self.old.leaf }
         ensures bare { self.new.bare ≡ self.old.bare }
@@ -143,7 +143,7 @@ impl<'a, E: EntityLookup> Pass<'a, E> {
         self.begin_block();
         let number = item.number.unwrap_or(0);
         let list = OpenList {
-            mark: item.mark,
+            delimiter: item.delimiter,
             number,
             loose: false,
             end: start,
@@ -163,14 +163,14 @@ impl<'a, E: EntityLookup> Pass<'a, E> {
     /// The list that is open goes on with this item, if it is of the same kind; else one begins at this byte offset.
     pub(crate) fn join_list(&mut self, item: ItemStart, start: usize) -> Result<(), AllocError>
         requires good { IsGood self.old }
-        requires number { list_number item.mark (unwrap_or item.number 0) ≡ item.number }
+        requires number { list_number item.delimiter (unwrap_or item.number 0) ≡ item.number }
         ensures good { IsGood self.new }
-        ensures runs { OnOk result (Steps E.replacement self.old self.new (λ p. item_begun item.mark item.number start p p.inner.list)) }
+        ensures runs { OnOk result (Steps E.replacement self.old self.new (λ p. item_begun item.delimiter item.number start p p.inner.list)) }
         ensures text { self.new.text ≡ self.old.text }
         ensures leaf { self.new.leaf ≡ self.old.leaf }
         ensures bare { self.new.bare ≡ self.old.bare }
     {
-        match self.inner.list_of(item.mark) {
+        match self.inner.list_of(item.delimiter) {
             Some(list) => {
                 self.inner = self.inner.with_item_of(list);
                 Ok(())
@@ -220,7 +220,7 @@ impl<'a, E: EntityLookup> Pass<'a, E> {
             }
             None => {
                 let item = ItemStart {
-                    mark: DEFINITION_MARK,
+                    delimiter: DEFINITION_DELIMITER,
                     number: None,
                     width,
                 };

@@ -91,7 +91,7 @@ impl<'a, E: EntityLookup> Pass<'a, E> {
     {
         if ends_metadata(rest, kind) {
             draw_stretch(&mut self.builder, waits)?;
-            self.builder.close(rest.past());
+            self.builder.close(rest.line_end());
             self.leaf = OpenLeaf::Closed;
             return Ok(());
         }

@@ -70,7 +70,7 @@ impl<'a, E: EntityLookup> Pass<'a, E> {
         let attributes = reads_attributes(self.options);
         keep_line(&mut self.blank_lines, attributes, last)?;
         let begin = rest.begin();
-        if begin == last.past() {
+        if begin == last.line_end() {
             self.leaf = OpenLeaf::Paragraph(from, rest);
             return Ok(());
         }
@@ -152,7 +152,7 @@ impl<'a, E: EntityLookup> Pass<'a, E> {
         ensures bare { self.new.bare ≡ self.old.bare }
     {
         draw_last_lines(&mut self.builder, from, last)?;
-        self.builder.close(self.past);
+        self.builder.close(self.line_end);
         self.blank_lines.clear();
         self.leaf = OpenLeaf::Closed;
         Ok(())

@@ -1,7 +1,7 @@
 //! The prefixes of the open containers in front of a line (CommonMark 5).
 
 ghost use Rattle.std.specs.Prelude.{◌≡◌, ◌+◌, ℕ, [], Bool, Option, None, false, option_map};
-ghost use Rattle.cmark_grammar.specs.Containers.{Quote, Item as ListItem, Footnote, keeps};
+ghost use Rattle.cmark_grammar.specs.Containers.{BlockQuote, Item as ListItem, Footnote, keeps};
 ghost use Rattle.cmark_grammar.specs.Rows.{begin_of};
 ghost use Rattle.cmark_text.specs.Shown.{shown_options};
 ghost use Rattle.cmark_tree.specs.Zip.{Zip};
@@ -28,7 +28,7 @@ fn container_of(body: ItemBody, options: Options) -> Option<Container>
     ensures { option_map shown_container result ≡ container_in (shown_options options) body }
 {
     match body {
-        ItemBody::BlockQuote(_) => Some(Container::Quote),
+        ItemBody::BlockQuote(_) => Some(Container::BlockQuote),
         ItemBody::ListItem(width) => Some(Container::Item { width }),
         ItemBody::DefinitionListDefinition(width) => Some(Container::Definition { width }),
         ItemBody::FootnoteDefinition(_) => Some(Container::Footnote {
@@ -39,8 +39,8 @@ fn container_of(body: ItemBody, options: Options) -> Option<Container>
 }
 
 /// The line behind a block quote's prefix, if it has one (CommonMark 5.1).
-fn behind_quote<'a>(line: LineStart<'a>) -> Option<LineStart<'a>>
-    ensures { (at past : ℕ) → option_map (row_from at past) result ≡ keeps (Quote None) false (row_from at past line.entry) }
+fn behind_block_quote<'a>(line: LineStart<'a>) -> Option<LineStart<'a>>
+    ensures { (at line_end : ℕ) → option_map (row_from at line_end) result ≡ keeps (BlockQuote None) false (row_from at line_end line.entry) }
 {
     let mut behind = line;
     behind.scan_space_upto(3);
@@ -53,7 +53,7 @@ fn behind_quote<'a>(line: LineStart<'a>) -> Option<LineStart<'a>>
 
 /// The line behind so many columns of spaces and tabs, or behind fewer if nothing follows them (CommonMark 5.2).
 fn behind_width<'a>(line: LineStart<'a>, width: usize) -> Option<LineStart<'a>>
-    ensures { (at past mark : ℕ) (number : Option ℕ) (task : Option Bool) → option_map (row_from at past) result ≡ keeps (ListItem mark number width task) false (row_from at past line.entry) }
+    ensures { (at line_end delimiter : ℕ) (number : Option ℕ) (task : Option Bool) → option_map (row_from at line_end) result ≡ keeps (ListItem delimiter number width task) false (row_from at line_end line.entry) }
 {
     let mut behind = line;
     if !behind.scan_space(width) && !behind.is_at_eol() {
@@ -65,7 +65,7 @@ fn behind_width<'a>(line: LineStart<'a>, width: usize) -> Option<LineStart<'a>>
 /// The line behind a footnote definition's prefix, if it keeps the line; as such definitions were read before, the line as it is, which they hold
 /// (this profile's own).
 fn behind_footnote<'a>(line: LineStart<'a>, old: bool) -> Option<LineStart<'a>>
-    ensures { (at past : ℕ) → option_map (row_from at past) result ≡ keeps (Footnote [] old 0) false (row_from at past line.entry) }
+    ensures { (at line_end : ℕ) → option_map (row_from at line_end) result ≡ keeps (Footnote [] old 0) false (row_from at line_end line.entry) }
 {
     if !old {
         return behind_width(line, 4);
@@ -82,10 +82,10 @@ fn behind_footnote<'a>(line: LineStart<'a>, old: bool) -> Option<LineStart<'a>>
 
 /// The line behind this container's prefix, if the container keeps the line.
 fn behind_prefix<'a>(container: Container, line: LineStart<'a>) -> Option<LineStart<'a>>
-    ensures { (at past : ℕ) → option_map (row_from at past) result ≡ keeps (shown_container container) false (row_from at past line.entry) }
+    ensures { (at line_end : ℕ) → option_map (row_from at line_end) result ≡ keeps (shown_container container) false (row_from at line_end line.entry) }
 {
     match container {
-        Container::Quote => behind_quote(line),
+        Container::BlockQuote => behind_block_quote(line),
         Container::Item { width } => behind_width(line, width),
         Container::Definition { width } => behind_width(line, width),
         Container::Footnote { old } => behind_footnote(line, old),
@@ -100,8 +100,8 @@ fn behind_prefix<'a>(container: Container, line: LineStart<'a>) -> Option<LineSt
 /// tell what lines an item has. The options say how footnote definitions are read.
 pub fn scan_containers(tree: &Tree<Item>, line: &mut LineStart<'_>, options: Options) -> usize
     requires { IsTree tree.now }
-    ensures count { (z : Zip Item) → Holds tree.now z → (at past : ℕ) → result ≡ (kept (containers_of (shown_options options) z.up) (row_from at past line.old)).count }
-    ensures rest { (z : Zip Item) → Holds tree.now z → (at past : ℕ) → row_from at past line.new ≡ (kept (containers_of (shown_options options) z.up) (row_from at past line.old)).rest }
+    ensures count { (z : Zip Item) → Holds tree.now z → (at line_end : ℕ) → result ≡ (kept (containers_of (shown_options options) z.up) (row_from at line_end line.old)).count }
+    ensures rest { (z : Zip Item) → Holds tree.now z → (at line_end : ℕ) → row_from at line_end line.new ≡ (kept (containers_of (shown_options options) z.up) (row_from at line_end line.old)).rest }
 {
     let mut count = 0;
     for ix in tree.walk_spine() {
@@ -122,7 +122,7 @@ pub fn scan_containers(tree: &Tree<Item>, line: &mut LineStart<'_>, options: Opt
 /// counted.
 pub fn skip_container_prefixes(tree: &Tree<Item>, bytes: &[u8], options: Options) -> usize
     requires { IsTree tree.now }
-    ensures { (z : Zip Item) → Holds tree.now z → (at past : ℕ) → begin_of (kept (containers_of (shown_options options) z.up) (line_of at past bytes.now)).rest ≡ at + result }
+    ensures { (z : Zip Item) → Holds tree.now z → (at line_end : ℕ) → begin_of (kept (containers_of (shown_options options) z.up) (line_of at line_end bytes.now)).rest ≡ at + result }
 {
     let mut line = LineStart::new(bytes);
     scan_containers(tree, &mut line, options);

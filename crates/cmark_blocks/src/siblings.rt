@@ -15,7 +15,7 @@ pub(crate) struct OpenList {
     /// Where its last item ends: a byte offset of the text.
     pub end: usize,
     /// The bullet, or what stands behind the number; the marker of definitions, `:`, where they stand in it.
-    pub mark: u8,
+    pub delimiter: u8,
     /// It is known to be loose.
     pub loose: bool,
 }
@@ -45,7 +45,7 @@ pub(crate) struct Siblings {
 }
 
 /// The marker of definitions, as the character of their list.
-pub(crate) const DEFINITION_MARK: u8 = b':';
+pub(crate) const DEFINITION_DELIMITER: u8 = b':';
 
 impl Siblings {
     /// None yet.
@@ -124,7 +124,7 @@ impl Siblings {
     pub(crate) fn definitions(self) -> Option<OpenList>
         ensures { option_map shown_list result ≡ definitions_in (shown_siblings self).list }
     {
-        self.list_of(DEFINITION_MARK)
+        self.list_of(DEFINITION_DELIMITER)
     }
 
     /// The definition list in which the last one is drawn, where it is a paragraph, and such a list was open before it.
@@ -145,11 +145,11 @@ impl Siblings {
     }
 
     /// The list that is open, if it has this character.
-    pub(crate) fn list_of(self, mark: u8) -> Option<OpenList>
-        ensures { option_map shown_list result ≡ list_of mark (shown_siblings self).list }
+    pub(crate) fn list_of(self, delimiter: u8) -> Option<OpenList>
+        ensures { option_map shown_list result ≡ list_of delimiter (shown_siblings self).list }
     {
         match self.list {
-            Some(list) if list.mark == mark => Some(list),
+            Some(list) if list.delimiter == delimiter => Some(list),
             _ => None,
         }
     }
@@ -163,7 +163,7 @@ impl Siblings {
             Some(list) => (list, title.parted),
             None => {
                 let list = OpenList {
-                    mark: DEFINITION_MARK,
+                    delimiter: DEFINITION_DELIMITER,
                     number: 0,
                     loose: false,
                     end: start,

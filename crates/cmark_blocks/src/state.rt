@@ -60,7 +60,7 @@ pub(crate) struct Pass<'a, E> {
     /// The blank lines behind indented code; where attributes of headings are read, the lines of a paragraph before its last one.
     pub blank_lines: Vec<LineRest<'a>>,
     /// Where the next line begins.
-    pub past: usize,
+    pub line_end: usize,
     /// Memory for the text of a paragraph: what stands in it means nothing.
     pub room: String,
 }
@@ -91,7 +91,7 @@ impl<'a, E: EntityLookup> Pass<'a, E> {
             bare: false,
             leaf: OpenLeaf::Closed,
             blank_lines: Vec::new(alloc),
-            past: 0,
+            line_end: 0,
             room: String::new(alloc),
         })
     }

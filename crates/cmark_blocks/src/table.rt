@@ -121,7 +121,7 @@ impl<'a, E: EntityLookup> Pass<'a, E> {
         ensures next { GoesOnWithRow E.replacement self.now columns left last.entry result }
         ensures placed { IfSome result (IsIn self.now.text.now) }
         ensures fits { IfSome result (λ row. count_missing columns (row_of row) ≤ left) }
-        ensures further { IfSome result (λ row. (row_of last.entry).past < (row_of row).past) }
+        ensures further { IfSome result (λ row. (row_of last.entry).line_end < (row_of row).line_end) }
     {
         let row = self.line_ahead(last)?;
         if interrupts(row, false, self.options) || misses_too_many(row, columns, left) {
@@ -156,7 +156,7 @@ impl<'a, E: EntityLookup> Pass<'a, E> {
             count += 1;
             last = row;
         }
-        Ok((count, last.past()))
+        Ok((count, last.line_end()))
     }
 
     /// A table with so many columns and this delimiter row begins on a line, with no leaf open.
@@ -179,8 +179,8 @@ impl<'a, E: EntityLookup> Pass<'a, E> {
         let body = table_body(&mut self.builder, row)?;
         self.builder.open(rest.words_begin(), body)?;
         draw_head(&mut self.builder, rest, columns)?;
-        let (count, past) = self.draw_rows(columns, delimiter)?;
-        self.builder.close(past);
+        let (count, line_end) = self.draw_rows(columns, delimiter)?;
+        self.builder.close(line_end);
         self.leaf = OpenLeaf::Table(count + 1);
         Ok(())
     }

@@ -8,38 +8,38 @@ use Rattle.std.proofs.lemmas.Str.{IsCharBoundary-end, IsCharBoundary-before_asci
 use Rattle.cmark_grammar.specs.Destinations.{link_destination_in}
 use Rattle.cmark_grammar.specs.Leaves.{is_empty}
 use Rattle.cmark_grammar.specs.Letters.{first_is}
-use Rattle.cmark_grammar.specs.LinkDefinitions.{Found, put, escapes_next, up_to, ends_bare, depth_after, bare_in, nonempty, destination_in}
+use Rattle.cmark_grammar.specs.LinkDefinitions.{Parsed, put, escapes_next, up_to, ends_bare, depth_after, bare_in, nonempty, destination_in}
 use Rattle.cmark_scan_parts.specs.Shown.{Part, cut_behind}
 
-abbrev pub found_at : List ℕ → List ℕ → Found
+abbrev pub found_at : List ℕ → List ℕ → Parsed
 found_at bytes behind = record { bytes = bytes; behind = behind }
 
-put_is : (b : ℕ) (o : Option Found) (found : Found) → put b o ≡ Some found → (inner : Found) × (o ≡ Some inner) × (found ≡ found_at (b ∷ inner.bytes) inner.behind)
+put_is : (b : ℕ) (o : Option Parsed) (found : Parsed) → put b o ≡ Some found → (inner : Parsed) × (o ≡ Some inner) × (found ≡ found_at (b ∷ inner.bytes) inner.behind)
 put_is b None found e = cc
 put_is b (Some inner) found e = (inner, refl, let same : found ≡ found_at (b ∷ inner.bytes) inner.behind = cc in same)
 
 -- a closed part, its closer and what stands behind it are the bytes
-up_to-cut : (escaped : Bool) (closer refused : ℕ) (over : Bool) (bs : List ℕ) (found : Found) → up_to escaped closer refused over bs ≡ Some found → bs ≡ found.bytes ++ closer ∷ found.behind
+up_to-cut : (escaped : Bool) (closer refused : ℕ) (over : Bool) (bs : List ℕ) (found : Parsed) → up_to escaped closer refused over bs ≡ Some found → bs ≡ found.bytes ++ closer ∷ found.behind
 up_to-cut escaped closer refused over [] found e = cc
 up_to-cut escaped closer refused over (b ∷ bs) found e = first (not escaped && (b == closer)) refl e (λ f. up_to-cut (escapes_next escaped b) closer refused over bs f)
   where
-    go_on : put b (up_to (escapes_next escaped b) closer refused over bs) ≡ Some found → ((f : Found) → up_to (escapes_next escaped b) closer refused over bs ≡ Some f → bs ≡ f.bytes ++ closer ∷ f.behind) → b ∷ bs ≡ found.bytes ++ closer ∷ found.behind
+    go_on : put b (up_to (escapes_next escaped b) closer refused over bs) ≡ Some found → ((f : Parsed) → up_to (escapes_next escaped b) closer refused over bs ≡ Some f → bs ≡ f.bytes ++ closer ∷ f.behind) → b ∷ bs ≡ found.bytes ++ closer ∷ found.behind
     go_on q ih =
         let p = put_is b (up_to (escapes_next escaped b) closer refused over bs) found q in
-        ap (λ l. b ∷ l) (ih p.0 p.1) ∙ ap (λ (f : Found). f.bytes ++ closer ∷ f.behind) (sym p.2)
+        ap (λ l. b ∷ l) (ih p.0 p.1) ∙ ap (λ (f : Parsed). f.bytes ++ closer ∷ f.behind) (sym p.2)
 
     second : (t : Bool) → (if t then None else put b (up_to (escapes_next escaped b) closer refused over bs)) ≡ Some found
-        → ((f : Found) → up_to (escapes_next escaped b) closer refused over bs ≡ Some f → bs ≡ f.bytes ++ closer ∷ f.behind) → b ∷ bs ≡ found.bytes ++ closer ∷ found.behind
+        → ((f : Parsed) → up_to (escapes_next escaped b) closer refused over bs ≡ Some f → bs ≡ f.bytes ++ closer ∷ f.behind) → b ∷ bs ≡ found.bytes ++ closer ∷ found.behind
     second true q ih = cc
     second false q ih = go_on q ih
 
     first : (t : Bool) → (not escaped && (b == closer)) ≡ t
         → (if t then Some (found_at [] bs) else if (not escaped && (b == refused)) || (not over && ((b == 10) || (b == 13))) then None else put b (up_to (escapes_next escaped b) closer refused over bs)) ≡ Some found
-        → ((f : Found) → up_to (escapes_next escaped b) closer refused over bs ≡ Some f → bs ≡ f.bytes ++ closer ∷ f.behind)
+        → ((f : Parsed) → up_to (escapes_next escaped b) closer refused over bs ≡ Some f → bs ≡ f.bytes ++ closer ∷ f.behind)
         → b ∷ bs ≡ found.bytes ++ closer ∷ found.behind
     first true t q ih =
         let same : found_at [] bs ≡ found = cc in
-        ap (λ c. c ∷ bs) (eqb-true b closer (and_parts (not escaped) (b == closer) t).1) ∙ ap (λ (f : Found). f.bytes ++ closer ∷ f.behind) same
+        ap (λ c. c ∷ bs) (eqb-true b closer (and_parts (not escaped) (b == closer) t).1) ∙ ap (λ (f : Parsed). f.bytes ++ closer ∷ f.behind) same
     first false t q ih = second ((not escaped && (b == refused)) || (not over && ((b == 10) || (b == 13)))) q ih
 
 -- a bare part and what stands behind it are the bytes; an ASCII byte ends it, or the end
@@ -47,7 +47,7 @@ abbrev pub IsEnd : List ℕ → Type 0
 IsEnd [] = Unit {0}
 IsEnd (b ∷ bs) = b < 128
 
-pub record Cuts (bs : List ℕ) (found : Found) : Type 0 where
+pub record Cuts (bs : List ℕ) (found : Parsed) : Type 0 where
   pub is : bs ≡ found.bytes ++ found.behind
   pub ends : IsEnd found.behind
 
@@ -57,34 +57,34 @@ ends_ascii escaped depth b e =
     (λ x. let h = eqb-true b 41 (and_parts (b == 41) (depth == 0) (and_parts (not escaped) ((b == 41) && (depth == 0)) x).1).0 in omega arith)
     (or_cases (ends_bare b) (not escaped && ((b == 41) && (depth == 0))) e)
 
-at_once : (t : Bool) (found : Found) (behind : List ℕ) → (if t then Some (found_at [] behind) else None) ≡ Some found → found_at [] behind ≡ found
+at_once : (t : Bool) (found : Parsed) (behind : List ℕ) → (if t then Some (found_at [] behind) else None) ≡ Some found → found_at [] behind ≡ found
 at_once true found behind e = cc
 at_once false found behind e = cc
 
-bare_in-cut : (escaped : Bool) (depth : ℕ) (bs : List ℕ) (found : Found) → bare_in escaped depth bs ≡ Some found → Cuts bs found
+bare_in-cut : (escaped : Bool) (depth : ℕ) (bs : List ℕ) (found : Parsed) → bare_in escaped depth bs ≡ Some found → Cuts bs found
 bare_in-cut escaped depth [] found e = subst (Cuts []) (at_once (depth == 0) found [] e) (record { is = refl; ends = tt })
 bare_in-cut escaped depth (b ∷ bs) found e =
     first (ends_bare b || (not escaped && ((b == 41) && (depth == 0)))) refl e (λ f. bare_in-cut (escapes_next escaped b) (depth_after escaped depth b) bs f)
   where
-    go_on : put b (bare_in (escapes_next escaped b) (depth_after escaped depth b) bs) ≡ Some found → ((f : Found) → bare_in (escapes_next escaped b) (depth_after escaped depth b) bs ≡ Some f → Cuts bs f) → Cuts (b ∷ bs) found
+    go_on : put b (bare_in (escapes_next escaped b) (depth_after escaped depth b) bs) ≡ Some found → ((f : Parsed) → bare_in (escapes_next escaped b) (depth_after escaped depth b) bs ≡ Some f → Cuts bs f) → Cuts (b ∷ bs) found
     go_on q ih =
         let p = put_is b (bare_in (escapes_next escaped b) (depth_after escaped depth b) bs) found q in
         let c = ih p.0 p.1 in
         subst (Cuts (b ∷ bs)) (sym p.2) (record { is = ap (λ l. b ∷ l) c.is; ends = c.ends })
 
     second : (t : Bool) → (if t then None else put b (bare_in (escapes_next escaped b) (depth_after escaped depth b) bs)) ≡ Some found
-        → ((f : Found) → bare_in (escapes_next escaped b) (depth_after escaped depth b) bs ≡ Some f → Cuts bs f) → Cuts (b ∷ bs) found
+        → ((f : Parsed) → bare_in (escapes_next escaped b) (depth_after escaped depth b) bs ≡ Some f → Cuts bs f) → Cuts (b ∷ bs) found
     second true q ih = cc
     second false q ih = go_on q ih
 
     first : (t : Bool) → (ends_bare b || (not escaped && ((b == 41) && (depth == 0)))) ≡ t
         → (if t then (if depth == 0 then Some (found_at [] (b ∷ bs)) else None) else if not escaped && ((b == 40) && nat_le 32 depth) then None else put b (bare_in (escapes_next escaped b) (depth_after escaped depth b) bs)) ≡ Some found
-        → ((f : Found) → bare_in (escapes_next escaped b) (depth_after escaped depth b) bs ≡ Some f → Cuts bs f) → Cuts (b ∷ bs) found
+        → ((f : Parsed) → bare_in (escapes_next escaped b) (depth_after escaped depth b) bs ≡ Some f → Cuts bs f) → Cuts (b ∷ bs) found
     first true t q ih = subst (Cuts (b ∷ bs)) (at_once (depth == 0) found (b ∷ bs) q) (record { is = refl; ends = ends_ascii escaped depth b t })
     first false t q ih = second (not escaped && ((b == 40) && nat_le 32 depth)) q ih
 
 -- the place behind a destination
-pub record Ends (text : List ℕ) (found : Found) : Type 0 where
+pub record Ends (text : List ℕ) (found : Parsed) : Type 0 where
   pub rest : drop (length text - length found.behind) text ≡ found.behind
   pub place : IsCharBoundary text (length text - length found.behind)
 
@@ -92,7 +92,7 @@ get_front : (front others : List ℕ) (b : ℕ) → get_or (front ++ b ∷ other
 get_front [] others b = refl
 get_front (c ∷ front) others b = get_front front others b
 
-bare_ends : (text : List ℕ) (found : Found) → Cuts text found → Ends text found
+bare_ends : (text : List ℕ) (found : Parsed) → Cuts text found → Ends text found
 bare_ends text found c = record {
   rest = ap (λ n. drop n text) size ∙ ap (drop (length found.bytes)) c.is ∙ drop-append_seam found.bytes found.behind;
   place = subst (IsCharBoundary text) (sym size) (at found.behind c.is c.ends);
@@ -108,7 +108,7 @@ bare_ends text found c = record {
         let here : get_or text (length found.bytes) 0 ≡ b = ap (λ bs. get_or bs (length found.bytes) 0) is ∙ get_front found.bytes bs b in
         IsCharBoundary-before_ascii text (length found.bytes) (omega arith) (omega (arith, here, h))
 
-pointed_ends : (text : List ℕ) (found : Found) → IsUtf8 text → text ≡ (60 ∷ found.bytes) ++ 62 ∷ found.behind → Ends text found
+pointed_ends : (text : List ℕ) (found : Parsed) → IsUtf8 text → text ≡ (60 ∷ found.bytes) ++ 62 ∷ found.behind → Ends text found
 pointed_ends text found utf8 is =
     let n = ap length is in
     let l = length-append (60 ∷ found.bytes) (62 ∷ found.behind) in
@@ -127,7 +127,7 @@ pointed_ends text found utf8 is =
     behind : (bs : List ℕ) → drop (suc (length bs) + 1) ((60 ∷ bs) ++ 62 ∷ found.behind) ≡ found.behind
     behind bs = ap (λ k. drop k ((60 ∷ bs) ++ 62 ∷ found.behind)) (let e : suc (length bs) + 1 ≡ suc (suc (length bs)) = omega arith in e) ∙ behind_closer bs (length bs) refl
 
-pub destination_ends : (text : List ℕ) (found : Found) → IsUtf8 text → link_destination_in text ≡ Some found → Ends text found
+pub destination_ends : (text : List ℕ) (found : Parsed) → IsUtf8 text → link_destination_in text ≡ Some found → Ends text found
 destination_ends [] found utf8 e = bare_ends [] found (bare_in-cut false 0 [] found e)
 destination_ends (b ∷ bs) found utf8 e = by_case (b == 60) refl e
   where
@@ -137,12 +137,12 @@ destination_ends (b ∷ bs) found utf8 e = by_case (b == 60) refl e
 
 -- what was cut out
 pub record Cut (text : List ℕ) (end : ℕ) (part : List ℕ) : Type 0 where
-  pub found : Found
+  pub found : Parsed
   pub is : link_destination_in text ≡ Some found
   pub end_is : end ≡ length text - length found.behind
   pub part_is : part ≡ found.bytes
 
-cut_is : (text : List ℕ) (cut : Part) (r : Option Found) → Some cut ≡ option_map (cut_behind text) r → r ≡ link_destination_in text → Cut text cut.end cut.bytes
+cut_is : (text : List ℕ) (cut : Part) (r : Option Parsed) → Some cut ≡ option_map (cut_behind text) r → r ≡ link_destination_in text → Cut text cut.end cut.bytes
 cut_is text cut None e is = cc
 cut_is text cut (Some found) e is =
     let same : cut ≡ cut_behind text found = cc in
@@ -155,16 +155,16 @@ pub cut_place : (text part : List ℕ) (end : ℕ) → IsUtf8 text → Cut text 
 cut_place text part end utf8 c = subst (IsCharBoundary text) (sym c.end_is) (destination_ends text c.found utf8 c.is).place
 
 -- a destination that is pointed or not empty
-kept : (r : Option Found) (found : Found) → r ≡ Some found → is_empty found.bytes ≡ false → Some found ≡ nonempty r
+kept : (r : Option Parsed) (found : Parsed) → r ≡ Some found → is_empty found.bytes ≡ false → Some found ≡ nonempty r
 kept None found e some = cc
 kept (Some other) found e some =
     let same : other ≡ found = cc in
-    sym (ap (λ (f : Found). if is_empty f.bytes then None else Some f) same ∙ ap (λ t. if t then None else Some found) some)
+    sym (ap (λ (f : Parsed). if is_empty f.bytes then None else Some f) same ∙ ap (λ t. if t then None else Some found) some)
 
-destination_is : (text : List ℕ) (found : Found) → link_destination_in text ≡ Some found → (is_empty found.bytes ≡ false) ⊎ (first_is (λ b. b == 60) text ≡ true) → Some found ≡ destination_in text
+destination_is : (text : List ℕ) (found : Parsed) → link_destination_in text ≡ Some found → (is_empty found.bytes ≡ false) ⊎ (first_is (λ b. b == 60) text ≡ true) → Some found ≡ destination_in text
 destination_is [] found e (inl some) =
     let same : found_at [] [] ≡ found = cc in
-    absurd (true≢false (ap (λ (f : Found). is_empty f.bytes) same ∙ some))
+    absurd (true≢false (ap (λ (f : Parsed). is_empty f.bytes) same ∙ some))
 destination_is [] found e (inr opens) = absurd (true≢false (sym opens))
 destination_is (b ∷ bs) found e how = by_case (b == 60) refl e
   where

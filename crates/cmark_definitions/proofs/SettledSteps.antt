@@ -6,38 +6,38 @@ use Rattle.std.proofs.lemmas.Option.{same_Some}
 use Rattle.cmark_grammar.specs.Columns.{is_blank_byte}
 use Rattle.cmark_grammar.specs.Leaves.{is_empty}
 use Rattle.cmark_grammar.specs.Letters.{first_is}
-use Rattle.cmark_grammar.specs.LinkDefinitions.{Found, Defined, put, escapes_next, up_to, is_label, label_if, label_in, ends_bare, depth_after, bare_in, nonempty, destination_in, title_in, behind_blanks, behind_next_line, behind_separator, at_end, is_line_done, defined, untitled, titled, with_destination, behind_colon, with_label, definition_in}
+use Rattle.cmark_grammar.specs.LinkDefinitions.{Parsed, Defined, put, escapes_next, up_to, is_label, label_if, label_in, ends_bare, depth_after, bare_in, nonempty, destination_in, title_in, behind_blanks, behind_next_line, behind_separator, at_end, is_line_done, defined, untitled, titled, with_destination, behind_colon, with_label, definition_in}
 use Rattle.cmark_grammar.specs.Tags.{behind_ending, behind_line_feed}
 use Rattle.cmark_definitions.specs.Settled.{read_before, defined_before, IsSettled, ends_in, title_ends, end_settles, lacks_colon, settles_as, settles}
 
 module _ (more : List ℕ) where
   -- what was read up to a byte
-  put-before : (b : ℕ) (o : Option Found) → put b (option_map (read_before more) o) ≡ option_map (read_before more) (put b o)
+  put-before : (b : ℕ) (o : Option Parsed) → put b (option_map (read_before more) o) ≡ option_map (read_before more) (put b o)
   put-before b None = refl
   put-before b (Some f) = refl
 
-  up_to-before : (escaped : Bool) (closer refused : ℕ) (over : Bool) (bs : List ℕ) (f : Found) → up_to escaped closer refused over bs ≡ Some f → up_to escaped closer refused over (bs ++ more) ≡ Some (read_before more f)
+  up_to-before : (escaped : Bool) (closer refused : ℕ) (over : Bool) (bs : List ℕ) (f : Parsed) → up_to escaped closer refused over bs ≡ Some f → up_to escaped closer refused over (bs ++ more) ≡ Some (read_before more f)
   up_to-before escaped closer refused over [] f e = absurd (let q : None ≡ Some f = e in cc)
   up_to-before escaped closer refused over (b ∷ bs) f e =
       go (not escaped && (b == closer)) ((not escaped && (b == refused)) || (not over && ((b == 10) || (b == 13)))) (up_to (escapes_next escaped b) closer refused over bs) e
       (λ g s. up_to-before (escapes_next escaped b) closer refused over bs g s)
     where
-      go : (x y : Bool) (o : Option Found) → (if x then Some (record { bytes = []; behind = bs }) else if y then None else put b o) ≡ Some f →
-          ((g : Found) → o ≡ Some g → up_to (escapes_next escaped b) closer refused over (bs ++ more) ≡ Some (read_before more g)) →
+      go : (x y : Bool) (o : Option Parsed) → (if x then Some (record { bytes = []; behind = bs }) else if y then None else put b o) ≡ Some f →
+          ((g : Parsed) → o ≡ Some g → up_to (escapes_next escaped b) closer refused over (bs ++ more) ≡ Some (read_before more g)) →
           (if x then Some (record { bytes = []; behind = bs ++ more }) else if y then None else put b (up_to (escapes_next escaped b) closer refused over (bs ++ more))) ≡ Some (read_before more f)
-      go true y o q ih = ap {A = Found} {B = Option Found} (λ g. Some (read_before more g)) (same_Some _ f q)
+      go true y o q ih = ap {A = Parsed} {B = Option Parsed} (λ g. Some (read_before more g)) (same_Some _ f q)
       go false true o q ih = absurd (let z : None ≡ Some f = q in cc)
       go false false None q ih = absurd (let z : None ≡ Some f = q in cc)
-      go false false (Some g) q ih = ap (put b) (ih g refl) ∙ ap {A = Found} {B = Option Found} (λ h. Some (read_before more h)) (same_Some _ f q)
+      go false false (Some g) q ih = ap (put b) (ih g refl) ∙ ap {A = Parsed} {B = Option Parsed} (λ h. Some (read_before more h)) (same_Some _ f q)
 
   up_to-settled : (escaped : Bool) (closer refused : ℕ) (bs : List ℕ) → ends_in escaped closer refused bs ≡ true → up_to escaped closer refused true (bs ++ more) ≡ option_map (read_before more) (up_to escaped closer refused true bs)
   up_to-settled escaped closer refused [] e = absurd (true≢false (sym e))
   up_to-settled escaped closer refused (b ∷ bs) e = go (not escaped) (b == closer) (b == refused) e (up_to-settled (escapes_next escaped b) closer refused bs)
     where
-      now : Option Found
+      now : Option Parsed
       now = up_to (escapes_next escaped b) closer refused true bs
 
-      later : Option Found
+      later : Option Parsed
       later = up_to (escapes_next escaped b) closer refused true (bs ++ more)
 
       go : (n x y : Bool) → (if n && (x || y) then true else ends_in (escapes_next escaped b) closer refused bs) ≡ true →
@@ -50,7 +50,7 @@ module _ (more : List ℕ) where
       go false x y q ih = ap (put b) (ih q) ∙ put-before b now
 
   -- labels
-  label-if-before : (o : Option Found) → label_if (option_map (read_before more) o) ≡ option_map (read_before more) (label_if o)
+  label-if-before : (o : Option Parsed) → label_if (option_map (read_before more) o) ≡ option_map (read_before more) (label_if o)
   label-if-before None = refl
   label-if-before (Some f) = go (is_label f.bytes)
     where
@@ -61,52 +61,52 @@ module _ (more : List ℕ) where
   label-settled : (bs : List ℕ) → ends_in false 93 91 bs ≡ true → label_in (bs ++ more) ≡ option_map (read_before more) (label_in bs)
   label-settled bs e = ap label_if (up_to-settled false 93 91 bs e) ∙ label-if-before (up_to false 93 91 true bs)
 
-  label-before : (bs : List ℕ) (f : Found) → label_in bs ≡ Some f → label_in (bs ++ more) ≡ Some (read_before more f)
+  label-before : (bs : List ℕ) (f : Parsed) → label_in bs ≡ Some f → label_in (bs ++ more) ≡ Some (read_before more f)
   label-before bs f e = go (up_to false 93 91 true bs) refl e
     where
-      go : (o : Option Found) → up_to false 93 91 true bs ≡ o → label_if o ≡ Some f → label_in (bs ++ more) ≡ Some (read_before more f)
+      go : (o : Option Parsed) → up_to false 93 91 true bs ≡ o → label_if o ≡ Some f → label_in (bs ++ more) ≡ Some (read_before more f)
       go None s q = absurd (let z : None ≡ Some f = q in cc)
       go (Some g) s q = ap label_if (up_to-before false 93 91 true bs g s) ∙ label-if-before (Some g) ∙ ap (option_map (read_before more)) q
 
   -- destinations
-  bare-before : (escaped : Bool) (depth : ℕ) (bs : List ℕ) (f : Found) (x : ℕ) (xs : List ℕ) → bare_in escaped depth bs ≡ Some f → f.behind ≡ x ∷ xs → bare_in escaped depth (bs ++ more) ≡ Some (read_before more f)
+  bare-before : (escaped : Bool) (depth : ℕ) (bs : List ℕ) (f : Parsed) (x : ℕ) (xs : List ℕ) → bare_in escaped depth bs ≡ Some f → f.behind ≡ x ∷ xs → bare_in escaped depth (bs ++ more) ≡ Some (read_before more f)
   bare-before escaped depth [] f x xs e some = go (depth == 0) e
     where
       go : (z : Bool) → (if z then Some (record { bytes = []; behind = [] }) else None) ≡ Some f → bare_in escaped depth more ≡ Some (read_before more f)
-      go true q = absurd (let z : [] ≡ x ∷ xs = ap {A = Found} {B = List ℕ} (λ g. g.behind) (same_Some _ f q) ∙ some in cc)
+      go true q = absurd (let z : [] ≡ x ∷ xs = ap {A = Parsed} {B = List ℕ} (λ g. g.behind) (same_Some _ f q) ∙ some in cc)
       go false q = absurd (let z : None ≡ Some f = q in cc)
   bare-before escaped depth (b ∷ bs) f x xs e some =
       go (ends_bare b || (not escaped && ((b == 41) && (depth == 0)))) (depth == 0) _ (bare_in (escapes_next escaped b) (depth_after escaped depth b) bs) e
       (λ g s t. bare-before (escapes_next escaped b) (depth_after escaped depth b) bs g x xs s t)
     where
-      later : Option Found
+      later : Option Parsed
       later = bare_in (escapes_next escaped b) (depth_after escaped depth b) (bs ++ more)
 
-      go : (p q r : Bool) (o : Option Found) → (if p then (if q then Some (record { bytes = []; behind = b ∷ bs }) else None) else if r then None else put b o) ≡ Some f →
-          ((g : Found) → o ≡ Some g → g.behind ≡ x ∷ xs → later ≡ Some (read_before more g)) →
+      go : (p q r : Bool) (o : Option Parsed) → (if p then (if q then Some (record { bytes = []; behind = b ∷ bs }) else None) else if r then None else put b o) ≡ Some f →
+          ((g : Parsed) → o ≡ Some g → g.behind ≡ x ∷ xs → later ≡ Some (read_before more g)) →
           (if p then (if q then Some (record { bytes = []; behind = b ∷ (bs ++ more) }) else None) else if r then None else put b later) ≡ Some (read_before more f)
-      go true true r o h ih = ap {A = Found} {B = Option Found} (λ g. Some (read_before more g)) (same_Some _ f h)
+      go true true r o h ih = ap {A = Parsed} {B = Option Parsed} (λ g. Some (read_before more g)) (same_Some _ f h)
       go true false r o h ih = absurd (let z : None ≡ Some f = h in cc)
       go false q true o h ih = absurd (let z : None ≡ Some f = h in cc)
       go false q false None h ih = absurd (let z : None ≡ Some f = h in cc)
       go false q false (Some g) h ih =
           let same : record { bytes = b ∷ g.bytes; behind = g.behind } ≡ f = same_Some _ f h in
-          ap (put b) (ih g refl (ap {A = Found} {B = List ℕ} (λ k. k.behind) same ∙ some)) ∙ ap {A = Found} {B = Option Found} (λ k. Some (read_before more k)) same
+          ap (put b) (ih g refl (ap {A = Parsed} {B = List ℕ} (λ k. k.behind) same ∙ some)) ∙ ap {A = Parsed} {B = Option Parsed} (λ k. Some (read_before more k)) same
 
-  destination-before : (bs : List ℕ) (f : Found) (x : ℕ) (xs : List ℕ) → destination_in bs ≡ Some f → f.behind ≡ x ∷ xs → destination_in (bs ++ more) ≡ Some (read_before more f)
+  destination-before : (bs : List ℕ) (f : Parsed) (x : ℕ) (xs : List ℕ) → destination_in bs ≡ Some f → f.behind ≡ x ∷ xs → destination_in (bs ++ more) ≡ Some (read_before more f)
   destination-before [] f x xs e some = absurd (let z : None ≡ Some f = e in cc)
   destination-before (b ∷ bs) f x xs e some = go (b == 60) e
     where
-      full : (o : Option Found) → bare_in false 0 (b ∷ bs) ≡ o → nonempty o ≡ Some f → nonempty (bare_in false 0 (b ∷ (bs ++ more))) ≡ Some (read_before more f)
+      full : (o : Option Parsed) → bare_in false 0 (b ∷ bs) ≡ o → nonempty o ≡ Some f → nonempty (bare_in false 0 (b ∷ (bs ++ more))) ≡ Some (read_before more f)
       full None s q = absurd (let z : None ≡ Some f = q in cc)
       full (Some g) s q = pick (is_empty g.bytes) refl q
         where
           pick : (z : Bool) → is_empty g.bytes ≡ z → (if z then None else Some g) ≡ Some f → nonempty (bare_in false 0 (b ∷ (bs ++ more))) ≡ Some (read_before more f)
           pick true t q = absurd (let z : None ≡ Some f = q in cc)
           pick false t q =
-              ap nonempty (bare-before false 0 (b ∷ bs) g x xs s (ap {A = Found} {B = List ℕ} (λ k. k.behind) (same_Some g f q) ∙ some))
-              ∙ ap {A = Bool} {B = Option Found} (λ z. if z then None else Some (read_before more g)) t
-              ∙ ap {A = Found} {B = Option Found} (λ k. Some (read_before more k)) (same_Some g f q)
+              ap nonempty (bare-before false 0 (b ∷ bs) g x xs s (ap {A = Parsed} {B = List ℕ} (λ k. k.behind) (same_Some g f q) ∙ some))
+              ∙ ap {A = Bool} {B = Option Parsed} (λ z. if z then None else Some (read_before more g)) t
+              ∙ ap {A = Parsed} {B = Option Parsed} (λ k. Some (read_before more k)) (same_Some g f q)
 
       go : (z : Bool) → (if z then up_to false 62 60 false bs else nonempty (bare_in false 0 (b ∷ bs))) ≡ Some f →
           (if z then up_to false 62 60 false (bs ++ more) else nonempty (bare_in false 0 (b ∷ (bs ++ more)))) ≡ Some (read_before more f)
@@ -114,7 +114,7 @@ module _ (more : List ℕ) where
       go false q = full (bare_in false 0 (b ∷ bs)) refl q
 
   -- titles
-  title-before : (bs : List ℕ) (f : Found) → title_in bs ≡ Some f → title_in (bs ++ more) ≡ Some (read_before more f)
+  title-before : (bs : List ℕ) (f : Parsed) → title_in bs ≡ Some f → title_in (bs ++ more) ≡ Some (read_before more f)
   title-before [] f e = absurd (let z : None ≡ Some f = e in cc)
   title-before (b ∷ bs) f e = go ((b == 34) || (b == 39)) (b == 40) e
     where
@@ -199,14 +199,14 @@ module _ (more : List ℕ) where
   some-behind [] x xs e = absurd (let z : [] ≡ x ∷ xs = e in cc)
   some-behind (b ∷ bs) x xs e = (b, bs, refl)
 
-  untitled-before : (label : List ℕ) (d : Found) → is_line_done (d.behind ++ more) ≡ is_line_done d.behind → untitled label (read_before more d) ≡ option_map (defined_before more) (untitled label d)
+  untitled-before : (label : List ℕ) (d : Parsed) → is_line_done (d.behind ++ more) ≡ is_line_done d.behind → untitled label (read_before more d) ≡ option_map (defined_before more) (untitled label d)
   untitled-before label d e = ap {A = Bool} {B = Option Defined} (λ z. if z then Some (defined label d.bytes None (d.behind ++ more)) else None) e ∙ go (is_line_done d.behind)
     where
       go : (z : Bool) → (if z then Some (defined label d.bytes None (d.behind ++ more)) else None) ≡ option_map (defined_before more) (if z then Some (defined label d.bytes None d.behind) else None)
       go true = refl
       go false = refl
 
-  untitled-settles : (label : List ℕ) (d : Found) (found : Defined) → untitled label d ≡ Some found → end_settles found.definition.title found.behind ≡ true → title_ends (behind_separator d.behind) ≡ true
+  untitled-settles : (label : List ℕ) (d : Parsed) (found : Defined) → untitled label d ≡ Some found → end_settles found.definition.title found.behind ≡ true → title_ends (behind_separator d.behind) ≡ true
   untitled-settles label d found e s = go (is_line_done d.behind) e
     where
       go : (z : Bool) → (if z then Some (defined label d.bytes None d.behind) else None) ≡ Some found → title_ends (behind_separator d.behind) ≡ true
@@ -217,7 +217,7 @@ module _ (more : List ℕ) where
   some-ends [] e = absurd (true≢false (sym e))
   some-ends (x ∷ xs) e = (x, xs, refl)
 
-  some-title : (bs : List ℕ) (t : Found) → title_in bs ≡ Some t → (x : ℕ) × (xs : List ℕ) × (bs ≡ x ∷ xs)
+  some-title : (bs : List ℕ) (t : Parsed) → title_in bs ≡ Some t → (x : ℕ) × (xs : List ℕ) × (bs ≡ x ∷ xs)
   some-title [] t e = absurd (let z : None ≡ Some t = e in cc)
   some-title (x ∷ xs) t e = (x, xs, refl)
 
@@ -237,19 +237,19 @@ module _ (more : List ℕ) where
       same a b n = grind (arith)
 
   -- behind a destination
-  abbrev Titles : (label : List ℕ) → Found → Defined → Type 0
+  abbrev Titles : (label : List ℕ) → Parsed → Defined → Type 0
   Titles label d found =
       (titled label (read_before more d) (title_in (behind_separator (d.behind ++ more))) ≡ Some (defined_before more found))
       × ((y : ℕ) × (ys : List ℕ) × (d.behind ≡ y ∷ ys))
 
   -- without a title, where what follows is none
-  untitled-goes : (label : List ℕ) (d : Found) (found : Defined) (x : ℕ) (xs : List ℕ) → behind_separator d.behind ≡ x ∷ xs → untitled label d ≡ Some found →
+  untitled-goes : (label : List ℕ) (d : Parsed) (found : Defined) (x : ℕ) (xs : List ℕ) → behind_separator d.behind ≡ x ∷ xs → untitled label d ≡ Some found →
       untitled label (read_before more d) ≡ Some (defined_before more found)
   untitled-goes label d found x xs some e =
       let s = some-blanks d.behind x xs some in
       untitled-before label d (done-before d.behind s.0 s.1 s.2) ∙ ap (option_map (defined_before more)) e
 
-  titled-none : (label : List ℕ) (d : Found) (found : Defined) → title_in (behind_separator d.behind) ≡ None → untitled label d ≡ Some found →
+  titled-none : (label : List ℕ) (d : Parsed) (found : Defined) → title_in (behind_separator d.behind) ≡ None → untitled label d ≡ Some found →
       end_settles found.definition.title found.behind ≡ true → Titles label d found
   titled-none label d found none e settled =
       let ends = untitled-settles label d found e settled in
@@ -261,7 +261,7 @@ module _ (more : List ℕ) where
       )
 
   -- with a title in front of more than blanks, or without it
-  titled-some : (label : List ℕ) (d t : Found) (found : Defined) → title_in (behind_separator d.behind) ≡ Some t →
+  titled-some : (label : List ℕ) (d t : Parsed) (found : Defined) → title_in (behind_separator d.behind) ≡ Some t →
       titled label d (Some t) ≡ Some found → end_settles found.definition.title found.behind ≡ true → Titles label d found
   titled-some label d t found is e settled =
       let some = some-title (behind_separator d.behind) t is in
@@ -288,16 +288,16 @@ module _ (more : List ℕ) where
           ∙ untitled-goes label d found x xs s q
       go false q done x xs s e = untitled-goes label d found x xs s e
 
-  titled-before : (label : List ℕ) (d : Found) (found : Defined) → titled label d (title_in (behind_separator d.behind)) ≡ Some found →
+  titled-before : (label : List ℕ) (d : Parsed) (found : Defined) → titled label d (title_in (behind_separator d.behind)) ≡ Some found →
       end_settles found.definition.title found.behind ≡ true → Titles label d found
   titled-before label d found e settled = go (title_in (behind_separator d.behind)) refl e
     where
-      go : (o : Option Found) → title_in (behind_separator d.behind) ≡ o → titled label d o ≡ Some found → Titles label d found
+      go : (o : Option Parsed) → title_in (behind_separator d.behind) ≡ o → titled label d o ≡ Some found → Titles label d found
       go None is q = titled-none label d found is q settled
       go (Some t) is q = titled-some label d t found is q settled
 
   -- behind a colon
-  some-destination : (bs : List ℕ) (f : Found) → destination_in bs ≡ Some f → (x : ℕ) × (xs : List ℕ) × (bs ≡ x ∷ xs)
+  some-destination : (bs : List ℕ) (f : Parsed) → destination_in bs ≡ Some f → (x : ℕ) × (xs : List ℕ) × (bs ≡ x ∷ xs)
   some-destination [] f e = absurd (let z : None ≡ Some f = e in cc)
   some-destination (x ∷ xs) f e = (x, xs, refl)
 
@@ -305,7 +305,7 @@ module _ (more : List ℕ) where
       end_settles found.definition.title found.behind ≡ true → with_destination label (destination_in (behind_separator (rest ++ more))) ≡ Some (defined_before more found)
   destined-before label rest found e settled = go (destination_in (behind_separator rest)) refl e
     where
-      go : (o : Option Found) → destination_in (behind_separator rest) ≡ o → with_destination label o ≡ Some found → with_destination label (destination_in (behind_separator (rest ++ more))) ≡ Some (defined_before more found)
+      go : (o : Option Parsed) → destination_in (behind_separator rest) ≡ o → with_destination label o ≡ Some found → with_destination label (destination_in (behind_separator (rest ++ more))) ≡ Some (defined_before more found)
       go None is q = absurd (let z : None ≡ Some found = q in cc)
       go (Some d) is q =
           let titles = titled-before label d found q settled in
@@ -315,7 +315,7 @@ module _ (more : List ℕ) where
           ∙ titles.0
 
   -- behind a label
-  labelled-before : (bs : List ℕ) (label : Found) → label_in bs ≡ Some label →
+  labelled-before : (bs : List ℕ) (label : Parsed) → label_in bs ≡ Some label →
       settles_as (91 ∷ bs) (with_label (Some label)) ≡ true → with_label (label_in (bs ++ more)) ≡ option_map (defined_before more) (with_label (Some label))
   labelled-before bs label is settled = ap with_label (label-before bs label is) ∙ go label.behind refl settled
     where
@@ -343,7 +343,7 @@ module _ (more : List ℕ) where
           pick true t q = end (with_destination label.bytes (destination_in (behind_separator rest))) refl q t ∙ refl
           pick false t q = refl
 
-  bracket-before : (bs : List ℕ) (o : Option Found) → label_in bs ≡ o → settles_as (91 ∷ bs) (with_label o) ≡ true → with_label (label_in (bs ++ more)) ≡ option_map (defined_before more) (with_label o)
+  bracket-before : (bs : List ℕ) (o : Option Parsed) → label_in bs ≡ o → settles_as (91 ∷ bs) (with_label o) ≡ true → with_label (label_in (bs ++ more)) ≡ option_map (defined_before more) (with_label o)
   bracket-before bs None is settled = ap with_label (label-settled bs (front (ends_in false 93 91 bs) (lacks_colon (label_in bs)) settled) ∙ ap (option_map (read_before more)) is)
     where
       front : (p q : Bool) → (p && q) ≡ true → p ≡ true

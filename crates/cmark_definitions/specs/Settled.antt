@@ -2,10 +2,10 @@
 use Rattle.std.specs.Prelude.{◌≡◌, ℕ, Bool, true, false, ◌==◌, ◌&&◌, ◌||◌, not, if◌then◌else◌, List, [], ◌∷◌, ◌++◌, Option, Some, None, option_map}
 use Rattle.cmark_grammar.specs.Leaves.{is_empty}
 use Rattle.cmark_grammar.specs.Letters.{first_is}
-use Rattle.cmark_grammar.specs.LinkDefinitions.{Found, Defined, escapes_next, label_in, behind_blanks, behind_separator, definition_in}
+use Rattle.cmark_grammar.specs.LinkDefinitions.{Parsed, Defined, escapes_next, label_in, behind_blanks, behind_separator, definition_in}
 
 -- what was read, with more bytes behind it
-abbrev pub read_before : List ℕ → Found → Found
+abbrev pub read_before : List ℕ → Parsed → Parsed
 read_before more found = record { bytes = found.bytes; behind = found.behind ++ more }
 
 abbrev pub defined_before : List ℕ → Defined → Defined
@@ -34,7 +34,7 @@ end_settles (Some title) behind = not (is_empty (behind_blanks behind))
 end_settles None behind = title_ends (behind_separator behind)
 
 -- the label ends, if it is one, and no colon follows
-abbrev pub lacks_colon : Option Found → Bool
+abbrev pub lacks_colon : Option Parsed → Bool
 lacks_colon None = true
 lacks_colon (Some label) = first_is (λ b. not (b == 58)) label.behind
 

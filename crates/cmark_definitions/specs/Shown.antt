@@ -10,7 +10,7 @@ use Rattle.cmark_definitions.specs.declared.definition.Definition.{Definition}
 use Rattle.cmark_definitions.specs.declared.definition.Read.{Read}
 use Rattle.cmark_definitions.specs.declared.part.Part.{Part}
 
-abbrev pub shown_part : Part → definitions.Found
+abbrev pub shown_part : Part → definitions.Parsed
 shown_part part = record { bytes = part.part.now; behind = part.behind.now }
 
 abbrev pub shown_read : Read → definitions.Defined

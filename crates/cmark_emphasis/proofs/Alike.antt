@@ -14,26 +14,26 @@ no_tilde m e = go (m == 126) (m == 94) e
     go true b h = h
     go false b h = refl
 
--- whether an open run agrees with a closing one of this mark, and of a length with this rest
-abbrev test : Run → (mark : ℕ) → (both : Bool) → (sum rest : ℕ) → Bool
-test o mark both sum rest =
-    ((o.mark == mark) && true) && (not (can_both o || both) || (not (sum == 0) || ((o.size % 3 == 0) && (rest == 0))))
+-- whether an open run agrees with a closing one of this delimiter, and of a length with this rest
+abbrev test : Run → (delimiter : ℕ) → (both : Bool) → (sum rest : ℕ) → Bool
+test o delimiter both sum rest =
+    ((o.delimiter == delimiter) && true) && (not (can_both o || both) || (not (sum == 0) || ((o.run_length % 3 == 0) && (rest == 0))))
 
-agrees-is : (o c : Run) → IsClosing c → is_tilde_or_caret c.mark ≡ false → agrees o c ≡ test o c.mark (can_both c) ((o.size + c.size) % 3) (c.size % 3)
+agrees-is : (o c : Run) → IsClosing c → is_tilde_or_caret c.delimiter ≡ false → agrees o c ≡ test o c.delimiter (can_both c) ((o.run_length + c.run_length) % 3) (c.run_length % 3)
 unfolding agrees
 agrees-is o c h e =
-    ap (λ a. a && (nat_lt 0 c.left && (((o.mark == c.mark) && (not (c.mark == 126) || (o.size == c.size))) && rule))) h.closes
-    ∙ ap (λ b. b && (((o.mark == c.mark) && (not (c.mark == 126) || (o.size == c.size))) && rule)) (lt-ltb 0 c.left h.left)
-    ∙ ap (λ b. ((o.mark == c.mark) && (not b || (o.size == c.size))) && rule) (no_tilde c.mark e)
+    ap (λ a. a && (nat_lt 0 c.left && (((o.delimiter == c.delimiter) && (not (c.delimiter == 126) || (o.run_length == c.run_length))) && rule))) h.closes
+    ∙ ap (λ b. b && (((o.delimiter == c.delimiter) && (not (c.delimiter == 126) || (o.run_length == c.run_length))) && rule)) (lt-ltb 0 c.left h.left)
+    ∙ ap (λ b. ((o.delimiter == c.delimiter) && (not b || (o.run_length == c.run_length))) && rule) (no_tilde c.delimiter e)
   where
     rule : Bool
-    rule = not (can_both o || can_both c) || (not ((o.size + c.size) % 3 == 0) || ((o.size % 3 == 0) && (c.size % 3 == 0)))
+    rule = not (can_both o || can_both c) || (not ((o.run_length + c.run_length) % 3 == 0) || ((o.run_length % 3 == 0) && (c.run_length % 3 == 0)))
 
 pub alike : (o c d : Run) → IsLike c d → IsClosing c → IsClosing d → agrees o d ≡ agrees o c
 alike o c d like h k =
-    agrees-is o d k (subst (λ m. is_tilde_or_caret m ≡ false) (sym like.mark) like.emphasis)
-    ∙ ap (λ m. test o m (can_both d) ((o.size + d.size) % 3) (d.size % 3)) like.mark
-    ∙ ap (λ b. test o c.mark b ((o.size + d.size) % 3) (d.size % 3)) like.both
-    ∙ ap (λ n. test o c.mark (can_both c) n (d.size % 3)) (sums o.size c.size d.size like.size)
-    ∙ ap (λ n. test o c.mark (can_both c) ((o.size + c.size) % 3) n) like.size
+    agrees-is o d k (subst (λ m. is_tilde_or_caret m ≡ false) (sym like.delimiter) like.emphasis)
+    ∙ ap (λ m. test o m (can_both d) ((o.run_length + d.run_length) % 3) (d.run_length % 3)) like.delimiter
+    ∙ ap (λ b. test o c.delimiter b ((o.run_length + d.run_length) % 3) (d.run_length % 3)) like.both
+    ∙ ap (λ n. test o c.delimiter (can_both c) n (d.run_length % 3)) (sums o.run_length c.run_length d.run_length like.run_length)
+    ∙ ap (λ n. test o c.delimiter (can_both c) ((o.run_length + c.run_length) % 3) n) like.run_length
     ∙ sym (agrees-is o c h like.emphasis)

@@ -6,7 +6,7 @@ use Rattle.std.proofs.Math.ListN.{drop_of_length-le}
 use Rattle.cmark_emphasis.specs.Shown.{shown_run}
 use Rattle.cmark_emphasis.specs.declared.run.Run as code_run
 use Rattle.cmark_grammar.specs.Spans.{Spans, Nil, Single, singles}
-use Rattle.cmark_grammar.specs.Emphasis.{Run, Pair, Sibling, Plain, Delimiter, Piece, Whole, Standing, agrees, pair_of, rest_of_opener, rest_of_closer, wrapped, before, keep, shuts, shut, is_tilde_or_caret, left_open, stand, runs_of}
+use Rattle.cmark_grammar.specs.Emphasis.{Run, Pair, Sibling, Plain, Delimiter, Piece, Whole, Standing, agrees, pair_of, rest_of_opener, rest_of_closer, wrapped, before, keep, deactivates, deactivated, is_tilde_or_caret, left_open, stand, runs_of}
 use Rattle.cmark_grammar.specs.EmphasisModel.{Closed, paired, chosen, close, or_none, closed, resolve, pairs_of}
 use Rattle.cmark_emphasis.specs.Stack.{Chased, and_then, picked, put, stays_open, still_open, chase, or_same, chased, rest_on, pair_all, run_pairs}
 
@@ -29,20 +29,20 @@ opens-keep o ps = go (nat_lt 0 o.left)
     go true = refl
     go false = refl
 
-opens-shut : (ps : List Piece) → filter stays_open (opens_of ps) ≡ opens_of (map shut ps)
-opens-shut [] = refl
-opens-shut (Whole f ∷ ps) = opens-shut ps
-opens-shut (Standing r ∷ ps) = go (is_tilde_or_caret r.mark) refl (opens-shut ps)
+opens-deactivated : (ps : List Piece) → filter stays_open (opens_of ps) ≡ opens_of (map deactivated ps)
+opens-deactivated [] = refl
+opens-deactivated (Whole f ∷ ps) = opens-deactivated ps
+opens-deactivated (Standing r ∷ ps) = go (is_tilde_or_caret r.delimiter) refl (opens-deactivated ps)
   where
-    go : (b : Bool) → is_tilde_or_caret r.mark ≡ b → filter stays_open (opens_of ps) ≡ opens_of (map shut ps) → filter stays_open (r ∷ opens_of ps) ≡ opens_of (shut (Standing r) ∷ map shut ps)
+    go : (b : Bool) → is_tilde_or_caret r.delimiter ≡ b → filter stays_open (opens_of ps) ≡ opens_of (map deactivated ps) → filter stays_open (r ∷ opens_of ps) ≡ opens_of (deactivated (Standing r) ∷ map deactivated ps)
     go true e i = rw e i
     go false e i = rw e (ap (λ l. r ∷ l) i)
 
 opens-left : (c : Run) (ps : List Piece) → still_open c (opens_of ps) ≡ opens_of (left_open c ps)
-opens-left c ps = go (shuts c)
+opens-left c ps = go (deactivates c)
   where
-    go : (b : Bool) → (if b then filter stays_open (opens_of ps) else opens_of ps) ≡ opens_of (if b then map shut ps else ps)
-    go true = opens-shut ps
+    go : (b : Bool) → (if b then filter stays_open (opens_of ps) else opens_of ps) ≡ opens_of (if b then map deactivated ps else ps)
+    go true = opens-deactivated ps
     go false = refl
 
 shrink-close : (c : Run) (ps : List Piece) (inside : Spans) → chase c (opens_of ps) ≡ shrink (close c ps inside)

@@ -13,7 +13,7 @@ EndsBy n (run ∷ runs) = (run.at + run.left ≤ n) × EndsBy n runs
 ends-by : (ts : List Sibling) (from n : ℕ) → StandFrom from ts → from + places_taken ts ≤ n → EndsBy n (runs_of ts)
 ends-by [] from n st le = tt
 ends-by (Plain at ∷ ts) from n st le = ends-by ts (suc from) n st.1 (omega (arith, le))
-ends-by (Delimiter r ∷ ts) from n st le = (omega (arith, le, st.0), ends-by ts (from + r.size) n st.2 (omega (arith, le, st.1)))
+ends-by (Delimiter r ∷ ts) from n st le = (omega (arith, le, st.0), ends-by ts (from + r.run_length) n st.2 (omega (arith, le, st.1)))
 
 none : All IsPlaced []
 none k d lt = absurd (omega arith)
@@ -34,8 +34,8 @@ stand-append (Plain at ∷ xs) ys n h k =
     let e : n + suc (places_taken xs) ≡ suc n + places_taken xs = omega arith in
     (h.0, stand-append xs ys (suc n) h.1 (subst (λ m. StandFrom m ys) e k))
 stand-append (Delimiter r ∷ xs) ys n h k =
-    let e : n + (r.left + places_taken xs) ≡ (n + r.size) + places_taken xs = omega (arith, h.1) in
-    (h.0, h.1, stand-append xs ys (n + r.size) h.2 (subst (λ m. StandFrom m ys) e k))
+    let e : n + (r.left + places_taken xs) ≡ (n + r.run_length) + places_taken xs = omega (arith, h.1) in
+    (h.0, h.1, stand-append xs ys (n + r.run_length) h.2 (subst (λ m. StandFrom m ys) e k))
 
 pub taken-append : (xs ys : List Sibling) → places_taken (xs ++ ys) ≡ places_taken xs + places_taken ys
 taken-append [] ys = omega arith

@@ -3,14 +3,14 @@ use Rattle.std.proofs.Common.{◌≡◌, Bool, true, false, ◌&&◌, arith, get
 use Rattle.std.specs.Prelude.{map, filter}
 use Rattle.cmark_emphasis.specs.Shown.{shown_run}
 use Rattle.cmark_emphasis.specs.declared.run.Run as code_run
-use Rattle.cmark_grammar.specs.Emphasis.{Run, Pair, Sibling, agrees, pair_of, shuts, runs_of}
+use Rattle.cmark_grammar.specs.Emphasis.{Run, Pair, Sibling, agrees, pair_of, deactivates, runs_of}
 use Rattle.cmark_grammar.specs.EmphasisModel.{pairs_of}
 use Rattle.cmark_emphasis.specs.Stack.{chased, pair_all, rest_on, run_pairs, stays_open}
 use Rattle.cmark_emphasis.proofs.Bridge.{run_pairs-are}
 
-none_shut : (b : Bool) → (if b then filter stays_open [] else []) ≡ []
-none_shut true = refl
-none_shut false = refl
+none_inactive : (b : Bool) → (if b then filter stays_open [] else []) ≡ []
+none_inactive true = refl
+none_inactive false = refl
 
 -- a run alone pairs with none
 pub one_run : (run : Run) → run_pairs (run ∷ []) ≡ []
@@ -23,7 +23,7 @@ lone_pair pairs pair = if pairs then pair ∷ [] else []
 -- the second closes the first, if that is open and agrees
 pub two_runs : (first second : Run) → run_pairs (first ∷ (second ∷ [])) ≡ lone_pair (first.opens && (nat_lt 0 first.left && agrees first second)) (pair_of first second)
 unfolding chased
-two_runs first second = ap (λ opens. (chased second (rest_on first opens)).pairs ++ []) (none_shut (shuts first)) ∙ opened first.opens (nat_lt 0 first.left)
+two_runs first second = ap (λ opens. (chased second (rest_on first opens)).pairs ++ []) (none_inactive (deactivates first)) ∙ opened first.opens (nat_lt 0 first.left)
   where
     chosen : (a : Bool) → agrees first second ≡ a → (chased second (first ∷ [])).pairs ++ [] ≡ lone_pair a (pair_of first second)
     chosen true e = rw e refl

@@ -7,8 +7,8 @@ pub mod Quoted
 pub mod Callers
 pub mod SlotsRead
 pub mod Alike
-pub mod NotShut
+pub mod ActiveRuns
 pub mod Agreeing
-pub mod Shuts
+pub mod Deactivates
 pub mod Noted
 pub mod FewRuns

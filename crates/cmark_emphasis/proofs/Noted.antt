@@ -7,20 +7,20 @@ use Rattle.std.proofs.lemmas.List.{get_or-take, get_or-set_same, get_or-set_othe
 use Rattle.cmark_grammar.specs.Emphasis.{Run, agrees}
 use Rattle.cmark_emphasis.specs.Shown.{shown_run, open_runs}
 use Rattle.cmark_emphasis.specs.Stack.{NoneAgree}
-use Rattle.cmark_emphasis.specs.Bottoms.{AreBottoms, NoneBelow, class_of, not_shut}
+use Rattle.cmark_emphasis.specs.Bottoms.{AreBottoms, NoneBelow, class_of, active_runs}
 use Rattle.cmark_emphasis.specs.Nearest.{with_opener, with_rest}
 use Rattle.cmark_emphasis.specs.Classes.{IsClosing}
 use Rattle.cmark_emphasis.specs.declared.bottom.OpenersBottom.{OpenersBottom}
 use Rattle.cmark_emphasis.specs.declared.run.Run as code_run
 use Rattle.cmark_emphasis.proofs.Agreeing.{class_low, class_misses, class_no_tilde}
-use Rattle.cmark_emphasis.proofs.NotShut.{each_misses, not_shut-lower}
+use Rattle.cmark_emphasis.proofs.ActiveRuns.{each_misses, active_runs-lower}
 
 -- the height of one class is that of the stack now
-pub noted : (c : Run) (bottoms : OpenersBottom) (stack : List code_run.Run) (class : ℕ) → AreBottoms bottoms stack → class_of c ≡ Some class → IsClosing c → class < length bottoms.heights → NoneAgree c (open_runs (not_shut bottoms.shut stack)) → AreBottoms (record { heights = slice_set bottoms.heights class (length stack); shut = bottoms.shut }) stack
-noted c bottoms stack class h is closes low none = record { emphasis = each; shut = h.shut }
+pub noted : (c : Run) (bottoms : OpenersBottom) (stack : List code_run.Run) (class : ℕ) → AreBottoms bottoms stack → class_of c ≡ Some class → IsClosing c → class < length bottoms.heights → NoneAgree c (open_runs (active_runs bottoms.inactive_below stack)) → AreBottoms (record { heights = slice_set bottoms.heights class (length stack); inactive_below = bottoms.inactive_below }) stack
+noted c bottoms stack class h is closes low none = record { emphasis = each; inactive_below = h.inactive_below }
   where
     each_none : (k : ℕ) (d : code_run.Run) → k < length stack → agrees (shown_run (get_or stack k d)) c ≡ false
-    each_none = each_misses c bottoms.shut stack (class_no_tilde c class is) (length stack) (omega arith) (subst (λ l. NoneAgree c (open_runs (not_shut bottoms.shut l))) (sym (take-length stack)) none)
+    each_none = each_misses c bottoms.inactive_below stack (class_no_tilde c class is) (length stack) (omega arith) (subst (λ l. NoneAgree c (open_runs (active_runs bottoms.inactive_below l))) (sym (take-length stack)) none)
 
     each : (closer : Run) (other : ℕ) → class_of closer ≡ Some other → NoneBelow closer stack (get_or (slice_set bottoms.heights class (length stack)) other 0)
     each closer other e = go (cases_eq other class)
@@ -32,13 +32,13 @@ noted c bottoms stack class h is closes low none = record { emphasis = each; shu
             (record { within = omega arith; none = λ k d lt. class_misses (shown_run (get_or stack k d)) c closer class is (e ∙ ap (λ n. Some n) same) closes (each_none k d lt) })
         go (inr differs) = subst (NoneBelow closer stack) (sym (get_or-set_other bottoms.heights class other (length stack) 0 differs)) (h.emphasis closer other e)
 
--- all tildes and carets are shut
-pub all_shut : (bottoms : OpenersBottom) (stack : List code_run.Run) → AreBottoms bottoms stack → AreBottoms (record { heights = bottoms.heights; shut = length stack }) stack
-all_shut bottoms stack h = record { emphasis = h.emphasis; shut = omega arith }
+-- all tildes and carets are inactive
+pub all_inactive : (bottoms : OpenersBottom) (stack : List code_run.Run) → AreBottoms bottoms stack → AreBottoms (record { heights = bottoms.heights; inactive_below = length stack }) stack
+all_inactive bottoms stack h = record { emphasis = h.emphasis; inactive_below = omega arith }
 
 -- the stack is cut, and all heights with it
-pub lowered : (old new : OpenersBottom) (stack : List code_run.Run) (height : ℕ) → AreBottoms old stack → ((class : ℕ) → class < 12 → get_or new.heights class 0 ≡ min (get_or old.heights class 0) height) → new.shut ≡ min old.shut height → AreBottoms new (take height stack)
-lowered old new stack height h heights shut = record { emphasis = each; shut = under old.shut new.shut shut h.shut }
+pub lowered : (old new : OpenersBottom) (stack : List code_run.Run) (height : ℕ) → AreBottoms old stack → ((class : ℕ) → class < 12 → get_or new.heights class 0 ≡ min (get_or old.heights class 0) height) → new.inactive_below ≡ min old.inactive_below height → AreBottoms new (take height stack)
+lowered old new stack height h heights inactive_below = record { emphasis = each; inactive_below = under old.inactive_below new.inactive_below inactive_below h.inactive_below }
   where
     under : (n m : ℕ) → m ≡ min n height → n ≤ length stack → m ≤ length (take height stack)
     under n m e le = let l = length-take height stack in omega (arith, e, le, l)
@@ -54,9 +54,9 @@ lowered old new stack height h heights shut = record { emphasis = each; shut = u
         }
 
 -- and what counts as open is the same
-pub lowered_open : (n m height : ℕ) (stack : List code_run.Run) → m ≡ min n height → not_shut m (take height stack) ≡ not_shut n (take height stack)
+pub lowered_open : (n m height : ℕ) (stack : List code_run.Run) → m ≡ min n height → active_runs m (take height stack) ≡ active_runs n (take height stack)
 lowered_open n m height stack e =
-    ap (λ k. not_shut k (take height stack)) e ∙ not_shut-lower n height (take height stack) (let l = length-take height stack in omega (arith, l))
+    ap (λ k. active_runs k (take height stack)) e ∙ active_runs-lower n height (take height stack) (let l = length-take height stack in omega (arith, l))
 
 -- what is put on the stack stands above all heights
 pub rest_bottoms : (bottoms : OpenersBottom) (stack : List code_run.Run) (r : code_run.Run) → AreBottoms bottoms stack → AreBottoms bottoms (with_rest r stack)
@@ -74,7 +74,7 @@ rest_bottoms bottoms stack r h = go (nat_lt 0 r.left)
             none = λ k d lt.
                 subst (λ x. agrees (shown_run x) closer ≡ false) (sym (get_or_append_left stack (r ∷ []) d k (omega (arith, lt, old.within)))) (old.none k d lt);
           };
-      shut = omega (arith, h.shut, longer);
+      inactive_below = omega (arith, h.inactive_below, longer);
     }
     go false = h
 

@@ -6,14 +6,14 @@ use Rattle.std.proofs.lemmas.Bool.{ltb-true}
 use Rattle.std.proofs.lemmas.Option.{slice_get-get_or, slice_get_within}
 use Rattle.cmark_grammar.specs.Emphasis.{Run, Pair, agrees, paired_count, pair_of, rest_of_opener, rest_of_closer, is_tilde_or_caret}
 use Rattle.cmark_emphasis.specs.Shown.{shown_run, shown_pair, open_runs}
-use Rattle.cmark_emphasis.specs.Bottoms.{AreBottoms, bottom_of, class_of, not_shut, or_other, stays}
+use Rattle.cmark_emphasis.specs.Bottoms.{AreBottoms, bottom_of, class_of, active_runs, or_other, stays}
 use Rattle.cmark_emphasis.specs.Nearest.{IsNearest, with_opener, with_rest}
 use Rattle.cmark_emphasis.specs.Stack.{Chased, and_then, put, still_open, chase, or_same, chased, NoneAgree, course_from, pair_all, rest_on}
 use Rattle.cmark_emphasis.specs.declared.bottom.OpenersBottom.{OpenersBottom}
 use Rattle.cmark_emphasis.specs.declared.run.Run as code_run
 use Rattle.cmark_emphasis.specs.declared.run.Pair as code_pair
 use Rattle.cmark_emphasis.proofs.Agreeing.{mark_same, closing, class_no_tilde}
-use Rattle.cmark_emphasis.proofs.NotShut.{none_of, none_shut, not_shut-none, not_shut-push, open-push, tops_at}
+use Rattle.cmark_emphasis.proofs.ActiveRuns.{none_of, none_inactive, active_runs-none, active_runs-push, open-push, tops_at}
 use Rattle.cmark_grammar.proofs.EmphasisSound.{agrees-empty, one_empty}
 
 agree-append : (c o : Run) (passed : List Run) → NoneAgree c passed → agrees o c ≡ false → NoneAgree c (passed ++ o ∷ [])
@@ -57,29 +57,29 @@ chased-pair c o xs ys h e = rw (chase-skip c xs (o ∷ ys) h) (rw e (go (one_emp
     go (inr z) = rw (chase-empty (rest_of_closer o c) ys z) (rw (chase-empty (rest_of_closer o c) (put (rest_of_opener o c) ys) z) refl)
 
 -- what is put back on the stack is open
-pub open-rest : (n : ℕ) (stack : List code_run.Run) (r : code_run.Run) → n ≤ length stack → open_runs (not_shut n (with_rest r stack)) ≡ put (shown_run r) (open_runs (not_shut n stack))
+pub open-rest : (n : ℕ) (stack : List code_run.Run) (r : code_run.Run) → n ≤ length stack → open_runs (active_runs n (with_rest r stack)) ≡ put (shown_run r) (open_runs (active_runs n stack))
 open-rest n stack r le = go (nat_lt 0 r.left)
   where
-    go : (b : Bool) → open_runs (not_shut n (if b then stack ++ r ∷ [] else stack)) ≡ (if b then shown_run r ∷ open_runs (not_shut n stack) else open_runs (not_shut n stack))
-    go true = ap open_runs (not_shut-push n stack r le) ∙ open-push (not_shut n stack) r
+    go : (b : Bool) → open_runs (active_runs n (if b then stack ++ r ∷ [] else stack)) ≡ (if b then shown_run r ∷ open_runs (active_runs n stack) else open_runs (active_runs n stack))
+    go true = ap open_runs (active_runs-push n stack r le) ∙ open-push (active_runs n stack) r
     go false = refl
 
-pub open-opener : (n : ℕ) (stack : List code_run.Run) (r : code_run.Run) → n ≤ length stack → open_runs (not_shut n (with_opener r stack)) ≡ rest_on (shown_run r) (open_runs (not_shut n stack))
+pub open-opener : (n : ℕ) (stack : List code_run.Run) (r : code_run.Run) → n ≤ length stack → open_runs (active_runs n (with_opener r stack)) ≡ rest_on (shown_run r) (open_runs (active_runs n stack))
 open-opener n stack r le = go r.opens
   where
-    go : (b : Bool) → open_runs (not_shut n (if b then with_rest r stack else stack)) ≡ (if b then put (shown_run r) (open_runs (not_shut n stack)) else open_runs (not_shut n stack))
+    go : (b : Bool) → open_runs (active_runs n (if b then with_rest r stack else stack)) ≡ (if b then put (shown_run r) (open_runs (active_runs n stack)) else open_runs (active_runs n stack))
     go true = open-rest n stack r le
     go false = refl
 
-course_step : (c : Run) (o : code_run.Run) (stack next : List code_run.Run) (pairs : List code_pair.Pair) (i n k : ℕ) → IsNearest c n stack i → slice_get stack i ≡ Some o → open_runs (not_shut k next) ≡ put (rest_of_opener (shown_run o) c) (open_runs (not_shut n (take i stack))) → (m : code_pair.Pair) → shown_pair m ≡ pair_of (shown_run o) c → course_from (rest_of_closer (shown_run o) c) (not_shut k next) (pairs ++ m ∷ []) ≡ course_from c (not_shut n stack) pairs
+course_step : (c : Run) (o : code_run.Run) (stack next : List code_run.Run) (pairs : List code_pair.Pair) (i n k : ℕ) → IsNearest c n stack i → slice_get stack i ≡ Some o → open_runs (active_runs k next) ≡ put (rest_of_opener (shown_run o) c) (open_runs (active_runs n (take i stack))) → (m : code_pair.Pair) → shown_pair m ≡ pair_of (shown_run o) c → course_from (rest_of_closer (shown_run o) c) (active_runs k next) (pairs ++ m ∷ []) ≡ course_from c (active_runs n stack) pairs
 course_step c o stack next pairs i n k h read e m s =
     let same : h.opener ≡ o = (let q : Some h.opener ≡ Some o = sym h.read ∙ read in cc) in
-    let front : List Run = open_runs (not_shut n (take i stack)) in
-    let cut : open_runs (not_shut n stack) ≡ h.passed ++ (shown_run o ∷ front) = h.cut ∙ ap (λ r. h.passed ++ (shown_run r ∷ front)) same in
+    let front : List Run = open_runs (active_runs n (take i stack)) in
+    let cut : open_runs (active_runs n stack) ≡ h.passed ++ (shown_run o ∷ front) = h.cut ∙ ap (λ r. h.passed ++ (shown_run r ∷ front)) same in
     let agree : agrees (shown_run o) c ≡ true = subst (λ r. agrees (shown_run r) c ≡ true) same h.agree in
     let step = chased-pair c (shown_run o) h.passed front h.miss agree in
     let all : map shown_pair (pairs ++ m ∷ []) ≡ map shown_pair pairs ++ pair_of (shown_run o) c ∷ [] = map-append shown_pair pairs (m ∷ []) ∙ ap (λ p. map shown_pair pairs ++ p ∷ []) s in
-    let behind : Chased = chased (rest_of_closer (shown_run o) c) (open_runs (not_shut k next)) in
+    let behind : Chased = chased (rest_of_closer (shown_run o) c) (open_runs (active_runs k next)) in
     sym (ap (λ l. pairs_after (map shown_pair pairs) (chased c l)) cut
     ∙ ap (λ (d : Chased). pairs_after (map shown_pair pairs) d) step
     ∙ ap (λ l. pairs_after (map shown_pair pairs) (with_pair (pair_of (shown_run o) c) (chased (rest_of_closer (shown_run o) c) l))) (sym e)
@@ -144,17 +144,17 @@ course_smaller c o stack next i lt agree e = go (nat_lt o.left c.left) refl (nat
 -- what a step of a search comes to, at the run before this place
 module _ (c : Run) (n : ℕ) (stack : List code_run.Run) where
   abbrev Passed : List Run → ℕ → Type 0
-  Passed passed i = open_runs (not_shut n stack) ≡ passed ++ open_runs (not_shut n (take i stack))
+  Passed passed i = open_runs (active_runs n stack) ≡ passed ++ open_runs (active_runs n (take i stack))
 
-  module _ (d : code_run.Run) (passed : List Run) (i j : ℕ) (before : i ≡ j + 1) (lt : j < length stack) (cut : open_runs (not_shut n stack) ≡ passed ++ open_runs (not_shut n (take i stack))) (miss : NoneAgree c passed) where
+  module _ (d : code_run.Run) (passed : List Run) (i j : ℕ) (before : i ≡ j + 1) (lt : j < length stack) (cut : open_runs (active_runs n stack) ≡ passed ++ open_runs (active_runs n (take i stack))) (miss : NoneAgree c passed) where
     now : Passed passed (j + 1)
-    now = cut ∙ ap (λ k. passed ++ open_runs (not_shut n (take k stack))) before
+    now = cut ∙ ap (λ k. passed ++ open_runs (active_runs n (take k stack))) before
 
-    pub found_at : (is_tilde_or_caret c.mark ≡ true → n ≤ j) → agrees (shown_run (get_or stack j d)) c ≡ true → IsNearest c n stack j
+    pub found_at : (is_tilde_or_caret c.delimiter ≡ true → n ≤ j) → agrees (shown_run (get_or stack j d)) c ≡ true → IsNearest c n stack j
     found_at low agree = go (tops_at n stack j d lt)
       where
-        go : (open_runs (not_shut n (take (j + 1) stack)) ≡ shown_run (get_or stack j d) ∷ open_runs (not_shut n (take j stack))) × ((n ≤ j) ⊎ (stays (get_or stack j d) ≡ true))
-            ⊎ (open_runs (not_shut n (take (j + 1) stack)) ≡ open_runs (not_shut n (take j stack))) × (j < n) × (stays (get_or stack j d) ≡ false) → IsNearest c n stack j
+        go : (open_runs (active_runs n (take (j + 1) stack)) ≡ shown_run (get_or stack j d) ∷ open_runs (active_runs n (take j stack))) × ((n ≤ j) ⊎ (stays (get_or stack j d) ≡ true))
+            ⊎ (open_runs (active_runs n (take (j + 1) stack)) ≡ open_runs (active_runs n (take j stack))) × (j < n) × (stays (get_or stack j d) ≡ false) → IsNearest c n stack j
         go (inl t) = record {
           opener = get_or stack j d;
           passed = passed;
@@ -163,21 +163,21 @@ module _ (c : Run) (n : ℕ) (stack : List code_run.Run) where
           cut = now ∙ ap (λ l. passed ++ l) t.0;
           miss = miss;
         }
-        go (inr t) = absurd (let le = low (sym (ap is_tilde_or_caret (mark_same (shown_run (get_or stack j d)) c agree)) ∙ gone (is_tilde_or_caret (get_or stack j d).mark) t.2) in omega (arith, le, t.1))
+        go (inr t) = absurd (let le = low (sym (ap is_tilde_or_caret (mark_same (shown_run (get_or stack j d)) c agree)) ∙ gone (is_tilde_or_caret (get_or stack j d).delimiter) t.2) in omega (arith, le, t.1))
           where
             gone : (b : Bool) → not b ≡ false → b ≡ true
             gone true h = refl
             gone false h = absurd (true≢false h)
 
-    pub passed_at : agrees (shown_run (get_or stack j d)) c ≡ false → (next : List Run) × (open_runs (not_shut n stack) ≡ next ++ open_runs (not_shut n (take j stack))) × NoneAgree c next
+    pub passed_at : agrees (shown_run (get_or stack j d)) c ≡ false → (next : List Run) × (open_runs (active_runs n stack) ≡ next ++ open_runs (active_runs n (take j stack))) × NoneAgree c next
     passed_at agree = go (tops_at n stack j d lt)
       where
-        go : (open_runs (not_shut n (take (j + 1) stack)) ≡ shown_run (get_or stack j d) ∷ open_runs (not_shut n (take j stack))) × ((n ≤ j) ⊎ (stays (get_or stack j d) ≡ true))
-            ⊎ (open_runs (not_shut n (take (j + 1) stack)) ≡ open_runs (not_shut n (take j stack))) × (j < n) × (stays (get_or stack j d) ≡ false)
-            → (next : List Run) × (open_runs (not_shut n stack) ≡ next ++ open_runs (not_shut n (take j stack))) × NoneAgree c next
+        go : (open_runs (active_runs n (take (j + 1) stack)) ≡ shown_run (get_or stack j d) ∷ open_runs (active_runs n (take j stack))) × ((n ≤ j) ⊎ (stays (get_or stack j d) ≡ true))
+            ⊎ (open_runs (active_runs n (take (j + 1) stack)) ≡ open_runs (active_runs n (take j stack))) × (j < n) × (stays (get_or stack j d) ≡ false)
+            → (next : List Run) × (open_runs (active_runs n stack) ≡ next ++ open_runs (active_runs n (take j stack))) × NoneAgree c next
         go (inl t) = (
           passed ++ shown_run (get_or stack j d) ∷ [],
-          now ∙ ap (λ l. passed ++ l) t.0 ∙ sym (append_assoc passed (shown_run (get_or stack j d) ∷ []) (open_runs (not_shut n (take j stack)))),
+          now ∙ ap (λ l. passed ++ l) t.0 ∙ sym (append_assoc passed (shown_run (get_or stack j d) ∷ []) (open_runs (active_runs n (take j stack)))),
           agree-append c (shown_run (get_or stack j d)) passed miss agree,
         )
         go (inr t) = (passed, now ∙ ap (λ l. passed ++ l) t.0, miss)
@@ -187,45 +187,45 @@ agree-both c [] ys h k = k
 agree-both c (x ∷ xs) ys h k = (h.0, agree-both c xs ys h.1 k)
 
 -- at the bottom none is left that agrees
-pub none_left : (c : Run) (bottoms : OpenersBottom) (stack : List code_run.Run) (passed : List Run) (i : ℕ) → AreBottoms bottoms stack → i ≤ length stack → i ≤ bottom_of bottoms c → open_runs (not_shut bottoms.shut stack) ≡ passed ++ open_runs (not_shut bottoms.shut (take i stack)) → NoneAgree c passed → NoneAgree c (open_runs (not_shut bottoms.shut stack))
+pub none_left : (c : Run) (bottoms : OpenersBottom) (stack : List code_run.Run) (passed : List Run) (i : ℕ) → AreBottoms bottoms stack → i ≤ length stack → i ≤ bottom_of bottoms c → open_runs (active_runs bottoms.inactive_below stack) ≡ passed ++ open_runs (active_runs bottoms.inactive_below (take i stack)) → NoneAgree c passed → NoneAgree c (open_runs (active_runs bottoms.inactive_below stack))
 none_left c bottoms stack passed i h le low cut miss =
-    subst (NoneAgree c) (sym cut) (agree-both c passed (open_runs (not_shut bottoms.shut (take i stack))) miss (by_class (class_of c) refl low))
+    subst (NoneAgree c) (sym cut) (agree-both c passed (open_runs (active_runs bottoms.inactive_below (take i stack))) miss (by_class (class_of c) refl low))
   where
     Left : Type 0
-    Left = NoneAgree c (open_runs (not_shut bottoms.shut (take i stack)))
+    Left = NoneAgree c (open_runs (active_runs bottoms.inactive_below (take i stack)))
 
-    by_kind : (b : Bool) → is_tilde_or_caret c.mark ≡ b → i ≤ (if b then bottoms.shut else 0) → Left
-    by_kind true e l = none_shut c bottoms.shut stack e i le l
-    by_kind false e l = none_of c bottoms.shut stack i le (λ k d lt. absurd (omega (arith, l, lt)))
+    by_kind : (b : Bool) → is_tilde_or_caret c.delimiter ≡ b → i ≤ (if b then bottoms.inactive_below else 0) → Left
+    by_kind true e l = none_inactive c bottoms.inactive_below stack e i le l
+    by_kind false e l = none_of c bottoms.inactive_below stack i le (λ k d lt. absurd (omega (arith, l, lt)))
 
-    by_class : (o : Option ℕ) → class_of c ≡ o → i ≤ or_other o bottoms.heights (if is_tilde_or_caret c.mark then bottoms.shut else 0) → Left
-    by_class None e l = by_kind (is_tilde_or_caret c.mark) refl l
+    by_class : (o : Option ℕ) → class_of c ≡ o → i ≤ or_other o bottoms.heights (if is_tilde_or_caret c.delimiter then bottoms.inactive_below else 0) → Left
+    by_class None e l = by_kind (is_tilde_or_caret c.delimiter) refl l
     by_class (Some class) e l =
         let b = h.emphasis c class e in
-        none_of c bottoms.shut stack i le (λ k d lt. b.none k d (omega (arith, l, lt)))
+        none_of c bottoms.inactive_below stack i le (λ k d lt. b.none k d (omega (arith, l, lt)))
 
--- a search that goes down to the bottom of tildes and carets stays above what they shut
-pub above_shut : (c : Run) (bottoms : OpenersBottom) (j : ℕ) → bottom_of bottoms c ≤ j → is_tilde_or_caret c.mark ≡ true → bottoms.shut ≤ j
-above_shut c bottoms j le tilde = by_class (class_of c) refl le
+-- a search that goes down to the bottom of tildes and carets stays above those that they made inactive
+pub above_inactive : (c : Run) (bottoms : OpenersBottom) (j : ℕ) → bottom_of bottoms c ≤ j → is_tilde_or_caret c.delimiter ≡ true → bottoms.inactive_below ≤ j
+above_inactive c bottoms j le tilde = by_class (class_of c) refl le
   where
-    by_class : (o : Option ℕ) → class_of c ≡ o → or_other o bottoms.heights (if is_tilde_or_caret c.mark then bottoms.shut else 0) ≤ j → bottoms.shut ≤ j
-    by_class None e l = let s : bottoms.shut ≡ (if is_tilde_or_caret c.mark then bottoms.shut else 0) = rw tilde refl in omega (arith, l, s)
+    by_class : (o : Option ℕ) → class_of c ≡ o → or_other o bottoms.heights (if is_tilde_or_caret c.delimiter then bottoms.inactive_below else 0) ≤ j → bottoms.inactive_below ≤ j
+    by_class None e l = let s : bottoms.inactive_below ≡ (if is_tilde_or_caret c.delimiter then bottoms.inactive_below else 0) = rw tilde refl in omega (arith, l, s)
     by_class (Some class) e l = absurd (true≢false (sym tilde ∙ class_no_tilde c class e))
 
 pub nearest_in : (c : Run) (n : ℕ) (stack : List code_run.Run) (i : ℕ) → IsNearest c n stack i → i < length stack
 nearest_in c n stack i h = slice_get_within stack i h.opener h.read
 
 -- one pair, with all that the loop needs
-pub course_next : (c : Run) (o r : code_run.Run) (stack front next : List code_run.Run) (pairs more : List code_pair.Pair) (m : code_pair.Pair) (i n k : ℕ) → IsNearest c n stack i → i < length stack → o ≡ get_or stack i o → front ≡ take i stack → k ≤ length front → not_shut k front ≡ not_shut n front → next ≡ with_rest r front → shown_run r ≡ rest_of_opener (shown_run o) c → more ≡ pairs ++ m ∷ [] → shown_pair m ≡ pair_of (shown_run o) c
-    → (course_from (rest_of_closer (shown_run o) c) (not_shut k next) more ≡ course_from c (not_shut n stack) pairs) × (length next + (rest_of_closer (shown_run o) c).left < length stack + c.left)
+pub course_next : (c : Run) (o r : code_run.Run) (stack front next : List code_run.Run) (pairs more : List code_pair.Pair) (m : code_pair.Pair) (i n k : ℕ) → IsNearest c n stack i → i < length stack → o ≡ get_or stack i o → front ≡ take i stack → k ≤ length front → active_runs k front ≡ active_runs n front → next ≡ with_rest r front → shown_run r ≡ rest_of_opener (shown_run o) c → more ≡ pairs ++ m ∷ [] → shown_pair m ≡ pair_of (shown_run o) c
+    → (course_from (rest_of_closer (shown_run o) c) (active_runs k next) more ≡ course_from c (active_runs n stack) pairs) × (length next + (rest_of_closer (shown_run o) c).left < length stack + c.left)
 course_next c o r stack front next pairs more m i n k h lt at f low sh ne re mo s =
     let read : slice_get stack i ≡ Some o = slice_get-get_or stack i o lt ∙ ap (λ r. Some r) (sym at) in
     let same : h.opener ≡ o = (let q : Some h.opener ≡ Some o = sym h.read ∙ read in cc) in
-    let opens : open_runs (not_shut k next) ≡ put (rest_of_opener (shown_run o) c) (open_runs (not_shut n (take i stack))) =
-    ap (λ l. open_runs (not_shut k l)) ne ∙ open-rest k front r low ∙ ap (λ q. put q (open_runs (not_shut k front))) re ∙ ap (λ l. put (rest_of_opener (shown_run o) c) (open_runs l)) (sh ∙ ap (not_shut n) f) in
+    let opens : open_runs (active_runs k next) ≡ put (rest_of_opener (shown_run o) c) (open_runs (active_runs n (take i stack))) =
+    ap (λ l. open_runs (active_runs k l)) ne ∙ open-rest k front r low ∙ ap (λ q. put q (open_runs (active_runs k front))) re ∙ ap (λ l. put (rest_of_opener (shown_run o) c) (open_runs l)) (sh ∙ ap (active_runs n) f) in
     let plain : open_runs next ≡ put (rest_of_opener (shown_run o) c) (open_runs (take i stack)) =
-    ap open_runs (sym (not_shut-none next)) ∙ ap (λ l. open_runs (not_shut 0 l)) ne ∙ open-rest 0 front r (omega arith) ∙ ap (λ q. put q (open_runs (not_shut 0 front))) re ∙ ap (λ l. put (rest_of_opener (shown_run o) c) (open_runs l)) (not_shut-none front ∙ f) in (
-      ap (course_from (rest_of_closer (shown_run o) c) (not_shut k next)) mo ∙ course_step c o stack next pairs i n k h read opens m s,
+    ap open_runs (sym (active_runs-none next)) ∙ ap (λ l. open_runs (active_runs 0 l)) ne ∙ open-rest 0 front r (omega arith) ∙ ap (λ q. put q (open_runs (active_runs 0 front))) re ∙ ap (λ l. put (rest_of_opener (shown_run o) c) (open_runs l)) (active_runs-none front ∙ f) in (
+      ap (course_from (rest_of_closer (shown_run o) c) (active_runs k next)) mo ∙ course_step c o stack next pairs i n k h read opens m s,
       course_smaller c (shown_run o) stack next i lt (subst (λ r. agrees (shown_run r) c ≡ true) same h.agree) plain,
     )
 

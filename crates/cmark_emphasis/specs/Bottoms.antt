@@ -6,23 +6,23 @@ use Rattle.cmark_emphasis.specs.Stack.{stays_open}
 use Rattle.cmark_emphasis.specs.declared.run.Run as code_run
 use Rattle.cmark_emphasis.specs.declared.bottom.OpenersBottom.{OpenersBottom}
 
--- what counts of a run beside its mark: whether it can open as well as close, and its length modulo 3
+-- what counts of a run beside its delimiter: whether it can open as well as close, and its length modulo 3
 abbrev pub rank : Run → ℕ
-rank run = (if can_both run then 3 else 0) + run.size % 3
+rank run = (if can_both run then 3 else 0) + run.run_length % 3
 
 -- the class of a run of `*` or `_`: all closing runs of one class agree with the same open runs
 abbrev pub class_of : Run → Option ℕ
-class_of run = if run.mark == 42 then Some (rank run) else if run.mark == 95 then Some (6 + rank run) else None
+class_of run = if run.delimiter == 42 then Some (rank run) else if run.delimiter == 95 then Some (6 + rank run) else None
 
 -- neither a tilde nor a caret
 abbrev pub stays : code_run.Run → Bool
 stays run = stays_open (shown_run run)
 
--- the open runs of a stack on which all tildes and carets below this height are shut
-abbrev pub not_shut : (shut : ℕ) → List code_run.Run → List code_run.Run
-not_shut shut [] = []
-not_shut zero (run ∷ stack) = run ∷ stack
-not_shut (suc shut) (run ∷ stack) = if stays run then run ∷ not_shut shut stack else not_shut shut stack
+-- the open runs of a stack on which all tildes and carets below this height are inactive
+abbrev pub active_runs : (inactive_below : ℕ) → List code_run.Run → List code_run.Run
+active_runs inactive_below [] = []
+active_runs zero (run ∷ stack) = run ∷ stack
+active_runs (suc inactive_below) (run ∷ stack) = if stays run then run ∷ active_runs inactive_below stack else active_runs inactive_below stack
 
 -- no run below this height of the stack agrees with the closing one
 pub record NoneBelow (closer : Run) (stack : List code_run.Run) (height : ℕ) : Type 0 where
@@ -32,13 +32,13 @@ pub record NoneBelow (closer : Run) (stack : List code_run.Run) (height : ℕ) :
 -- the bottoms are those of this stack: below that of a class, no run agrees with a closing one of the class
 pub record AreBottoms (bottoms : OpenersBottom) (stack : List code_run.Run) : Type 0 where
   pub emphasis : (closer : Run) (class : ℕ) → class_of closer ≡ Some class → NoneBelow closer stack (get_or bottoms.heights class 0)
-  pub shut : bottoms.shut ≤ length stack
+  pub inactive_below : bottoms.inactive_below ≤ length stack
 
 abbrev pub or_other : Option ℕ → (heights : List ℕ) → (other : ℕ) → ℕ
 or_other None heights other = other
 or_other (Some class) heights other = get_or heights class 0
 
 -- where the search of a closing run ends: at the bottom of its class, or of tildes and carets at the height up to which they
--- are shut
+-- are inactive
 abbrev pub bottom_of : OpenersBottom → (closer : Run) → ℕ
-bottom_of bottoms closer = or_other (class_of closer) bottoms.heights (if is_tilde_or_caret closer.mark then bottoms.shut else 0)
+bottom_of bottoms closer = or_other (class_of closer) bottoms.heights (if is_tilde_or_caret closer.delimiter then bottoms.inactive_below else 0)

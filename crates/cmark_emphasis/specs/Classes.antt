@@ -9,7 +9,7 @@ pub record IsClosing (run : Run) : Type 0 where
 
 -- runs of `*` or of `_` whose lengths are the same modulo 3, and that both can open as well, or both cannot
 pub record IsLike (first second : Run) : Type 0 where
-  pub emphasis : is_tilde_or_caret first.mark ≡ false
-  pub mark : second.mark ≡ first.mark
-  pub size : second.size % 3 ≡ first.size % 3
+  pub emphasis : is_tilde_or_caret first.delimiter ≡ false
+  pub delimiter : second.delimiter ≡ first.delimiter
+  pub run_length : second.run_length % 3 ≡ first.run_length % 3
   pub both : can_both second ≡ can_both first

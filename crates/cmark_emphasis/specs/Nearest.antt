@@ -3,16 +3,16 @@ use Rattle.std.specs.Prelude.{◌≡◌, ℕ, true, nat_lt, if◌then◌else◌,
 use Rattle.cmark_grammar.specs.Emphasis.{Run, agrees}
 use Rattle.cmark_emphasis.specs.Shown.{shown_run, open_runs}
 use Rattle.cmark_emphasis.specs.Stack.{NoneAgree}
-use Rattle.cmark_emphasis.specs.Bottoms.{not_shut}
+use Rattle.cmark_emphasis.specs.Bottoms.{active_runs}
 use Rattle.cmark_emphasis.specs.declared.run.Run as code_run
 
--- the last open run of the stack that agrees, where the tildes and carets below this height are shut
-pub record IsNearest (closer : Run) (shut : ℕ) (stack : List code_run.Run) (i : ℕ) : Type 0 where
+-- the last open run of the stack that agrees, where the tildes and carets below this height are inactive
+pub record IsNearest (closer : Run) (inactive_below : ℕ) (stack : List code_run.Run) (i : ℕ) : Type 0 where
   pub opener : code_run.Run
   pub passed : List Run
   pub read : slice_get stack i ≡ Some opener
   pub agree : agrees (shown_run opener) closer ≡ true
-  pub cut : open_runs (not_shut shut stack) ≡ passed ++ (shown_run opener ∷ open_runs (not_shut shut (take i stack)))
+  pub cut : open_runs (active_runs inactive_below stack) ≡ passed ++ (shown_run opener ∷ open_runs (active_runs inactive_below (take i stack)))
   pub miss : NoneAgree closer passed
 
 -- the stack with what is left of a run, if anything is

@@ -13,10 +13,10 @@ use Rattle.cmark_emphasis.specs.declared.run.Run as code_run
 use Rattle.cmark_emphasis.specs.declared.run.Pair as code_pair
 
 abbrev pub shown_run : code_run.Run → Run
-shown_run run = record { mark = run.mark; size = run.size; at = run.at; left = run.left; opens = run.opens; closes = run.closes }
+shown_run run = record { delimiter = run.delimiter; run_length = run.run_length; at = run.at; left = run.left; opens = run.opens; closes = run.closes }
 
 abbrev pub shown_pair : code_pair.Pair → Pair
-shown_pair pair = record { mark = pair.mark; from = pair.from; to = pair.to; count = pair.count }
+shown_pair pair = record { delimiter = pair.delimiter; from = pair.from; to = pair.to; count = pair.count }
 
 -- the places of the run are numbers that the machine has
 abbrev pub IsPlaced : code_run.Run → Type 0

@@ -1,6 +1,6 @@
 -- The pairs of a list of runs, by one pass with a stack of open runs, the nearest first.
 use Rattle.std.specs.Prelude.{◌≡◌, Bool, true, false, not, nat_lt, if◌then◌else◌, Option, Some, None, List, [], ◌∷◌, ◌++◌, map, filter}
-use Rattle.cmark_grammar.specs.Emphasis.{Run, Pair, agrees, pair_of, rest_of_opener, rest_of_closer, is_tilde_or_caret, shuts}
+use Rattle.cmark_grammar.specs.Emphasis.{Run, Pair, agrees, pair_of, rest_of_opener, rest_of_closer, is_tilde_or_caret, deactivates}
 use Rattle.cmark_emphasis.specs.Shown.{shown_pair, open_runs}
 use Rattle.cmark_emphasis.specs.declared.run.Run as code_run
 use Rattle.cmark_emphasis.specs.declared.run.Pair as code_pair
@@ -23,11 +23,11 @@ abbrev pub put : Run → List Run → List Run
 put run opens = if nat_lt 0 run.left then run ∷ opens else opens
 
 abbrev pub stays_open : Run → Bool
-stays_open run = not (is_tilde_or_caret run.mark)
+stays_open run = not (is_tilde_or_caret run.delimiter)
 
 -- those that a closing run that finds none leaves open
 abbrev pub still_open : Run → List Run → List Run
-still_open closer opens = if shuts closer then filter stays_open opens else opens
+still_open closer opens = if deactivates closer then filter stays_open opens else opens
 
 abbrev pub chase : Run → List Run → Option Chased
 chase closer [] = None

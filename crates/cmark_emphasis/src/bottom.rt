@@ -2,25 +2,25 @@
 
 ghost use Rattle.std.specs.Prelude.{◌≡◌, ◌<◌, ℕ, List, [], IfSome, length, take};
 ghost use Rattle.cmark_grammar.specs.Emphasis as grammar;
-ghost use Rattle.cmark_emphasis.specs.Bottoms.{AreBottoms, bottom_of, class_of, not_shut};
+ghost use Rattle.cmark_emphasis.specs.Bottoms.{AreBottoms, bottom_of, class_of, active_runs};
 ghost use Rattle.cmark_emphasis.specs.Shown.{shown_run, open_runs};
 ghost use Rattle.cmark_emphasis.specs.Stack.{NoneAgree, still_open};
 
 use crate::run::Run;
 
-/// Whether the mark is a tilde or a caret.
-fn is_tilde_or_caret(mark: u8) -> bool
-    ensures { result ≡ grammar.is_tilde_or_caret mark }
+/// Whether the delimiter is a tilde or a caret.
+fn is_tilde_or_caret(delimiter: u8) -> bool
+    ensures { result ≡ grammar.is_tilde_or_caret delimiter }
 {
-    mark == b'~' || mark == b'^'
+    delimiter == b'~' || delimiter == b'^'
 }
 
-/// Whether the run, which found none, shuts all open tildes and carets.
-#[tactic(auto, unfolding(cmark_grammar::specs::Emphasis::shuts))]
-fn shuts(closer: Run) -> bool
-    ensures { result ≡ grammar.shuts (shown_run closer) }
+/// Whether the run, which found none, makes all open tildes and carets inactive.
+#[tactic(auto, unfolding(cmark_grammar::specs::Emphasis::deactivates))]
+fn deactivates(closer: Run) -> bool
+    ensures { result ≡ grammar.deactivates (shown_run closer) }
 {
-    closer.closes && closer.left > 0 && is_tilde_or_caret(closer.mark)
+    closer.closes && closer.left > 0 && is_tilde_or_caret(closer.delimiter)
 }
 
 /// The class of a run of `*` or `_`. All closing runs of one class agree with the same open runs, by the rule of three.
@@ -29,8 +29,8 @@ fn class_of(run: Run) -> Option<usize>
     ensures within { IfSome result (λ class. class < 12) }
 {
     let both = if run.opens && run.closes { 3 } else { 0 };
-    let rank = both + run.size % 3;
-    match run.mark {
+    let rank = both + run.run_length % 3;
+    match run.delimiter {
         b'*' => Some(rank),
         b'_' => Some(6 + rank),
         _ => None,
@@ -42,8 +42,8 @@ fn class_of(run: Run) -> Option<usize>
 pub struct OpenersBottom {
     /// For each class of runs of `*` or `_`: below it no open run agrees with a closing one of the class.
     heights: [usize; 12],
-    /// Below it all tildes and carets are shut: they stand on the stack, but are not open any more.
-    shut: usize,
+    /// Below it all tildes and carets are inactive: they stand on the stack, but are not open any more.
+    inactive_below: usize,
 }
 
 impl OpenersBottom {
@@ -53,7 +53,7 @@ impl OpenersBottom {
     {
         OpenersBottom {
             heights: [0; 12],
-            shut: 0,
+            inactive_below: 0,
         }
     }
 
@@ -63,7 +63,7 @@ impl OpenersBottom {
     {
         match class_of(closer) {
             Some(class) => self.heights[class],
-            None if is_tilde_or_caret(closer.mark) => self.shut,
+            None if is_tilde_or_caret(closer.delimiter) => self.inactive_below,
             None => 0,
         }
     }
@@ -71,23 +71,23 @@ impl OpenersBottom {
     /// The stack is cut to this height.
     pub fn lower(&mut self, height: usize)
         ensures bottoms { (stack : List Run) → AreBottoms self.old stack → AreBottoms self.new (take height stack) }
-        ensures opens { (stack : List Run) → not_shut self.new.shut (take height stack) ≡ not_shut self.old.shut (take height stack) }
+        ensures opens { (stack : List Run) → active_runs self.new.inactive_below (take height stack) ≡ active_runs self.old.inactive_below (take height stack) }
     {
         for class in 0..12 {
             self.heights[class] = self.heights[class].min(height);
         }
-        self.shut = self.shut.min(height);
+        self.inactive_below = self.inactive_below.min(height);
     }
 
-    /// The search of this run found none on the stack. If it is a tilde or a caret that closes, it shuts all open ones.
+    /// The search of this run found none on the stack. If it is a tilde or a caret that closes, it makes all open ones inactive.
     pub fn note(&mut self, closer: Run, stack: &[Run])
         requires bottoms { AreBottoms self.old stack.now }
-        requires none { NoneAgree (shown_run closer) (open_runs (not_shut self.old.shut stack.now)) }
+        requires none { NoneAgree (shown_run closer) (open_runs (active_runs self.old.inactive_below stack.now)) }
         ensures bottoms { AreBottoms self.new stack.now }
-        ensures opens { open_runs (not_shut self.new.shut stack.now) ≡ still_open (shown_run closer) (open_runs (not_shut self.old.shut stack.now)) }
+        ensures opens { open_runs (active_runs self.new.inactive_below stack.now) ≡ still_open (shown_run closer) (open_runs (active_runs self.old.inactive_below stack.now)) }
     {
-        if shuts(closer) {
-            self.shut = stack.len();
+        if deactivates(closer) {
+            self.inactive_below = stack.len();
             return;
         }
         if closer.closes && closer.left > 0 {

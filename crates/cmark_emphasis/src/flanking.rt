@@ -100,42 +100,43 @@ fn flanks(inner: Side, outer: Side) -> bool
     !inner.white_space && (!inner.punctuation || outer.white_space || outer.punctuation)
 }
 
-/// Whether so many of a mark are a delimiter run.
-fn is_delimiter_run(options: Options, mark: u8, size: usize) -> bool
-    ensures { result ≡ grammar.is_delimiter_run (shown_options options) mark size }
+/// Whether so many of a delimiter are a delimiter run.
+fn is_delimiter_run(options: Options, delimiter: u8, run_length: usize) -> bool
+    ensures { result ≡ grammar.is_delimiter_run (shown_options options) delimiter run_length }
 {
-    match mark {
-        b'*' | b'_' => size > 0,
+    match delimiter {
+        b'*' | b'_' => run_length > 0,
         b'~' => {
             (options.contains(Options::ENABLE_STRIKETHROUGH)
                 || options.contains(Options::ENABLE_SUBSCRIPT))
-                && (size == 1 || size == 2)
+                && (run_length == 1 || run_length == 2)
         }
-        b'^' => options.contains(Options::ENABLE_SUPERSCRIPT) && size == 1,
+        b'^' => options.contains(Options::ENABLE_SUPERSCRIPT) && run_length == 1,
         _ => false,
     }
 }
 
 /// Whether such a run can open and close inside a word too.
-fn is_intraword(options: Options, mark: u8, size: usize) -> bool
-    ensures { result ≡ grammar.is_intraword (shown_options options) mark size }
+fn is_intraword(options: Options, delimiter: u8, run_length: usize) -> bool
+    ensures { result ≡ grammar.is_intraword (shown_options options) delimiter run_length }
 {
-    mark != b'_' && (mark != b'~' || size == 2 || options.contains(Options::ENABLE_SUBSCRIPT))
+    delimiter != b'_'
+        && (delimiter != b'~' || run_length == 2 || options.contains(Options::ENABLE_SUBSCRIPT))
 }
 
-/// Whether `size` bytes `mark` can open and close that stand between these characters (CommonMark 6.2, rules 1 to 8; GFM 6.5).
+/// Whether `run_length` bytes `delimiter` can open and close that stand between these characters (CommonMark 6.2, rules 1 to 8; GFM 6.5).
 /// None stands at the edge of a line, leaf or cell. What is no delimiter run by the options can do neither: three tildes, for
 /// one.
 pub fn flanking_of(
     options: Options,
-    mark: u8,
-    size: usize,
+    delimiter: u8,
+    run_length: usize,
     before: Option<char>,
     after: Option<char>,
 ) -> Flanking
-    ensures { shown_flanking result ≡ grammar.flanking (shown_options options) mark size before after }
+    ensures { shown_flanking result ≡ grammar.flanking (shown_options options) delimiter run_length before after }
 {
-    if !is_delimiter_run(options, mark, size) {
+    if !is_delimiter_run(options, delimiter, run_length) {
         return Flanking {
             opens: false,
             closes: false,
@@ -145,7 +146,7 @@ pub fn flanking_of(
     let right = side_of(after);
     let is_left_flanking = flanks(right, left);
     let is_right_flanking = flanks(left, right);
-    let intraword = is_intraword(options, mark, size);
+    let intraword = is_intraword(options, delimiter, run_length);
     Flanking {
         opens: is_left_flanking && (intraword || !is_right_flanking || left.punctuation),
         closes: is_right_flanking && (intraword || !is_left_flanking || right.punctuation),

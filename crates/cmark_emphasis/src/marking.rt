@@ -38,15 +38,15 @@ fn innermost_tilde(left: usize) -> SpanKind
 }
 
 /// The innermost span of so many bytes a side.
-fn innermost(mark: u8, left: usize) -> SpanKind
+fn innermost(delimiter: u8, left: usize) -> SpanKind
     requires { 0 < left }
-    ensures kinds { kinds_of mark left ≡ shown_kind result ∷ kinds_of mark (left - span_width (shown_kind result)) }
+    ensures kinds { kinds_of delimiter left ≡ shown_kind result ∷ kinds_of delimiter (left - span_width (shown_kind result)) }
     ensures fits { span_width (shown_kind result) ≤ left }
 {
-    if mark == b'~' {
+    if delimiter == b'~' {
         return innermost_tilde(left);
     }
-    if mark == b'^' {
+    if delimiter == b'^' {
         return SpanKind::Caret;
     }
     innermost_emphasis(left)
@@ -86,7 +86,7 @@ fn mark_pair(slots: &mut [Slot], pair: Pair)
     let mut to = pair.to;
     let mut left = pair.count;
     while left > 0 {
-        let kind = innermost(pair.mark, left);
+        let kind = innermost(pair.delimiter, left);
         let width = kind.width();
         from -= width;
         write_opening(slots, from, kind);

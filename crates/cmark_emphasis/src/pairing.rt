@@ -5,7 +5,7 @@ ghost use Rattle.cmark_grammar.specs.Emphasis.{Sibling, agrees, pair_of, runs_of
 ghost use Rattle.cmark_grammar.specs.EmphasisModel.{pairs_of};
 ghost use Rattle.cmark_grammar.specs.Emphasis as grammar;
 ghost use Rattle.cmark_emphasis.specs.Shown.{shown_run, shown_pair, open_runs, IsPlaced};
-ghost use Rattle.cmark_emphasis.specs.Bottoms.{AreBottoms, not_shut};
+ghost use Rattle.cmark_emphasis.specs.Bottoms.{AreBottoms, active_runs};
 ghost use Rattle.cmark_emphasis.specs.Nearest.{IsNearest, with_opener, with_rest};
 ghost use Rattle.cmark_emphasis.specs.Stack.{Chased, NoneAgree, course_from, run_pairs};
 
@@ -19,7 +19,7 @@ fn keeps_rule_of_three(opener: Run, closer: Run) -> bool
     ensures { result ≡ grammar.keeps_rule_of_three (shown_run opener) (shown_run closer) }
 {
     let either_can_both = opener.opens && opener.closes || closer.opens && closer.closes;
-    !either_can_both || opener.size % 3 + closer.size % 3 != 3
+    !either_can_both || opener.run_length % 3 + closer.run_length % 3 != 3
 }
 
 /// Whether the run can close the open one.
@@ -29,15 +29,15 @@ fn can_close(opener: Run, closer: Run) -> bool
 {
     closer.closes
         && closer.left > 0
-        && opener.mark == closer.mark
-        && (closer.mark != b'~' || opener.size == closer.size)
+        && opener.delimiter == closer.delimiter
+        && (closer.delimiter != b'~' || opener.run_length == closer.run_length)
         && keeps_rule_of_three(opener, closer)
 }
 
 /// The last open run that the run can close. Below the bottom of its class there is none, and the search ends.
 fn nearest(closer: Run, stack: &[Run], bottoms: &OpenersBottom) -> Option<usize>
     requires { AreBottoms bottoms.now stack.now }
-    ensures { MatchOption result (NoneAgree (shown_run closer) (open_runs (not_shut bottoms.now.shut stack.now))) (IsNearest (shown_run closer) bottoms.now.shut stack.now) }
+    ensures { MatchOption result (NoneAgree (shown_run closer) (open_runs (active_runs bottoms.now.inactive_below stack.now))) (IsNearest (shown_run closer) bottoms.now.inactive_below stack.now) }
 {
     if !closer.closes {
         return None;
@@ -64,7 +64,7 @@ fn pair_up(opener: Run, closer: Run) -> Pair
     ensures { shown_pair result ≡ pair_of (shown_run opener) (shown_run closer) }
 {
     Pair {
-        mark: closer.mark,
+        delimiter: closer.delimiter,
         from: opener.at + opener.left,
         to: closer.at,
         count: opener.left.min(closer.left),
@@ -140,8 +140,8 @@ fn close(
     ensures placed { OnOk result (All IsPlaced stack.new.items) }
     ensures bottoms { OnOk result (AreBottoms bottoms.new stack.new.items) }
     ensures rest { IfOk result IsPlaced }
-    ensures value { IfOk result (λ rest. course_from (shown_run run) (not_shut bottoms.old.shut stack.old.items) pairs.old.items
-        ≡ record { rest = shown_run rest; opens = open_runs (not_shut bottoms.new.shut stack.new.items); pairs = map shown_pair pairs.new.items }) }
+    ensures value { IfOk result (λ rest. course_from (shown_run run) (active_runs bottoms.old.inactive_below stack.old.items) pairs.old.items
+        ≡ record { rest = shown_run rest; opens = open_runs (active_runs bottoms.new.inactive_below stack.new.items); pairs = map shown_pair pairs.new.items }) }
 {
     let mut closer = run;
     while let Some(found) = nearest(closer, stack, bottoms) {

@@ -5,9 +5,9 @@
 #[derive(Clone, Copy)]
 pub struct Run {
     /// The byte that it consists of: `*`, `_`, `~` or `^`.
-    pub mark: u8,
+    pub delimiter: u8,
     /// How many bytes it had.
-    pub size: usize,
+    pub run_length: usize,
     /// The place of the first byte that is left.
     pub at: usize,
     /// How many bytes are left.
@@ -22,7 +22,7 @@ pub struct Run {
 #[derive(Clone, Copy)]
 pub struct Pair {
     /// The byte that all of them are: `*`, `_`, `~` or `^`.
-    pub mark: u8,
+    pub delimiter: u8,
     /// The place behind those that open.
     pub from: usize,
     /// The place of the first that closes.

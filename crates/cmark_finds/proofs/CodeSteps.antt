@@ -9,7 +9,7 @@ use Rattle.std.proofs.lemmas.Str.{IsCharBoundary-after_ascii, IsCharBoundary-bef
 use Rattle.memchr.specs.Find.{IsFirstByte, is_byte}
 use Rattle.cmark_grammar.specs.CodeSpans.{is_backtick, backticks, up_to_run}
 use Rattle.cmark_grammar.specs.Letters.{first_is, behind_all}
-use Rattle.cmark_grammar.specs.LinkDefinitions.{Found, put}
+use Rattle.cmark_grammar.specs.LinkDefinitions.{Parsed, put}
 use Rattle.cmark_scan_parts.proofs.Links.{first_there}
 use Rattle.cmark_scan_parts.proofs.Lists.{behind_all-on, behind_all-off}
 use Rattle.cmark_scan_parts.proofs.PartSteps.{Reads, reads_more, reads_fail, reads_open}
@@ -19,19 +19,19 @@ module _ (size : ℕ) where
   -- a byte that is no backtick
   plain_byte : (goes_on : Bool) (b : ℕ) (bs : List ℕ) → is_backtick b ≡ false → up_to_run size goes_on (b ∷ bs) ≡ put b (up_to_run size false bs)
   plain_byte goes_on b bs e =
-      ap (λ t. if t && (not goes_on && (backticks (b ∷ bs) == size)) then Some (let found : Found = record { bytes = []; behind = b ∷ bs } in found) else put b (up_to_run size t bs)) e
+      ap (λ t. if t && (not goes_on && (backticks (b ∷ bs) == size)) then Some (let found : Parsed = record { bytes = []; behind = b ∷ bs } in found) else put b (up_to_run size t bs)) e
 
   -- where a run goes on, and where it is one of another length
   run_byte : (b : ℕ) (bs : List ℕ) → is_backtick b ≡ true → up_to_run size true (b ∷ bs) ≡ put b (up_to_run size true bs)
   run_byte b bs e =
-      ap (λ t. if t && false then Some (let found : Found = record { bytes = []; behind = b ∷ bs } in found) else put b (up_to_run size t bs)) e
+      ap (λ t. if t && false then Some (let found : Parsed = record { bytes = []; behind = b ∷ bs } in found) else put b (up_to_run size t bs)) e
 
   other_run : (b : ℕ) (bs : List ℕ) → is_backtick b ≡ true → (backticks (b ∷ bs) == size) ≡ false → up_to_run size false (b ∷ bs) ≡ put b (up_to_run size true bs)
   other_run b bs e o =
-      ap (λ t. if t && (backticks (b ∷ bs) == size) then Some (let found : Found = record { bytes = []; behind = b ∷ bs } in found) else put b (up_to_run size t bs)) e
-      ∙ ap (λ t. if t then Some (let found : Found = record { bytes = []; behind = b ∷ bs } in found) else put b (up_to_run size true bs)) o
+      ap (λ t. if t && (backticks (b ∷ bs) == size) then Some (let found : Parsed = record { bytes = []; behind = b ∷ bs } in found) else put b (up_to_run size t bs)) e
+      ∙ ap (λ t. if t then Some (let found : Parsed = record { bytes = []; behind = b ∷ bs } in found) else put b (up_to_run size true bs)) o
 
-  module _ (all : Option Found) (bytes : List ℕ) where
+  module _ (all : Option Parsed) (bytes : List ℕ) where
     Goes : Bool → List ℕ → Type 0
     Goes goes_on rest = Reads all (up_to_run size goes_on rest) bytes rest
 
@@ -53,7 +53,7 @@ module _ (size : ℕ) where
             subst (λ (l : List ℕ). Reads all (up_to_run size false l) bytes l) (sym (behind_all-on is_backtick b bs e)) (further (reads_more all _ (up_to_run size true bs) bytes (b ∷ bs) bs b r refl (run_byte b bs e)))
         by_case false e further =
             subst (λ (l : List ℕ). Reads all (up_to_run size false l) bytes l) (sym (behind_all-off is_backtick b bs e))
-            (subst (λ (o : Option Found). Reads all o bytes (b ∷ bs)) (plain_byte true b bs e ∙ sym (plain_byte false b bs e)) r)
+            (subst (λ (o : Option Parsed). Reads all o bytes (b ∷ bs)) (plain_byte true b bs e ∙ sym (plain_byte false b bs e)) r)
 
     -- behind a run of another length
     pub past_run : (rest : List ℕ) → (backticks rest == size) ≡ false → Reads all (up_to_run size false rest) bytes rest → Reads all (up_to_run size false (behind_all is_backtick rest)) bytes (behind_all is_backtick rest)
@@ -70,27 +70,27 @@ module _ (size : ℕ) where
   run_here : (run : List ℕ) → first_is is_backtick run ≡ true → (backticks run == size) ≡ true → up_to_run size false run ≡ Some (record { bytes = []; behind = run })
   run_here [] first is = absurd (true≢false (sym first))
   run_here (b ∷ bs) first is =
-      ap (λ t. if t && (backticks (b ∷ bs) == size) then Some (let found : Found = record { bytes = []; behind = b ∷ bs } in found) else put b (up_to_run size (is_backtick b) bs)) first
-      ∙ ap (λ t. if t then Some (let found : Found = record { bytes = []; behind = b ∷ bs } in found) else put b (up_to_run size (is_backtick b) bs)) is
+      ap (λ t. if t && (backticks (b ∷ bs) == size) then Some (let found : Parsed = record { bytes = []; behind = b ∷ bs } in found) else put b (up_to_run size (is_backtick b) bs)) first
+      ∙ ap (λ t. if t then Some (let found : Parsed = record { bytes = []; behind = b ∷ bs } in found) else put b (up_to_run size (is_backtick b) bs)) is
 
   no_run : (rest : List ℕ) → ((k : ℕ) → k < length rest → is_backtick (get_or rest k 0) ≡ false) → up_to_run size false rest ≡ None
   no_run [] none = refl
   no_run (b ∷ bs) none = plain_byte false b bs (none 0 (omega arith)) ∙ ap (put b) (no_run bs (λ k lt. none (suc k) (omega arith)))
 
   -- what stands between the front that was read and a rest
-  rest_back : (all here : Option Found) (bytes rest : List ℕ) → Reads all here bytes rest → drop (length bytes - length rest) bytes ≡ rest
+  rest_back : (all here : Option Parsed) (bytes rest : List ℕ) → Reads all here bytes rest → drop (length bytes - length rest) bytes ≡ rest
   rest_back all here bytes rest r =
       let n = ap length r.cut in let l = length-append r.front rest in
       ap (λ k. drop k bytes) (let e : length bytes - length rest ≡ length r.front = omega arith in e) ∙ ap (drop (length r.front)) r.cut ∙ drop-append_seam r.front rest
 
-  module _ (all : Option Found) (bytes rest run : List ℕ) (at : ℕ) (first : IsFirstByte (is_byte 96) rest (Some at)) (cut : run ≡ drop at rest) (r : Reads all (up_to_run size false rest) bytes rest) where
+  module _ (all : Option Parsed) (bytes rest run : List ℕ) (at : ℕ) (first : IsFirstByte (is_byte 96) rest (Some at)) (cut : run ≡ drop at rest) (r : Reads all (up_to_run size false rest) bytes rest) where
     at_run : Reads all (up_to_run size false run) bytes run
     at_run =
         subst (λ (l : List ℕ). Reads all (up_to_run size false l) bytes l) (sym cut)
         (to_run all bytes at rest (let h = first.0.high in omega arith) (λ k lt. false_from_ne_true _ (first.0.before k (omega arith) lt)) r)
 
     pub run_found : (count : ℕ) → count ≡ backticks run → count ≡ size
-        → Some (let found : Found = record { bytes = take (length bytes - length run) bytes; behind = drop (length bytes - length run) bytes } in found) ≡ all
+        → Some (let found : Parsed = record { bytes = take (length bytes - length run) bytes; behind = drop (length bytes - length run) bytes } in found) ≡ all
     run_found count is e =
         reads_open all (up_to_run size false run) bytes run at_run
         (run_here run (ap (first_is is_backtick) cut ∙ first_there is_backtick at rest first.0.high first.1) (eq-eqb (backticks run) size (sym is ∙ e)))
@@ -103,7 +103,7 @@ module _ (size : ℕ) where
         subst (λ (l : List ℕ). Reads all (up_to_run size false l) bytes l) (sym (behind ∙ ap (λ n. drop n run) is))
         (past_run all bytes run (ne_eqb (backticks run) size (λ e. other (is ∙ e))) at_run)
 
-  pub run_missing : (all : Option Found) (bytes rest : List ℕ) → IsFirstByte (is_byte 96) rest None → Reads all (up_to_run size false rest) bytes rest → None ≡ all
+  pub run_missing : (all : Option Parsed) (bytes rest : List ℕ) → IsFirstByte (is_byte 96) rest None → Reads all (up_to_run size false rest) bytes rest → None ≡ all
   run_missing all bytes rest first r = reads_fail all (up_to_run size false rest) bytes rest r (no_run rest (λ k lt. false_from_ne_true _ (first k (omega arith) lt)))
 
 -- behind a run, and where one begins

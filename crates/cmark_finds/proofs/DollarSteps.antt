@@ -10,7 +10,7 @@ use Rattle.std.proofs.lemmas.Bool.{leb-true, le-leb, lt-leb, lt-ltb, le-ltb, ltb
 use Rattle.std.proofs.lemmas.List.{get_or-drop}
 use Rattle.cmark_grammar.specs.Letters.{first_is}
 use Rattle.cmark_grammar.specs.Formulas.{Braces, is_dollar, is_ink, no_braces, context_of, behind_byte, braces_behind, closes_formula, formula_to, inline_in, display_in}
-use Rattle.cmark_grammar.specs.LinkDefinitions.{Found, put, escapes_next}
+use Rattle.cmark_grammar.specs.LinkDefinitions.{Parsed, put, escapes_next}
 use Rattle.cmark_grammar.specs.Tokens.{slice}
 use Rattle.cmark_finds.specs.Dollars.{IsFormulaAt, dollars_from, dollars_in, closing, braces_at, formula_at, signs_of}
 use Rattle.cmark_finds.specs.declared.dollars.Dollar.{Dollar}
@@ -79,17 +79,17 @@ there from context at escaped braces (b ∷ bs) p e =
     there-step from context at escaped braces b bs p (there from context (suc at) (escapes_next escaped b) (behind_byte escaped b braces) bs p) e
 
 -- ## The grammar's search is that for the dollar sign that closes
-abbrev between : (is_display : Bool) → (at last : ℕ) → (bs : List ℕ) → (p : ℕ) → Option Found
+abbrev between : (is_display : Bool) → (at last : ℕ) → (bs : List ℕ) → (p : ℕ) → Option Parsed
 between is_display at last bs p =
     if closes_formula is_display (get_or (last ∷ bs) (p - at) 0) (drop (suc (p - at)) bs)
     then Some (record { bytes = take (p - at) bs; behind = drop (if is_display then 1 else 0) (drop (suc (p - at)) bs) })
     else None
 
-abbrev up_to : (is_display : Bool) → (at last : ℕ) → (bs : List ℕ) → Option ℕ → Option Found
+abbrev up_to : (is_display : Bool) → (at last : ℕ) → (bs : List ℕ) → Option ℕ → Option Parsed
 up_to is_display at last bs None = None
 up_to is_display at last bs (Some p) = between is_display at last bs p
 
-put-if : (b : ℕ) (t : Bool) (found : Found) → put b (if t then Some found else None) ≡ (if t then Some (record { bytes = b ∷ found.bytes; behind = found.behind }) else None)
+put-if : (b : ℕ) (t : Bool) (found : Parsed) → put b (if t then Some found else None) ≡ (if t then Some (record { bytes = b ∷ found.bytes; behind = found.behind }) else None)
 put-if b true found = refl
 put-if b false found = refl
 
@@ -108,10 +108,10 @@ formula-step is_display context from at last escaped braces b bs le further = by
     after : List Dollar
     after = rest at escaped braces b bs
 
-    deep : Option Found
+    deep : Option Parsed
     deep = formula_to is_display context (escapes_next escaped b) b (behind_byte escaped b braces) bs
 
-    here : Option Found
+    here : Option Parsed
     here = if closes_formula is_display last bs then Some (record { bytes = []; behind = drop (if is_display then 1 else 0) bs }) else None
 
     shifted : (o : Option ℕ) → closing from context after ≡ o → put b (up_to is_display (suc at) b bs o) ≡ up_to is_display at last (b ∷ bs) o
@@ -215,13 +215,13 @@ module _ (text : List ℕ) where
       subst (Opened at) two (record { low = h.low; within = h.within; sign = h.sign; unescaped = h.unescaped; braces = h.braces ∙ (opened-one at lt is).braces })
 
   -- the search from there on, in the text's own places
-  abbrev pub found_up_to : (is_display : Bool) → (start p : ℕ) → Option Found
+  abbrev pub found_up_to : (is_display : Bool) → (start p : ℕ) → Option Parsed
   found_up_to is_display start p =
       if closes_formula is_display (get_or text (p - 1) 0) (drop (p + 1) text)
       then Some (record { bytes = slice text start p; behind = drop (p + signs_of is_display) text })
       else None
 
-  abbrev pub found_by : (is_display : Bool) → (start : ℕ) → Option ℕ → Option Found
+  abbrev pub found_by : (is_display : Bool) → (start : ℕ) → Option ℕ → Option Parsed
   found_by is_display start None = None
   found_by is_display start (Some p) = found_up_to is_display start p
 

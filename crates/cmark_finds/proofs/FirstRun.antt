@@ -5,7 +5,7 @@ use Rattle.std.proofs.lemmas.Bool.{and_parts}
 use Rattle.std.proofs.lemmas.List.{get_or-drop}
 use Rattle.std.proofs.lemmas.List.Sums.{prefix_len-le-length, prefix_len_passes, prefix_len_stops}
 use Rattle.cmark_grammar.specs.CodeSpans.{is_backtick, backticks, up_to_run}
-use Rattle.cmark_grammar.specs.LinkDefinitions.{Found, put}
+use Rattle.cmark_grammar.specs.LinkDefinitions.{Parsed, put}
 use Rattle.cmark_finds.specs.Shown.{ClosesFirst}
 
 -- a backtick stands before that place
@@ -26,15 +26,15 @@ not_true : (t : Bool) → not t ≡ true → t ≡ false
 not_true true e = sym e
 not_true false e = refl
 
-put_some : (b : ℕ) (o : Option Found) (found : Found) → put b o ≡ Some found → (inner : Found) × (o ≡ Some inner) × (length found.bytes ≡ suc (length inner.bytes))
+put_some : (b : ℕ) (o : Option Parsed) (found : Parsed) → put b o ≡ Some found → (inner : Parsed) × (o ≡ Some inner) × (length found.bytes ≡ suc (length inner.bytes))
 put_some b None found e = cc
 put_some b (Some inner) found e = (inner, refl, size)
   where
-    same : found ≡ (let other : Found = record { bytes = b ∷ inner.bytes; behind = inner.behind } in other)
+    same : found ≡ (let other : Parsed = record { bytes = b ∷ inner.bytes; behind = inner.behind } in other)
     same = cc
 
     size : length found.bytes ≡ suc (length inner.bytes)
-    size = ap (λ (f : Found). length f.bytes) same
+    size = ap (λ (f : Parsed). length f.bytes) same
 
 module _ (size : ℕ) (some : 0 < size) where
   -- where no run of this length begins
@@ -45,7 +45,7 @@ module _ (size : ℕ) (some : 0 < size) where
       by_case true tick = true≢false (sym (eq-eqb (backticks (b ∷ bs)) size is) ∙ sym (ap (λ t. t && (backticks (b ∷ bs) == size)) tick) ∙ e)
       by_case false plain = let none : backticks (b ∷ bs) ≡ 0 = ap (λ t. cond t (1 + prefix_len is_backtick bs) 0) plain in omega (arith, some, is, none)
 
-  pub first_run : (goes_on : Bool) (bs : List ℕ) (found : Found) → up_to_run size goes_on bs ≡ Some found → IsFirst size goes_on bs (length found.bytes)
+  pub first_run : (goes_on : Bool) (bs : List ℕ) (found : Parsed) → up_to_run size goes_on bs ≡ Some found → IsFirst size goes_on bs (length found.bytes)
   first_run goes_on [] found e = cc
   first_run goes_on (b ∷ bs) found e = by_case (is_backtick b && (not goes_on && (backticks (b ∷ bs) == size))) refl e (first_run (is_backtick b) bs)
     where
@@ -62,18 +62,18 @@ module _ (size : ℕ) (some : 0 < size) where
           none (suc k) lt e = i.none k (omega arith) (sym (shifted goes_on b bs k) ∙ e)
 
       by_case : (t : Bool) → (is_backtick b && (not goes_on && (backticks (b ∷ bs) == size))) ≡ t
-          → (if t then Some (let found : Found = record { bytes = []; behind = b ∷ bs } in found) else put b (up_to_run size (is_backtick b) bs)) ≡ Some found
-          → ((inner : Found) → up_to_run size (is_backtick b) bs ≡ Some inner → IsFirst size (is_backtick b) bs (length inner.bytes)) → IsFirst size goes_on (b ∷ bs) (length found.bytes)
+          → (if t then Some (let found : Parsed = record { bytes = []; behind = b ∷ bs } in found) else put b (up_to_run size (is_backtick b) bs)) ≡ Some found
+          → ((inner : Parsed) → up_to_run size (is_backtick b) bs ≡ Some inner → IsFirst size (is_backtick b) bs (length inner.bytes)) → IsFirst size goes_on (b ∷ bs) (length found.bytes)
       by_case true t q further =
-          let same : (let other : Found = record { bytes = []; behind = b ∷ bs } in other) ≡ found = cc in
-          subst (λ (f : Found). IsFirst size goes_on (b ∷ bs) (length f.bytes)) same (here t)
+          let same : (let other : Parsed = record { bytes = []; behind = b ∷ bs } in other) ≡ found = cc in
+          subst (λ (f : Parsed). IsFirst size goes_on (b ∷ bs) (length f.bytes)) same (here t)
       by_case false t q further =
           let p = put_some b (up_to_run size (is_backtick b) bs) found q in
           subst (IsFirst size goes_on (b ∷ bs)) (sym p.2) (later t (length p.0.bytes) (further p.0 p.1))
 
 -- in the text
 module _ (text run inside : List ℕ) (at size content : ℕ) (cut : run ≡ drop at text) (is : size ≡ backticks run) (some : size ≡ 0 → ⊥) (behind : inside ≡ drop size run) (le : content ≤ length inside)
-    (found : Some (let found : Found = record { bytes = take content inside; behind = drop content inside } in found) ≡ up_to_run size false inside) where
+    (found : Some (let found : Parsed = record { bytes = take content inside; behind = drop content inside } in found) ≡ up_to_run size false inside) where
   first : IsFirst size false inside content
   first = subst (IsFirst size false inside) (length-take-le content inside le) (first_run size (omega (arith, some)) false inside (record { bytes = take content inside; behind = drop content inside }) (sym found))
 

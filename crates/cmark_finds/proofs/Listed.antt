@@ -6,7 +6,7 @@ use Rattle.std.proofs.lemmas.List.{get_or-drop}
 use Rattle.std.proofs.lemmas.List.Sums.{prefix_len-le-length, prefix_len_passes, prefix_len_stops}
 use Rattle.memchr.specs.Find.{IsFirstByte, is_byte}
 use Rattle.cmark_grammar.specs.CodeSpans.{is_backtick, backticks, behind_run, code_in, up_to_run}
-use Rattle.cmark_grammar.specs.LinkDefinitions.{Found}
+use Rattle.cmark_grammar.specs.LinkDefinitions.{Parsed}
 use Rattle.cmark_finds.specs.Backticks.{AreListed, IsListed}
 use Rattle.cmark_finds.proofs.FirstRun.{IsFirst, first_run}
 
@@ -34,7 +34,7 @@ module _ (text last : List ℕ) (from at : ℕ) (listed : AreListed text last fr
   Opener : List ℕ
   Opener = drop at text
 
-  none_closes : (size : ℕ) → size ≡ backticks (drop at text) → 0 < size → (size < length last → get_or last size 0 ≤ at) → (found : Found) → up_to_run size false (drop size (drop at text)) ≡ Some found → ⊥
+  none_closes : (size : ℕ) → size ≡ backticks (drop at text) → 0 < size → (size < length last → get_or last size 0 ≤ at) → (found : Parsed) → up_to_run size false (drop size (drop at text)) ≡ Some found → ⊥
   none_closes size is some gone found e = go (length found.bytes) (first_run size some false (drop size (drop at text)) found e)
     where
       go : (n : ℕ) → IsFirst size false (drop size (drop at text)) n → ⊥
@@ -61,7 +61,7 @@ module _ (text last : List ℕ) (from at : ℕ) (listed : AreListed text last fr
       size : ℕ
       size = backticks (drop at text)
 
-      other : (o : Option Found) → up_to_run (backticks (drop at text)) false (drop (backticks (drop at text)) (drop at text)) ≡ o → 0 < backticks (drop at text) → option_map (behind_run (backticks (drop at text))) o ≡ None
+      other : (o : Option Parsed) → up_to_run (backticks (drop at text)) false (drop (backticks (drop at text)) (drop at text)) ≡ o → 0 < backticks (drop at text) → option_map (behind_run (backticks (drop at text))) o ≡ None
       other None e some = refl
       other (Some found) e some = absurd (none_closes (backticks (drop at text)) refl some gone found e)
 

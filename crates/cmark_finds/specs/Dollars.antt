@@ -4,7 +4,7 @@ use Rattle.std.specs.Str.{IsCharBoundary}
 use Rattle.cmark_grammar.specs.Formulas as grammar
 use Rattle.cmark_grammar.specs.Formulas.{is_dollar, no_braces, context_of, behind_byte, braces_behind, inline_in, display_in}
 use Rattle.cmark_grammar.specs.Letters.{first_is}
-use Rattle.cmark_grammar.specs.LinkDefinitions.{Found, escapes_next}
+use Rattle.cmark_grammar.specs.LinkDefinitions.{Parsed, escapes_next}
 use Rattle.cmark_grammar.specs.Tokens.{slice}
 use Rattle.cmark_finds.specs.declared.braces.Braces.{Braces}
 use Rattle.cmark_finds.specs.declared.dollars.Dollar.{Dollar}
@@ -41,12 +41,12 @@ abbrev pub braces_at : (text : List ℕ) → (at : ℕ) → grammar.Braces
 braces_at text at = braces_behind false (take at text) no_braces
 
 -- what the dollar sign at this place opens: a formula in the line, or in front of another one a display
-abbrev pub formula_at : (text : List ℕ) → (at : ℕ) → Option Found
+abbrev pub formula_at : (text : List ℕ) → (at : ℕ) → Option Parsed
 formula_at text at =
     if first_is is_dollar (drop (at + 1) text) then display_in (braces_at text at) (drop (at + 2) text) else inline_in (braces_at text at) (drop (at + 1) text)
 
 -- what a formula of a text holds, and what is behind it
-abbrev pub shown_formula : (text : List ℕ) → Formula → Found
+abbrev pub shown_formula : (text : List ℕ) → Formula → Parsed
 shown_formula text formula = record { bytes = slice text formula.content_start formula.content_end; behind = drop formula.end text }
 
 -- how many dollar signs stand at each end

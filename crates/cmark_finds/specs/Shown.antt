@@ -2,7 +2,7 @@
 use Rattle.std.specs.Prelude.{◌≡◌, ◌≢◌, ◌<◌, ◌≤◌, ◌+◌, ◌-◌, ℕ, false, List, drop, get_or, option_copied}
 use Rattle.std.specs.Str.{IsCharBoundary}
 use Rattle.cmark_grammar.specs.CodeSpans.{is_backtick, backticks}
-use Rattle.cmark_grammar.specs.LinkDefinitions.{Found}
+use Rattle.cmark_grammar.specs.LinkDefinitions.{Parsed}
 use Rattle.cmark_grammar.specs.LineBreaks as breaks
 use Rattle.cmark_grammar.specs.LinkTails as tails
 use Rattle.cmark_grammar.specs.Tokens.{slice}
@@ -14,7 +14,7 @@ use Rattle.cmark_finds.specs.declared.link.Inside.{Inside}
 use Rattle.cmark_finds.specs.declared.link.LinkTail.{LinkTail}
 
 -- what a code span of a text holds, and what is behind it
-abbrev pub shown_code : (text : List ℕ) → CodeSpan → Found
+abbrev pub shown_code : (text : List ℕ) → CodeSpan → Parsed
 shown_code text span = record { bytes = slice text span.content_start span.content_end; behind = drop span.end text }
 
 -- a code span with its opening run at this place: its runs have the same length, and where they begin and end no character
@@ -34,7 +34,7 @@ pub record ClosesFirst (text : List ℕ) (at : ℕ) (span : CodeSpan) : Type 0 w
   pub whole : backticks (drop span.content_end text) ≡ backticks (drop at text)
   pub first : (k : ℕ) → span.content_start ≤ k → k < span.content_end → is_backtick (get_or text (k - 1) 0) ≡ false → backticks (drop k text) ≢ backticks (drop at text)
 
-abbrev pub shown_label : (text : List ℕ) → Label → Found
+abbrev pub shown_label : (text : List ℕ) → Label → Parsed
 shown_label text label = record { bytes = label.label.now; behind = drop label.end text }
 
 abbrev pub shown_inside : Inside → tails.LinkTail

@@ -4,16 +4,16 @@ use Rattle.std.specs.Prelude.{if◌then◌else◌, cond, nat_le, nat_lt}
 use Rattle.std.proofs.lemmas.List.Sums.{take_while-cons}
 use Rattle.cmark_grammar.specs.Columns.{Column, is_blank_byte, is_blank, without_indent, bytes_of}
 use Rattle.cmark_grammar.specs.Letters.{starts}
-use Rattle.cmark_grammar.specs.Metadata.{metadata_of, metadata_if, metadata_kind, metadata_further, holds_metadata}
+use Rattle.cmark_grammar.specs.Metadata.{metadata_of, metadata_if, metadata_kind, metadata_continuation, holds_metadata}
 use Rattle.cmark_grammar.specs.MetadataBlockKind.{MetadataBlockKind}
 use Rattle.cmark_grammar.specs.Rows.{Row, without, lazy_row, hold, is_bare, is_blank_line, is_whole_line, indent_of, words_of}
-use Rattle.cmark_grammar.specs.Leaves.{Fence, Further, GoesOn, Closes, Waits, Stops, count_more, counted, underlines, is_thematic_break, is_atx_heading, run, fence_of, fence_further, code_further}
+use Rattle.cmark_grammar.specs.Leaves.{Fence, Continuation, GoesOn, Closes, Waits, Stops, count_more, counted, underlines, is_thematic_break, is_atx_heading, run, fence_of, fence_continuation, code_continuation}
 use Rattle.cmark_grammar.specs.BlockQuoteKind.{BlockQuoteKind}
-use Rattle.cmark_grammar.specs.Containers.{with_task, marker_width, Container, Quote, Item, Footnote, ListDefinition, Marker, marker_of, delimited, digits, is_bullet, is_delimiter, number_of, item_with, width_with, container_with, container_of, item_of, begins_with, is_quote, quote_width, width_of, enter, keep_as, keeps, strip_as, strip, footnote_width, footnote_with, footnote_of, footnote_or}
+use Rattle.cmark_grammar.specs.Containers.{with_task, marker_width, Container, BlockQuote, Item, Footnote, ListDefinition, Marker, marker_of, delimited, digits, is_bullet, is_delimiter, number_of, item_with, width_with, container_with, container_of, item_of, begins_with, is_block_quote, block_quote_width, width_of, enter, keep_as, keeps, strip_as, strip, footnote_width, footnote_with, footnote_of, footnote_or}
 use Rattle.cmark_grammar.specs.DefinitionLists.{definition_width, definition_marker, begins_definition, is_marker, definition_at, is_definition}
 use Rattle.cmark_grammar.specs.Footnotes.{Footnotes, Off, Gfm, Old, footnotes_in, footnote_in, columns_over, marker_columns}
-use Rattle.cmark_grammar.specs.HtmlBlocks.{html_kind, holds_end, html_further}
-use Rattle.cmark_grammar.specs.LinkDefinitions.{Defined, definition_in, bytes_over, Found}
+use Rattle.cmark_grammar.specs.HtmlBlocks.{html_kind, holds_end, html_continuation}
+use Rattle.cmark_grammar.specs.LinkDefinitions.{Defined, definition_in, bytes_over, Parsed}
 use Rattle.cmark_grammar.specs.Openings.{Leaf, IndentedCode, MetadataBlock, Opening, Blank, Nests, Takes, Plain, or_else, nests_if, fenced_if, metadata_begun, leaf_of, whole_opens, opens, opens_at, text_begun, texts, lazily, html_if, break_if, heading_if, text_lines, defined_if, put_if, definition_of, is_none, interrupts, count_rows, table_if, text_of, begins_no_link, definition_or}
 use Rattle.cmark_grammar.specs.Options.{Options}
 use Rattle.cmark_grammar.specs.Places.{Place, is_behind_task, is_behind_title}
@@ -21,22 +21,22 @@ use Rattle.cmark_grammar.specs.Alignment.{Alignment}
 use Rattle.cmark_grammar.specs.TableRows.{one_more_if, count_missing, most_filled, holds_pipe, delimited_ahead, count_cells, table_head, is_some_head, begins_with_pipe, table_interrupts}
 
 -- blanks begin with no other byte
-blank-starts : (cs : List Column) (b : ℕ) (mark : List ℕ) → is_blank_byte b ≡ false → is_bare (without_indent cs) ≡ true → starts (b ∷ mark) (bytes_of cs) ≡ false
-blank-starts [] b mark other bare = refl
-blank-starts (c ∷ cs) b mark other bare = go (is_blank c) refl bare (λ inside. blank-starts cs b mark other inside)
+blank-starts : (cs : List Column) (b : ℕ) (delimiter : List ℕ) → is_blank_byte b ≡ false → is_bare (without_indent cs) ≡ true → starts (b ∷ delimiter) (bytes_of cs) ≡ false
+blank-starts [] b delimiter other bare = refl
+blank-starts (c ∷ cs) b delimiter other bare = go (is_blank c) refl bare (λ inside. blank-starts cs b delimiter other inside)
   where
     differs : (z : Bool) → (c.byte == b) ≡ z → is_blank c ≡ true → (c.byte == b) ≡ false
     differs false e blank = e
     differs true e blank = let same : c.byte ≡ b = grind (arith, e) in absurd (true≢false (sym blank ∙ ap is_blank_byte same ∙ other))
 
-    begins : (z : Bool) → (c.part == 0) ≡ z → is_blank c ≡ true → starts (b ∷ mark) (bytes_of cs) ≡ false → starts (b ∷ mark) (if z then c.byte ∷ bytes_of cs else bytes_of cs) ≡ false
+    begins : (z : Bool) → (c.part == 0) ≡ z → is_blank c ≡ true → starts (b ∷ delimiter) (bytes_of cs) ≡ false → starts (b ∷ delimiter) (if z then c.byte ∷ bytes_of cs else bytes_of cs) ≡ false
     begins true e blank ih = rw (differs (c.byte == b) refl blank) refl
     begins false e blank ih = ih
 
     front : (z : Bool) → is_blank c ≡ z → without_indent (c ∷ cs) ≡ drop (length (cond z (c ∷ take_while is_blank cs) [])) (c ∷ cs)
     front z e = ap (λ n. drop n (c ∷ cs)) (ap length (take_while-cons is_blank c cs ∙ ap (λ z. cond z (c ∷ take_while is_blank cs) []) e))
 
-    go : (z : Bool) → is_blank c ≡ z → is_bare (without_indent (c ∷ cs)) ≡ true → (is_bare (without_indent cs) ≡ true → starts (b ∷ mark) (bytes_of cs) ≡ false) → starts (b ∷ mark) (bytes_of (c ∷ cs)) ≡ false
+    go : (z : Bool) → is_blank c ≡ z → is_bare (without_indent (c ∷ cs)) ≡ true → (is_bare (without_indent cs) ≡ true → starts (b ∷ delimiter) (bytes_of cs) ≡ false) → starts (b ∷ delimiter) (bytes_of (c ∷ cs)) ≡ false
     go true e bare ih = begins (c.part == 0) refl e (ih (ap is_bare (sym (front true e)) ∙ bare))
     go false e bare ih = absurd (true≢false (sym bare ∙ ap is_bare (front false e)))
 
@@ -68,11 +68,11 @@ module _ (options : Options) where
   underlines-lazy r e = rw e refl
 
   -- no leaf takes more lines than there are
-  counted-len : (further : Row → Further) (ahead : List Row) → counted further ahead ≤ length ahead
+  counted-len : (further : Row → Continuation) (ahead : List Row) → counted further ahead ≤ length ahead
   counted-len further [] = omega arith
   counted-len further (r ∷ ahead) = go (further r) (counted further ahead) (counted-len further ahead)
     where
-      go : (f : Further) (n : ℕ) → n ≤ length ahead → count_more f n ≤ suc (length ahead)
+      go : (f : Continuation) (n : ℕ) → n ≤ length ahead → count_more f n ≤ suc (length ahead)
       go GoesOn n le = omega (arith, le)
       go Closes n le = omega (arith, le)
       go Waits zero le = omega arith
@@ -101,7 +101,7 @@ module _ (options : Options) where
   fits_nests None ahead = tt
 
   fits_fenced : (o : Option Fence) (ahead : List Row) → Fits (fenced_if o ahead) ahead
-  fits_fenced (Some fence) ahead = counted-len (fence_further fence) ahead
+  fits_fenced (Some fence) ahead = counted-len (fence_continuation fence) ahead
   fits_fenced None ahead = tt
 
   zero-len : (ahead : List Row) → 0 ≤ length ahead
@@ -111,9 +111,9 @@ module _ (options : Options) where
   fits_html r ahead None = tt
   fits_html r ahead (Some kind) = go (nat_le kind 5 && holds_end kind (words_of r))
     where
-      go : (z : Bool) → (if z then 0 else counted (html_further kind) ahead) ≤ length ahead
+      go : (z : Bool) → (if z then 0 else counted (html_continuation kind) ahead) ≤ length ahead
       go true = zero-len ahead
-      go false = counted-len (html_further kind) ahead
+      go false = counted-len (html_continuation kind) ahead
 
   fits_break : (z : Bool) (ahead : List Row) → Fits (break_if z) ahead
   fits_break true ahead = zero-len ahead
@@ -178,8 +178,8 @@ module _ (options : Options) where
   fits_metadata None ahead = tt
   fits_metadata (Some kind) ahead = go (holds_metadata kind ahead)
     where
-      go : (z : Bool) → Fits (if z then Takes (MetadataBlock kind) (counted (metadata_further kind) ahead) else Plain) ahead
-      go true = counted-len (metadata_further kind) ahead
+      go : (z : Bool) → Fits (if z then Takes (MetadataBlock kind) (counted (metadata_continuation kind) ahead) else Plain) ahead
+      go true = counted-len (metadata_continuation kind) ahead
       go false = tt
 
   fits_opens : (r : Row) (ahead : List Row) → Fits (opens options r ahead) ahead
@@ -188,7 +188,7 @@ module _ (options : Options) where
       fits_if r.lazy Plain _ ahead tt
       (fits_or (metadata_begun (metadata_kind options r) ahead) (whole_opens options r ahead) ahead (fits_metadata (metadata_kind options r) ahead)
       (fits_if (is_blank_line r) Blank _ ahead tt
-      (fits_if (nat_le 4 (indent_of r)) (Takes IndentedCode (counted code_further ahead)) _ ahead (counted-len code_further ahead)
+      (fits_if (nat_le 4 (indent_of r)) (Takes IndentedCode (counted code_continuation ahead)) _ ahead (counted-len code_continuation ahead)
       (fits_or (nests_if (container_of options r)) (leaf_of options r ahead) ahead (fits_nests (container_of options r) ahead) (fits_leaf r ahead)))))
 
   pub opens-len : (r : Row) (ahead : List Row) (leaf : Leaf) (n : ℕ) → opens options r ahead ≡ Takes leaf n → n ≤ length ahead
@@ -224,7 +224,7 @@ module _ (options : Options) where
   delimited-size ds [] = tt
   delimited-size ds (b ∷ bs) = go (nat_lt 0 (length ds) && (nat_le (length ds) 9 && is_delimiter b))
     where
-      go : (z : Bool) → SomeSize (if z then Some (record { mark = b; number = Some (number_of ds); size = suc (length ds) }) else None)
+      go : (z : Bool) → SomeSize (if z then Some (record { delimiter = b; number = Some (number_of ds); size = suc (length ds) }) else None)
       go true = omega arith
       go false = tt
 
@@ -232,7 +232,7 @@ module _ (options : Options) where
   marker-size [] = tt
   marker-size (b ∷ bs) = go (is_bullet b)
     where
-      go : (z : Bool) → SomeSize (if z then Some (record { mark = b; number = None; size = 1 }) else delimited (digits (b ∷ bs)) (drop (length (digits (b ∷ bs))) (b ∷ bs)))
+      go : (z : Bool) → SomeSize (if z then Some (record { delimiter = b; number = None; size = 1 }) else delimited (digits (b ∷ bs)) (drop (length (digits (b ∷ bs))) (b ∷ bs)))
       go true = omega arith
       go false = delimited-size (digits (b ∷ bs)) (drop (length (digits (b ∷ bs))) (b ∷ bs))
 
@@ -240,7 +240,7 @@ module _ (options : Options) where
   task-wide None r some = tt
   task-wide (Some m) r some = go _
     where
-      go : (z : Bool) → SomeWide r (with_task options r (if z then Some (Item m.mark m.number (width_with m.size r) None) else None))
+      go : (z : Bool) → SomeWide r (with_task options r (if z then Some (Item m.delimiter m.number (width_with m.size r) None) else None))
       go true = let p : 0 < m.size = some in omega (arith, p)
       go false = tt
 
@@ -249,7 +249,7 @@ module _ (options : Options) where
   container-wide None true alert r some = omega arith
   container-wide None false alert r some = tt
 
-  footnote-some : (old : Bool) (r : Row) (o : Option Found) → footnote_in (words_of r) ≡ o → SomeWide r (footnote_with old r o)
+  footnote-some : (old : Bool) (r : Row) (o : Option Parsed) → footnote_in (words_of r) ≡ o → SomeWide r (footnote_with old r o)
   footnote-some old r None e = tt
   footnote-some old r (Some found) e = go (without_indent r.columns) refl
     where
@@ -272,7 +272,7 @@ module _ (options : Options) where
   container_of-wide : (r : Row) → SomeWide r (container_of options r)
   container_of-wide r =
       or-wide (footnote_of (footnotes_in options) r) _ r (footnote-wide (footnotes_in options) r)
-      (container-wide (with_task options r (item_of r)) (is_quote r) _ r (task-wide (marker_of (words_of r)) r (marker-size (words_of r))))
+      (container-wide (with_task options r (item_of r)) (is_block_quote r) _ r (task-wide (marker_of (words_of r)) r (marker-size (words_of r))))
 
   wide_nests : (r : Row) (o : Option Container) → SomeWide r o → IsWide r (nests_if o)
   wide_nests r (Some k) some = some
@@ -320,7 +320,7 @@ module _ (options : Options) where
   wide_metadata r None ahead = tt
   wide_metadata r (Some kind) ahead = go (holds_metadata kind ahead)
     where
-      go : (z : Bool) → IsWide r (if z then Takes (MetadataBlock kind) (counted (metadata_further kind) ahead) else Plain)
+      go : (z : Bool) → IsWide r (if z then Takes (MetadataBlock kind) (counted (metadata_continuation kind) ahead) else Plain)
       go true = tt
       go false = tt
 
@@ -330,7 +330,7 @@ module _ (options : Options) where
       wide_if r r.lazy Plain _ tt
       (wide_or r (metadata_begun (metadata_kind options r) ahead) (whole_opens options r ahead) (wide_metadata r (metadata_kind options r) ahead)
       (wide_if r (is_blank_line r) Blank _ tt
-      (wide_if r (nat_le 4 (indent_of r)) (Takes IndentedCode (counted code_further ahead)) _ tt
+      (wide_if r (nat_le 4 (indent_of r)) (Takes IndentedCode (counted code_continuation ahead)) _ tt
       (wide_or r (nests_if (container_of options r)) (leaf_of options r ahead) (wide_nests r (container_of options r) (container_of-wide r)) (wide_leaf r ahead)))))
 
   opens-some : (r : Row) (ahead : List Row) (k : Container) → opens options r ahead ≡ Nests k → 0 < length r.columns
@@ -346,12 +346,12 @@ module _ (options : Options) where
       go [] false ec ez =
           let none : metadata_kind options r ≡ None = no_metadata options r (ap (λ cs. is_bare (without_indent cs)) ec) in
           let p : whole_opens options r ahead ≡ Nests k = sym (ap (λ b. if b then Plain else whole) ez ∙ ap (λ o. or_else (metadata_begun o ahead) (whole_opens options r ahead)) none) ∙ e in
-          let q : Blank ≡ Nests k = sym (ap (λ cs. if is_bare (without_indent cs) then Blank else if nat_le 4 (indent_of r) then Takes IndentedCode (counted code_further ahead) else or_else (nests_if (container_of options r)) (leaf_of options r ahead)) ec) ∙ p in cc
+          let q : Blank ≡ Nests k = sym (ap (λ cs. if is_bare (without_indent cs) then Blank else if nat_le 4 (indent_of r) then Takes IndentedCode (counted code_continuation ahead) else or_else (nests_if (container_of options r)) (leaf_of options r ahead)) ec) ∙ p in cc
 
   pub marker-within : (k : Container) (r : Row) → marker_width k r ≤ width_of k r
-  marker-within (Quote alert) r = omega arith
-  marker-within (Item mark number width None) r = omega arith
-  marker-within (Item mark number width (Some is_checked)) r = omega arith
+  marker-within (BlockQuote alert) r = omega arith
+  marker-within (Item delimiter number width None) r = omega arith
+  marker-within (Item delimiter number width (Some is_checked)) r = omega arith
   marker-within (Footnote label old size) r = omega arith
   marker-within (ListDefinition width) r = omega arith
 
@@ -381,10 +381,10 @@ module _ (options : Options) where
       go false q = cc
 
   keep_as-lazy : (k : Container) (r s : Row) → keep_as k r ≡ Some s → s.lazy ≡ r.lazy
-  keep_as-lazy (Quote alert) r s e = go (is_quote r) e
+  keep_as-lazy (BlockQuote alert) r s e = go (is_block_quote r) e
     where
-      go : (z : Bool) → (if z then Some (without (quote_width r) r) else None) ≡ Some s → s.lazy ≡ r.lazy
-      go true q = let p : without (quote_width r) r ≡ s = cc in sym (ap (λ x. x.lazy) p)
+      go : (z : Bool) → (if z then Some (without (block_quote_width r) r) else None) ≡ Some s → s.lazy ≡ r.lazy
+      go true q = let p : without (block_quote_width r) r ≡ s = cc in sym (ap (λ x. x.lazy) p)
       go false q = cc
   keep_as-lazy (Footnote label true size) r s e = go _ e
     where
@@ -392,7 +392,7 @@ module _ (options : Options) where
       go true q = cc
       go false q = let p : hold r ≡ s = cc in sym (ap (λ x. x.lazy) p)
   keep_as-lazy (Footnote label false size) r s e = wide-lazy 4 r s e
-  keep_as-lazy (Item mark number width task) r s e = wide-lazy width r s e
+  keep_as-lazy (Item delimiter number width task) r s e = wide-lazy width r s e
   keep_as-lazy (ListDefinition width) r s e = wide-lazy width r s e
 
   or_no : (x y : Bool) → (x || y) ≡ false → x ≡ false
@@ -422,7 +422,7 @@ module _ (options : Options) where
   strip-still k bare r e = ap (λ s. s.lazy) (strip_lazy k bare r (keeps-lazy k bare r e))
 
   pub lazy-same : (r : Row) → r.lazy ≡ true → lazy_row r ≡ r
-  lazy-same r e = ap (λ z. record { columns = r.columns; at = r.at; stop = r.stop; past = r.past; lazy = z; held = r.held }) (sym e)
+  lazy-same r e = ap (λ z. record { columns = r.columns; at = r.at; content_end = r.content_end; line_end = r.line_end; lazy = z; held = r.held }) (sym e)
 
   not_or : (x y : Bool) → not (x || y) ≡ true → x ≡ false
   not_or true y e = absurd (true≢false (sym e))

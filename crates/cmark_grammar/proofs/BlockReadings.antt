@@ -139,7 +139,7 @@ quote_ranges : ranges_in (codes " > a\n > b\n") ≡ 1 ∷ 10 ∷ 3 ∷ 10 ∷ 3 
 unfolding blocks begin opens texts lazily enter keeps underlines
 quote_ranges = refl
 
--- an item behind a tab of which the quote took a column begins behind the tab
+-- an item behind a tab of which the block quote took a column begins behind the tab
 cut_tab_item : ranges_in (codes ">\t- a\n") ≡ 0 ∷ 6 ∷ 2 ∷ 6 ∷ 2 ∷ 6 ∷ 4 ∷ 6 ∷ 4 ∷ 5 ∷ []
 unfolding blocks begin opens texts lazily enter keeps underlines
 cut_tab_item = refl

@@ -6,17 +6,17 @@ use Rattle.cmark_grammar.specs.Places.{Place, Apart, BehindLazy, allows_lazy}
 use Rattle.cmark_grammar.specs.Alignment.{Alignment}
 use Rattle.cmark_grammar.specs.TableRows.{table_head}
 use Rattle.cmark_grammar.specs.Rows.{Row, rows, shown, show_as, words_of, is_blank_line, indent_of}
-use Rattle.cmark_grammar.specs.Leaves.{Fence, Further, GoesOn, Closes, Waits, Stops, count_more, counted, underlines, is_thematic_break, is_atx_heading, run, fence_of, code_further, fence_further, closes_fence}
+use Rattle.cmark_grammar.specs.Leaves.{Fence, Continuation, GoesOn, Closes, Waits, Stops, count_more, counted, underlines, is_thematic_break, is_atx_heading, run, fence_of, code_continuation, fence_continuation, closes_fence}
 use Rattle.cmark_grammar.specs.Footnotes.{footnotes_in}
-use Rattle.cmark_grammar.specs.HtmlBlocks.{html_kind, holds_end, html_further}
+use Rattle.cmark_grammar.specs.HtmlBlocks.{html_kind, holds_end, html_continuation}
 use Rattle.cmark_grammar.specs.LinkDefinitions.{Defined, definition_in, bytes_over}
-use Rattle.cmark_grammar.specs.Metadata.{metadata_kind, metadata_further, holds_metadata, ends_metadata}
+use Rattle.cmark_grammar.specs.Metadata.{metadata_kind, metadata_continuation, holds_metadata, ends_metadata}
 use Rattle.cmark_grammar.specs.MetadataBlockKind.{MetadataBlockKind}
 use Rattle.cmark_grammar.specs.Containers.{Container, is_alert, enter, keeps, strip, is_bare_start, bare_after, container_of}
 use Rattle.cmark_grammar.specs.Openings.{Leaf, ThematicBreak, AtxHeading, IndentedCode, FencedCode, HtmlBlock, LinkDefinition, MetadataBlock, Opening, Blank, Nests, Takes, Plain, or_else, nests_if, fenced_if, metadata_begun, html_if, break_if, heading_if, text_lines, defined_if, definition_of, leaf_of, whole_opens, opens, opens_at, texts, lazily, Table, table_if, text_of, begins_no_link}
 use Rattle.cmark_grammar.specs.Blocks.{Blocks, Nil, BlankLine, Paragraph, SetextHeading, LeafBlock, ContainerBlock, join, place_in, behind_leaf}
 use Rattle.cmark_grammar.specs.BlocksModel.{Open, Between as IsBetween, BehindTag as IsBehindTag, InParagraph as IsInParagraph, InLeaf as IsInLeaf, InContainer as IsInContainer, close, takes_lazy, within, inside_begun, begin_as, begin_in, begin_at, begin, place_behind, underline_or, goes_on_or, kept_or, feed, feed_all, blocks}
-use Rattle.cmark_grammar.specs.BlocksByLine.{Verbatim, Indented, Fenced, HtmlLines, Metadata, leaf_in, further_in, further_if, OpenLines, Between, BehindTag, InParagraph, InLeaf, InVerbatim, InContainer, blank_lines, close_lines, lines_take_lazy, html_begun, leaf_begun, lines_inside_begun, lines_begin_as, lines_underline_or, lines_go_on_or, lines_kept_or, verbatim_line, lines_begin_in, lines_begin_at, lines_begin, lines_feed, lines_feed_all, blocks_by_line}
+use Rattle.cmark_grammar.specs.BlocksByLine.{Verbatim, Indented, Fenced, HtmlLines, Metadata, leaf_in, continuation_in, continuation_if, OpenLines, Between, BehindTag, InParagraph, InLeaf, InVerbatim, InContainer, blank_lines, close_lines, lines_take_lazy, html_begun, leaf_begun, lines_inside_begun, lines_begin_as, lines_underline_or, lines_go_on_or, lines_kept_or, verbatim_line, lines_begin_in, lines_begin_at, lines_begin, lines_feed, lines_feed_all, blocks_by_line}
 use Rattle.cmark_grammar.proofs.BlocksSound.{join_assoc, join-Nil, within_row, bare_push}
 use Rattle.cmark_grammar.proofs.BlockLaws.{no_metadata, strip_lazy, at-either, blank-at}
 
@@ -32,7 +32,7 @@ seen (Between closed) ahead = IsBetween closed
 seen BehindTag ahead = IsBehindTag
 seen (InParagraph closed first more) ahead = IsInParagraph closed first more
 seen (InLeaf closed leaf first had left) ahead = IsInLeaf closed leaf first had left
-seen (InVerbatim closed verbatim first had waiting) ahead = waited closed (leaf_in verbatim) first had waiting (counted (further_in verbatim) ahead)
+seen (InVerbatim closed verbatim first had waiting) ahead = waited closed (leaf_in verbatim) first had waiting (counted (continuation_in verbatim) ahead)
 seen (InContainer closed k first more inside) ahead = IsInContainer closed k first more (seen inside (within k (bare_after (is_bare_start k first) more) ahead))
 
 never_lazy : (verbatim : Verbatim) → allows_lazy (behind_leaf (leaf_in verbatim)) ≡ false
@@ -46,7 +46,7 @@ seen_lazy (Between closed) ahead = refl
 seen_lazy BehindTag ahead = refl
 seen_lazy (InParagraph closed first more) ahead = refl
 seen_lazy (InLeaf closed leaf first had left) ahead = refl
-seen_lazy (InVerbatim closed verbatim first had waiting) ahead = go waiting (counted (further_in verbatim) ahead)
+seen_lazy (InVerbatim closed verbatim first had waiting) ahead = go waiting (counted (continuation_in verbatim) ahead)
   where
     go : (w : List Row) (n : ℕ) → takes_lazy (waited closed (leaf_in verbatim) first had w n) ≡ false
     go [] n = never_lazy verbatim
@@ -67,10 +67,10 @@ blank_lines_push : (ws : List Row) (r : Row) → blank_lines (ws ++ r ∷ []) �
 blank_lines_push [] r = refl
 blank_lines_push (w ∷ ws) r = ap (BlankLine w) (blank_lines_push ws r)
 
-counted_row : (verbatim : Verbatim) (r : Row) (ahead : List Row) → counted (further_in verbatim) (show_as r.lazy r ahead) ≡ count_more (further_if r.lazy verbatim r) (counted (further_in verbatim) ahead)
+counted_row : (verbatim : Verbatim) (r : Row) (ahead : List Row) → counted (continuation_in verbatim) (show_as r.lazy r ahead) ≡ count_more (continuation_if r.lazy verbatim r) (counted (continuation_in verbatim) ahead)
 counted_row verbatim r ahead = go r.lazy
   where
-    go : (z : Bool) → counted (further_in verbatim) (show_as z r ahead) ≡ count_more (further_if z verbatim r) (counted (further_in verbatim) ahead)
+    go : (z : Bool) → counted (continuation_in verbatim) (show_as z r ahead) ≡ count_more (continuation_if z verbatim r) (counted (continuation_in verbatim) ahead)
     go true = refl
     go false = refl
 
@@ -84,11 +84,11 @@ Counts r ahead (Nests k) = Unit {0}
 Counts r ahead Plain = Unit {0}
 Counts r ahead (Takes ThematicBreak n) = Unit {0}
 Counts r ahead (Takes (AtxHeading level) n) = Unit {0}
-Counts r ahead (Takes IndentedCode n) = n ≡ counted code_further ahead
-Counts r ahead (Takes (FencedCode fence) n) = n ≡ counted (fence_further fence) ahead
-Counts r ahead (Takes (HtmlBlock kind) n) = n ≡ (if nat_le kind 5 && holds_end kind (words_of r) then 0 else counted (html_further kind) ahead)
+Counts r ahead (Takes IndentedCode n) = n ≡ counted code_continuation ahead
+Counts r ahead (Takes (FencedCode fence) n) = n ≡ counted (fence_continuation fence) ahead
+Counts r ahead (Takes (HtmlBlock kind) n) = n ≡ (if nat_le kind 5 && holds_end kind (words_of r) then 0 else counted (html_continuation kind) ahead)
 Counts r ahead (Takes (LinkDefinition definition) n) = Unit {0}
-Counts r ahead (Takes (MetadataBlock kind) n) = n ≡ counted (metadata_further kind) ahead
+Counts r ahead (Takes (MetadataBlock kind) n) = n ≡ counted (metadata_continuation kind) ahead
 Counts r ahead (Takes (Table alignments) n) = Unit {0}
 
 counts_if : (r : Row) (ahead : List Row) (b : Bool) (x y : Opening) → Counts r ahead x → Counts r ahead y → Counts r ahead (if b then x else y)
@@ -129,7 +129,7 @@ counts_metadata : (r : Row) (ahead : List Row) (o : Option MetadataBlockKind) �
 counts_metadata r ahead None = tt
 counts_metadata r ahead (Some kind) = go (holds_metadata kind ahead)
   where
-    go : (z : Bool) → Counts r ahead (if z then Takes (MetadataBlock kind) (counted (metadata_further kind) ahead) else Plain)
+    go : (z : Bool) → Counts r ahead (if z then Takes (MetadataBlock kind) (counted (metadata_continuation kind) ahead) else Plain)
     go true = refl
     go false = tt
 
@@ -158,7 +158,7 @@ module _ (options : Options) where
       counts_if r ahead r.lazy Plain _ tt
       (counts_or r ahead (metadata_begun (metadata_kind options r) ahead) (whole_opens options r ahead) (counts_metadata r ahead (metadata_kind options r))
       (counts_if r ahead (is_blank_line r) Blank _ tt
-      (counts_if r ahead (nat_le 4 (indent_of r)) (Takes IndentedCode (counted code_further ahead)) _ refl
+      (counts_if r ahead (nat_le 4 (indent_of r)) (Takes IndentedCode (counted code_continuation ahead)) _ refl
       (counts_or r ahead (nests_if (container_of options r)) (leaf_of options r ahead) (counts_nests r ahead (container_of options r)) (counts_leaf r ahead)))))
 
   counts_at : (place : Place) (r : Row) (ahead : List Row) → Counts r ahead (opens_at options place r ahead)
@@ -169,11 +169,11 @@ module _ (options : Options) where
       text false = tt
 
   -- a line that waits is blank
-  waits_blank : (place : Place) (verbatim : Verbatim) (r : Row) (ahead : List Row) → further_if r.lazy verbatim r ≡ Waits → opens_at options place r ahead ≡ Blank
+  waits_blank : (place : Place) (verbatim : Verbatim) (r : Row) (ahead : List Row) → continuation_if r.lazy verbatim r ≡ Waits → opens_at options place r ahead ≡ Blank
   unfolding opens
   waits_blank place verbatim r ahead e = let w = whole r.lazy e in blank-at options place r ahead (go r.lazy refl e) (blank verbatim w)
     where
-      whole : (z : Bool) → further_if z verbatim r ≡ Waits → further_in verbatim r ≡ Waits
+      whole : (z : Bool) → continuation_if z verbatim r ≡ Waits → continuation_in verbatim r ≡ Waits
       whole true f = cc
       whole false f = f
 
@@ -195,13 +195,13 @@ module _ (options : Options) where
       html false b true f = cc
       html false b false f = cc
 
-      blank : (v : Verbatim) → further_in v r ≡ Waits → is_blank_line r ≡ true
+      blank : (v : Verbatim) → continuation_in v r ≡ Waits → is_blank_line r ≡ true
       blank Indented f = indented (is_blank_line r) refl f
       blank (Fenced fence) f = fenced (closes_fence fence r) f
       blank (HtmlLines kind) f = html _ _ _ f
       blank (Metadata kind) f = fenced (ends_metadata kind r) f
 
-      go : (z : Bool) → r.lazy ≡ z → further_if z verbatim r ≡ Waits → (if r.lazy then Plain else or_else (metadata_begun (metadata_kind options r) ahead) (whole_opens options r ahead)) ≡ Blank
+      go : (z : Bool) → r.lazy ≡ z → continuation_if z verbatim r ≡ Waits → (if r.lazy then Plain else or_else (metadata_begun (metadata_kind options r) ahead) (whole_opens options r ahead)) ≡ Blank
       go true l f = cc
       go false l f = rw (l, no_metadata options r (blank verbatim f), blank verbatim f) refl
 
@@ -217,7 +217,7 @@ module _ (options : Options) where
   begin_in_seen zero place closed r ahead = refl
   begin_in_seen (suc n) place closed r ahead = go (opens_at options place r ahead) (counts_at place r ahead) (λ k. begin_in_seen n (place_in k) Nil (enter k r) (within k (is_bare_start k r) ahead))
     where
-      html : (kind : ℕ) (z : Bool) → seen (html_begun z closed kind r) ahead ≡ IsInLeaf closed (HtmlBlock kind) r [] (if z then 0 else counted (html_further kind) ahead)
+      html : (kind : ℕ) (z : Bool) → seen (html_begun z closed kind r) ahead ≡ IsInLeaf closed (HtmlBlock kind) r [] (if z then 0 else counted (html_continuation kind) ahead)
       html kind true = refl
       html kind false = refl
 
@@ -260,14 +260,14 @@ module _ (options : Options) where
   feed_seen (InLeaf closed leaf first had zero) r ahead = begin_seen (join closed (LeafBlock leaf first had Nil)) r ahead
   feed_seen (InLeaf closed leaf first had (suc left)) r ahead = refl
   feed_seen (InVerbatim closed verbatim first had waiting) r ahead =
-      go (further_if r.lazy verbatim r) refl waiting (counted (further_in verbatim) ahead) refl
+      go (continuation_if r.lazy verbatim r) refl waiting (counted (continuation_in verbatim) ahead) refl
       ∙ ap (λ n. feed options (waited closed (leaf_in verbatim) first had waiting n) r ahead) (sym (counted_row verbatim r ahead))
     where
       block : Blocks
       block = join closed (LeafBlock (leaf_in verbatim) first had Nil)
 
-      go : (f : Further) → further_if r.lazy verbatim r ≡ f → (w : List Row) (n : ℕ) → counted (further_in verbatim) ahead ≡ n → seen (verbatim_line f closed verbatim first had w r (lines_begin options (join (join closed (LeafBlock (leaf_in verbatim) first had Nil)) (blank_lines w)) r ahead)) ahead ≡ feed options (waited closed (leaf_in verbatim) first had w (count_more f (counted (further_in verbatim) ahead))) r ahead
-      go GoesOn e [] n c = ap (λ h. IsInLeaf closed (leaf_in verbatim) first (h ++ r ∷ []) (counted (further_in verbatim) ahead)) (append-nil had)
+      go : (f : Continuation) → continuation_if r.lazy verbatim r ≡ f → (w : List Row) (n : ℕ) → counted (continuation_in verbatim) ahead ≡ n → seen (verbatim_line f closed verbatim first had w r (lines_begin options (join (join closed (LeafBlock (leaf_in verbatim) first had Nil)) (blank_lines w)) r ahead)) ahead ≡ feed options (waited closed (leaf_in verbatim) first had w (count_more f (counted (continuation_in verbatim) ahead))) r ahead
+      go GoesOn e [] n c = ap (λ h. IsInLeaf closed (leaf_in verbatim) first (h ++ r ∷ []) (counted (continuation_in verbatim) ahead)) (append-nil had)
       go GoesOn e (s ∷ w) n c = refl
       go Closes e [] n c = ap (λ h. IsInLeaf closed (leaf_in verbatim) first (h ++ r ∷ []) 0) (append-nil had)
       go Closes e (s ∷ w) n c = refl

@@ -2,7 +2,7 @@
 use Rattle.std.proofs.Common.{◌≡◌, ◌⊎◌, inl, inr, ⊎_elim, ℕ, zero, suc, ◌<◌, ◌≤◌, Bool, true, false, ◌&&◌, List, [], ◌∷◌, ◌++◌, length, refl, sym, ap, ◌∙◌, subst, arith, append_assoc, append-nil, Option, Some, None, true≢false}
 use Rattle.cmark_grammar.specs.Rows.{Row, rows, lazy_row, show_as, shown}
 use Rattle.cmark_grammar.specs.Leaves.{underlines}
-use Rattle.cmark_grammar.specs.Containers.{Container, Quote, Item, Footnote, ListDefinition, is_alert, unless_tag, enter, keeps, strip, strips, is_bare_start, bare_after, insides}
+use Rattle.cmark_grammar.specs.Containers.{Container, BlockQuote, Item, Footnote, ListDefinition, is_alert, unless_tag, enter, keeps, strip, strips, is_bare_start, bare_after, insides}
 use Rattle.cmark_grammar.specs.Openings.{Leaf, Opening, Blank, Nests, Takes, Plain, opens_at, texts, lazily}
 use Rattle.cmark_grammar.specs.Blocks.{Blocks, Nil, BlankLine, Paragraph, SetextHeading, LeafBlock, ContainerBlock, join, behind_leaf, behind_container, place_in, ends_lazily, AreText, Next, IsNoText, AreLazy, Ends, MayBegin, Body}
 use Rattle.cmark_grammar.specs.BlocksModel.{Open, Between, BehindTag, InParagraph, InLeaf, InContainer, close, takes_lazy, within, inside_begun, begin_as, begin_in, begin_at, begin, place_behind, kept_or, feed, feed_all, blocks}
@@ -175,16 +175,16 @@ module _ (options : Options) where
   over_blank-lazy BehindTitle = refl
 
   behind-strict : (k : Container) → allows_lazy (behind_container k) ≡ false
-  behind-strict (Quote alert) = refl
-  behind-strict (Item mark number width task) = refl
+  behind-strict (BlockQuote alert) = refl
+  behind-strict (Item delimiter number width task) = refl
   behind-strict (Footnote label old size) = refl
   behind-strict (ListDefinition width) = refl
 
   inside_extends : (k : Container) (o : Open) (first : Row) (more : List Row) (inside : Blocks) → (Body options (place_in k) (first ∷ more) inside → Extends o more inside) → Body options (place_in k) (unless_tag (is_alert k) first more) inside → Extends (inside_begun (is_alert k) o) more inside
-  inside_extends (Quote None) o first more inside h body = h body
+  inside_extends (BlockQuote None) o first more inside h body = h body
   inside_extends (Footnote label old size) o first more inside h body = h body
-  inside_extends (Quote (Some kind)) o first more inside h body = body
-  inside_extends (Item mark number width task) o first more inside h body = h body
+  inside_extends (BlockQuote (Some kind)) o first more inside h body = body
+  inside_extends (Item delimiter number width task) o first more inside h body = h body
   inside_extends (ListDefinition width) o first more inside h body = h body
 
   -- what a line begins, the blocks go on from
@@ -194,12 +194,12 @@ module _ (options : Options) where
       goes all b (λ k took inside body opened. begin_extends n Nil (place_in k) (enter k r) took inside (let l : length (enter k r).columns < length r.columns = at-enter options behind k r (shown more) opened in omega arith) (starts k) body)
     where
       starts : (k : Container) → over_blank (place_in k) ≡ Apart
-      starts (Quote None) = refl
+      starts (BlockQuote None) = refl
       starts (Footnote label old size) = refl
       starts (ListDefinition width) = refl
-      starts (Quote (Some kind)) = refl
-      starts (Item mark number width None) = refl
-      starts (Item mark number width (Some is_checked)) = refl
+      starts (BlockQuote (Some kind)) = refl
+      starts (Item delimiter number width None) = refl
+      starts (Item delimiter number width (Some is_checked)) = refl
 
       begun : Opening → Open
       begun o = begin_as o (λ k. begin_in options n (place_in k) Nil (enter k r) (within k (is_bare_start k r) (shown more))) closed r

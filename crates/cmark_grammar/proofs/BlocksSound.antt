@@ -3,7 +3,7 @@ use Rattle.std.proofs.Common.{◌≡◌, ◌⊎◌, inl, inr, ⊎_elim, ℕ, zer
 use Rattle.cmark_grammar.specs.Rows.{Row, rows, rows_from, lazy_row, show_as, shown}
 use Rattle.cmark_grammar.specs.Lines.{lines}
 use Rattle.cmark_grammar.specs.Leaves.{underlines}
-use Rattle.cmark_grammar.specs.Containers.{Container, Quote, Item, Footnote, ListDefinition, is_alert, unless_tag, enter, keeps, strip, strips, is_bare_start, bare_after, insides}
+use Rattle.cmark_grammar.specs.Containers.{Container, BlockQuote, Item, Footnote, ListDefinition, is_alert, unless_tag, enter, keeps, strip, strips, is_bare_start, bare_after, insides}
 use Rattle.cmark_grammar.specs.Openings.{Opening, Blank, Nests, Takes, Plain, opens_at, texts, lazily}
 use Rattle.cmark_grammar.specs.Blocks.{Blocks, Nil, BlankLine, Paragraph, SetextHeading, LeafBlock, ContainerBlock, join, behind_leaf, behind_container, place_in, ends_lazily, IsText, AreText, AreLazy, MayBegin, Body}
 use Rattle.cmark_grammar.specs.BlocksModel.{Open, Between, BehindTag, InParagraph, InLeaf, InContainer, close, takes_lazy, within, inside_begun, begin_as, begin_in, begin_at, begin, place_behind, underline_or, goes_on_or, kept_or, feed, feed_all, blocks}
@@ -176,10 +176,10 @@ module _ (options : Options) where
 
   -- directly behind an alert's tag
   behind_tag : (k : Container) (r : Row) (o : Open) (ahead : List Row) → Holds (place_in k) (r ∷ []) o ahead → Holds (place_in k) (unless_tag (is_alert k) r []) (inside_begun (is_alert k) o) ahead
-  behind_tag (Quote None) r o ahead h = h
+  behind_tag (BlockQuote None) r o ahead h = h
   behind_tag (Footnote label old size) r o ahead h = h
-  behind_tag (Quote (Some kind)) r o ahead h = (refl, refl)
-  behind_tag (Item mark number width task) r o ahead h = h
+  behind_tag (BlockQuote (Some kind)) r o ahead h = (refl, refl)
+  behind_tag (Item delimiter number width task) r o ahead h = h
   behind_tag (ListDefinition width) r o ahead h = h
 
   -- what a line begins
@@ -189,12 +189,12 @@ module _ (options : Options) where
       go (opens_at options behind r ahead) refl (λ k e w. begin_in_holds (place_in k) n [] Nil (place_in k) (enter k r) (within k (is_bare_start k r) ahead) (let q : length (enter k r).columns < length r.columns = at-enter options behind k r ahead e in omega arith) (inl (enter-lazy options k r ∙ w)) (shown-shown [] (strips k (is_bare_start k r) ahead)) (starts k) (λ rest after e body. body))
     where
       starts : (k : Container) → over_blank (place_in k) ≡ Apart
-      starts (Quote None) = refl
+      starts (BlockQuote None) = refl
       starts (Footnote label old size) = refl
       starts (ListDefinition width) = refl
-      starts (Quote (Some kind)) = refl
-      starts (Item mark number width None) = refl
-      starts (Item mark number width (Some is_checked)) = refl
+      starts (BlockQuote (Some kind)) = refl
+      starts (Item delimiter number width None) = refl
+      starts (Item delimiter number width (Some is_checked)) = refl
 
       began : (o : Opening) → opens_at options behind r ahead ≡ o → Began so (before ++ r ∷ []) closed r [] ahead o
       began o e = record { before = before; behind = behind; cut = refl; follows = follows; begun = begun; opened = ap (opens_at options behind r) still ∙ e }

@@ -8,11 +8,11 @@ use Rattle.cmark_grammar.specs.Options.{Options}
 use Rattle.cmark_grammar.specs.Places.{Place, Apart, BehindTitle, over_blank}
 use Rattle.cmark_grammar.specs.Lines.{lines, ends_line, onto, content, is_content, line_feed, carriage_return}
 use Rattle.cmark_grammar.specs.Columns.{Column, tab, expand, tab_columns, to_tab_stop}
-use Rattle.cmark_grammar.specs.Rows.{Row, rows, rows_from, row_at, begin_of, start_of, past_of, without}
-use Rattle.cmark_grammar.specs.Containers.{Container, Quote, Item, Footnote, ListDefinition, is_alert, unless_tag, enter, strips, is_bare_start, insides}
+use Rattle.cmark_grammar.specs.Rows.{Row, rows, rows_from, row_at, begin_of, start_of, last_line_end, without}
+use Rattle.cmark_grammar.specs.Containers.{Container, BlockQuote, Item, Footnote, ListDefinition, is_alert, unless_tag, enter, strips, is_bare_start, insides}
 use Rattle.cmark_grammar.specs.Openings.{Leaf, ThematicBreak as ThematicBreakLeaf, AtxHeading as AtxHeadingLeaf, IndentedCode as IndentedCodeLeaf, FencedCode as FencedCodeLeaf, HtmlBlock as HtmlBlockLeaf, LinkDefinition as LinkDefinitionLeaf, MetadataBlock as MetadataBlockLeaf, Table as TableLeaf, Nests, opens_at}
 use Rattle.cmark_grammar.specs.Blocks.{Blocks, Nil as NoBlocks, BlankLine, Paragraph as ParagraphBlock, SetextHeading, LeafBlock, ContainerBlock, behind_leaf, place_in, Body}
-use Rattle.cmark_grammar.specs.Lists.{ListBefore, definition_mark, is_title, tight_behind, title_tight_behind, goes_on}
+use Rattle.cmark_grammar.specs.Lists.{ListBefore, definition_delimiter, is_title, tight_behind, title_tight_behind, goes_on}
 use Rattle.cmark_grammar.specs.Tokens.{paragraph_tokens, fenced_lines, lines_before}
 use Rattle.cmark_grammar.specs.BlockDocument.{BlockKind, ListItem, DefinitionList, DefinitionListTitle, DefinitionListDefinition, BlockNode, BlockDocument, Nil, Node, node}
 use Rattle.cmark_grammar.specs.Derivation.{task_then, leaf_then, list_kind, item_then, paragraph_kind, document_of, Derives}
@@ -29,9 +29,9 @@ use Rattle.cmark_grammar.proofs.SetextLaws.{setext-edged}
 use Rattle.cmark_grammar.proofs.TaskLaws.{task-edged}
 
 module _ (E : ℕ → Type 0) where
-  past-edge : (first : Row) (more : List Row) → GoodRow E first → GoodRows E more → E (past_of first more)
-  past-edge first [] g gs = g.past
-  past-edge first (r ∷ more) g gs = past-edge r more gs.0 gs.1
+  line_end-edge : (first : Row) (more : List Row) → GoodRow E first → GoodRows E more → E (last_line_end first more)
+  line_end-edge first [] g gs = g.line_end
+  line_end-edge first (r ∷ more) g gs = line_end-edge r more gs.0 gs.1
 
   item-edged : (joins : Bool) (list : BlockKind) (item : BlockNode) (inside after : BlockDocument) → E item.start → E item.end → AllAt E inside → AllAt E after → AllAt E (item_then joins list item inside after)
   item-edged false list item inside after s e i a = (s, e, (s, e, i, tt), a)
@@ -45,17 +45,17 @@ module _ (E : ℕ → Type 0) where
   title-edged false list kind other start end inside after behind s e i a b = (s, e, i, b)
 
   leaf-edged : (text : List ℕ) (options : Options) (lookup : Lookup) (leaf : Leaf) (first : Row) (more : List Row) (after : BlockDocument) → GoodRow E first → GoodRows E more → LeafFront E first leaf → AllAt E after → AllAt E (leaf_then text options lookup leaf first more after)
-  leaf-edged text options lookup ThematicBreakLeaf first more after g gs f a = (start-E E first g, past-edge first more g gs, tt, a)
-  leaf-edged text options lookup (AtxHeadingLeaf level) first more after g gs f a = (start-E E first g, past-edge first more g gs, heading-edged E text options.heading_attributes level first g f, a)
-  leaf-edged text options lookup IndentedCodeLeaf first more after g gs f a = (code_place-edge E 4 first g, past-edge first more g gs, code-edged E text 4 (first ∷ more) (g, gs), a)
-  leaf-edged text options lookup (FencedCodeLeaf fence) first more after g gs f a = (start-E E first g, past-edge first more g gs, code-edged E text fence.indented (fenced_lines fence more) (before-good E (closes_fence fence) more gs), a)
-  leaf-edged text options lookup (HtmlBlockLeaf kind) first more after g gs f a = (g.begin, past-edge first more g gs, html-edged E text (first ∷ more) (g, gs), a)
-  leaf-edged text options lookup (LinkDefinitionLeaf definition) first more after g gs f a = (start-E E first g, past-edge first more g gs, tt, a)
-  leaf-edged text options lookup (MetadataBlockLeaf kind) first more after g gs f a = (start-E E first g, past-edge first more g gs, code-edged E text 0 (lines_before (ends_metadata kind) more) (before-good E (ends_metadata kind) more gs), a)
+  leaf-edged text options lookup ThematicBreakLeaf first more after g gs f a = (start-E E first g, line_end-edge first more g gs, tt, a)
+  leaf-edged text options lookup (AtxHeadingLeaf level) first more after g gs f a = (start-E E first g, line_end-edge first more g gs, heading-edged E text options.heading_attributes level first g f, a)
+  leaf-edged text options lookup IndentedCodeLeaf first more after g gs f a = (code_place-edge E 4 first g, line_end-edge first more g gs, code-edged E text 4 (first ∷ more) (g, gs), a)
+  leaf-edged text options lookup (FencedCodeLeaf fence) first more after g gs f a = (start-E E first g, line_end-edge first more g gs, code-edged E text fence.indented (fenced_lines fence more) (before-good E (closes_fence fence) more gs), a)
+  leaf-edged text options lookup (HtmlBlockLeaf kind) first more after g gs f a = (g.begin, line_end-edge first more g gs, html-edged E text (first ∷ more) (g, gs), a)
+  leaf-edged text options lookup (LinkDefinitionLeaf definition) first more after g gs f a = (start-E E first g, line_end-edge first more g gs, tt, a)
+  leaf-edged text options lookup (MetadataBlockLeaf kind) first more after g gs f a = (start-E E first g, line_end-edge first more g gs, code-edged E text 0 (lines_before (ends_metadata kind) more) (before-good E (ends_metadata kind) more gs), a)
   leaf-edged text options lookup (TableLeaf alignments) first more after g gs f a = (
     start-E E first g,
-    past-edge first more g gs,
-    (start-E E first g, g.past, row_cells-edged E text (length alignments) first g, row_tokens-edged E text (length alignments) (drop 1 more) (rows more gs)),
+    line_end-edge first more g gs,
+    (start-E E first g, g.line_end, row_cells-edged E text (length alignments) first g, row_tokens-edged E text (length alignments) (drop 1 more) (rows more gs)),
     a,
   )
     where
@@ -84,54 +84,54 @@ module _ (E : ℕ → Type 0) where
       let c : GoodRows E (first ∷ (more ++ body.rest)) = subst (GoodRows E) body.cut g in
       let s = split-good E more body.rest c.1 in
       let tight = title_tight_behind before after in
-      title-edged (is_title after) (DefinitionList tight) DefinitionListTitle (paragraph_kind direct) (start_of first) (past_of first more) (paragraph_tokens text first more)
-      (document_of text options lookup direct (Some (record { mark = definition_mark; tight = tight })) after) (document_of text options lookup direct None after)
-      (start-E E first c.0) (past-edge first more c.0 s.0) (paragraph-edged E text first more c.0 s.0)
-      (document-edged text options lookup direct (Some (record { mark = definition_mark; tight = tight })) BehindTitle body.rest after body.after s.1)
+      title-edged (is_title after) (DefinitionList tight) DefinitionListTitle (paragraph_kind direct) (start_of first) (last_line_end first more) (paragraph_tokens text first more)
+      (document_of text options lookup direct (Some (record { delimiter = definition_delimiter; tight = tight })) after) (document_of text options lookup direct None after)
+      (start-E E first c.0) (line_end-edge first more c.0 s.0) (paragraph-edged E text first more c.0 s.0)
+      (document-edged text options lookup direct (Some (record { delimiter = definition_delimiter; tight = tight })) BehindTitle body.rest after body.after s.1)
       (document-edged text options lookup direct None BehindTitle body.rest after body.after s.1)
   document-edged text options lookup direct before behind all (SetextHeading level first more underline after) body g =
       let c : GoodRows E (first ∷ (more ++ (underline ∷ body.rest))) = subst (GoodRows E) body.cut g in
       let s = split-good E more (underline ∷ body.rest) c.1 in
-      (start-E E first c.0, s.1.0.past, setext-edged E text options.heading_attributes first more c.0 s.0, document-edged text options lookup direct None Apart body.rest after body.after s.1.1)
+      (start-E E first c.0, s.1.0.line_end, setext-edged E text options.heading_attributes first more c.0 s.0, document-edged text options lookup direct None Apart body.rest after body.after s.1.1)
   document-edged text options lookup direct before behind all (LeafBlock leaf first more after) body g =
       let c : GoodRows E (first ∷ (more ++ body.rest)) = subst (GoodRows E) body.cut g in
       let s = split-good E more body.rest c.1 in
       leaf-edged text options lookup leaf first more (document_of text options lookup direct None after) c.0 s.0 (leaf-front E options first _ leaf (length more) (at-takes options behind first _ leaf (length more) body.opened) c.0)
       (document-edged text options lookup direct None (behind_leaf leaf) body.rest after body.after s.1)
-  document-edged text options lookup direct before behind all (ContainerBlock (Quote alert) first more inside after) body g =
+  document-edged text options lookup direct before behind all (ContainerBlock (BlockQuote alert) first more inside after) body g =
       let c : GoodRows E (first ∷ (more ++ body.rest)) = subst (GoodRows E) body.cut g in
       let s = split-good E more body.rest c.1 in (
         start-E E first c.0,
-        past-edge first more c.0 s.0,
-        document-edged text options lookup false None (place_in (Quote alert)) (insides (Quote alert) first more) inside body.contents (insides-good (Quote alert) first more (enter-good E options (Quote alert) first _ (at-other options behind first _ _ refl body.opened) c.0) s.0),
+        line_end-edge first more c.0 s.0,
+        document-edged text options lookup false None (place_in (BlockQuote alert)) (insides (BlockQuote alert) first more) inside body.contents (insides-good (BlockQuote alert) first more (enter-good E options (BlockQuote alert) first _ (at-other options behind first _ _ refl body.opened) c.0) s.0),
         document-edged text options lookup direct None Apart body.rest after body.after s.1,
       )
   document-edged text options lookup direct before behind all (ContainerBlock (Footnote label old size) first more inside after) body g =
       let c : GoodRows E (first ∷ (more ++ body.rest)) = subst (GoodRows E) body.cut g in
       let s = split-good E more body.rest c.1 in (
         start-E E first c.0,
-        past-edge first more c.0 s.0,
+        line_end-edge first more c.0 s.0,
         document-edged text options lookup false None (place_in (Footnote label old size)) (insides (Footnote label old size) first more) inside body.contents (insides-good (Footnote label old size) first more (enter-good E options (Footnote label old size) first _ (at-other options behind first _ _ refl body.opened) c.0) s.0),
         document-edged text options lookup direct None Apart body.rest after body.after s.1,
       )
-  document-edged text options lookup direct before behind all (ContainerBlock (Item mark number width task) first more inside after) body g =
+  document-edged text options lookup direct before behind all (ContainerBlock (Item delimiter number width task) first more inside after) body g =
       let c : GoodRows E (first ∷ (more ++ body.rest)) = subst (GoodRows E) body.cut g in
       let s = split-good E more body.rest c.1 in
-      let tight = tight_behind before mark inside after in
-      item-edged (goes_on mark after) (list_kind mark number tight) (node ListItem (begin_of first) (past_of first more)) (task_then task (begin_of (without width first)) (begin_of (without (behind_box task width) first)) (document_of text options lookup tight None inside)) (document_of text options lookup direct (Some (record { mark = mark; tight = tight })) after)
-      c.0.begin (past-edge first more c.0 s.0)
+      let tight = tight_behind before delimiter inside after in
+      item-edged (goes_on delimiter after) (list_kind delimiter number tight) (node ListItem (begin_of first) (last_line_end first more)) (task_then task (begin_of (without width first)) (begin_of (without (behind_box task width) first)) (document_of text options lookup tight None inside)) (document_of text options lookup direct (Some (record { delimiter = delimiter; tight = tight })) after)
+      c.0.begin (line_end-edge first more c.0 s.0)
       (task-edged E task (begin_of (without width first)) (begin_of (without (behind_box task width) first)) (document_of text options lookup tight None inside)
-      (marker-good E options (Item mark number width task) first _ (at-other options behind first _ _ refl body.opened) c.0).begin (enter-begin E options mark number width task first _ (at-other options behind first _ _ refl body.opened) c.0)
-      (document-edged text options lookup tight None (place_in (Item mark number width task)) (insides (Item mark number width task) first more) inside body.contents (insides-good (Item mark number width task) first more (enter-good E options (Item mark number width task) first _ (at-other options behind first _ _ refl body.opened) c.0) s.0)))
-      (document-edged text options lookup direct (Some (record { mark = mark; tight = tight })) Apart body.rest after body.after s.1)
+      (marker-good E options (Item delimiter number width task) first _ (at-other options behind first _ _ refl body.opened) c.0).begin (enter-begin E options delimiter number width task first _ (at-other options behind first _ _ refl body.opened) c.0)
+      (document-edged text options lookup tight None (place_in (Item delimiter number width task)) (insides (Item delimiter number width task) first more) inside body.contents (insides-good (Item delimiter number width task) first more (enter-good E options (Item delimiter number width task) first _ (at-other options behind first _ _ refl body.opened) c.0) s.0)))
+      (document-edged text options lookup direct (Some (record { delimiter = delimiter; tight = tight })) Apart body.rest after body.after s.1)
   document-edged text options lookup direct before behind all (ContainerBlock (ListDefinition width) first more inside after) body g =
       let c : GoodRows E (first ∷ (more ++ body.rest)) = subst (GoodRows E) body.cut g in
       let s = split-good E more body.rest c.1 in
-      let tight = tight_behind before definition_mark inside after in
-      item-edged (goes_on definition_mark after) (DefinitionList tight) (node DefinitionListDefinition (begin_of first) (past_of first more)) (document_of text options lookup tight None inside) (document_of text options lookup direct (Some (record { mark = definition_mark; tight = tight })) after)
-      c.0.begin (past-edge first more c.0 s.0)
+      let tight = tight_behind before definition_delimiter inside after in
+      item-edged (goes_on definition_delimiter after) (DefinitionList tight) (node DefinitionListDefinition (begin_of first) (last_line_end first more)) (document_of text options lookup tight None inside) (document_of text options lookup direct (Some (record { delimiter = definition_delimiter; tight = tight })) after)
+      c.0.begin (line_end-edge first more c.0 s.0)
       (document-edged text options lookup tight None (place_in (ListDefinition width)) (insides (ListDefinition width) first more) inside body.contents (insides-good (ListDefinition width) first more (begun-good options behind width first _ body.opened c.0) s.0))
-      (document-edged text options lookup direct (Some (record { mark = definition_mark; tight = tight })) BehindTitle body.rest after body.after s.1)
+      (document-edged text options lookup direct (Some (record { delimiter = definition_delimiter; tight = tight })) BehindTitle body.rest after body.after s.1)
 
 -- the lines of a text
 abbrev pub joined : List (List ℕ) → List ℕ
@@ -277,11 +277,11 @@ module _ (text : List ℕ) (utf8 : IsUtf8 text) where
       runs = subst (λ f. Runs f (expand 0 at (content line)) (at + length (content line))) (sym starts) runs;
       good = expand-good 0 at before (content line) (tail ++ joined ls) in-line l;
       begin = subst (IsCharBoundary text) (sym starts) edge;
-      stop = subst (IsCharBoundary text) lead (stopped.0);
-      past = past;
+      content_end = subst (IsCharBoundary text) lead (stopped.0);
+      line_end = line_end;
       feed = λ two. subst (IsCharBoundary text) (ap suc lead) (stopped.1 (let t : (at + length line) - (at + length (content line)) ≡ 2 = two in omega (arith, t, parts)));
     },
-    rows-good (before ++ line) ls (at + length line) (e ∙ sym (append_assoc before line (joined ls))) (length-append before line ∙ ap (λ n. n + length line) l) past ended.1,
+    rows-good (before ++ line) ls (at + length line) (e ∙ sym (append_assoc before line (joined ls))) (length-append before line ∙ ap (λ n. n + length line) l) line_end ended.1,
   )
     where
       tail : List ℕ
@@ -305,8 +305,8 @@ module _ (text : List ℕ) (utf8 : IsUtf8 text) where
       lead : length (before ++ content line) ≡ at + length (content line)
       lead = length-append before (content line) ∙ ap (λ n. n + length (content line)) l
 
-      past : IsCharBoundary text (at + length line)
-      past = ⊎_elim last more ended.0
+      line_end : IsCharBoundary text (at + length line)
+      line_end = ⊎_elim last more ended.0
         where
           last : ls ≡ [] → IsCharBoundary text (at + length line)
           last none =
@@ -320,7 +320,7 @@ module _ (text : List ℕ) (utf8 : IsUtf8 text) where
       stopped : IsCharBoundary text (length (before ++ content line)) × (length (drop (length (content line)) line) ≡ 2 → IsCharBoundary text (suc (length (before ++ content line))))
       stopped =
           tail-edge (before ++ content line) (drop (length (content line)) line) (joined ls) (in-line ∙ sym (append_assoc before (content line) (drop (length (content line)) line ++ joined ls)))
-          (subst (IsCharBoundary text) (let s : at + length line ≡ length (before ++ content line) + length (drop (length (content line)) line) = omega (arith, lead, parts) in s) past) (stop-shape line)
+          (subst (IsCharBoundary text) (let s : at + length line ≡ length (before ++ content line) + length (drop (length (content line)) line) = omega (arith, lead, parts) in s) line_end) (stop-shape line)
 
   pub text-good : GoodRows (IsCharBoundary text) (rows text)
   text-good = let h = lines-ended text in rows-good [] (lines text) 0 (sym h.1) refl (IsCharBoundary-start text utf8) h.0

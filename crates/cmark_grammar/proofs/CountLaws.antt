@@ -7,12 +7,12 @@ use Rattle.cmark_grammar.specs.Options.{Options}
 use Rattle.cmark_grammar.specs.Places.{Place, Apart, BehindTitle, over_blank}
 use Rattle.cmark_grammar.specs.Lines.{lines, ends_line, onto, content}
 use Rattle.cmark_grammar.specs.Columns.{Column, tab, expand, tab_columns, to_tab_stop, indent, without_indent, is_blank, is_blank_byte, drop_end}
-use Rattle.cmark_grammar.specs.Rows.{Row, rows, rows_from, without, place, first_place, begin_of, start_of, past_of, is_bare, is_blank_line, words_of}
+use Rattle.cmark_grammar.specs.Rows.{Row, rows, rows_from, without, place, first_place, begin_of, start_of, last_line_end, is_bare, is_blank_line, words_of}
 use Rattle.cmark_grammar.specs.Leaves.{closes_fence}
-use Rattle.cmark_grammar.specs.Containers.{marker_width, Container, Quote, Item, Footnote, ListDefinition, is_alert, unless_tag, keeps, strip_as, strip, strips, enter, width_of, is_bare_start, insides}
+use Rattle.cmark_grammar.specs.Containers.{marker_width, Container, BlockQuote, Item, Footnote, ListDefinition, is_alert, unless_tag, keeps, strip_as, strip, strips, enter, width_of, is_bare_start, insides}
 use Rattle.cmark_grammar.specs.Openings.{Leaf, ThematicBreak as ThematicBreakLeaf, AtxHeading as AtxHeadingLeaf, IndentedCode as IndentedCodeLeaf, FencedCode as FencedCodeLeaf, HtmlBlock as HtmlBlockLeaf, LinkDefinition as LinkDefinitionLeaf, MetadataBlock as MetadataBlockLeaf, Blank, Nests, Takes, Plain, opens_at, Table as TableLeaf}
 use Rattle.cmark_grammar.specs.Blocks.{Blocks, Nil as NoBlocks, BlankLine, Paragraph as ParagraphBlock, SetextHeading, LeafBlock, ContainerBlock, MayBegin, Body, behind_leaf, place_in}
-use Rattle.cmark_grammar.specs.Lists.{ListBefore, tight_behind, goes_on, definition_mark, is_title, title_tight_behind}
+use Rattle.cmark_grammar.specs.Lists.{ListBefore, tight_behind, goes_on, definition_delimiter, is_title, title_tight_behind}
 use Rattle.cmark_grammar.specs.BlockDocument.{ListItem, Text, OwnedText, Html, BlockNode, BlockDocument, Nil, Node, node, BlockKind, DefinitionList, DefinitionListTitle, DefinitionListDefinition, BlockList}
 use Rattle.cmark_grammar.specs.Derivation.{task_then, leaf_then, item_then, paragraph_kind, document_of, Derives, list_kind}
 use Rattle.cmark_grammar.specs.Ranges.{count_nodes, count_table, count_tables}
@@ -20,7 +20,7 @@ use Rattle.cmark_grammar.specs.Tokens.{Piece, texts_then, line_columns, words_en
 use Rattle.cmark_grammar.specs.Metadata.{ends_metadata}
 use Rattle.cmark_grammar.proofs.SetextLaws.{setext-few}
 use Rattle.cmark_grammar.proofs.BlockLaws.{marker-within, at-whole, at-words, at-wide, at-takes, texts-words, IsWide}
-use Rattle.cmark_grammar.proofs.RowPlaces.{Runs, Runs-le, first_place-Runs, drop-Runs, drop-mono, Lies, begin-start, start-Runs, start-stop, Lies-without, strip-Lies, kept-behind, strip-past, Along, text-Along, Along-le}
+use Rattle.cmark_grammar.proofs.RowPlaces.{Runs, Runs-le, first_place-Runs, drop-Runs, drop-mono, Lies, begin-start, start-Runs, start-content_end, Lies-without, strip-Lies, kept-behind, strip-line_end, Along, text-Along, Along-le}
 use Rattle.cmark_grammar.proofs.TokenRanges.{UpTo, end_place-Runs, line-UpTo, heading-UpTo}
 use Rattle.cmark_grammar.specs.TableRows.{count_missing, cells_start, cells_of}
 use Rattle.cmark_grammar.specs.TableTokens.{cells_then, row_tokens}
@@ -58,11 +58,11 @@ Sits from r = Lies from r × AreTabs r.columns
 -- lines of which each ends behind where the one before it has ended
 abbrev Fed : ℕ → List Row → ℕ → Type 0
 Fed from [] to = from ≤ to
-Fed from (r ∷ rs) to = (from < r.past) × Sits from r × Fed r.past rs to
+Fed from (r ∷ rs) to = (from < r.line_end) × Sits from r × Fed r.line_end rs to
 
 abbrev FedBehind : ℕ → List Row → ℕ → Type 0
 FedBehind from [] to = from ≤ to
-FedBehind from (r ∷ rs) to = Sits from r × Fed r.past rs to
+FedBehind from (r ∷ rs) to = Sits from r × Fed r.line_end rs to
 
 fed-behind : (from : ℕ) (rs : List Row) (to : ℕ) → Fed from rs to → FedBehind from rs to
 fed-behind from [] to f = f
@@ -74,9 +74,9 @@ fed-lower from mid (r ∷ rs) to le f = let l = f.1.0 in (((let a = l.0 in omega
 
 fed-le : (from : ℕ) (rs : List Row) (to : ℕ) → Fed from rs to → from ≤ to
 fed-le from [] to f = f
-fed-le from (r ∷ rs) to f = let a : from < r.past = f.0 in let b = fed-le r.past rs to f.2 in omega (arith, a, b)
+fed-le from (r ∷ rs) to f = let a : from < r.line_end = f.0 in let b = fed-le r.line_end rs to f.2 in omega (arith, a, b)
 
-fed-split : (first : Row) (more rest : List Row) (to : ℕ) → Fed first.past (more ++ rest) to → Fed first.past more (past_of first more) × Fed (past_of first more) rest to
+fed-split : (first : Row) (more rest : List Row) (to : ℕ) → Fed first.line_end (more ++ rest) to → Fed first.line_end more (last_line_end first more) × Fed (last_line_end first more) rest to
 fed-split first [] rest to f = (omega arith, f)
 fed-split first (r ∷ more) rest to f = let s = fed-split r more rest to f.2 in ((f.0, f.1, s.0), s.1)
 
@@ -92,7 +92,7 @@ strip-sits k bare from r s = (strip-Lies k bare from r s.0, go (keeps k bare r) 
 strips-fed : (k : Container) (bare : Bool) (from : ℕ) (rs : List Row) (to : ℕ) → Fed from rs to → Fed from (strips k bare rs) to
 strips-fed k bare from [] to f = f
 strips-fed k bare from (r ∷ rs) to f =
-    (subst (λ p. from < p) (sym (strip-past k bare r)) f.0, strip-sits k bare from r f.1, subst (λ p. Fed p (strips k false rs) to) (sym (strip-past k bare r)) (strips-fed k false r.past rs to f.2))
+    (subst (λ p. from < p) (sym (strip-line_end k bare r)) f.0, strip-sits k bare from r f.1, subst (λ p. Fed p (strips k false rs) to) (sym (strip-line_end k bare r)) (strips-fed k false r.line_end rs to f.2))
 
 -- the first column behind the indent is no blank
 indent-stop : (cs : List Column) (c : Column) (rest : List Column) → without_indent cs ≡ c ∷ rest → is_blank c ≡ false
@@ -104,26 +104,26 @@ indent-stop (d ∷ cs) c rest e = go (is_blank d) refl (subst (λ l. drop (lengt
     go false b f ih = let q : d ≡ c = let g : d ∷ cs ≡ c ∷ rest = f in cc in subst (λ x. is_blank x ≡ false) q b
 
 -- a line that is not blank takes a byte behind its indent
-pub next-place : (from : ℕ) (r : Row) → Sits from r → is_blank_line r ≡ false → start_of r < first_place r.stop (drop (suc (indent r.columns)) r.columns)
+pub next-place : (from : ℕ) (r : Row) → Sits from r → is_blank_line r ≡ false → start_of r < first_place r.content_end (drop (suc (indent r.columns)) r.columns)
 next-place from r s e = go (without_indent r.columns) refl (start-Runs from r s.0) (drop-tabs (indent r.columns) r.columns s.1)
   where
-    go : (cs : List Column) → without_indent r.columns ≡ cs → Runs (start_of r) cs r.stop → AreTabs cs → start_of r < first_place r.stop (drop (suc (indent r.columns)) r.columns)
+    go : (cs : List Column) → without_indent r.columns ≡ cs → Runs (start_of r) cs r.content_end → AreTabs cs → start_of r < first_place r.content_end (drop (suc (indent r.columns)) r.columns)
     go [] q h t = absurd (true≢false (ap is_bare (sym q) ∙ e))
     go (c ∷ cs) q h t =
         let p : place c ≡ start_of r = h.0 in
         let n : place c ≡ c.at = whole (c.part == 0) refl in
         let d : drop (suc (indent r.columns)) r.columns ≡ cs = ap (λ k. drop k r.columns) (let z : suc (indent r.columns) ≡ indent r.columns + 1 = omega arith in z) ∙ sym (drop-drop 1 (indent r.columns) r.columns) ∙ ap (drop 1) q in
-        let f : first_place r.stop (drop (suc (indent r.columns)) r.columns) ≡ suc c.at = ap (first_place r.stop) d ∙ first_place-Runs (suc c.at) cs r.stop h.1 in
+        let f : first_place r.content_end (drop (suc (indent r.columns)) r.columns) ≡ suc c.at = ap (first_place r.content_end) d ∙ first_place-Runs (suc c.at) cs r.content_end h.1 in
         omega (arith, p, n, f)
       where
         whole : (z : Bool) → (c.part == 0) ≡ z → (if c.part == 0 then c.at else suc c.at) ≡ c.at
         whole true w = ap (λ b. if b then c.at else suc c.at) w
         whole false w = absurd (true≢false (sym (t.0 w) ∙ indent-stop r.columns c cs q))
 
-words-stop : (from : ℕ) (r : Row) → Sits from r → is_blank_line r ≡ false → start_of r < r.stop
-words-stop from r s e =
-    let d = drop-Runs (suc (indent r.columns)) (begin_of r) r.columns r.stop s.0.1 in
-    let l : first_place r.stop (drop (suc (indent r.columns)) r.columns) ≤ r.stop = Runs-le _ (drop (suc (indent r.columns)) r.columns) r.stop d.0 in
+words-content_end : (from : ℕ) (r : Row) → Sits from r → is_blank_line r ≡ false → start_of r < r.content_end
+words-content_end from r s e =
+    let d = drop-Runs (suc (indent r.columns)) (begin_of r) r.columns r.content_end s.0.1 in
+    let l : first_place r.content_end (drop (suc (indent r.columns)) r.columns) ≤ r.content_end = Runs-le _ (drop (suc (indent r.columns)) r.columns) r.content_end d.0 in
     let n = next-place from r s e in
     omega (arith, l, n)
 
@@ -160,56 +160,56 @@ stretch_then-count text start end to after some le =
     let t = texts-count (piece_if text start end []) after in
     omega (arith, p, t)
 
-words-count : (text : List ℕ) (from : ℕ) (cs : List Column) (stop : ℕ) (after : BlockDocument) → UpTo from cs stop → from + count_nodes (stretch_then text from (end_place from cs) after) ≤ stop + count_nodes after
-words-count text from cs stop after u =
+words-count : (text : List ℕ) (from : ℕ) (cs : List Column) (content_end : ℕ) (after : BlockDocument) → UpTo from cs content_end → from + count_nodes (stretch_then text from (end_place from cs) after) ≤ content_end + count_nodes after
+words-count text from cs content_end after u =
     let e : end_place from cs ≡ u.mid = end_place-Runs from cs u.mid u.runs in
     let b : from ≤ u.mid = Runs-le from cs u.mid u.runs in
-    let l : u.mid ≤ stop = u.low in
-    stretch_then-count text from (end_place from cs) stop after (omega (arith, e, b)) (omega (arith, e, l))
+    let l : u.mid ≤ content_end = u.low in
+    stretch_then-count text from (end_place from cs) content_end after (omega (arith, e, b)) (omega (arith, e, l))
 
 from-start : (from : ℕ) (r : Row) → Lies from r → from ≤ start_of r
 from-start from r h = let a : from ≤ begin_of r = h.0 in let b = begin-start from r h in omega (arith, a, b)
 
-stretches-count : (text : List ℕ) (from begin : ℕ) (r : Row) (more : List Row) → Lies from r → begin ≤ start_of r → Fed r.past more (past_of r more) → begin + count_nodes (stretches text begin r more) ≤ past_of r more
+stretches-count : (text : List ℕ) (from begin : ℕ) (r : Row) (more : List Row) → Lies from r → begin ≤ start_of r → Fed r.line_end more (last_line_end r more) → begin + count_nodes (stretches text begin r more) ≤ last_line_end r more
 stretches-count text from begin r [] h b f =
     let u = line-UpTo from r h in
     let e : words_end r ≡ u.mid = end_place-Runs (start_of r) (line_columns r) u.mid u.runs in
     let c : start_of r ≤ u.mid = Runs-le (start_of r) (line_columns r) u.mid u.runs in
-    let l : u.mid ≤ r.stop = u.low in
-    let p : r.stop ≤ r.past = h.2 in
-    let w = stretch_then-count text begin (words_end r) r.past Nil (omega (arith, b, e, c)) (omega (arith, e, l, p)) in
+    let l : u.mid ≤ r.content_end = u.low in
+    let p : r.content_end ≤ r.line_end = h.2 in
+    let w = stretch_then-count text begin (words_end r) r.line_end Nil (omega (arith, b, e, c)) (omega (arith, e, l, p)) in
     omega (arith, w)
 stretches-count text from begin r (s ∷ more) h b f =
-    go (begin_of s == r.past) (stretches-count text r.past begin s more f.1.0 (omega (arith, b, c, d, a, e)) f.2) (stretches-count text r.past (begin_of s) s more f.1.0 e f.2)
+    go (begin_of s == r.line_end) (stretches-count text r.line_end begin s more f.1.0 (omega (arith, b, c, d, a, e)) f.2) (stretches-count text r.line_end (begin_of s) s more f.1.0 e f.2)
   where
-    a : r.past ≤ begin_of s
+    a : r.line_end ≤ begin_of s
     a = f.1.0.0
 
     e : begin_of s ≤ start_of s
-    e = begin-start r.past s f.1.0
+    e = begin-start r.line_end s f.1.0
 
-    c : start_of r ≤ r.stop
-    c = start-stop from r h
+    c : start_of r ≤ r.content_end
+    c = start-content_end from r h
 
-    d : r.stop ≤ r.past
+    d : r.content_end ≤ r.line_end
     d = h.2
 
-    go : (z : Bool) → begin + count_nodes (stretches text begin s more) ≤ past_of s more → begin_of s + count_nodes (stretches text (begin_of s) s more) ≤ past_of s more
-        → begin + count_nodes (if z then stretches text begin s more else stretch_then text begin r.past (stretches text (begin_of s) s more)) ≤ past_of s more
+    go : (z : Bool) → begin + count_nodes (stretches text begin s more) ≤ last_line_end s more → begin_of s + count_nodes (stretches text (begin_of s) s more) ≤ last_line_end s more
+        → begin + count_nodes (if z then stretches text begin s more else stretch_then text begin r.line_end (stretches text (begin_of s) s more)) ≤ last_line_end s more
     go true p q = p
     go false p q =
-        let w = stretch_then-count text begin r.past r.past (stretches text (begin_of s) s more) (omega (arith, b, c, d)) (omega arith) in
+        let w = stretch_then-count text begin r.line_end r.line_end (stretches text (begin_of s) s more) (omega (arith, b, c, d)) (omega arith) in
         omega (arith, w, q, a)
 
-paragraph-count : (text : List ℕ) (from : ℕ) (r : Row) (more : List Row) → Lies from r → Fed r.past more (past_of r more) → start_of r + count_nodes (paragraph_tokens text r more) ≤ past_of r more
+paragraph-count : (text : List ℕ) (from : ℕ) (r : Row) (more : List Row) → Lies from r → Fed r.line_end more (last_line_end r more) → start_of r + count_nodes (paragraph_tokens text r more) ≤ last_line_end r more
 paragraph-count text from r more h f = stretches-count text from (start_of r) r more h (omega arith) f
 
 plain_line-count : (text : List ℕ) (from : ℕ) (r : Row) → length (plain_line text from r) ≤ 2
-plain_line-count text from r = go (r.past - r.stop == 2)
+plain_line-count text from r = go (r.line_end - r.content_end == 2)
   where
-    go : (z : Bool) → length (if z then piece_if text from r.stop (piece_if text (suc r.stop) r.past []) else piece_if text from r.past []) ≤ 2
-    go true = let a = piece_if-count text from r.stop (piece_if text (suc r.stop) r.past []) in let b = piece_if-count text (suc r.stop) r.past [] in omega (arith, a, b)
-    go false = let a = piece_if-count text from r.past [] in omega (arith, a)
+    go : (z : Bool) → length (if z then piece_if text from r.content_end (piece_if text (suc r.content_end) r.line_end []) else piece_if text from r.line_end []) ≤ 2
+    go true = let a = piece_if-count text from r.content_end (piece_if text (suc r.content_end) r.line_end []) in let b = piece_if-count text (suc r.content_end) r.line_end [] in omega (arith, a, b)
+    go false = let a = piece_if-count text from r.line_end [] in omega (arith, a)
 
 spaces_if-count : (n at : ℕ) (ps : List Piece) → length (spaces_if n at ps) ≤ suc (length ps)
 spaces_if-count zero at ps = omega arith
@@ -217,8 +217,8 @@ spaces_if-count (suc n) at ps = omega arith
 
 verbatim-count : (text : List ℕ) (cs : List Column) (r : Row) → length (verbatim_line text cs r) ≤ 3
 verbatim-count text cs r =
-    let a = plain_line-count text (first_place r.stop cs) r in
-    let b = spaces_if-count (left_columns cs) (first_place r.stop cs) (plain_line text (first_place r.stop cs) r) in
+    let a = plain_line-count text (first_place r.content_end cs) r in
+    let b = spaces_if-count (left_columns cs) (first_place r.content_end cs) (plain_line text (first_place r.content_end cs) r) in
     omega (arith, a, b)
 
 merge-count : (p : Piece) (ps : List Piece) → length (merge p ps) ≤ suc (length ps)
@@ -236,56 +236,56 @@ merge_all-count (p ∷ ps) behind = let a = merge-count p (merge_all ps behind) 
 code-count : (text : List ℕ) (most from : ℕ) (rs : List Row) (to : ℕ) → Fed from rs to → length (code_pieces text most rs) + 4 * from ≤ 4 * to
 code-count text most from [] to f = let a : from ≤ to = f in omega (arith, a)
 code-count text most from (r ∷ rs) to f =
-    let a : from < r.past = f.0 in
+    let a : from < r.line_end = f.0 in
     let b = verbatim-count text (code_columns most r) r in
     let c = merge_all-count (verbatim_line text (code_columns most r) r) (code_pieces text most rs) in
-    let ih = code-count text most r.past rs to f.2 in
+    let ih = code-count text most r.line_end rs to f.2 in
     omega (arith, a, b, c, ih)
 
 before-fed : (closes : Row → Bool) (from : ℕ) (rs : List Row) (to : ℕ) → Fed from rs to → Fed from (lines_before closes rs) to
 before-fed closes from [] to f = f
-before-fed closes from (r ∷ rs) to f = go (closes r) (before-fed closes r.past rs to f.2)
+before-fed closes from (r ∷ rs) to f = go (closes r) (before-fed closes r.line_end rs to f.2)
   where
-    go : (z : Bool) → Fed r.past (lines_before closes rs) to → Fed from (stop_at z r (lines_before closes rs)) to
+    go : (z : Bool) → Fed r.line_end (lines_before closes rs) to → Fed from (stop_at z r (lines_before closes rs)) to
     go true ih = fed-le from (r ∷ rs) to f
     go false ih = (f.0, f.1, ih)
 
 html-count : (text : List ℕ) (from : ℕ) (rs : List Row) (to : ℕ) → Fed from rs to → count_nodes (html_tokens text rs) + 4 * from ≤ 4 * to
 html-count text from [] to f = let a : from ≤ to = f in omega (arith, a)
 html-count text from (r ∷ rs) to f =
-    let a : from < r.past = f.0 in
+    let a : from < r.line_end = f.0 in
     let b = verbatim-count text r.columns r in
     let c = html_then-count (verbatim_line text r.columns r) (html_tokens text rs) in
-    let ih = html-count text r.past rs to f.2 in
+    let ih = html-count text r.line_end rs to f.2 in
     omega (arith, a, b, c, ih)
 
-heading-count : (text : List ℕ) (attributes : Bool) (level from : ℕ) (r : Row) → Lies from r → start_of r + count_nodes (heading_tokens text attributes level r) ≤ r.stop
+heading-count : (text : List ℕ) (attributes : Bool) (level from : ℕ) (r : Row) → Lies from r → start_of r + count_nodes (heading_tokens text attributes level r) ≤ r.content_end
 heading-count text attributes level from r h =
-    let d = drop-Runs level (start_of r) (without_indent r.columns) r.stop (start-Runs from r h) in
+    let d = drop-Runs level (start_of r) (without_indent r.columns) r.content_end (start-Runs from r h) in
     let cs = drop level (without_indent r.columns) in
-    let e = drop-Runs (indent cs) (first_place r.stop cs) cs r.stop d.0 in
-    let f = first_place r.stop (without_indent cs) in
-    let u = heading-UpTo attributes f (without_indent cs) r.stop e.0 in
-    let a : start_of r ≤ first_place r.stop cs = d.1 in
-    let b : first_place r.stop cs ≤ f = e.1 in
-    let p = words-count text f (heading_columns attributes level r) r.stop Nil u in
+    let e = drop-Runs (indent cs) (first_place r.content_end cs) cs r.content_end d.0 in
+    let f = first_place r.content_end (without_indent cs) in
+    let u = heading-UpTo attributes f (without_indent cs) r.content_end e.0 in
+    let a : start_of r ≤ first_place r.content_end cs = d.1 in
+    let b : first_place r.content_end cs ≤ f = e.1 in
+    let p = words-count text f (heading_columns attributes level r) r.content_end Nil u in
     omega (arith, a, b, p)
 
 -- the rows of a table: four nodes a byte, and the cells that are filled in
 rows-count : (text : List ℕ) (columns from : ℕ) (rs : List Row) (to : ℕ) → Fed from rs to → 4 * from + count_nodes (row_tokens text columns rs) ≤ 4 * to + filled columns rs
 rows-count text columns from [] to f = let l : from ≤ to = f in omega (arith, l)
 rows-count text columns from (r ∷ rs) to f =
-    let lt : from < r.past = f.0 in
+    let lt : from < r.line_end = f.0 in
     let low = from-start from r f.1.0 in
     let w = words-places from r f.1.0 in
-    let p : r.stop ≤ r.past = f.1.0.2 in
+    let p : r.content_end ≤ r.line_end = f.1.0.2 in
     let c = row_cells-count text columns r in
-    let ih = rows-count text columns r.past rs to f.2 in
+    let ih = rows-count text columns r.line_end rs to f.2 in
     omega (arith, lt, low, w, p, c, ih)
 
 rest-count : (text : List ℕ) (columns from : ℕ) (rs : List Row) (to : ℕ) → Fed from rs to → 4 * from + count_nodes (row_tokens text columns (drop 1 rs)) ≤ 4 * to + filled columns (drop 1 rs)
 rest-count text columns from [] to f = let l : from ≤ to = f in omega (arith, l)
-rest-count text columns from (r ∷ rs) to f = let lt : from < r.past = f.0 in let c = rows-count text columns r.past rs to f.2 in omega (arith, lt, c)
+rest-count text columns from (r ∷ rs) to f = let lt : from < r.line_end = f.0 in let c = rows-count text columns r.line_end rs to f.2 in omega (arith, lt, c)
 
 -- whether a leaf is a table
 abbrev is_table : Leaf → ℕ
@@ -293,49 +293,49 @@ is_table (TableLeaf alignments) = 1
 is_table _ = 0
 
 -- a leaf's nodes, where its first line is not blank
-leaf-count : (text : List ℕ) (options : Options) (lookup : Lookup) (from : ℕ) (leaf : Leaf) (first : Row) (more : List Row) (after : BlockDocument) → Sits from first → is_blank_line first ≡ false → Fed first.past more (past_of first more) → LeafFilled leaf first more
-    → 4 * from + count_nodes (leaf_then text options lookup leaf first more after) ≤ 4 * past_of first more + (count_nodes after + 262144 * is_table leaf)
+leaf-count : (text : List ℕ) (options : Options) (lookup : Lookup) (from : ℕ) (leaf : Leaf) (first : Row) (more : List Row) (after : BlockDocument) → Sits from first → is_blank_line first ≡ false → Fed first.line_end more (last_line_end first more) → LeafFilled leaf first more
+    → 4 * from + count_nodes (leaf_then text options lookup leaf first more after) ≤ 4 * last_line_end first more + (count_nodes after + 262144 * is_table leaf)
 leaf-count text options lookup from leaf first more after s e f few = go leaf few
   where
     low : from ≤ start_of first
     low = from-start from first s.0
 
-    some : start_of first < first.stop
-    some = words-stop from first s e
+    some : start_of first < first.content_end
+    some = words-content_end from first s e
 
-    high : first.stop ≤ first.past
+    high : first.content_end ≤ first.line_end
     high = s.0.2
 
-    up : first.past ≤ past_of first more
-    up = fed-le first.past more (past_of first more) f
+    up : first.line_end ≤ last_line_end first more
+    up = fed-le first.line_end more (last_line_end first more) f
 
-    go : (leaf : Leaf) → LeafFilled leaf first more → 4 * from + count_nodes (leaf_then text options lookup leaf first more after) ≤ 4 * past_of first more + (count_nodes after + 262144 * is_table leaf)
+    go : (leaf : Leaf) → LeafFilled leaf first more → 4 * from + count_nodes (leaf_then text options lookup leaf first more after) ≤ 4 * last_line_end first more + (count_nodes after + 262144 * is_table leaf)
     go ThematicBreakLeaf few = omega (arith, low, some, high, up)
     go (AtxHeadingLeaf level) few = let h = heading-count text options.heading_attributes level from first s.0 in omega (arith, low, some, high, up, h)
     go IndentedCodeLeaf few =
         let b = verbatim-count text (code_columns 4 first) first in
         let c = merge_all-count (verbatim_line text (code_columns 4 first) first) (code_pieces text 4 more) in
-        let d = code-count text 4 first.past more (past_of first more) f in
+        let d = code-count text 4 first.line_end more (last_line_end first more) f in
         let t = texts-count (code_pieces text 4 (first ∷ more)) Nil in
         omega (arith, low, some, high, b, c, d, t)
     go (FencedCodeLeaf fence) few =
-        let d = code-count text fence.indented first.past (fenced_lines fence more) (past_of first more) (before-fed (closes_fence fence) first.past more (past_of first more) f) in
+        let d = code-count text fence.indented first.line_end (fenced_lines fence more) (last_line_end first more) (before-fed (closes_fence fence) first.line_end more (last_line_end first more) f) in
         let t = texts-count (code_pieces text fence.indented (fenced_lines fence more)) Nil in
         omega (arith, low, some, high, d, t)
     go (HtmlBlockLeaf kind) few =
         let b = verbatim-count text first.columns first in
         let c = html_then-count (verbatim_line text first.columns first) (html_tokens text more) in
-        let d = html-count text first.past more (past_of first more) f in
+        let d = html-count text first.line_end more (last_line_end first more) f in
         omega (arith, low, some, high, b, c, d)
     go (LinkDefinitionLeaf definition) few = omega (arith, low, some, high, up)
     go (MetadataBlockLeaf kind) few =
-        let d = code-count text 0 first.past (lines_before (ends_metadata kind) more) (past_of first more) (before-fed (ends_metadata kind) first.past more (past_of first more) f) in
+        let d = code-count text 0 first.line_end (lines_before (ends_metadata kind) more) (last_line_end first more) (before-fed (ends_metadata kind) first.line_end more (last_line_end first more) f) in
         let t = texts-count (code_pieces text 0 (lines_before (ends_metadata kind) more)) Nil in
         omega (arith, low, some, high, d, t)
     go (TableLeaf alignments) few =
         let w = words-places from first s.0 in
         let c = row_cells-count text (length alignments) first in
-        let d = rest-count text (length alignments) first.past more (past_of first more) f in
+        let d = rest-count text (length alignments) first.line_end more (last_line_end first more) f in
         let none : count_missing (length alignments) first ≡ 0 = few.0 in
         let most : filled (length alignments) (drop 1 more) ≤ 262144 = few.1 in
         omega (arith, low, some, high, up, w, c, d, none, most)
@@ -355,8 +355,8 @@ item-tables false list item inside after l e f = omega (arith, l, e)
 item-tables true list item inside Nil l e f = omega (arith, l, e)
 item-tables true list item inside (Node others items after) l e f = let n : count_table others.kind ≡ 0 = f refl in omega (arith, l, e, n)
 
-list-table : (mark : ℕ) (number : Option ℕ) (tight : Bool) → count_table (list_kind mark number tight) ≡ 0
-list-table mark number tight = go (mark == definition_mark)
+list-table : (delimiter : ℕ) (number : Option ℕ) (tight : Bool) → count_table (list_kind delimiter number tight) ≡ 0
+list-table delimiter number tight = go (delimiter == definition_delimiter)
   where
     go : (z : Bool) → count_table (if z then DefinitionList tight else BlockList number tight) ≡ 0
     go true = refl
@@ -404,38 +404,38 @@ stretch-tables text start end after = texts-tables (piece_if text start end []) 
 
 stretches-tables : (text : List ℕ) (begin : ℕ) (r : Row) (more : List Row) → count_tables (stretches text begin r more) ≡ 0
 stretches-tables text begin r [] = stretch-tables text begin (words_end r) Nil
-stretches-tables text begin r (s ∷ more) = go (begin_of s == r.past) (stretches-tables text begin s more) (stretches-tables text (begin_of s) s more)
+stretches-tables text begin r (s ∷ more) = go (begin_of s == r.line_end) (stretches-tables text begin s more) (stretches-tables text (begin_of s) s more)
   where
-    go : (z : Bool) → count_tables (stretches text begin s more) ≡ 0 → count_tables (stretches text (begin_of s) s more) ≡ 0 → count_tables (if z then stretches text begin s more else stretch_then text begin r.past (stretches text (begin_of s) s more)) ≡ 0
+    go : (z : Bool) → count_tables (stretches text begin s more) ≡ 0 → count_tables (stretches text (begin_of s) s more) ≡ 0 → count_tables (if z then stretches text begin s more else stretch_then text begin r.line_end (stretches text (begin_of s) s more)) ≡ 0
     go true p q = p
-    go false p q = stretch-tables text begin r.past (stretches text (begin_of s) s more) ∙ q
+    go false p q = stretch-tables text begin r.line_end (stretches text (begin_of s) s more) ∙ q
 
-cells-tables : (text : List ℕ) (columns at past : ℕ) (cells : List (List ℕ)) → count_tables (cells_then text columns at past cells) ≡ 0
-cells-tables text zero at past cells = refl
-cells-tables text (suc columns) at past [] = let ih = cells-tables text columns at past [] in omega (arith, ih)
-cells-tables text (suc columns) at past (cell ∷ cells) =
+cells-tables : (text : List ℕ) (columns at line_end : ℕ) (cells : List (List ℕ)) → count_tables (cells_then text columns at line_end cells) ≡ 0
+cells-tables text zero at line_end cells = refl
+cells-tables text (suc columns) at line_end [] = let ih = cells-tables text columns at line_end [] in omega (arith, ih)
+cells-tables text (suc columns) at line_end (cell ∷ cells) =
     let c = stretch-tables text (at + length (take_while is_blank_byte cell)) (at + length (drop_end is_blank_byte cell)) Nil in
-    let ih = cells-tables text columns (suc (at + length cell)) past cells in
+    let ih = cells-tables text columns (suc (at + length cell)) line_end cells in
     omega (arith, c, ih)
 
 rows-tables : (text : List ℕ) (columns : ℕ) (rs : List Row) → count_tables (row_tokens text columns rs) ≡ 0
 rows-tables text columns [] = refl
 rows-tables text columns (r ∷ rs) =
-    let c = cells-tables text columns (cells_start r) r.past (cells_of (words_of r)) in
+    let c = cells-tables text columns (cells_start r) r.line_end (cells_of (words_of r)) in
     let ih = rows-tables text columns rs in
     omega (arith, c, ih)
 
 leaf-tables : (text : List ℕ) (options : Options) (lookup : Lookup) (leaf : Leaf) (first : Row) (more : List Row) (after : BlockDocument) → count_tables (leaf_then text options lookup leaf first more after) ≡ is_table leaf + count_tables after
 leaf-tables text options lookup ThematicBreakLeaf first more after = omega arith
 leaf-tables text options lookup (AtxHeadingLeaf level) first more after =
-    let c = stretch-tables text (first_place first.stop (behind_hashes level first)) (end_place (first_place first.stop (behind_hashes level first)) (heading_columns options.heading_attributes level first)) Nil in omega (arith, c)
+    let c = stretch-tables text (first_place first.content_end (behind_hashes level first)) (end_place (first_place first.content_end (behind_hashes level first)) (heading_columns options.heading_attributes level first)) Nil in omega (arith, c)
 leaf-tables text options lookup IndentedCodeLeaf first more after = let c = texts-tables (code_pieces text 4 (first ∷ more)) Nil in omega (arith, c)
 leaf-tables text options lookup (FencedCodeLeaf fence) first more after = let c = texts-tables (code_pieces text fence.indented (fenced_lines fence more)) Nil in omega (arith, c)
 leaf-tables text options lookup (HtmlBlockLeaf kind) first more after = let c = html-tables text (first ∷ more) in omega (arith, c)
 leaf-tables text options lookup (LinkDefinitionLeaf definition) first more after = omega arith
 leaf-tables text options lookup (MetadataBlockLeaf kind) first more after = let c = texts-tables (code_pieces text 0 (lines_before (ends_metadata kind) more)) Nil in omega (arith, c)
 leaf-tables text options lookup (TableLeaf alignments) first more after =
-    let c = cells-tables text (length alignments) (cells_start first) first.past (cells_of (words_of first)) in
+    let c = cells-tables text (length alignments) (cells_start first) first.line_end (cells_of (words_of first)) in
     let d = rows-tables text (length alignments) (drop 1 more) in
     omega (arith, c, d)
 
@@ -464,30 +464,30 @@ module _ (text : List ℕ) (options : Options) (lookup : Lookup) where
       let own : indent r.columns < marker_width k r = subst (IsWide options r) o (at-wide options behind r ahead) in
       let more = marker-within options k r in
       let wide : indent r.columns < width_of k r = omega (arith, own, more) in
-      let m = drop-mono (suc (indent r.columns)) (width_of k r) (begin_of r) r.columns r.stop wide s.0.1 in
+      let m = drop-mono (suc (indent r.columns)) (width_of k r) (begin_of r) r.columns r.content_end wide s.0.1 in
       let l = Lies-without (width_of k r) from r s.0 in
       let a = from-start from r s.0 in
       ((omega (arith, n, m, a), l.1, l.2), drop-tabs (width_of k r) r.columns s.1)
 
-  enter-past : (k : Container) (r : Row) → (enter k r).past ≡ r.past
+  enter-line_end : (k : Container) (r : Row) → (enter k r).line_end ≡ r.line_end
   unfolding enter
-  enter-past k r = refl
+  enter-line_end k r = refl
 
-  insides-fed : (k : Container) (from : ℕ) (behind : Place) (first : Row) (more : List Row) (ahead : List Row) (to : ℕ) → opens_at options behind first ahead ≡ Nests k → Sits from first → Fed first.past more to → FedBehind (suc from) (insides k first more) to
+  insides-fed : (k : Container) (from : ℕ) (behind : Place) (first : Row) (more : List Row) (ahead : List Row) (to : ℕ) → opens_at options behind first ahead ≡ Nests k → Sits from first → Fed first.line_end more to → FedBehind (suc from) (insides k first more) to
   insides-fed k from behind first more ahead to o s f = go (is_alert k)
     where
-      others : Fed first.past (strips k (is_bare_start k first) more) to
-      others = strips-fed k (is_bare_start k first) first.past more to f
+      others : Fed first.line_end (strips k (is_bare_start k first) more) to
+      others = strips-fed k (is_bare_start k first) first.line_end more to f
 
       begins : Sits (suc from) (enter k first)
       begins = enter-sits k from behind first ahead o s
 
-      past : suc from ≤ first.past
-      past = subst (λ p. suc from ≤ p) (enter-past k first) (Along-le (suc from) (enter k first ∷ []) (enter k first).past (begins.0, omega arith))
+      line_end : suc from ≤ first.line_end
+      line_end = subst (λ p. suc from ≤ p) (enter-line_end k first) (Along-le (suc from) (enter k first ∷ []) (enter k first).line_end (begins.0, omega arith))
 
       go : (is_tag : Bool) → FedBehind (suc from) (unless_tag is_tag (enter k first) (strips k (is_bare_start k first) more)) to
-      go true = fed-lower (suc from) first.past (strips k (is_bare_start k first) more) to past others
-      go false = (begins, subst (λ p. Fed p (strips k (is_bare_start k first) more) to) (sym (enter-past k first)) others)
+      go true = fed-lower (suc from) first.line_end (strips k (is_bare_start k first) more) to line_end others
+      go false = (begins, subst (λ p. Fed p (strips k (is_bare_start k first) more) to) (sym (enter-line_end k first)) others)
 
   paragraph-table : (direct : Bool) → count_table (paragraph_kind direct) ≡ 0
   paragraph-table true = refl
@@ -499,72 +499,72 @@ module _ (text : List ℕ) (options : Options) (lookup : Lookup) where
   item-first true list item inside (Node others items rest) l = l
 
   -- a list that goes on is no table
-  list-first : (direct : Bool) (before : Option ListBefore) (mark : ℕ) (b : Blocks) → goes_on mark b ≡ true → NoTableFirst (document_of text options lookup direct before b)
-  list-first direct before mark NoBlocks e = tt
-  list-first direct before mark (BlankLine line after) e = list-first direct before mark after e
-  list-first direct before mark (ParagraphBlock first more after) e =
-      go (is_title after) (both (definition_mark == mark) (is_title after) e) (document_of text options lookup direct (Some (record { mark = definition_mark; tight = title_tight_behind before after })) after)
+  list-first : (direct : Bool) (before : Option ListBefore) (delimiter : ℕ) (b : Blocks) → goes_on delimiter b ≡ true → NoTableFirst (document_of text options lookup direct before b)
+  list-first direct before delimiter NoBlocks e = tt
+  list-first direct before delimiter (BlankLine line after) e = list-first direct before delimiter after e
+  list-first direct before delimiter (ParagraphBlock first more after) e =
+      go (is_title after) (both (definition_delimiter == delimiter) (is_title after) e) (document_of text options lookup direct (Some (record { delimiter = definition_delimiter; tight = title_tight_behind before after })) after)
     where
       both : (a b : Bool) → (a && b) ≡ true → b ≡ true
       both true b q = q
       both false b q = absurd (true≢false (sym q))
 
-      go : (z : Bool) → z ≡ true → (d : BlockDocument) → NoTableFirst (if z then item_then true (DefinitionList (title_tight_behind before after)) (node DefinitionListTitle (start_of first) (past_of first more)) (paragraph_tokens text first more) d
-          else Node (node (paragraph_kind direct) (start_of first) (past_of first more)) (paragraph_tokens text first more) (document_of text options lookup direct None after))
+      go : (z : Bool) → z ≡ true → (d : BlockDocument) → NoTableFirst (if z then item_then true (DefinitionList (title_tight_behind before after)) (node DefinitionListTitle (start_of first) (last_line_end first more)) (paragraph_tokens text first more) d
+          else Node (node (paragraph_kind direct) (start_of first) (last_line_end first more)) (paragraph_tokens text first more) (document_of text options lookup direct None after))
       go true q Nil = refl
       go true q (Node others items rest) = refl
       go false q d = absurd (true≢false (sym q))
-  list-first direct before mark (SetextHeading level first more underline after) e = absurd (true≢false (sym e))
-  list-first direct before mark (LeafBlock leaf first more after) e = absurd (true≢false (sym e))
-  list-first direct before mark (ContainerBlock (Quote alert) first more inside after) e = absurd (true≢false (sym e))
-  list-first direct before mark (ContainerBlock (Footnote label old size) first more inside after) e = absurd (true≢false (sym e))
-  list-first direct before mark (ContainerBlock (Item m number width task) first more inside after) e =
-      item-first (goes_on m after) (list_kind m number (tight_behind before m inside after)) (node ListItem (begin_of first) (past_of first more)) _
-      (document_of text options lookup direct (Some (record { mark = m; tight = tight_behind before m inside after })) after) (list-table m number (tight_behind before m inside after))
-  list-first direct before mark (ContainerBlock (ListDefinition width) first more inside after) e =
-      item-first (goes_on definition_mark after) (DefinitionList (tight_behind before definition_mark inside after)) (node DefinitionListDefinition (begin_of first) (past_of first more)) _
-      (document_of text options lookup direct (Some (record { mark = definition_mark; tight = tight_behind before definition_mark inside after })) after) refl
+  list-first direct before delimiter (SetextHeading level first more underline after) e = absurd (true≢false (sym e))
+  list-first direct before delimiter (LeafBlock leaf first more after) e = absurd (true≢false (sym e))
+  list-first direct before delimiter (ContainerBlock (BlockQuote alert) first more inside after) e = absurd (true≢false (sym e))
+  list-first direct before delimiter (ContainerBlock (Footnote label old size) first more inside after) e = absurd (true≢false (sym e))
+  list-first direct before delimiter (ContainerBlock (Item m number width task) first more inside after) e =
+      item-first (goes_on m after) (list_kind m number (tight_behind before m inside after)) (node ListItem (begin_of first) (last_line_end first more)) _
+      (document_of text options lookup direct (Some (record { delimiter = m; tight = tight_behind before m inside after })) after) (list-table m number (tight_behind before m inside after))
+  list-first direct before delimiter (ContainerBlock (ListDefinition width) first more inside after) e =
+      item-first (goes_on definition_delimiter after) (DefinitionList (tight_behind before definition_delimiter inside after)) (node DefinitionListDefinition (begin_of first) (last_line_end first more)) _
+      (document_of text options lookup direct (Some (record { delimiter = definition_delimiter; tight = tight_behind before definition_delimiter inside after })) after) refl
 
   pub document-count : (direct : Bool) (before : Option ListBefore) (behind : Place) (from : ℕ) (all : List Row) (b : Blocks) (to : ℕ) → Body options behind all b → FedBehind from all to → 4 * from + count_nodes (document_of text options lookup direct before b) ≤ 4 * to + 262144 * count_tables (document_of text options lookup direct before b)
   document-count direct before behind from all NoBlocks to body f = let l : from ≤ to = subst (λ ls. FedBehind from ls to) body f in omega (arith, l)
   document-count direct before behind from all (BlankLine line after) to body f =
       let c : FedBehind from (line ∷ body.rest) to = subst (λ ls. FedBehind from ls to) body.cut f in
       let a = from-start from line c.0.0 in
-      let b = start-stop from line c.0.0 in
-      let d : line.stop ≤ line.past = c.0.0.2 in
-      let ih = document-count direct before (over_blank behind) line.past body.rest after to body.after (fed-behind line.past body.rest to c.1) in
+      let b = start-content_end from line c.0.0 in
+      let d : line.content_end ≤ line.line_end = c.0.0.2 in
+      let ih = document-count direct before (over_blank behind) line.line_end body.rest after to body.after (fed-behind line.line_end body.rest to c.1) in
       omega (arith, a, b, d, ih)
   document-count direct before behind from all (ParagraphBlock first more after) to body f =
       let c : FedBehind from (first ∷ (more ++ body.rest)) to = subst (λ ls. FedBehind from ls to) body.cut f in
       let s = fed-split first more body.rest to c.1 in
       let a = from-start from first c.0.0 in
-      let b = words-stop from first c.0 (begun-words behind first _ body.begun body.opened) in
-      let d : first.stop ≤ first.past = c.0.0.2 in
+      let b = words-content_end from first c.0 (begun-words behind first _ body.begun body.opened) in
+      let d : first.content_end ≤ first.line_end = c.0.0.2 in
       let p = paragraph-count text from first more c.0.0 s.0 in
       let t = stretches-tables text (start_of first) first more in
-      let u = fed-le first.past more (past_of first more) s.0 in
+      let u = fed-le first.line_end more (last_line_end first more) s.0 in
       let tight = title_tight_behind before after in
-      let ih = document-count direct None BehindTitle (past_of first more) body.rest after to body.after (fed-behind (past_of first more) body.rest to s.1) in
-      let il = document-count direct (Some (record { mark = definition_mark; tight = tight })) BehindTitle (past_of first more) body.rest after to body.after (fed-behind (past_of first more) body.rest to s.1) in
-      let k = title-count (is_title after) tight (paragraph_kind direct) (start_of first) (past_of first more) (paragraph_tokens text first more)
-      (document_of text options lookup direct (Some (record { mark = definition_mark; tight = tight })) after) (document_of text options lookup direct None after)
-      (paragraph-table direct) (λ e. list-first direct (Some (record { mark = definition_mark; tight = tight })) definition_mark after (title_goes_on text options lookup after e)) (4 * past_of first more) (4 * to) il ih
+      let ih = document-count direct None BehindTitle (last_line_end first more) body.rest after to body.after (fed-behind (last_line_end first more) body.rest to s.1) in
+      let il = document-count direct (Some (record { delimiter = definition_delimiter; tight = tight })) BehindTitle (last_line_end first more) body.rest after to body.after (fed-behind (last_line_end first more) body.rest to s.1) in
+      let k = title-count (is_title after) tight (paragraph_kind direct) (start_of first) (last_line_end first more) (paragraph_tokens text first more)
+      (document_of text options lookup direct (Some (record { delimiter = definition_delimiter; tight = tight })) after) (document_of text options lookup direct None after)
+      (paragraph-table direct) (λ e. list-first direct (Some (record { delimiter = definition_delimiter; tight = tight })) definition_delimiter after (title_goes_on text options lookup after e)) (4 * last_line_end first more) (4 * to) il ih
       (document_of text options lookup direct before (ParagraphBlock first more after)) refl in
       omega (arith, a, b, d, p, t, u, k)
   document-count direct before behind from all (SetextHeading level first more underline after) to body f =
       let c : FedBehind from (first ∷ (more ++ (underline ∷ body.rest))) to = subst (λ ls. FedBehind from ls to) body.cut f in
       let s = fed-split first more (underline ∷ body.rest) to c.1 in
       let a = from-start from first c.0.0 in
-      let b = words-stop from first c.0 (begun-words behind first _ body.begun body.opened) in
-      let d : first.stop ≤ first.past = c.0.0.2 in
+      let b = words-content_end from first c.0 (begun-words behind first _ body.begun body.opened) in
+      let d : first.content_end ≤ first.line_end = c.0.0.2 in
       let p = paragraph-count text from first more c.0.0 s.0 in
       let t = stretches-tables text (start_of first) first more in
       let few = setext-few text options.heading_attributes first more in
       let x = few.0 in
       let y = few.1 in
-      let u = fed-le first.past more (past_of first more) s.0 in
-      let g : past_of first more < underline.past = s.1.0 in
-      let ih = document-count direct None Apart underline.past body.rest after to body.after (fed-behind underline.past body.rest to s.1.2) in
+      let u = fed-le first.line_end more (last_line_end first more) s.0 in
+      let g : last_line_end first more < underline.line_end = s.1.0 in
+      let ih = document-count direct None Apart underline.line_end body.rest after to body.after (fed-behind underline.line_end body.rest to s.1.2) in
       omega (arith, a, b, d, p, t, x, y, u, g, ih)
   document-count direct before behind from all (LeafBlock leaf first more after) to body f =
       let c : FedBehind from (first ∷ (more ++ body.rest)) to = subst (λ ls. FedBehind from ls to) body.cut f in
@@ -573,39 +573,39 @@ module _ (text : List ℕ) (options : Options) (lookup : Lookup) where
       let e : is_blank_line first ≡ false = at-words options behind first _ w (λ p. let q : Takes leaf (length more) ≡ Blank = sym body.opened ∙ p in cc) in
       let l = leaf-count text options lookup from leaf first more (document_of text options lookup direct None after) c.0 e s.0 (opened-filled options first body.rest leaf more (at-takes options behind first _ leaf (length more) body.opened)) in
       let t = leaf-tables text options lookup leaf first more (document_of text options lookup direct None after) in
-      let ih = document-count direct None (behind_leaf leaf) (past_of first more) body.rest after to body.after (fed-behind (past_of first more) body.rest to s.1) in
+      let ih = document-count direct None (behind_leaf leaf) (last_line_end first more) body.rest after to body.after (fed-behind (last_line_end first more) body.rest to s.1) in
       omega (arith, l, t, ih)
-  document-count direct before behind from all (ContainerBlock (Quote alert) first more inside after) to body f =
+  document-count direct before behind from all (ContainerBlock (BlockQuote alert) first more inside after) to body f =
       let c : FedBehind from (first ∷ (more ++ body.rest)) to = subst (λ ls. FedBehind from ls to) body.cut f in
       let s = fed-split first more body.rest to c.1 in
-      let i = document-count false None (place_in (Quote alert)) (suc from) (insides (Quote alert) first more) inside (past_of first more) body.contents (insides-fed (Quote alert) from behind first more _ (past_of first more) body.opened c.0 s.0) in
-      let ih = document-count direct None Apart (past_of first more) body.rest after to body.after (fed-behind (past_of first more) body.rest to s.1) in
+      let i = document-count false None (place_in (BlockQuote alert)) (suc from) (insides (BlockQuote alert) first more) inside (last_line_end first more) body.contents (insides-fed (BlockQuote alert) from behind first more _ (last_line_end first more) body.opened c.0 s.0) in
+      let ih = document-count direct None Apart (last_line_end first more) body.rest after to body.after (fed-behind (last_line_end first more) body.rest to s.1) in
       omega (arith, i, ih)
   document-count direct before behind from all (ContainerBlock (Footnote label old size) first more inside after) to body f =
       let c : FedBehind from (first ∷ (more ++ body.rest)) to = subst (λ ls. FedBehind from ls to) body.cut f in
       let s = fed-split first more body.rest to c.1 in
-      let i = document-count false None (place_in (Footnote label old size)) (suc from) (insides (Footnote label old size) first more) inside (past_of first more) body.contents (insides-fed (Footnote label old size) from behind first more _ (past_of first more) body.opened c.0 s.0) in
-      let ih = document-count direct None Apart (past_of first more) body.rest after to body.after (fed-behind (past_of first more) body.rest to s.1) in
+      let i = document-count false None (place_in (Footnote label old size)) (suc from) (insides (Footnote label old size) first more) inside (last_line_end first more) body.contents (insides-fed (Footnote label old size) from behind first more _ (last_line_end first more) body.opened c.0 s.0) in
+      let ih = document-count direct None Apart (last_line_end first more) body.rest after to body.after (fed-behind (last_line_end first more) body.rest to s.1) in
       omega (arith, i, ih)
-  document-count direct before behind from all (ContainerBlock (Item mark number width task) first more inside after) to body f =
+  document-count direct before behind from all (ContainerBlock (Item delimiter number width task) first more inside after) to body f =
       let c : FedBehind from (first ∷ (more ++ body.rest)) to = subst (λ ls. FedBehind from ls to) body.cut f in
       let s = fed-split first more body.rest to c.1 in
-      let tight = tight_behind before mark inside after in
-      let i = document-count tight None (place_in (Item mark number width task)) (suc from) (insides (Item mark number width task) first more) inside (past_of first more) body.contents (insides-fed (Item mark number width task) from behind first more _ (past_of first more) body.opened c.0 s.0) in
-      let ih = document-count direct (Some (record { mark = mark; tight = tight })) Apart (past_of first more) body.rest after to body.after (fed-behind (past_of first more) body.rest to s.1) in
-      let n = item-count (goes_on mark after) (list_kind mark number tight) (node ListItem (begin_of first) (past_of first more)) (task_then task (begin_of (without width first)) (begin_of (without (behind_box task width) first)) (document_of text options lookup tight None inside)) (document_of text options lookup direct (Some (record { mark = mark; tight = tight })) after) in
-      let t = item-tables (goes_on mark after) (list_kind mark number tight) (node ListItem (begin_of first) (past_of first more)) (task_then task (begin_of (without width first)) (begin_of (without (behind_box task width) first)) (document_of text options lookup tight None inside)) (document_of text options lookup direct (Some (record { mark = mark; tight = tight })) after) (list-table mark number tight) refl (λ g. list-first direct (Some (record { mark = mark; tight = tight })) mark after g) in
+      let tight = tight_behind before delimiter inside after in
+      let i = document-count tight None (place_in (Item delimiter number width task)) (suc from) (insides (Item delimiter number width task) first more) inside (last_line_end first more) body.contents (insides-fed (Item delimiter number width task) from behind first more _ (last_line_end first more) body.opened c.0 s.0) in
+      let ih = document-count direct (Some (record { delimiter = delimiter; tight = tight })) Apart (last_line_end first more) body.rest after to body.after (fed-behind (last_line_end first more) body.rest to s.1) in
+      let n = item-count (goes_on delimiter after) (list_kind delimiter number tight) (node ListItem (begin_of first) (last_line_end first more)) (task_then task (begin_of (without width first)) (begin_of (without (behind_box task width) first)) (document_of text options lookup tight None inside)) (document_of text options lookup direct (Some (record { delimiter = delimiter; tight = tight })) after) in
+      let t = item-tables (goes_on delimiter after) (list_kind delimiter number tight) (node ListItem (begin_of first) (last_line_end first more)) (task_then task (begin_of (without width first)) (begin_of (without (behind_box task width) first)) (document_of text options lookup tight None inside)) (document_of text options lookup direct (Some (record { delimiter = delimiter; tight = tight })) after) (list-table delimiter number tight) refl (λ g. list-first direct (Some (record { delimiter = delimiter; tight = tight })) delimiter after g) in
       let a = task-count task (begin_of (without width first)) (begin_of (without (behind_box task width) first)) (document_of text options lookup tight None inside) in
       let b = task-tables task (begin_of (without width first)) (begin_of (without (behind_box task width) first)) (document_of text options lookup tight None inside) in
       omega (arith, i, ih, n, t, a, b)
   document-count direct before behind from all (ContainerBlock (ListDefinition width) first more inside after) to body f =
       let c : FedBehind from (first ∷ (more ++ body.rest)) to = subst (λ ls. FedBehind from ls to) body.cut f in
       let s = fed-split first more body.rest to c.1 in
-      let tight = tight_behind before definition_mark inside after in
-      let i = document-count tight None (place_in (ListDefinition width)) (suc from) (insides (ListDefinition width) first more) inside (past_of first more) body.contents (insides-fed (ListDefinition width) from behind first more _ (past_of first more) body.opened c.0 s.0) in
-      let ih = document-count direct (Some (record { mark = definition_mark; tight = tight })) BehindTitle (past_of first more) body.rest after to body.after (fed-behind (past_of first more) body.rest to s.1) in
-      let n = item-count (goes_on definition_mark after) (DefinitionList tight) (node DefinitionListDefinition (begin_of first) (past_of first more)) (document_of text options lookup tight None inside) (document_of text options lookup direct (Some (record { mark = definition_mark; tight = tight })) after) in
-      let t = item-tables (goes_on definition_mark after) (DefinitionList tight) (node DefinitionListDefinition (begin_of first) (past_of first more)) (document_of text options lookup tight None inside) (document_of text options lookup direct (Some (record { mark = definition_mark; tight = tight })) after) refl refl (λ g. list-first direct (Some (record { mark = definition_mark; tight = tight })) definition_mark after g) in
+      let tight = tight_behind before definition_delimiter inside after in
+      let i = document-count tight None (place_in (ListDefinition width)) (suc from) (insides (ListDefinition width) first more) inside (last_line_end first more) body.contents (insides-fed (ListDefinition width) from behind first more _ (last_line_end first more) body.opened c.0 s.0) in
+      let ih = document-count direct (Some (record { delimiter = definition_delimiter; tight = tight })) BehindTitle (last_line_end first more) body.rest after to body.after (fed-behind (last_line_end first more) body.rest to s.1) in
+      let n = item-count (goes_on definition_delimiter after) (DefinitionList tight) (node DefinitionListDefinition (begin_of first) (last_line_end first more)) (document_of text options lookup tight None inside) (document_of text options lookup direct (Some (record { delimiter = definition_delimiter; tight = tight })) after) in
+      let t = item-tables (goes_on definition_delimiter after) (DefinitionList tight) (node DefinitionListDefinition (begin_of first) (last_line_end first more)) (document_of text options lookup tight None inside) (document_of text options lookup direct (Some (record { delimiter = definition_delimiter; tight = tight })) after) refl refl (λ g. list-first direct (Some (record { delimiter = definition_delimiter; tight = tight })) definition_delimiter after g) in
       omega (arith, i, ih, n, t)
 
   -- a table takes a byte
@@ -614,37 +614,37 @@ module _ (text : List ℕ) (options : Options) (lookup : Lookup) where
   document-tables direct before behind from all (BlankLine line after) to body f =
       let c : FedBehind from (line ∷ body.rest) to = subst (λ ls. FedBehind from ls to) body.cut f in
       let a = from-start from line c.0.0 in
-      let b = start-stop from line c.0.0 in
-      let d : line.stop ≤ line.past = c.0.0.2 in
-      let ih = document-tables direct before (over_blank behind) line.past body.rest after to body.after (fed-behind line.past body.rest to c.1) in
+      let b = start-content_end from line c.0.0 in
+      let d : line.content_end ≤ line.line_end = c.0.0.2 in
+      let ih = document-tables direct before (over_blank behind) line.line_end body.rest after to body.after (fed-behind line.line_end body.rest to c.1) in
       omega (arith, a, b, d, ih)
   document-tables direct before behind from all (ParagraphBlock first more after) to body f =
       let c : FedBehind from (first ∷ (more ++ body.rest)) to = subst (λ ls. FedBehind from ls to) body.cut f in
       let s = fed-split first more body.rest to c.1 in
       let a = from-start from first c.0.0 in
-      let b = start-stop from first c.0.0 in
-      let d : first.stop ≤ first.past = c.0.0.2 in
+      let b = start-content_end from first c.0.0 in
+      let d : first.content_end ≤ first.line_end = c.0.0.2 in
       let t = stretches-tables text (start_of first) first more in
-      let u = fed-le first.past more (past_of first more) s.0 in
+      let u = fed-le first.line_end more (last_line_end first more) s.0 in
       let tight = title_tight_behind before after in
-      let ih = document-tables direct None BehindTitle (past_of first more) body.rest after to body.after (fed-behind (past_of first more) body.rest to s.1) in
-      let il = document-tables direct (Some (record { mark = definition_mark; tight = tight })) BehindTitle (past_of first more) body.rest after to body.after (fed-behind (past_of first more) body.rest to s.1) in
-      let k = title-tables (is_title after) tight (paragraph_kind direct) (start_of first) (past_of first more) (paragraph_tokens text first more)
-      (document_of text options lookup direct (Some (record { mark = definition_mark; tight = tight })) after) (document_of text options lookup direct None after)
-      (paragraph-table direct) (λ e. list-first direct (Some (record { mark = definition_mark; tight = tight })) definition_mark after (title_goes_on text options lookup after e)) (to - past_of first more) (omega (arith, il)) (omega (arith, ih)) in
+      let ih = document-tables direct None BehindTitle (last_line_end first more) body.rest after to body.after (fed-behind (last_line_end first more) body.rest to s.1) in
+      let il = document-tables direct (Some (record { delimiter = definition_delimiter; tight = tight })) BehindTitle (last_line_end first more) body.rest after to body.after (fed-behind (last_line_end first more) body.rest to s.1) in
+      let k = title-tables (is_title after) tight (paragraph_kind direct) (start_of first) (last_line_end first more) (paragraph_tokens text first more)
+      (document_of text options lookup direct (Some (record { delimiter = definition_delimiter; tight = tight })) after) (document_of text options lookup direct None after)
+      (paragraph-table direct) (λ e. list-first direct (Some (record { delimiter = definition_delimiter; tight = tight })) definition_delimiter after (title_goes_on text options lookup after e)) (to - last_line_end first more) (omega (arith, il)) (omega (arith, ih)) in
       omega (arith, a, b, d, t, u, k, ih)
   document-tables direct before behind from all (SetextHeading level first more underline after) to body f =
       let c : FedBehind from (first ∷ (more ++ (underline ∷ body.rest))) to = subst (λ ls. FedBehind from ls to) body.cut f in
       let s = fed-split first more (underline ∷ body.rest) to c.1 in
       let a = from-start from first c.0.0 in
-      let b = start-stop from first c.0.0 in
-      let d : first.stop ≤ first.past = c.0.0.2 in
+      let b = start-content_end from first c.0.0 in
+      let d : first.content_end ≤ first.line_end = c.0.0.2 in
       let t = stretches-tables text (start_of first) first more in
       let few = setext-few text options.heading_attributes first more in
       let y = few.1 in
-      let u = fed-le first.past more (past_of first more) s.0 in
-      let g : past_of first more < underline.past = s.1.0 in
-      let ih = document-tables direct None Apart underline.past body.rest after to body.after (fed-behind underline.past body.rest to s.1.2) in
+      let u = fed-le first.line_end more (last_line_end first more) s.0 in
+      let g : last_line_end first more < underline.line_end = s.1.0 in
+      let ih = document-tables direct None Apart underline.line_end body.rest after to body.after (fed-behind underline.line_end body.rest to s.1.2) in
       omega (arith, a, b, d, t, y, u, g, ih)
   document-tables direct before behind from all (LeafBlock leaf first more after) to body f =
       let c : FedBehind from (first ∷ (more ++ body.rest)) to = subst (λ ls. FedBehind from ls to) body.cut f in
@@ -652,41 +652,41 @@ module _ (text : List ℕ) (options : Options) (lookup : Lookup) where
       let w : first.lazy ≡ false = at-whole options behind first _ (λ p. let q : Takes leaf (length more) ≡ Plain = sym body.opened ∙ p in cc) in
       let e : is_blank_line first ≡ false = at-words options behind first _ w (λ p. let q : Takes leaf (length more) ≡ Blank = sym body.opened ∙ p in cc) in
       let a = from-start from first c.0.0 in
-      let b = words-stop from first c.0 e in
-      let d : first.stop ≤ first.past = c.0.0.2 in
-      let u = fed-le first.past more (past_of first more) s.0 in
+      let b = words-content_end from first c.0 e in
+      let d : first.content_end ≤ first.line_end = c.0.0.2 in
+      let u = fed-le first.line_end more (last_line_end first more) s.0 in
       let t = leaf-tables text options lookup leaf first more (document_of text options lookup direct None after) in
       let k = is_table-few leaf in
-      let ih = document-tables direct None (behind_leaf leaf) (past_of first more) body.rest after to body.after (fed-behind (past_of first more) body.rest to s.1) in
+      let ih = document-tables direct None (behind_leaf leaf) (last_line_end first more) body.rest after to body.after (fed-behind (last_line_end first more) body.rest to s.1) in
       omega (arith, a, b, d, u, t, k, ih)
-  document-tables direct before behind from all (ContainerBlock (Quote alert) first more inside after) to body f =
+  document-tables direct before behind from all (ContainerBlock (BlockQuote alert) first more inside after) to body f =
       let c : FedBehind from (first ∷ (more ++ body.rest)) to = subst (λ ls. FedBehind from ls to) body.cut f in
       let s = fed-split first more body.rest to c.1 in
-      let i = document-tables false None (place_in (Quote alert)) (suc from) (insides (Quote alert) first more) inside (past_of first more) body.contents (insides-fed (Quote alert) from behind first more _ (past_of first more) body.opened c.0 s.0) in
-      let ih = document-tables direct None Apart (past_of first more) body.rest after to body.after (fed-behind (past_of first more) body.rest to s.1) in
+      let i = document-tables false None (place_in (BlockQuote alert)) (suc from) (insides (BlockQuote alert) first more) inside (last_line_end first more) body.contents (insides-fed (BlockQuote alert) from behind first more _ (last_line_end first more) body.opened c.0 s.0) in
+      let ih = document-tables direct None Apart (last_line_end first more) body.rest after to body.after (fed-behind (last_line_end first more) body.rest to s.1) in
       omega (arith, i, ih)
   document-tables direct before behind from all (ContainerBlock (Footnote label old size) first more inside after) to body f =
       let c : FedBehind from (first ∷ (more ++ body.rest)) to = subst (λ ls. FedBehind from ls to) body.cut f in
       let s = fed-split first more body.rest to c.1 in
-      let i = document-tables false None (place_in (Footnote label old size)) (suc from) (insides (Footnote label old size) first more) inside (past_of first more) body.contents (insides-fed (Footnote label old size) from behind first more _ (past_of first more) body.opened c.0 s.0) in
-      let ih = document-tables direct None Apart (past_of first more) body.rest after to body.after (fed-behind (past_of first more) body.rest to s.1) in
+      let i = document-tables false None (place_in (Footnote label old size)) (suc from) (insides (Footnote label old size) first more) inside (last_line_end first more) body.contents (insides-fed (Footnote label old size) from behind first more _ (last_line_end first more) body.opened c.0 s.0) in
+      let ih = document-tables direct None Apart (last_line_end first more) body.rest after to body.after (fed-behind (last_line_end first more) body.rest to s.1) in
       omega (arith, i, ih)
-  document-tables direct before behind from all (ContainerBlock (Item mark number width task) first more inside after) to body f =
+  document-tables direct before behind from all (ContainerBlock (Item delimiter number width task) first more inside after) to body f =
       let c : FedBehind from (first ∷ (more ++ body.rest)) to = subst (λ ls. FedBehind from ls to) body.cut f in
       let s = fed-split first more body.rest to c.1 in
-      let tight = tight_behind before mark inside after in
-      let i = document-tables tight None (place_in (Item mark number width task)) (suc from) (insides (Item mark number width task) first more) inside (past_of first more) body.contents (insides-fed (Item mark number width task) from behind first more _ (past_of first more) body.opened c.0 s.0) in
-      let ih = document-tables direct (Some (record { mark = mark; tight = tight })) Apart (past_of first more) body.rest after to body.after (fed-behind (past_of first more) body.rest to s.1) in
-      let t = item-tables (goes_on mark after) (list_kind mark number tight) (node ListItem (begin_of first) (past_of first more)) (task_then task (begin_of (without width first)) (begin_of (without (behind_box task width) first)) (document_of text options lookup tight None inside)) (document_of text options lookup direct (Some (record { mark = mark; tight = tight })) after) (list-table mark number tight) refl (λ g. list-first direct (Some (record { mark = mark; tight = tight })) mark after g) in
+      let tight = tight_behind before delimiter inside after in
+      let i = document-tables tight None (place_in (Item delimiter number width task)) (suc from) (insides (Item delimiter number width task) first more) inside (last_line_end first more) body.contents (insides-fed (Item delimiter number width task) from behind first more _ (last_line_end first more) body.opened c.0 s.0) in
+      let ih = document-tables direct (Some (record { delimiter = delimiter; tight = tight })) Apart (last_line_end first more) body.rest after to body.after (fed-behind (last_line_end first more) body.rest to s.1) in
+      let t = item-tables (goes_on delimiter after) (list_kind delimiter number tight) (node ListItem (begin_of first) (last_line_end first more)) (task_then task (begin_of (without width first)) (begin_of (without (behind_box task width) first)) (document_of text options lookup tight None inside)) (document_of text options lookup direct (Some (record { delimiter = delimiter; tight = tight })) after) (list-table delimiter number tight) refl (λ g. list-first direct (Some (record { delimiter = delimiter; tight = tight })) delimiter after g) in
       let b = task-tables task (begin_of (without width first)) (begin_of (without (behind_box task width) first)) (document_of text options lookup tight None inside) in
       omega (arith, i, ih, t, b)
   document-tables direct before behind from all (ContainerBlock (ListDefinition width) first more inside after) to body f =
       let c : FedBehind from (first ∷ (more ++ body.rest)) to = subst (λ ls. FedBehind from ls to) body.cut f in
       let s = fed-split first more body.rest to c.1 in
-      let tight = tight_behind before definition_mark inside after in
-      let i = document-tables tight None (place_in (ListDefinition width)) (suc from) (insides (ListDefinition width) first more) inside (past_of first more) body.contents (insides-fed (ListDefinition width) from behind first more _ (past_of first more) body.opened c.0 s.0) in
-      let ih = document-tables direct (Some (record { mark = definition_mark; tight = tight })) BehindTitle (past_of first more) body.rest after to body.after (fed-behind (past_of first more) body.rest to s.1) in
-      let t = item-tables (goes_on definition_mark after) (DefinitionList tight) (node DefinitionListDefinition (begin_of first) (past_of first more)) (document_of text options lookup tight None inside) (document_of text options lookup direct (Some (record { mark = definition_mark; tight = tight })) after) refl refl (λ g. list-first direct (Some (record { mark = definition_mark; tight = tight })) definition_mark after g) in
+      let tight = tight_behind before definition_delimiter inside after in
+      let i = document-tables tight None (place_in (ListDefinition width)) (suc from) (insides (ListDefinition width) first more) inside (last_line_end first more) body.contents (insides-fed (ListDefinition width) from behind first more _ (last_line_end first more) body.opened c.0 s.0) in
+      let ih = document-tables direct (Some (record { delimiter = definition_delimiter; tight = tight })) BehindTitle (last_line_end first more) body.rest after to body.after (fed-behind (last_line_end first more) body.rest to s.1) in
+      let t = item-tables (goes_on definition_delimiter after) (DefinitionList tight) (node DefinitionListDefinition (begin_of first) (last_line_end first more)) (document_of text options lookup tight None inside) (document_of text options lookup direct (Some (record { delimiter = definition_delimiter; tight = tight })) after) refl refl (λ g. list-first direct (Some (record { delimiter = definition_delimiter; tight = tight })) definition_delimiter after g) in
       omega (arith, i, ih, t)
 
 -- each line of a text has a byte

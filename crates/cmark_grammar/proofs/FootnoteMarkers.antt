@@ -1,24 +1,24 @@
 -- The marker of a footnote definition ends with its colon.
 use Rattle.std.proofs.Common.{◌≡◌, ℕ, zero, suc, ◌<◌, Bool, true, false, ◌==◌, List, [], ◌∷◌, length, drop, refl, ap, ◌∙◌, subst, arith, Option, Some, None}
 use Rattle.std.specs.Prelude.{if◌then◌else◌}
-use Rattle.cmark_grammar.specs.LinkDefinitions.{Found, put, escapes_next, is_label, label_if, up_to}
+use Rattle.cmark_grammar.specs.LinkDefinitions.{Parsed, put, escapes_next, is_label, label_if, up_to}
 use Rattle.cmark_grammar.specs.Footnotes.{colon_behind, label_then_colon, behind_caret, footnote_in}
 
-pub up-to-behind : (closer refused : ℕ) (over_lines escaped : Bool) (bs : List ℕ) (f : Found) → up_to escaped closer refused over_lines bs ≡ Some f → drop (suc (length f.bytes)) bs ≡ f.behind
+pub up-to-behind : (closer refused : ℕ) (over_lines escaped : Bool) (bs : List ℕ) (f : Parsed) → up_to escaped closer refused over_lines bs ≡ Some f → drop (suc (length f.bytes)) bs ≡ f.behind
 up-to-behind closer refused over_lines escaped [] f e = absurd (let q : None ≡ Some f = e in cc)
 up-to-behind closer refused over_lines escaped (b ∷ bs) f e =
     go _ _ (up_to (escapes_next escaped b) closer refused over_lines bs) (λ g eg. up-to-behind closer refused over_lines (escapes_next escaped b) bs g eg) e
   where
-    go : (x y : Bool) (o : Option Found) → ((g : Found) → o ≡ Some g → drop (suc (length g.bytes)) bs ≡ g.behind)
+    go : (x y : Bool) (o : Option Parsed) → ((g : Parsed) → o ≡ Some g → drop (suc (length g.bytes)) bs ≡ g.behind)
         → (if x then Some (record { bytes = []; behind = bs }) else if y then None else put b o) ≡ Some f → drop (suc (length f.bytes)) (b ∷ bs) ≡ f.behind
-    go true y o ih q = let p : record { bytes = []; behind = bs } ≡ f = cc in subst (λ (g : Found). drop (suc (length g.bytes)) (b ∷ bs) ≡ g.behind) p refl
+    go true y o ih q = let p : record { bytes = []; behind = bs } ≡ f = cc in subst (λ (g : Parsed). drop (suc (length g.bytes)) (b ∷ bs) ≡ g.behind) p refl
     go false true o ih q = absurd (let z : None ≡ Some f = q in cc)
     go false false None ih q = absurd (let z : None ≡ Some f = q in cc)
     go false false (Some g) ih q =
         let p : record { bytes = b ∷ g.bytes; behind = g.behind } ≡ f = cc in
-        subst (λ (k : Found). drop (suc (length k.bytes)) (b ∷ bs) ≡ k.behind) p (ih g refl)
+        subst (λ (k : Parsed). drop (suc (length k.bytes)) (b ∷ bs) ≡ k.behind) p (ih g refl)
 
-colon-is : (label bs : List ℕ) (found : Found) → colon_behind label bs ≡ Some found → (label ≡ found.bytes) × (bs ≡ 58 ∷ found.behind)
+colon-is : (label bs : List ℕ) (found : Parsed) → colon_behind label bs ≡ Some found → (label ≡ found.bytes) × (bs ≡ 58 ∷ found.behind)
 colon-is label [] found e = absurd (let q : None ≡ Some found = e in cc)
 colon-is label (b ∷ bs) found e = go (b == 58) refl e
   where
@@ -28,10 +28,10 @@ colon-is label (b ∷ bs) found e = go (b == 58) refl e
     go : (z : Bool) → (b == 58) ≡ z → (if z then Some (record { bytes = label; behind = bs }) else None) ≡ Some found → (label ≡ found.bytes) × (b ∷ bs ≡ 58 ∷ found.behind)
     go true eb q =
         let p : record { bytes = label; behind = bs } ≡ found = cc in
-        (ap (λ (f : Found). f.bytes) p, ap (λ x. x ∷ bs) (same b eb) ∙ ap (λ (f : Found). 58 ∷ f.behind) p)
+        (ap (λ (f : Parsed). f.bytes) p, ap (λ x. x ∷ bs) (same b eb) ∙ ap (λ (f : Parsed). 58 ∷ f.behind) p)
     go false eb q = absurd (let z : None ≡ Some found = q in cc)
 
-label-colon : (bs : List ℕ) (o : Option Found) (found : Found) → up_to false 93 91 false bs ≡ o → label_then_colon (label_if o) ≡ Some found → drop (suc (length found.bytes)) bs ≡ 58 ∷ found.behind
+label-colon : (bs : List ℕ) (o : Option Parsed) (found : Parsed) → up_to false 93 91 false bs ≡ o → label_then_colon (label_if o) ≡ Some found → drop (suc (length found.bytes)) bs ≡ 58 ∷ found.behind
 label-colon bs None found eo e = absurd (let q : None ≡ Some found = e in cc)
 label-colon bs (Some f) found eo e = go (is_label f.bytes) e
   where
@@ -42,7 +42,7 @@ label-colon bs (Some f) found eo e = go (is_label f.bytes) e
         subst (λ l. drop (suc (length l)) bs ≡ 58 ∷ found.behind) p.0 (up-to-behind 93 91 false false bs f eo ∙ p.1)
 
 -- behind `[^`, the label and `]` the colon stands, and behind it what was found
-pub colon-at : (bs : List ℕ) (found : Found) → footnote_in bs ≡ Some found → drop (suc (suc (suc (length found.bytes)))) bs ≡ 58 ∷ found.behind
+pub colon-at : (bs : List ℕ) (found : Parsed) → footnote_in bs ≡ Some found → drop (suc (suc (suc (length found.bytes)))) bs ≡ 58 ∷ found.behind
 colon-at [] found e = absurd (let q : None ≡ Some found = e in cc)
 colon-at (b ∷ bs) found e = outer (b == 91) e
   where
@@ -69,5 +69,5 @@ ascii-at n [] rest e = tt
 ascii-at zero (b ∷ bs) rest e = let q : b ≡ 58 = cc in omega (arith, q)
 ascii-at (suc n) (b ∷ bs) rest e = ascii-at n bs rest e
 
-pub colon-ascii : (bs : List ℕ) (found : Found) → footnote_in bs ≡ Some found → IsAsciiAt (suc (suc (suc (length found.bytes)))) bs
+pub colon-ascii : (bs : List ℕ) (found : Parsed) → footnote_in bs ≡ Some found → IsAsciiAt (suc (suc (suc (length found.bytes)))) bs
 colon-ascii bs found e = ascii-at (suc (suc (suc (length found.bytes)))) bs found.behind (colon-at bs found e)

@@ -9,14 +9,14 @@ use Rattle.cmark_grammar.specs.BlocksModel.{begin, blocks}
 use Rattle.cmark_grammar.specs.Derivation.{document, document_of}
 use Rattle.cmark_grammar.specs.Entities.{basic_entity}
 use Rattle.cmark_grammar.specs.Footnotes.{footnote_in, is_footnote_label, marker_columns}
-use Rattle.cmark_grammar.specs.LinkDefinitions.{Found}
+use Rattle.cmark_grammar.specs.LinkDefinitions.{Parsed}
 use Rattle.cmark_grammar.specs.Leaves.{underlines}
 use Rattle.cmark_grammar.specs.Openings.{opens, texts, lazily}
 use Rattle.cmark_grammar.specs.Options.{Options, no_options}
 use Rattle.cmark_grammar.specs.Rows.{Row, row_at}
 
 abbrev label_of : List ℕ → Option (List ℕ)
-label_of bytes = option_map (λ (found : Found). found.bytes) (footnote_in bytes)
+label_of bytes = option_map (λ (found : Parsed). found.bytes) (footnote_in bytes)
 
 abbrev left_of : Option Row → Option (List ℕ)
 left_of kept = option_map (λ (r : Row). bytes_of r.columns) kept

@@ -48,8 +48,8 @@ whole text = paragraph (stretch 0 (length text) ∷ [])
 
 -- ## Tokens
 
-abbrev stands : ItemKind → (start end past : ℕ) → Token
-stands kind start end past = Stands (record { kind = kind; start = start; end = end }) past
+abbrev stands : ItemKind → (start end resume : ℕ) → Token
+stands kind start end resume = Stands (record { kind = kind; start = start; end = end }) resume
 
 -- bytes that stand for themselves are one text
 plain_text : token (reading no_options (codes "ab c*")) (whole (codes "ab c*")) 0 ≡ stands Plain 0 4 4
@@ -202,23 +202,23 @@ inactive start = record (fresh start) { is_inactive = true }
 abbrev closing : (start : ℕ) → Bracket
 closing start = record { is_image = false; start = start; end = suc start }
 
-abbrev state_at : (at expansion : ℕ) → List Opener → State
-state_at at expansion openers = record { at = at; expansion = expansion; label_close = None; asked = []; openers = openers }
+abbrev state_at : (at expansion_left : ℕ) → List Opener → State
+state_at at expansion_left openers = record { at = at; expansion_left = expansion_left; label_close = None; asked = []; openers = openers }
 
 -- what it forms: nothing; or with how many nearer opening brackets, and from where on the text is read; and behind it which brackets
 -- stand, which are doubled and which inactive
 pub data Came : Type 0 where
   ToNothing : Came
-  ToLink : (nearer : ℕ) → (destination : List ℕ) → (past : ℕ) → Came
+  ToLink : (nearer : ℕ) → (destination : List ℕ) → (resume : ℕ) → Came
   ToFootnote : (nearer : ℕ) → (label : List ℕ) → Came
-  ToWikilink : (nearer : ℕ) → (name : List ℕ) → (display : Option ℕ) → (past : ℕ) → Came
+  ToWikilink : (nearer : ℕ) → (name : List ℕ) → (display : Option ℕ) → (resume : ℕ) → Came
   ToQuestion : Came
 
-abbrev result_as : Result → (past : ℕ) → Came
-result_as StaysText past = ToNothing
-result_as (Forms nearer (Linking target)) past = ToLink nearer target.linked.destination past
-result_as (Forms nearer (Footnote label end)) past = ToFootnote nearer label
-result_as (Forms nearer (Wiki name display end)) past = ToWikilink nearer name display past
+abbrev result_as : Result → (resume : ℕ) → Came
+result_as StaysText resume = ToNothing
+result_as (Forms nearer (Linking target)) resume = ToLink nearer target.linked.destination resume
+result_as (Forms nearer (Footnote label end)) resume = ToFootnote nearer label
+result_as (Forms nearer (Wiki name display end)) resume = ToWikilink nearer name display resume
 
 abbrev comes_as : Decision → Came
 comes_as (Settled outcome) = result_as outcome.result outcome.after.at
@@ -228,8 +228,8 @@ abbrev left : Decision → List Opener
 left (Settled outcome) = outcome.after.openers
 left (Asks question answered) = []
 
-abbrev decided : Options → (text : List ℕ) → (close expansion : ℕ) → List Opener → Decision
-decided options text close expansion openers = decide (reading options text) (whole text) (state_at close expansion openers) (closing close)
+abbrev decided : Options → (text : List ℕ) → (close expansion_left : ℕ) → List Opener → Decision
+decided options text close expansion_left openers = decide (reading options text) (whole text) (state_at close expansion_left openers) (closing close)
 
 -- a closing bracket takes the nearest opening one that stands
 nearest_that_stands : comes_as (decided no_options (codes "[[a] b](u)") 6 100 (used 1 ∷ fresh 0 ∷ [])) ≡ ToLink 1 (codes "u") 10
@@ -276,12 +276,12 @@ full_without_definition : comes_as (decided no_options (codes "[x][a]") 2 100 (f
 unfolding caseless encode chars decide ucd_category
 full_without_definition = refl
 
--- without expansion nothing is looked up
+-- where nothing is left of the reference expansion limit nothing is looked up
 spent : comes_as (decided no_options (codes "[x]") 2 0 (fresh 0 ∷ [])) ≡ ToNothing
 unfolding caseless encode chars decide ucd_category
 spent = refl
 
--- a footnote reference, also without expansion
+-- a footnote reference, also where nothing is left of the reference expansion limit
 footnote : comes_as (decided footnotes (codes "[^1]") 3 0 (fresh 0 ∷ [])) ≡ ToFootnote 0 (codes "1")
 unfolding caseless encode chars decide ucd_category
 footnote = refl

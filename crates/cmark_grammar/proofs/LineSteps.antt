@@ -110,27 +110,27 @@ length-content : (bs : List ℕ) → length (content bs) ≡ content_len bs
 length-content bs = length-prefix_len is_content bs
 
 rows_at : (b : ℕ) (bs rest : List ℕ) (at k e : ℕ) → k ≡ content_len (b ∷ bs) → e ≡ ending_len (drop k (b ∷ bs)) → rest ≡ drop (k + e) (b ∷ bs)
-    → rows_from at (lines (b ∷ bs)) ≡ record { columns = expand 0 at (take k (b ∷ bs)); at = at; stop = at + k; past = at + k + e; lazy = false; held = false } ∷ rows_from (at + k + e) (lines rest)
+    → rows_from at (lines (b ∷ bs)) ≡ record { columns = expand 0 at (take k (b ∷ bs)); at = at; content_end = at + k; line_end = at + k + e; lazy = false; held = false } ∷ rows_from (at + k + e) (lines rest)
 rows_at b bs rest at k e is_k is_e is_rest =
     ap (rows_from at) (lines-first b bs)
-    ∙ ap (λ l. record { columns = expand 0 at l; at = at; stop = at + length l; past = at + length (take (line_len (b ∷ bs)) (b ∷ bs)); lazy = false; held = false } ∷ rows_from (at + length (take (line_len (b ∷ bs)) (b ∷ bs))) (lines (drop (line_len (b ∷ bs)) (b ∷ bs)))) (content-line (b ∷ bs))
-    ∙ ap (λ n. record { columns = expand 0 at (content (b ∷ bs)); at = at; stop = at + n; past = at + length (take (line_len (b ∷ bs)) (b ∷ bs)); lazy = false; held = false } ∷ rows_from (at + length (take (line_len (b ∷ bs)) (b ∷ bs))) (lines (drop (line_len (b ∷ bs)) (b ∷ bs)))) (length-content (b ∷ bs) ∙ sym is_k)
-    ∙ ap (λ n. record { columns = expand 0 at (take n (b ∷ bs)); at = at; stop = at + k; past = at + length (take (line_len (b ∷ bs)) (b ∷ bs)); lazy = false; held = false } ∷ rows_from (at + length (take (line_len (b ∷ bs)) (b ∷ bs))) (lines (drop (line_len (b ∷ bs)) (b ∷ bs)))) (sym is_k)
-    ∙ ap (λ n. record { columns = expand 0 at (take k (b ∷ bs)); at = at; stop = at + k; past = n; lazy = false; held = false } ∷ rows_from n (lines (drop (line_len (b ∷ bs)) (b ∷ bs)))) past
-    ∙ ap (λ l. record { columns = expand 0 at (take k (b ∷ bs)); at = at; stop = at + k; past = at + k + e; lazy = false; held = false } ∷ rows_from (at + k + e) (lines l)) (ap (λ n. drop n (b ∷ bs)) whole ∙ sym is_rest)
+    ∙ ap (λ l. record { columns = expand 0 at l; at = at; content_end = at + length l; line_end = at + length (take (line_len (b ∷ bs)) (b ∷ bs)); lazy = false; held = false } ∷ rows_from (at + length (take (line_len (b ∷ bs)) (b ∷ bs))) (lines (drop (line_len (b ∷ bs)) (b ∷ bs)))) (content-line (b ∷ bs))
+    ∙ ap (λ n. record { columns = expand 0 at (content (b ∷ bs)); at = at; content_end = at + n; line_end = at + length (take (line_len (b ∷ bs)) (b ∷ bs)); lazy = false; held = false } ∷ rows_from (at + length (take (line_len (b ∷ bs)) (b ∷ bs))) (lines (drop (line_len (b ∷ bs)) (b ∷ bs)))) (length-content (b ∷ bs) ∙ sym is_k)
+    ∙ ap (λ n. record { columns = expand 0 at (take n (b ∷ bs)); at = at; content_end = at + k; line_end = at + length (take (line_len (b ∷ bs)) (b ∷ bs)); lazy = false; held = false } ∷ rows_from (at + length (take (line_len (b ∷ bs)) (b ∷ bs))) (lines (drop (line_len (b ∷ bs)) (b ∷ bs)))) (sym is_k)
+    ∙ ap (λ n. record { columns = expand 0 at (take k (b ∷ bs)); at = at; content_end = at + k; line_end = n; lazy = false; held = false } ∷ rows_from n (lines (drop (line_len (b ∷ bs)) (b ∷ bs)))) line_end
+    ∙ ap (λ l. record { columns = expand 0 at (take k (b ∷ bs)); at = at; content_end = at + k; line_end = at + k + e; lazy = false; held = false } ∷ rows_from (at + k + e) (lines l)) (ap (λ n. drop n (b ∷ bs)) whole ∙ sym is_rest)
   where
     whole : line_len (b ∷ bs) ≡ k + e
     whole = ap (λ n. n + ending_len (drop n (b ∷ bs))) (sym is_k) ∙ ap (λ n. k + n) (sym is_e)
 
-    past : at + length (take (line_len (b ∷ bs)) (b ∷ bs)) ≡ at + k + e
-    past = let l : length (take (line_len (b ∷ bs)) (b ∷ bs)) ≡ line_len (b ∷ bs) = simp length-take (let le = line_len_le (b ∷ bs) in omega arith) in omega (arith, l, whole)
+    line_end : at + length (take (line_len (b ∷ bs)) (b ∷ bs)) ≡ at + k + e
+    line_end = let l : length (take (line_len (b ∷ bs)) (b ∷ bs)) ≡ line_len (b ∷ bs) = simp length-take (let le = line_len_le (b ∷ bs) in omega arith) in omega (arith, l, whole)
 
 -- the rows of the lines from a place on, by the lengths of the first line's content and of its line ending
 pub rows-first : (text : List ℕ) (at k e : ℕ) → at < length text → k ≡ content_len (drop at text) → e ≡ ending_len (drop k (drop at text))
-    → rows_from at (lines (drop at text)) ≡ record { columns = expand 0 at (take k (drop at text)); at = at; stop = at + k; past = at + k + e; lazy = false; held = false } ∷ rows_from (at + k + e) (lines (drop (at + k + e) text))
+    → rows_from at (lines (drop at text)) ≡ record { columns = expand 0 at (take k (drop at text)); at = at; content_end = at + k; line_end = at + k + e; lazy = false; held = false } ∷ rows_from (at + k + e) (lines (drop (at + k + e) text))
 rows-first text at k e lt is_k is_e = go (drop at text) refl is_k is_e
   where
-    go : (bs : List ℕ) → drop at text ≡ bs → k ≡ content_len bs → e ≡ ending_len (drop k bs) → rows_from at (lines bs) ≡ record { columns = expand 0 at (take k bs); at = at; stop = at + k; past = at + k + e; lazy = false; held = false } ∷ rows_from (at + k + e) (lines (drop (at + k + e) text))
+    go : (bs : List ℕ) → drop at text ≡ bs → k ≡ content_len bs → e ≡ ending_len (drop k bs) → rows_from at (lines bs) ≡ record { columns = expand 0 at (take k bs); at = at; content_end = at + k; line_end = at + k + e; lazy = false; held = false } ∷ rows_from (at + k + e) (lines (drop (at + k + e) text))
     go [] is _ _ = absurd (let l = ap length is in omega (arith, l, length-drop at text))
     go (b ∷ bs) is is_k is_e =
         rows_at b bs (drop (at + k + e) text) at k e is_k is_e

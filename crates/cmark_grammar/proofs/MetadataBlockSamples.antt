@@ -91,10 +91,10 @@ unfolding blocks begin opens texts lazily enter keeps underlines
 behind_definition = refl
 
 -- behind a container that ends with it
-behind_quote : outline (document (codes "> a\n---\nb\n---\n") yaml basic_entity) ≡
+behind_block_quote : outline (document (codes "> a\n---\nb\n---\n") yaml basic_entity) ≡
     node (BlockQuote None) 0 4 ∷ node Paragraph 2 4 ∷ node (Text (codes "a")) 2 3 ∷ node (MetadataBlock YamlStyle) 4 14 ∷ node (Text (codes "b\n")) 8 10 ∷ []
 unfolding blocks begin opens texts lazily enter keeps underlines
-behind_quote = refl
+behind_block_quote = refl
 
 -- it interrupts no paragraph
 behind_paragraph : outline (document (codes "a\n+++\nb\n+++\n") pluses basic_entity) ≡ node Paragraph 0 12 ∷ node (Text (codes "a\n+++\nb\n+++")) 0 11 ∷ []

@@ -7,14 +7,14 @@ use Rattle.cmark_grammar.specs.Alignment.{Alignment}
 use Rattle.cmark_grammar.specs.Lines.{lines, content}
 use Rattle.cmark_grammar.specs.Columns.{Column, tab, expand, tab_columns, to_tab_stop, bytes_of}
 use Rattle.cmark_grammar.specs.Rows.{Row, rows, rows_from, without, hold, lazy_row, place, first_place, begin_of, is_blank_line, is_whole_line, indent_of, words_of, shown}
-use Rattle.cmark_grammar.specs.Leaves.{Fence, counted, is_thematic_break, is_atx_heading, run, fence_of, code_further}
+use Rattle.cmark_grammar.specs.Leaves.{Fence, counted, is_thematic_break, is_atx_heading, run, fence_of, code_continuation}
 use Rattle.cmark_grammar.specs.HtmlBlocks.{html_kind}
 use Rattle.cmark_grammar.specs.LinkDefinitions.{Defined, definition_in, bytes_over}
 use Rattle.cmark_grammar.specs.Footnotes.{footnotes_in}
 use Rattle.cmark_grammar.specs.TableRows.{table_head}
 use Rattle.cmark_grammar.specs.MetadataBlockKind.{MetadataBlockKind}
-use Rattle.cmark_grammar.specs.Metadata.{metadata_of, metadata_if, metadata_kind, metadata_further, holds_metadata}
-use Rattle.cmark_grammar.specs.Containers.{Container, Quote, Item, Footnote, ListDefinition, is_quote, quote_width, marker_width, width_of, enter, keep_as, keeps, strip_as, strip, strips, is_alert, is_bare_start, unless_tag, insides, container_of}
+use Rattle.cmark_grammar.specs.Metadata.{metadata_of, metadata_if, metadata_kind, metadata_continuation, holds_metadata}
+use Rattle.cmark_grammar.specs.Containers.{Container, BlockQuote, Item, Footnote, ListDefinition, is_block_quote, block_quote_width, marker_width, width_of, enter, keep_as, keeps, strip_as, strip, strips, is_alert, is_bare_start, unless_tag, insides, container_of}
 use Rattle.cmark_grammar.specs.Openings.{Leaf, MetadataBlock, IndentedCode, Opening, Blank, Nests, Takes, Plain, or_else, nests_if, fenced_if, html_if, break_if, heading_if, defined_if, table_if, metadata_begun, begins_no_link, text_lines, definition_of, text_of, leaf_of, whole_opens, opens, opens_at, text_begun}
 use Rattle.cmark_grammar.specs.Blocks.{Blocks, Nil, BlankLine, Paragraph, SetextHeading, LeafBlock, ContainerBlock, Body, behind_leaf, behind_container, place_in}
 use Rattle.cmark_grammar.specs.MetadataPlaces.{is_metadata, HasNoMetadata, HasMetadataOutside}
@@ -47,7 +47,7 @@ expand-Behind first column at (b ∷ bs) le =
 
 -- the columns of a line of a text, from which some may have been taken in front
 abbrev IsLine : Row → Type 0
-IsLine r = Runs (begin_of r) r.columns r.stop × Behind r.at r.columns
+IsLine r = Runs (begin_of r) r.columns r.content_end × Behind r.at r.columns
 
 -- a line in a container
 abbrev IsInside : Row → Type 0
@@ -74,24 +74,24 @@ row-line at (l ∷ ls) =
 
 -- taking columns leaves a line
 without-line : (n : ℕ) (r : Row) → IsLine r → IsLine (without n r)
-without-line n r h = ((drop-Runs n (begin_of r) r.columns r.stop h.0).0, drop-Behind n r.at r.columns h.1)
+without-line n r h = ((drop-Runs n (begin_of r) r.columns r.content_end h.0).0, drop-Behind n r.at r.columns h.1)
 
 -- and one column taken is enough to stand in a container
 without-inside : (n : ℕ) (r : Row) → 0 < n → IsLine r → IsInside (without n r)
 without-inside zero r lt h = absurd (omega (arith, lt))
 without-inside (suc n) r lt h = go r.columns h.0 h.1
   where
-    go : (cs : List Column) → Runs (first_place r.stop cs) cs r.stop → Behind r.at cs → (r.lazy ≡ true) ⊎ ((r.held ≡ true) ⊎ ((drop (suc n) cs ≡ []) ⊎ (r.at < first_place r.stop (drop (suc n) cs))))
+    go : (cs : List Column) → Runs (first_place r.content_end cs) cs r.content_end → Behind r.at cs → (r.lazy ≡ true) ⊎ ((r.held ≡ true) ⊎ ((drop (suc n) cs ≡ []) ⊎ (r.at < first_place r.content_end (drop (suc n) cs))))
     go [] runs b = inr (inr (inl refl))
     go (c ∷ cs) runs b =
-        let l : suc c.at ≤ first_place r.stop (drop n cs) = (drop-Runs n (suc c.at) cs r.stop runs.1).1 in
+        let l : suc c.at ≤ first_place r.content_end (drop n cs) = (drop-Runs n (suc c.at) cs r.content_end runs.1).1 in
         let p : r.at ≤ c.at = b.0 in
         inr (inr (inr (omega (arith, l, p))))
 
 -- each container but a footnote definition of the old kind takes a column
 abbrev HasPrefix : Container → Type 0
-HasPrefix (Quote alert) = Unit {0}
-HasPrefix (Item mark number width task) = 0 < width
+HasPrefix (BlockQuote alert) = Unit {0}
+HasPrefix (Item delimiter number width task) = 0 < width
 HasPrefix (Footnote label old size) = Unit {0}
 HasPrefix (ListDefinition width) = 0 < width
 
@@ -103,10 +103,10 @@ wide-inside width r s lt h e = go _ e
     go false q = absurd (let p : None ≡ Some s = q in cc)
 
 keep_as-inside : (k : Container) (r s : Row) → HasPrefix k → IsLine r → keep_as k r ≡ Some s → IsInside s
-keep_as-inside (Quote alert) r s w h e = go (is_quote r) e
+keep_as-inside (BlockQuote alert) r s w h e = go (is_block_quote r) e
   where
-    go : (z : Bool) → (if z then Some (without (quote_width r) r) else None) ≡ Some s → IsInside s
-    go true q = let p : without (quote_width r) r ≡ s = cc in subst IsInside p (without-inside (quote_width r) r (omega arith) h)
+    go : (z : Bool) → (if z then Some (without (block_quote_width r) r) else None) ≡ Some s → IsInside s
+    go true q = let p : without (block_quote_width r) r ≡ s = cc in subst IsInside p (without-inside (block_quote_width r) r (omega arith) h)
     go false q = absurd (let p : None ≡ Some s = q in cc)
 keep_as-inside (Footnote label true size) r s w h e = go _ e
   where
@@ -114,7 +114,7 @@ keep_as-inside (Footnote label true size) r s w h e = go _ e
     go true q = absurd (let p : None ≡ Some s = q in cc)
     go false q = let p : hold r ≡ s = cc in subst IsInside p (inr (inl refl))
 keep_as-inside (Footnote label false size) r s w h e = wide-inside 4 r s (omega arith) h e
-keep_as-inside (Item mark number width task) r s w h e = wide-inside width r s w h e
+keep_as-inside (Item delimiter number width task) r s w h e = wide-inside width r s w h e
 keep_as-inside (ListDefinition width) r s w h e = wide-inside width r s w h e
 
 keeps-inside : (k : Container) (bare : Bool) (r s : Row) → HasPrefix k → IsLine r → keeps k bare r ≡ Some s → IsInside s
@@ -256,7 +256,7 @@ module _ (options : Options) where
       whole : IsOther (whole_opens options r ahead)
       whole =
           other_if (is_blank_line r) Blank _ tt
-          (other_if (nat_le 4 (indent_of r)) (Takes IndentedCode (counted code_further ahead)) _ refl
+          (other_if (nat_le 4 (indent_of r)) (Takes IndentedCode (counted code_continuation ahead)) _ refl
           (other_or (nests_if (container_of options r)) (leaf_of options r ahead) (other_nests (container_of options r)) (other_leaf r ahead)))
 
       go : (z : Bool) → r.lazy ≡ z → IsInside r → IsOther (if z then Plain else or_else (metadata_begun (metadata_kind options r) ahead) (whole_opens options r ahead))
@@ -273,8 +273,8 @@ module _ (options : Options) where
       text false = tt
 
   wide-prefix : (k : Container) (r : Row) → indent_of r < marker_width k r → HasPrefix k
-  wide-prefix (Quote alert) r lt = tt
-  wide-prefix (Item mark number width task) r lt = omega (arith, lt)
+  wide-prefix (BlockQuote alert) r lt = tt
+  wide-prefix (Item delimiter number width task) r lt = omega (arith, lt)
   wide-prefix (Footnote label old size) r lt = tt
   wide-prefix (ListDefinition width) r lt = omega (arith, lt)
 

@@ -25,7 +25,7 @@ pub seven_hashes : Refused (codes "####### a\n") (codes "<h6># a</h6>\n")
 unfolding blocks begin opens texts lazily enter keeps underlines
 seven_hashes = refused (codes "####### a\n") (codes "<h6># a</h6>\n") refl refl
 
--- a lazy line opens no list inside the quote
+-- a lazy line opens no list inside the block quote
 pub lazy_list : Refused (codes "> - a\n- b\n") (codes "<blockquote>\n<ul>\n<li>a</li>\n<li>b</li>\n</ul>\n</blockquote>\n")
 unfolding blocks begin opens texts lazily enter keeps underlines
 lazy_list = refused (codes "> - a\n- b\n") (codes "<blockquote>\n<ul>\n<li>a</li>\n<li>b</li>\n</ul>\n</blockquote>\n") refl refl
@@ -74,7 +74,7 @@ pub trailing_blank_in_code : Refused (codes "    a\n\nb\n") (codes "<pre><code>a
 unfolding blocks begin opens texts lazily enter keeps underlines
 trailing_blank_in_code = refused (codes "    a\n\nb\n") (codes "<pre><code>a\n</code></pre>\n<pre><code></code></pre>\n<p>b</p>\n") refl refl
 
--- a blank line parts two quotes
+-- a blank line parts two block quotes
 pub quote_over_blank : Refused (codes "> a\n\n> b\n") (codes "<blockquote>\n<p>a</p>\n<p>b</p>\n</blockquote>\n")
 unfolding blocks begin opens texts lazily enter keeps underlines
 quote_over_blank = refused (codes "> a\n\n> b\n") (codes "<blockquote>\n<p>a</p>\n<p>b</p>\n</blockquote>\n") refl refl

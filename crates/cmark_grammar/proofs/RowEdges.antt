@@ -4,14 +4,14 @@ use Rattle.std.specs.Prelude.{if◌then◌else◌, nat_le, nat_lt}
 use Rattle.cmark_grammar.specs.Options.{Options}
 use Rattle.cmark_grammar.specs.Columns.{Column, is_blank_byte, is_blank, indent, without_indent, bytes_of}
 use Rattle.cmark_grammar.specs.Rows.{Row, without, hold, first_place, begin_of, start_of, is_bare, is_blank_line, indent_of, words_of}
-use Rattle.cmark_grammar.specs.Leaves.{run, Fence, is_thematic_break, is_atx_heading, fence_of, counted, code_further, is_parted}
+use Rattle.cmark_grammar.specs.Leaves.{run, Fence, is_thematic_break, is_atx_heading, fence_of, counted, code_continuation, is_parted}
 use Rattle.cmark_grammar.specs.Footnotes.{Footnotes, Off, Gfm, Old, footnotes_in, footnote_in, columns_over, marker_columns}
 use Rattle.cmark_grammar.specs.HtmlBlocks.{html_kind}
-use Rattle.cmark_grammar.specs.LinkDefinitions.{Found, Defined, definition_in, bytes_over}
-use Rattle.cmark_grammar.specs.Metadata.{metadata_kind, metadata_further, holds_metadata}
+use Rattle.cmark_grammar.specs.LinkDefinitions.{Parsed, Defined, definition_in, bytes_over}
+use Rattle.cmark_grammar.specs.Metadata.{metadata_kind, metadata_continuation, holds_metadata}
 use Rattle.cmark_grammar.specs.MetadataBlockKind.{MetadataBlockKind}
 use Rattle.cmark_grammar.specs.BlockQuoteKind.{BlockQuoteKind}
-use Rattle.cmark_grammar.specs.Containers.{marker_width, Container, Quote, Item, Footnote, ListDefinition, Marker, is_bullet, is_digit, is_delimiter, digits, number_of, delimited, marker_of, behind_marker, padding, width_with, item_with, item_of, begins_with, is_quote, one_blank, quote_width, container_with, container_of, width_of, enter, keep_as, keeps, strip_as, strip, strips, footnote_width, footnote_with, footnote_of, footnote_or, with_task}
+use Rattle.cmark_grammar.specs.Containers.{marker_width, Container, BlockQuote, Item, Footnote, ListDefinition, Marker, is_bullet, is_digit, is_delimiter, digits, number_of, delimited, marker_of, behind_marker, padding, width_with, item_with, item_of, begins_with, is_block_quote, one_blank, block_quote_width, container_with, container_of, width_of, enter, keep_as, keeps, strip_as, strip, strips, footnote_width, footnote_with, footnote_of, footnote_or, with_task}
 use Rattle.cmark_grammar.specs.Openings.{Leaf, ThematicBreak, AtxHeading, IndentedCode, FencedCode, HtmlBlock, LinkDefinition, MetadataBlock, Opening, Blank, Nests, Takes, Plain, or_else, nests_if, fenced_if, metadata_begun, html_if, break_if, heading_if, text_lines, defined_if, definition_of, leaf_of, whole_opens, opens, Table, table_if, text_of, begins_no_link}
 use Rattle.cmark_grammar.specs.Alignment.{Alignment}
 use Rattle.cmark_grammar.specs.TableRows.{table_head}
@@ -89,7 +89,7 @@ delimited-front : (bs : List ℕ) (rest : List ℕ) → drop (length (digits bs)
 delimited-front bs [] e = tt
 delimited-front bs (b ∷ rest) e = go (nat_lt 0 (length (digits bs))) (nat_le (length (digits bs)) 9) (is_delimiter b) refl
   where
-    go : (x y z : Bool) → is_delimiter b ≡ z → MarkerFront (if x && (y && z) then Some (record { mark = b; number = Some (number_of (digits bs)); size = suc (length (digits bs)) }) else None) bs
+    go : (x y z : Bool) → is_delimiter b ≡ z → MarkerFront (if x && (y && z) then Some (record { delimiter = b; number = Some (number_of (digits bs)); size = suc (length (digits bs)) }) else None) bs
     go true true true q =
         subst (λ k. Front IsAsciiByte k bs) (let s : length (digits bs) + 1 ≡ suc (length (digits bs)) = omega arith in s)
         (front-add IsAsciiByte (length (digits bs)) 1 bs (prefix-front is_digit IsAsciiByte digit-ascii bs) (subst (λ r. Front IsAsciiByte 1 r) (sym e) (delimiter-ascii b q, last rest)))
@@ -109,7 +109,7 @@ marker-front : (bs : List ℕ) → MarkerFront (marker_of bs) bs
 marker-front [] = tt
 marker-front (b ∷ bs) = go (is_bullet b) refl
   where
-    go : (z : Bool) → is_bullet b ≡ z → MarkerFront (if z then Some (record { mark = b; number = None; size = 1 }) else delimited (digits (b ∷ bs)) (drop (length (digits (b ∷ bs))) (b ∷ bs))) (b ∷ bs)
+    go : (z : Bool) → is_bullet b ≡ z → MarkerFront (if z then Some (record { delimiter = b; number = None; size = 1 }) else delimited (digits (b ∷ bs)) (drop (length (digits (b ∷ bs))) (b ∷ bs))) (b ∷ bs)
     go true e = (bullet-ascii b e, front-zero IsAsciiByte bs)
     go false e = delimited-front (b ∷ bs) _ refl
 
@@ -156,33 +156,33 @@ module _ (E : ℕ → Type 0) where
   drop-E (suc n) from (c ∷ cs) to h g f ef et = drop-E n (suc c.at) cs to h.1 g.1 f.1 (g.0.1 f.0).1 et
 
   pub record GoodRow (r : Row) : Type 0 where
-    pub runs : Runs (begin_of r) r.columns r.stop
+    pub runs : Runs (begin_of r) r.columns r.content_end
     pub good : AreGood r.columns
     pub begin : E (begin_of r)
-    pub stop : E r.stop
-    pub past : E r.past
-    pub feed : r.past - r.stop ≡ 2 → E (suc r.stop)
+    pub content_end : E r.content_end
+    pub line_end : E r.line_end
+    pub feed : r.line_end - r.content_end ≡ 2 → E (suc r.content_end)
 
   pub without-good : (n : ℕ) (r : Row) → GoodRow r → Front IsAsciiColumn n r.columns → GoodRow (without n r)
   without-good n r g f = record {
-    runs = (drop-Runs n (begin_of r) r.columns r.stop g.runs).0;
+    runs = (drop-Runs n (begin_of r) r.columns r.content_end g.runs).0;
     good = drop-good n r.columns g.good;
-    begin = drop-E n (begin_of r) r.columns r.stop g.runs g.good f g.begin g.stop;
-    stop = g.stop;
-    past = g.past;
+    begin = drop-E n (begin_of r) r.columns r.content_end g.runs g.good f g.begin g.content_end;
+    content_end = g.content_end;
+    line_end = g.line_end;
     feed = g.feed;
   }
 
   pub start-E : (r : Row) → GoodRow r → E (start_of r)
   start-E r g = (without-good (indent r.columns) r g (indent-front r.columns)).begin
 
-  -- a quote's prefix
-  quote-front : (r : Row) → GoodRow r → is_quote r ≡ true → Front IsAsciiColumn (quote_width r) r.columns
+  -- a block quote's prefix
+  quote-front : (r : Row) → GoodRow r → is_block_quote r ≡ true → Front IsAsciiColumn (block_quote_width r) r.columns
   quote-front r g e =
       let marked : Front IsAsciiColumn 1 (without_indent r.columns) = bytes-front 1 (without_indent r.columns) (drop-good (indent r.columns) r.columns g.good) (begins-front 62 (words_of r) (omega arith) (both (nat_le (indent_of r) 3) _ e).1) in
       let front : Front IsAsciiColumn (indent r.columns + 1) r.columns = front-add IsAsciiColumn (indent r.columns) 1 r.columns (indent-front r.columns) marked in
       let s : indent r.columns + 1 ≡ suc (indent r.columns) = omega arith in
-      let t : suc (indent r.columns) + one_blank (drop (suc (indent r.columns)) r.columns) ≡ quote_width r = omega arith in
+      let t : suc (indent r.columns) + one_blank (drop (suc (indent r.columns)) r.columns) ≡ block_quote_width r = omega arith in
       subst (λ k. Front IsAsciiColumn k r.columns) t (front-add IsAsciiColumn (suc (indent r.columns)) (one_blank (drop (suc (indent r.columns)) r.columns)) r.columns (subst (λ k. Front IsAsciiColumn k r.columns) s front) (one_blank-front (drop (suc (indent r.columns)) r.columns)))
 
   -- an item's marker with what counts behind it
@@ -226,13 +226,13 @@ module _ (E : ℕ → Type 0) where
       behind None e = good
       behind (Some is_checked) e = subst GoodRow (ap (λ cs. record r { columns = cs }) (drop-drop 3 (width_with m.size r) r.columns)) (box-good options (without (width_with m.size r) r) is_checked e good)
 
-      go : (z : Bool) → SomeGood r (with_task options r (if z then Some (Item m.mark m.number (width_with m.size r) None) else None))
+      go : (z : Bool) → SomeGood r (with_task options r (if z then Some (Item m.delimiter m.number (width_with m.size r) None) else None))
       go true = (good, behind (task_in options (without (width_with m.size r) r)) refl)
       go false = tt
 
-  quote-good : (o : Option Container) (q : Bool) (alert : Option BlockQuoteKind) (r : Row) → GoodRow r → is_quote r ≡ q → SomeGood r o → SomeGood r (container_with o q alert)
+  quote-good : (o : Option Container) (q : Bool) (alert : Option BlockQuoteKind) (r : Row) → GoodRow r → is_block_quote r ≡ q → SomeGood r o → SomeGood r (container_with o q alert)
   quote-good (Some k) q alert r g e f = f
-  quote-good None true alert r g e f = let good = without-good (quote_width r) r g (quote-front r g e) in (good, good)
+  quote-good None true alert r g e f = let good = without-good (block_quote_width r) r g (quote-front r g e) in (good, good)
   quote-good None false alert r g e f = tt
 
   none-over : (cs : List Column) → columns_over 0 cs ≡ 0
@@ -249,21 +249,21 @@ module _ (E : ℕ → Type 0) where
       go true (suc m) ih l = ih m l
       go false m ih l = ih m l
 
-  footnote-good : (old : Bool) (r : Row) (o : Option Found) → footnote_in (words_of r) ≡ o → GoodRow r → SomeGood r (footnote_with old r o)
+  footnote-good : (old : Bool) (r : Row) (o : Option Parsed) → footnote_in (words_of r) ≡ o → GoodRow r → SomeGood r (footnote_with old r o)
   footnote-good old r None e g = tt
   footnote-good old r (Some found) e g =
       let size : ℕ = marker_columns found.bytes r.columns in
       let middle : ℕ = indent r.columns + size in
-      let begin : E (first_place r.stop (drop middle r.columns)) =
-      subst (λ cs. E (first_place r.stop cs)) (drop-drop size (indent r.columns) r.columns)
-      (over-E (suc (suc (suc (length found.bytes)))) (first_place r.stop (without_indent r.columns)) (without_indent r.columns) r.stop (drop-Runs (indent r.columns) (begin_of r) r.columns r.stop g.runs).0
-      (drop-good (indent r.columns) r.columns g.good) (colon-ascii (words_of r) found e) g.stop) in
+      let begin : E (first_place r.content_end (drop middle r.columns)) =
+      subst (λ cs. E (first_place r.content_end cs)) (drop-drop size (indent r.columns) r.columns)
+      (over-E (suc (suc (suc (length found.bytes)))) (first_place r.content_end (without_indent r.columns)) (without_indent r.columns) r.content_end (drop-Runs (indent r.columns) (begin_of r) r.columns r.content_end g.runs).0
+      (drop-good (indent r.columns) r.columns g.good) (colon-ascii (words_of r) found e) g.content_end) in
       let good : GoodRow (without middle r) = record {
-        runs = (drop-Runs middle (begin_of r) r.columns r.stop g.runs).0;
+        runs = (drop-Runs middle (begin_of r) r.columns r.content_end g.runs).0;
         good = drop-good middle r.columns g.good;
         begin = begin;
-        stop = g.stop;
-        past = g.past;
+        content_end = g.content_end;
+        line_end = g.line_end;
         feed = g.feed;
       } in
       let same : drop (indent (drop middle r.columns)) (drop middle r.columns) ≡ drop (footnote_width size r) r.columns =
@@ -283,7 +283,7 @@ module _ (E : ℕ → Type 0) where
   container_of-good : (options : Options) (r : Row) → GoodRow r → SomeGood r (container_of options r)
   container_of-good options r g =
       or-good (footnote_of (footnotes_in options) r) _ r (footnote_of-good (footnotes_in options) r g)
-      (quote-good (with_task options r (item_of r)) (is_quote r) _ r g refl (item-good options r (marker_of (words_of r)) g (marker-front (words_of r))))
+      (quote-good (with_task options r (item_of r)) (is_block_quote r) _ r g refl (item-good options r (marker_of (words_of r)) g (marker-front (words_of r))))
 
   -- a heading's opening sequence is ASCII too
   abbrev pub LeafFront : Row → Leaf → Type 0
@@ -358,7 +358,7 @@ module _ (E : ℕ → Type 0) where
   front_metadata r None ahead = tt
   front_metadata r (Some kind) ahead = go (holds_metadata kind ahead)
     where
-      go : (z : Bool) → OpeningFront r (if z then Takes (MetadataBlock kind) (counted (metadata_further kind) ahead) else Plain)
+      go : (z : Bool) → OpeningFront r (if z then Takes (MetadataBlock kind) (counted (metadata_continuation kind) ahead) else Plain)
       go true = tt
       go false = tt
 
@@ -368,7 +368,7 @@ module _ (E : ℕ → Type 0) where
       front_if r r.lazy Plain _ tt
       (front_or r (metadata_begun (metadata_kind options r) ahead) (whole_opens options r ahead) (front_metadata r (metadata_kind options r) ahead)
       (front_if r (is_blank_line r) Blank _ tt
-      (front_if r (nat_le 4 (indent_of r)) (Takes IndentedCode (counted code_further ahead)) _ tt
+      (front_if r (nat_le 4 (indent_of r)) (Takes IndentedCode (counted code_continuation ahead)) _ tt
       (front_or r (nests_if (container_of options r)) (leaf_of options r ahead) (front_nests r (container_of options r) (container_of-good options r g)) (front_leaf options r ahead g)))))
 
   pub enter-good : (options : Options) (k : Container) (r : Row) (ahead : List Row) → opens options r ahead ≡ Nests k → GoodRow r → GoodRow (enter k r)
@@ -376,8 +376,8 @@ module _ (E : ℕ → Type 0) where
   enter-good options k r ahead e g = (subst (OpeningFront r) e (front_opens options r ahead g)).1
 
   -- nor behind an item's task marker
-  pub enter-begin : (options : Options) (mark : ℕ) (number : Option ℕ) (width : ℕ) (task : Option Bool) (r : Row) (ahead : List Row) → opens options r ahead ≡ Nests (Item mark number width task) → GoodRow r → E (begin_of (without (behind_box task width) r))
-  enter-begin options mark number width task r ahead e g = (subst (OpeningFront r) e (front_opens options r ahead g)).1.begin
+  pub enter-begin : (options : Options) (delimiter : ℕ) (number : Option ℕ) (width : ℕ) (task : Option Bool) (r : Row) (ahead : List Row) → opens options r ahead ≡ Nests (Item delimiter number width task) → GoodRow r → E (begin_of (without (behind_box task width) r))
+  enter-begin options delimiter number width task r ahead e g = (subst (OpeningFront r) e (front_opens options r ahead g)).1.begin
 
   -- nor behind a container's own marker
   pub marker-good : (options : Options) (k : Container) (r : Row) (ahead : List Row) → opens options r ahead ≡ Nests k → GoodRow r → GoodRow (without (marker_width k r) r)
@@ -407,13 +407,13 @@ module _ (E : ℕ → Type 0) where
       go false false ex ey f = absurd (let p : None ≡ Some s = f in cc)
 
   pub hold-good : (r : Row) → GoodRow r → GoodRow (hold r)
-  hold-good r g = record { runs = g.runs; good = g.good; begin = g.begin; stop = g.stop; past = g.past; feed = g.feed }
+  hold-good r g = record { runs = g.runs; good = g.good; begin = g.begin; content_end = g.content_end; line_end = g.line_end; feed = g.feed }
 
   keep_as-good : (k : Container) (r s : Row) → GoodRow r → keep_as k r ≡ Some s → GoodRow s
-  keep_as-good (Quote alert) r s g e = go (is_quote r) refl e
+  keep_as-good (BlockQuote alert) r s g e = go (is_block_quote r) refl e
     where
-      go : (z : Bool) → is_quote r ≡ z → (if z then Some (without (quote_width r) r) else None) ≡ Some s → GoodRow s
-      go true q f = let p : without (quote_width r) r ≡ s = cc in subst GoodRow p (without-good (quote_width r) r g (quote-front r g q))
+      go : (z : Bool) → is_block_quote r ≡ z → (if z then Some (without (block_quote_width r) r) else None) ≡ Some s → GoodRow s
+      go true q f = let p : without (block_quote_width r) r ≡ s = cc in subst GoodRow p (without-good (block_quote_width r) r g (quote-front r g q))
       go false q f = absurd (let p : None ≡ Some s = f in cc)
   keep_as-good (Footnote label true size) r s g e = go (is_blank_line r) e
     where
@@ -421,7 +421,7 @@ module _ (E : ℕ → Type 0) where
       go true f = absurd (let p : None ≡ Some s = f in cc)
       go false f = let p : hold r ≡ s = cc in subst GoodRow p (hold-good r g)
   keep_as-good (Footnote label false size) r s g e = wide-good 4 r s g e
-  keep_as-good (Item mark number width task) r s g e = wide-good width r s g e
+  keep_as-good (Item delimiter number width task) r s g e = wide-good width r s g e
   keep_as-good (ListDefinition width) r s g e = wide-good width r s g e
 
   keeps-good : (k : Container) (bare : Bool) (r s : Row) → GoodRow r → keeps k bare r ≡ Some s → GoodRow s
@@ -433,7 +433,7 @@ module _ (E : ℕ → Type 0) where
       go false q = keep_as-good k r s g q
 
   lazy-good : (r : Row) → GoodRow r → GoodRow (strip_as None r)
-  lazy-good r g = record { runs = g.runs; good = g.good; begin = g.begin; stop = g.stop; past = g.past; feed = g.feed }
+  lazy-good r g = record { runs = g.runs; good = g.good; begin = g.begin; content_end = g.content_end; line_end = g.line_end; feed = g.feed }
 
   strip-good : (k : Container) (bare : Bool) (r : Row) → GoodRow r → GoodRow (strip k bare r)
   strip-good k bare r g = go (keeps k bare r) refl

@@ -3,8 +3,8 @@ use Rattle.std.proofs.Common.{◌≡◌, ℕ, zero, suc, ◌+◌, ◌≤◌, ◌
 use Rattle.std.specs.Prelude.{if◌then◌else◌}
 use Rattle.cmark_grammar.specs.Lines.{lines, ends_line, onto, content}
 use Rattle.cmark_grammar.specs.Columns.{Column, tab, expand, tab_columns, to_tab_stop, indent, without_indent}
-use Rattle.cmark_grammar.specs.Rows.{Row, rows, rows_from, row_at, without, hold, is_blank_line, indent_of, place, first_place, begin_of, start_of, past_of}
-use Rattle.cmark_grammar.specs.Containers.{Container, Quote, Item, Footnote, ListDefinition, keeps, keep_as, strip_as, strip, strips, is_quote, quote_width}
+use Rattle.cmark_grammar.specs.Rows.{Row, rows, rows_from, row_at, without, hold, is_blank_line, indent_of, place, first_place, begin_of, start_of, last_line_end}
+use Rattle.cmark_grammar.specs.Containers.{Container, BlockQuote, Item, Footnote, ListDefinition, keeps, keep_as, strip_as, strip, strips, is_block_quote, block_quote_width}
 
 -- these columns stand one behind the other, from one place to another
 abbrev pub Runs : ℕ → List Column → ℕ → Type 0
@@ -54,22 +54,22 @@ drop-mono (suc m) (suc n) from (c ∷ cs) to le h = drop-mono m n (suc c.at) cs 
 
 -- a line that begins at this place or later
 abbrev pub Lies : ℕ → Row → Type 0
-Lies from r = (from ≤ begin_of r) × Runs (begin_of r) r.columns r.stop × (r.stop ≤ r.past)
+Lies from r = (from ≤ begin_of r) × Runs (begin_of r) r.columns r.content_end × (r.content_end ≤ r.line_end)
 
-pub begin-stop : (from : ℕ) (r : Row) → Lies from r → begin_of r ≤ r.stop
-begin-stop from r h = Runs-le (begin_of r) r.columns r.stop h.1
+pub begin-content_end : (from : ℕ) (r : Row) → Lies from r → begin_of r ≤ r.content_end
+begin-content_end from r h = Runs-le (begin_of r) r.columns r.content_end h.1
 
 pub begin-start : (from : ℕ) (r : Row) → Lies from r → begin_of r ≤ start_of r
-begin-start from r h = (drop-Runs (indent r.columns) (begin_of r) r.columns r.stop h.1).1
+begin-start from r h = (drop-Runs (indent r.columns) (begin_of r) r.columns r.content_end h.1).1
 
-pub start-Runs : (from : ℕ) (r : Row) → Lies from r → Runs (start_of r) (without_indent r.columns) r.stop
-start-Runs from r h = (drop-Runs (indent r.columns) (begin_of r) r.columns r.stop h.1).0
+pub start-Runs : (from : ℕ) (r : Row) → Lies from r → Runs (start_of r) (without_indent r.columns) r.content_end
+start-Runs from r h = (drop-Runs (indent r.columns) (begin_of r) r.columns r.content_end h.1).0
 
-pub start-stop : (from : ℕ) (r : Row) → Lies from r → start_of r ≤ r.stop
-start-stop from r h = Runs-le (start_of r) (without_indent r.columns) r.stop (start-Runs from r h)
+pub start-content_end : (from : ℕ) (r : Row) → Lies from r → start_of r ≤ r.content_end
+start-content_end from r h = Runs-le (start_of r) (without_indent r.columns) r.content_end (start-Runs from r h)
 
 pub Lies-without : (n from : ℕ) (r : Row) → Lies from r → Lies (begin_of r) (without n r)
-Lies-without n from r h = let d = drop-Runs n (begin_of r) r.columns r.stop h.1 in (d.1, d.0, h.2)
+Lies-without n from r h = let d = drop-Runs n (begin_of r) r.columns r.content_end h.1 in (d.1, d.0, h.2)
 
 pub Lies-lower : (a b : ℕ) (r : Row) → a ≤ b → Lies b r → Lies a r
 Lies-lower a b r le h = let p : b ≤ begin_of r = h.0 in (omega (arith, le, p), h.1, h.2)
@@ -77,9 +77,9 @@ Lies-lower a b r le h = let p : b ≤ begin_of r = h.0 in (omega (arith, le, p),
 -- lines one behind the other
 abbrev pub Along : ℕ → List Row → ℕ → Type 0
 Along from [] to = from ≤ to
-Along from (r ∷ rs) to = Lies from r × Along r.past rs to
+Along from (r ∷ rs) to = Lies from r × Along r.line_end rs to
 
-pub Along-split : (first : Row) (more rest : List Row) (to : ℕ) → Along first.past (more ++ rest) to → Along first.past more (past_of first more) × Along (past_of first more) rest to
+pub Along-split : (first : Row) (more rest : List Row) (to : ℕ) → Along first.line_end (more ++ rest) to → Along first.line_end more (last_line_end first more) × Along (last_line_end first more) rest to
 Along-split first [] rest to h = (omega arith, h)
 Along-split first (r ∷ more) rest to h = let s = Along-split r more rest to h.1 in ((h.0, s.0), s.1)
 
@@ -87,9 +87,9 @@ pub Along-le : (from : ℕ) (rs : List Row) (to : ℕ) → Along from rs to → 
 Along-le from [] to h = h
 Along-le from (r ∷ rs) to h =
     let a : from ≤ begin_of r = h.0.0 in
-    let b : begin_of r ≤ r.stop = begin-stop from r h.0 in
-    let c : r.stop ≤ r.past = h.0.2 in
-    let d : r.past ≤ to = Along-le r.past rs to h.1 in
+    let b : begin_of r ≤ r.content_end = begin-content_end from r h.0 in
+    let c : r.content_end ≤ r.line_end = h.0.2 in
+    let d : r.line_end ≤ to = Along-le r.line_end rs to h.1 in
     omega (arith, a, b, c, d)
 
 -- prefixes taken off leave lines one behind the other
@@ -105,9 +105,9 @@ abbrev pub behind_prefix : ℕ → (held : Bool) → Row → Row
 behind_prefix n held r = record (without n r) { held = held }
 
 kept_as-behind : (k : Container) (r s : Row) → keep_as k r ≡ Some s → (n : ℕ) × ((held : Bool) × (behind_prefix n held r ≡ s))
-kept_as-behind (Quote alert) r s e = (quote_width r, (r.held, go (is_quote r) e))
+kept_as-behind (BlockQuote alert) r s e = (block_quote_width r, (r.held, go (is_block_quote r) e))
   where
-    go : (z : Bool) → (if z then Some (without (quote_width r) r) else None) ≡ Some s → without (quote_width r) r ≡ s
+    go : (z : Bool) → (if z then Some (without (block_quote_width r) r) else None) ≡ Some s → without (block_quote_width r) r ≡ s
     go true q = cc
     go false q = cc
 kept_as-behind (Footnote label true size) r s e = (0, (true, go _ e))
@@ -116,7 +116,7 @@ kept_as-behind (Footnote label true size) r s e = (0, (true, go _ e))
     go true q = cc
     go false q = cc
 kept_as-behind (Footnote label false size) r s e = (4, (r.held, wide-without 4 r s e))
-kept_as-behind (Item mark number width task) r s e = (width, (r.held, wide-without width r s e))
+kept_as-behind (Item delimiter number width task) r s e = (width, (r.held, wide-without width r s e))
 kept_as-behind (ListDefinition width) r s e = (width, (r.held, wide-without width r s e))
 
 pub kept-behind : (k : Container) (bare : Bool) (r s : Row) → keeps k bare r ≡ Some s → (n : ℕ) × ((held : Bool) × (behind_prefix n held r ≡ s))
@@ -137,19 +137,19 @@ strip-Lies k bare from r h = go (keeps k bare r) refl
         let n : ℕ = w.0 in
         subst (Lies from) w.1.1 (Lies-lower from (begin_of r) (without n r) h.0 (Lies-without n from r h))
 
-pub strip-past : (k : Container) (bare : Bool) (r : Row) → (strip k bare r).past ≡ r.past
-strip-past k bare r = go (keeps k bare r) refl
+pub strip-line_end : (k : Container) (bare : Bool) (r : Row) → (strip k bare r).line_end ≡ r.line_end
+strip-line_end k bare r = go (keeps k bare r) refl
   where
-    go : (o : Option Row) → keeps k bare r ≡ o → (strip_as o r).past ≡ r.past
+    go : (o : Option Row) → keeps k bare r ≡ o → (strip_as o r).line_end ≡ r.line_end
     go None e = refl
     go (Some s) e =
         let w = kept-behind k bare r s e in
-        sym (ap (λ x. x.past) w.1.1)
+        sym (ap (λ x. x.line_end) w.1.1)
 
 pub strips-Along : (k : Container) (bare : Bool) (from : ℕ) (rs : List Row) (to : ℕ) → Along from rs to → Along from (strips k bare rs) to
 strips-Along k bare from [] to h = h
 strips-Along k bare from (r ∷ rs) to h =
-    (strip-Lies k bare from r h.0, subst (λ p. Along p (strips k false rs) to) (sym (strip-past k bare r)) (strips-Along k false r.past rs to h.1))
+    (strip-Lies k bare from r h.0, subst (λ p. Along p (strips k false rs) to) (sym (strip-line_end k bare r)) (strips-Along k false r.line_end rs to h.1))
 
 -- the lines of a text stand one behind the other
 tab-Runs : (at part n : ℕ) (rest : List Column) (to : ℕ) → Runs (suc at) rest to → Runs (suc at) (tab_columns at (suc part) n ++ rest) to

@@ -5,8 +5,8 @@ use Rattle.cmark_grammar.specs.Attributes.{is_braced, before_braces, closes, is_
 use Rattle.cmark_grammar.specs.BlockDocument.{BlockDocument, Nil, Node}
 use Rattle.cmark_grammar.specs.Columns.{Column, drop_end, put_before, is_blank}
 use Rattle.cmark_grammar.specs.Ranges.{InOrder, AllAt, count_nodes, count_tables}
-use Rattle.cmark_grammar.specs.Rows.{Row, place, first_place, start_of, past_of}
-use Rattle.cmark_grammar.specs.SetextAttributes.{line_end, content_of, is_white, ends_in_braces, before_attributes, attributes_place, texts_before, texts_if, without_braces, setext_tokens}
+use Rattle.cmark_grammar.specs.Rows.{Row, place, first_place, start_of, last_line_end}
+use Rattle.cmark_grammar.specs.SetextAttributes.{line_end_column, content_of, is_white, ends_in_braces, before_attributes, attributes_place, texts_before, texts_if, without_braces, setext_tokens}
 use Rattle.cmark_grammar.specs.Tokens.{slice, texts_then, stretch_then, paragraph_tokens}
 use Rattle.cmark_grammar.proofs.RowEdges.{is-ascii, AreGood, GoodRow, GoodRows}
 use Rattle.cmark_grammar.proofs.RowPlaces.{Lies, Along}
@@ -46,7 +46,7 @@ module _ (E : ℕ → Type 0) where
 
   content-reaches : (r : Row) (more : List Row) → GoodRow E r → GoodRows E more → Reaches (content_of (r ∷ more))
   content-reaches r [] g gs = end-reaches is_blank r.columns (good-reaches r.columns g.good)
-  content-reaches r (s ∷ more) g gs = join-reaches r.columns (line_end r ∷ content_of (s ∷ more)) (good-reaches r.columns g.good) (λ lt. g.stop, content-reaches s more gs.0 gs.1)
+  content-reaches r (s ∷ more) g gs = join-reaches r.columns (line_end_column r ∷ content_of (s ∷ more)) (good-reaches r.columns g.good) (λ lt. g.content_end, content-reaches s more gs.0 gs.1)
 
   white-ascii : (b : ℕ) → is_white_space b ≡ true → b < 128
   white-ascii b e = grind (arith)
@@ -122,10 +122,10 @@ braces-order text true cs from d to h = go (ends_in_braces cs)
     go true = before-order text (attributes_place cs) from d to h
     go false = h
 
-pub setext-order : (text : List ℕ) (attributes : Bool) (from : ℕ) (first : Row) (more : List Row) → Lies from first → Along first.past more (past_of first more)
-    → InOrder (start_of first) (setext_tokens text attributes first more) (past_of first more)
+pub setext-order : (text : List ℕ) (attributes : Bool) (from : ℕ) (first : Row) (more : List Row) → Lies from first → Along first.line_end more (last_line_end first more)
+    → InOrder (start_of first) (setext_tokens text attributes first more) (last_line_end first more)
 setext-order text attributes from first more h a =
-    braces-order text attributes (content_of (first ∷ more)) (start_of first) (paragraph_tokens text first more) (past_of first more) (paragraph-order text from first more h a)
+    braces-order text attributes (content_of (first ∷ more)) (start_of first) (paragraph_tokens text first more) (last_line_end first more) (paragraph-order text from first more h a)
 
 -- ## Numbers
 

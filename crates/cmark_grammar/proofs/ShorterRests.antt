@@ -13,18 +13,18 @@ use Rattle.cmark_grammar.specs.Formulas.{is_dollar, is_ink, Braces, context_of, 
 use Rattle.cmark_grammar.specs.InlineHtml.{behind_comment, declaration_in, cdata_in, opened_in, behind_opened, behind_markup}
 use Rattle.cmark_grammar.specs.Letters.{is_letter, first_is, starts, behind_all, behind_if, behind_start, behind_first, and_then}
 use Rattle.cmark_grammar.specs.LineBreaks.{LineBreak, hard_break, blank_break, backslash_break_in, blank_break_in, ends_with_two_spaces}
-use Rattle.cmark_grammar.specs.LinkDefinitions.{Found, put, is_label, label_if, label_in, escapes_next, up_to, ends_bare, bare_in, depth_after, title_in, behind_blanks, behind_next_line, behind_separator}
+use Rattle.cmark_grammar.specs.LinkDefinitions.{Parsed, put, is_label, label_if, label_in, escapes_next, up_to, ends_bare, bare_in, depth_after, title_in, behind_blanks, behind_next_line, behind_separator}
 use Rattle.cmark_grammar.specs.LinkTails.{LinkTail, closed_tail, with_title, title_behind, tail_inside, link_tail_in, reference_label_in, behind_collapsed}
-use Rattle.cmark_grammar.specs.Tags.{is_name_byte, is_attribute_start, is_attribute_byte, is_value_byte, is_space_byte, behind_line_feed, behind_ending, behind_tag_name, behind_attribute_name, behind_bare_value, behind_greater, behind_open_end, behind_closing_tag, without_prefix, on_next_line, behind_space, prefix_behind, behind_quote, behind_value, behind_assigned, behind_attribute, behind_attributes, behind_open_tag, behind_tag_start, behind_tag}
+use Rattle.cmark_grammar.specs.Tags.{is_name_byte, is_attribute_start, is_attribute_byte, is_value_byte, is_space_byte, behind_line_feed, behind_ending, behind_tag_name, behind_attribute_name, behind_bare_value, behind_greater, behind_open_end, behind_closing_tag, without_prefix, on_next_line, behind_space, prefix_behind, behind_quotation_mark, behind_value, behind_assigned, behind_attribute, behind_attributes, behind_open_tag, behind_tag_start, behind_tag}
 
 -- fewer than so many bytes are left, if the part was there
 abbrev pub LeavesBelow : ℕ → Option (List ℕ) → Type 0
 LeavesBelow n None = Unit {0}
 LeavesBelow n (Some rest) = length rest < n
 
-abbrev pub FoundBelow : ℕ → Option Found → Type 0
-FoundBelow n None = Unit {0}
-FoundBelow n (Some found) = length found.behind < n
+abbrev pub ParsedBelow : ℕ → Option Parsed → Type 0
+ParsedBelow n None = Unit {0}
+ParsedBelow n (Some found) = length found.behind < n
 
 -- one of two
 pub either : {A : Type 0} (P : A → Type 0) (b : Bool) (x y : A) → P x → P y → P (if b then x else y)
@@ -35,7 +35,7 @@ more : (n m : ℕ) (o : Option (List ℕ)) → n ≤ m → LeavesBelow n o → L
 more n m None h k = tt
 more n m (Some rest) h k = omega arith
 
-more_found : (n m : ℕ) (o : Option Found) → n ≤ m → FoundBelow n o → FoundBelow m o
+more_found : (n m : ℕ) (o : Option Parsed) → n ≤ m → ParsedBelow n o → ParsedBelow m o
 more_found n m None h k = tt
 more_found n m (Some rest) h k = omega arith
 
@@ -43,7 +43,7 @@ and_shorter : (n m : ℕ) (o : Option (List ℕ)) (next : List ℕ → Option (L
 and_shorter n m None next h k = tt
 and_shorter n m (Some rest) next h k = k rest h
 
-and_found : (n m : ℕ) (o : Option (List ℕ)) (next : List ℕ → Option Found) → LeavesBelow n o → ((rest : List ℕ) → length rest < n → FoundBelow m (next rest)) → FoundBelow m (and_then o next)
+and_found : (n m : ℕ) (o : Option (List ℕ)) (next : List ℕ → Option Parsed) → LeavesBelow n o → ((rest : List ℕ) → length rest < n → ParsedBelow m (next rest)) → ParsedBelow m (and_then o next)
 and_found n m None next h k = tt
 and_found n m (Some rest) next h k = k rest h
 
@@ -94,19 +94,19 @@ module _ (prefix : List ℕ → ℕ) where
       let a : length blanks ≤ length bs = dropped (prefix_len is_blank_byte bs) bs in
       line_within (length bs) blanks (behind_ending blanks) a (more (length blanks) (length bs) (behind_ending blanks) a (ending-shorter blanks))
 
-  quote_shorter : (quote skip : ℕ) (bs : List ℕ) → LeavesBelow (length bs) (behind_quote prefix quote skip bs)
+  quote_shorter : (quote skip : ℕ) (bs : List ℕ) → LeavesBelow (length bs) (behind_quotation_mark prefix quote skip bs)
   quote_shorter quote skip [] = tt
-  quote_shorter quote (suc skip) (b ∷ bs) = more (length bs) (suc (length bs)) (behind_quote prefix quote skip bs) (omega arith) (quote_shorter quote skip bs)
+  quote_shorter quote (suc skip) (b ∷ bs) = more (length bs) (suc (length bs)) (behind_quotation_mark prefix quote skip bs) (omega arith) (quote_shorter quote skip bs)
   quote_shorter quote zero (b ∷ bs) =
-      let after : Option (List ℕ) = behind_quote prefix quote (prefix_behind prefix b bs) bs in
+      let after : Option (List ℕ) = behind_quotation_mark prefix quote (prefix_behind prefix b bs) bs in
       either (LeavesBelow (suc (length bs))) (b == quote) (Some bs) after (omega arith)
       (more (length bs) (suc (length bs)) after (omega arith) (quote_shorter quote (prefix_behind prefix b bs) bs))
 
   value_shorter : (bs : List ℕ) → LeavesBelow (length bs) (behind_value prefix bs)
   value_shorter [] = tt
   value_shorter (b ∷ bs) =
-      either (LeavesBelow (suc (length bs))) ((b == 34) || (b == 39)) (behind_quote prefix b 0 bs) (behind_bare_value (b ∷ bs))
-      (more (length bs) (suc (length bs)) (behind_quote prefix b 0 bs) (omega arith) (quote_shorter b 0 bs)) (then_all is_value_byte is_value_byte (b ∷ bs))
+      either (LeavesBelow (suc (length bs))) ((b == 34) || (b == 39)) (behind_quotation_mark prefix b 0 bs) (behind_bare_value (b ∷ bs))
+      (more (length bs) (suc (length bs)) (behind_quotation_mark prefix b 0 bs) (omega arith) (quote_shorter b 0 bs)) (then_all is_value_byte is_value_byte (b ∷ bs))
 
   assigned_within : (n : ℕ) (name bs : List ℕ) → length name < n → length bs < n → LeavesBelow n (behind_assigned prefix name bs)
   assigned_within n name [] h k = h
@@ -198,42 +198,42 @@ first-within = first_within
 
 -- ## Code spans and autolinks
 
-put_below : (n b : ℕ) (o : Option Found) → FoundBelow n o → FoundBelow n (put b o)
+put_below : (n b : ℕ) (o : Option Parsed) → ParsedBelow n o → ParsedBelow n (put b o)
 put_below n b None h = tt
 put_below n b (Some found) h = h
 
-pub run-within : (size : ℕ) (goes_on : Bool) (bs : List ℕ) → FoundBelow (suc (length bs)) (up_to_run size goes_on bs)
+pub run-within : (size : ℕ) (goes_on : Bool) (bs : List ℕ) → ParsedBelow (suc (length bs)) (up_to_run size goes_on bs)
 run-within size goes_on [] = tt
 run-within size goes_on (b ∷ bs) =
-    let after : Option Found = up_to_run size (is_backtick b) bs in
-    either (FoundBelow (suc (suc (length bs)))) (is_backtick b && (not goes_on && (backticks (b ∷ bs) == size))) (Some (record { bytes = []; behind = b ∷ bs })) (put b after)
+    let after : Option Parsed = up_to_run size (is_backtick b) bs in
+    either (ParsedBelow (suc (suc (length bs)))) (is_backtick b && (not goes_on && (backticks (b ∷ bs) == size))) (Some (record { bytes = []; behind = b ∷ bs })) (put b after)
     (omega arith) (put_below (suc (suc (length bs))) b after (more_found (suc (length bs)) (suc (suc (length bs))) after (omega arith) (run-within size (is_backtick b) bs)))
 
-pub closed-shorter : (closer size : ℕ) (bs : List ℕ) → FoundBelow (suc (length bs)) (closed_by closer size bs)
+pub closed-shorter : (closer size : ℕ) (bs : List ℕ) → ParsedBelow (suc (length bs)) (closed_by closer size bs)
 closed-shorter closer size bs =
-    either (FoundBelow (suc (length bs))) (first_is (λ b. b == closer) (drop size bs)) (Some (record { bytes = _; behind = drop (suc size) bs })) None
+    either (ParsedBelow (suc (length bs))) (first_is (λ b. b == closer) (drop size bs)) (Some (record { bytes = _; behind = drop (suc size) bs })) None
     (let e = dropped (suc size) bs in omega arith) tt
 
 -- ## What stands behind a closing bracket
 
-up_within : (escaped : Bool) (closer refused : ℕ) (over_lines : Bool) (bs : List ℕ) → FoundBelow (length bs) (up_to escaped closer refused over_lines bs)
+up_within : (escaped : Bool) (closer refused : ℕ) (over_lines : Bool) (bs : List ℕ) → ParsedBelow (length bs) (up_to escaped closer refused over_lines bs)
 up_within escaped closer refused over_lines [] = tt
 up_within escaped closer refused over_lines (b ∷ bs) =
-    let after : Option Found = up_to (escapes_next escaped b) closer refused over_lines bs in
+    let after : Option Parsed = up_to (escapes_next escaped b) closer refused over_lines bs in
     let n = suc (length bs) in
-    either (FoundBelow n) (not escaped && (b == closer)) (Some (record { bytes = []; behind = bs })) (if (not escaped && (b == refused)) || (not over_lines && ((b == 10) || (b == 13))) then None else put b after)
+    either (ParsedBelow n) (not escaped && (b == closer)) (Some (record { bytes = []; behind = bs })) (if (not escaped && (b == refused)) || (not over_lines && ((b == 10) || (b == 13))) then None else put b after)
     (omega arith)
-    (either (FoundBelow n) ((not escaped && (b == refused)) || (not over_lines && ((b == 10) || (b == 13)))) None (put b after) tt
+    (either (ParsedBelow n) ((not escaped && (b == refused)) || (not over_lines && ((b == 10) || (b == 13)))) None (put b after) tt
     (put_below n b after (more_found (length bs) n after (omega arith) (up_within (escapes_next escaped b) closer refused over_lines bs))))
 
-pub label-shorter : (bs : List ℕ) → FoundBelow (length bs) (label_in bs)
+pub label-shorter : (bs : List ℕ) → ParsedBelow (length bs) (label_in bs)
 label-shorter bs = go (up_to false 93 91 true bs) (up_within false 93 91 true bs)
   where
-    go : (o : Option Found) → FoundBelow (length bs) o → FoundBelow (length bs) (label_if o)
+    go : (o : Option Parsed) → ParsedBelow (length bs) o → ParsedBelow (length bs) (label_if o)
     go None h = tt
-    go (Some found) h = either (FoundBelow (length bs)) (is_label found.bytes) (Some found) None h tt
+    go (Some found) h = either (ParsedBelow (length bs)) (is_label found.bytes) (Some found) None h tt
 
-pub reference_label-shorter : (bs : List ℕ) → FoundBelow (length bs) (reference_label_in bs)
+pub reference_label-shorter : (bs : List ℕ) → ParsedBelow (length bs) (reference_label_in bs)
 reference_label-shorter bs =
     and_found (length bs) (length bs) (behind_if (λ b. b == 91) bs) label_in (if-shorter (λ b. b == 91) bs)
     (λ rest h. more_found (length rest) (length bs) (label_in rest) (omega arith) (label-shorter rest))
@@ -241,31 +241,31 @@ reference_label-shorter bs =
 pub collapsed-shorter : (bs : List ℕ) → LeavesBelow (suc (length bs)) (behind_collapsed bs)
 collapsed-shorter bs = start_within (codes "[]") bs
 
-bare_within : (escaped : Bool) (depth : ℕ) (bs : List ℕ) → FoundBelow (suc (length bs)) (bare_in escaped depth bs)
-bare_within escaped depth [] = either (FoundBelow 1) (depth == 0) (Some (record { bytes = []; behind = [] })) None (omega arith) tt
+bare_within : (escaped : Bool) (depth : ℕ) (bs : List ℕ) → ParsedBelow (suc (length bs)) (bare_in escaped depth bs)
+bare_within escaped depth [] = either (ParsedBelow 1) (depth == 0) (Some (record { bytes = []; behind = [] })) None (omega arith) tt
 bare_within escaped depth (b ∷ bs) =
-    let after : Option Found = bare_in (escapes_next escaped b) (depth_after escaped depth b) bs in
+    let after : Option Parsed = bare_in (escapes_next escaped b) (depth_after escaped depth b) bs in
     let n = suc (suc (length bs)) in
-    let ends : Option Found = if depth == 0 then Some (record { bytes = []; behind = b ∷ bs }) else None in
-    let on : Option Found = if not escaped && ((b == 40) && nat_le 32 depth) then None else put b after in
-    either (FoundBelow n) (ends_bare b || (not escaped && ((b == 41) && (depth == 0)))) ends on
-    (either (FoundBelow n) (depth == 0) (Some (record { bytes = []; behind = b ∷ bs })) None (omega arith) tt)
-    (either (FoundBelow n) (not escaped && ((b == 40) && nat_le 32 depth)) None (put b after) tt
+    let ends : Option Parsed = if depth == 0 then Some (record { bytes = []; behind = b ∷ bs }) else None in
+    let on : Option Parsed = if not escaped && ((b == 40) && nat_le 32 depth) then None else put b after in
+    either (ParsedBelow n) (ends_bare b || (not escaped && ((b == 41) && (depth == 0)))) ends on
+    (either (ParsedBelow n) (depth == 0) (Some (record { bytes = []; behind = b ∷ bs })) None (omega arith) tt)
+    (either (ParsedBelow n) (not escaped && ((b == 40) && nat_le 32 depth)) None (put b after) tt
     (put_below n b after (more_found (suc (length bs)) n after (omega arith) (bare_within (escapes_next escaped b) (depth_after escaped depth b) bs))))
 
-destination_within : (bs : List ℕ) → FoundBelow (suc (length bs)) (link_destination_in bs)
+destination_within : (bs : List ℕ) → ParsedBelow (suc (length bs)) (link_destination_in bs)
 destination_within bs =
     let e = dropped 1 bs in
-    either (FoundBelow (suc (length bs))) (first_is (λ b. b == 60) bs) (up_to false 62 60 false (drop 1 bs)) (bare_in false 0 bs)
+    either (ParsedBelow (suc (length bs))) (first_is (λ b. b == 60) bs) (up_to false 62 60 false (drop 1 bs)) (bare_in false 0 bs)
     (more_found (length (drop 1 bs)) (suc (length bs)) (up_to false 62 60 false (drop 1 bs)) (omega arith) (up_within false 62 60 false (drop 1 bs))) (bare_within false 0 bs)
 
-title_shorter : (bs : List ℕ) → FoundBelow (length bs) (title_in bs)
+title_shorter : (bs : List ℕ) → ParsedBelow (length bs) (title_in bs)
 title_shorter [] = tt
 title_shorter (b ∷ bs) =
     let n = suc (length bs) in
-    either (FoundBelow n) ((b == 34) || (b == 39)) (up_to false b b true bs) (if b == 40 then up_to false 41 40 true bs else None)
+    either (ParsedBelow n) ((b == 34) || (b == 39)) (up_to false b b true bs) (if b == 40 then up_to false 41 40 true bs else None)
     (more_found (length bs) n (up_to false b b true bs) (omega arith) (up_within false b b true bs))
-    (either (FoundBelow n) (b == 40) (up_to false 41 40 true bs) None (more_found (length bs) n (up_to false 41 40 true bs) (omega arith) (up_within false 41 40 true bs)) tt)
+    (either (ParsedBelow n) (b == 40) (up_to false 41 40 true bs) None (more_found (length bs) n (up_to false 41 40 true bs) (omega arith) (up_within false 41 40 true bs)) tt)
 
 blanks_within : (bs : List ℕ) → length (behind_blanks bs) ≤ length bs
 blanks_within bs = dropped (length (take_while is_blank_byte bs)) bs
@@ -292,14 +292,14 @@ tail_more : (n m : ℕ) (o : Option LinkTail) → n ≤ m → TailBelow n o → 
 tail_more n m None h k = tt
 tail_more n m (Some tail) h k = omega arith
 
-titled_shorter : (n : ℕ) (destination title : Option Found) → FoundBelow (suc n) destination → FoundBelow n title → TailBelow n (with_title destination title)
+titled_shorter : (n : ℕ) (destination title : Option Parsed) → ParsedBelow (suc n) destination → ParsedBelow n title → TailBelow n (with_title destination title)
 titled_shorter n None title h k = tt
 titled_shorter n (Some destination) None h k =
     tail_more (length destination.behind) n (closed_tail destination.bytes None destination.behind) (omega arith) (closed_tail_shorter destination.bytes None destination.behind)
 titled_shorter n (Some destination) (Some title) h k =
     tail_more (length title.behind) n (closed_tail destination.bytes (Some title.bytes) title.behind) (omega arith) (closed_tail_shorter destination.bytes (Some title.bytes) title.behind)
 
-title_within : (n : ℕ) (destination : Option Found) → FoundBelow (suc n) destination → FoundBelow n (title_behind destination)
+title_within : (n : ℕ) (destination : Option Parsed) → ParsedBelow (suc n) destination → ParsedBelow n (title_behind destination)
 title_within n None h = tt
 title_within n (Some destination) h =
     let e = separator_within destination.behind in more_found (length (behind_separator destination.behind)) n (title_in (behind_separator destination.behind)) (omega arith) (title_shorter (behind_separator destination.behind))
@@ -312,7 +312,7 @@ link_tail-shorter bs = go (behind_if (λ b. b == 40) bs) (if-shorter (λ b. b ==
     go (Some rest) h =
         let spaced : List ℕ = behind_separator rest in
         let within = separator_within rest in
-        let found : FoundBelow (suc (length rest)) (link_destination_in spaced) = more_found (suc (length spaced)) (suc (length rest)) (link_destination_in spaced) (omega arith) (destination_within spaced) in
+        let found : ParsedBelow (suc (length rest)) (link_destination_in spaced) = more_found (suc (length spaced)) (suc (length rest)) (link_destination_in spaced) (omega arith) (destination_within spaced) in
         tail_more (length rest) (length bs) (tail_inside rest) (omega arith)
         (titled_shorter (length rest) (link_destination_in spaced) (title_behind (link_destination_in spaced)) found (title_within (length rest) (link_destination_in spaced) found))
 
@@ -352,20 +352,20 @@ prefix-some p b bs e = go (p b) e
     go true k = omega arith
     go false k = cc
 
-run_behind : (size n : ℕ) (o : Option Found) → FoundBelow n o → FoundBelow n (option_map (behind_run size) o)
+run_behind : (size n : ℕ) (o : Option Parsed) → ParsedBelow n o → ParsedBelow n (option_map (behind_run size) o)
 run_behind size n None h = tt
 run_behind size n (Some found) h = let e = dropped size found.behind in omega arith
 
-pub code-shorter : (bs : List ℕ) → FoundBelow (length bs) (code_in bs)
+pub code-shorter : (bs : List ℕ) → ParsedBelow (length bs) (code_in bs)
 code-shorter bs = go (backticks bs == 0) refl
   where
     rest : List ℕ
     rest = behind_all is_backtick bs
 
-    found : Option Found
+    found : Option Parsed
     found = option_map (behind_run (backticks bs)) (up_to_run (backticks bs) false rest)
 
-    go : (x : Bool) → (backticks bs == 0) ≡ x → FoundBelow (length bs) (if x then None else found)
+    go : (x : Bool) → (backticks bs == 0) ≡ x → ParsedBelow (length bs) (if x then None else found)
     go true e = tt
     go false e =
         let n : backticks bs ≢ 0 = λ z. (let f : (backticks bs == 0) ≡ true = eq-eqb (backticks bs) 0 z in let d : ⊥ = cc in d) in
@@ -373,26 +373,26 @@ code-shorter bs = go (backticks bs == 0) refl
         let w = prefix_len-le-length is_backtick bs in
         more_found (suc (length rest)) (length bs) found (omega (arith, n, l, w)) (run_behind (backticks bs) (suc (length rest)) (up_to_run (backticks bs) false rest) (run-within (backticks bs) false rest))
 
-pub autolink-within : (bs : List ℕ) → FoundBelow (suc (length bs)) (autolink_in bs)
-autolink-within bs = either (FoundBelow (suc (length bs))) (has_scheme bs) (closed_by 62 (prefix_len is_uri_byte bs) bs) None (closed-shorter 62 (prefix_len is_uri_byte bs) bs) tt
+pub autolink-within : (bs : List ℕ) → ParsedBelow (suc (length bs)) (autolink_in bs)
+autolink-within bs = either (ParsedBelow (suc (length bs))) (has_scheme bs) (closed_by 62 (prefix_len is_uri_byte bs) bs) None (closed-shorter 62 (prefix_len is_uri_byte bs) bs) tt
 
-formula_shorter : (is_display : Bool) (context : ℕ) (escaped : Bool) (last : ℕ) (braces : Braces) (bs : List ℕ) → FoundBelow (length bs) (formula_to is_display context escaped last braces bs)
+formula_shorter : (is_display : Bool) (context : ℕ) (escaped : Bool) (last : ℕ) (braces : Braces) (bs : List ℕ) → ParsedBelow (length bs) (formula_to is_display context escaped last braces bs)
 formula_shorter is_display context escaped last braces [] = tt
 formula_shorter is_display context escaped last braces (b ∷ bs) =
     let n = suc (length bs) in
     let skip : ℕ = if is_display then 1 else 0 in
-    let closed : Option Found = Some (record { bytes = []; behind = drop skip bs }) in
-    let after : Option Found = formula_to is_display context (escapes_next escaped b) b (behind_byte escaped b braces) bs in
-    either (FoundBelow n) (not escaped && (is_dollar b && (context_of braces == context))) (if closes_formula is_display last bs then closed else None) (put b after)
-    (either (FoundBelow n) (closes_formula is_display last bs) closed None (let e = dropped skip bs in omega arith) tt)
+    let closed : Option Parsed = Some (record { bytes = []; behind = drop skip bs }) in
+    let after : Option Parsed = formula_to is_display context (escapes_next escaped b) b (behind_byte escaped b braces) bs in
+    either (ParsedBelow n) (not escaped && (is_dollar b && (context_of braces == context))) (if closes_formula is_display last bs then closed else None) (put b after)
+    (either (ParsedBelow n) (closes_formula is_display last bs) closed None (let e = dropped skip bs in omega arith) tt)
     (put_below n b after (more_found (length bs) n after (omega arith) (formula_shorter is_display context (escapes_next escaped b) b (behind_byte escaped b braces) bs)))
 
-pub inline-shorter : (braces : Braces) (bs : List ℕ) → FoundBelow (length bs) (inline_in braces bs)
+pub inline-shorter : (braces : Braces) (bs : List ℕ) → ParsedBelow (length bs) (inline_in braces bs)
 inline-shorter braces bs =
-    let found : Option Found = formula_to false (context_of braces) false 36 braces bs in
-    either (FoundBelow (length bs)) (first_is is_ink bs) found None (formula_shorter false (context_of braces) false 36 braces bs) tt
+    let found : Option Parsed = formula_to false (context_of braces) false 36 braces bs in
+    either (ParsedBelow (length bs)) (first_is is_ink bs) found None (formula_shorter false (context_of braces) false 36 braces bs) tt
 
-pub display-shorter : (braces : Braces) (bs : List ℕ) → FoundBelow (length bs) (display_in braces bs)
+pub display-shorter : (braces : Braces) (bs : List ℕ) → ParsedBelow (length bs) (display_in braces bs)
 display-shorter braces bs = formula_shorter true (context_of braces) false 36 braces bs
 
 pub markup-shorter : (bs : List ℕ) → LeavesBelow (length bs) (behind_markup bs)

@@ -4,12 +4,12 @@ use Rattle.std.specs.Prelude.{if◌then◌else◌, nat_lt}
 use Rattle.cmark_grammar.specs.Answers.{Lookup}
 use Rattle.cmark_grammar.specs.Options.{Options}
 use Rattle.cmark_grammar.specs.Columns.{Column, is_blank_byte, drop_end}
-use Rattle.cmark_grammar.specs.Rows.{Row, first_place, begin_of, start_of, words_of, without, past_of}
-use Rattle.cmark_grammar.specs.Containers.{Quote, Item, Footnote, ListDefinition}
+use Rattle.cmark_grammar.specs.Rows.{Row, first_place, begin_of, start_of, words_of, without, last_line_end}
+use Rattle.cmark_grammar.specs.Containers.{BlockQuote, Item, Footnote, ListDefinition}
 use Rattle.cmark_grammar.specs.Openings.{Leaf, ThematicBreak as ThematicBreakLeaf, AtxHeading as AtxHeadingLeaf, IndentedCode as IndentedCodeLeaf, FencedCode as FencedCodeLeaf, HtmlBlock as HtmlBlockLeaf, LinkDefinition as LinkDefinitionLeaf, MetadataBlock as MetadataBlockLeaf, Table as TableLeaf}
 use Rattle.cmark_grammar.specs.Blocks.{Blocks, Nil as NoBlocks, BlankLine, Paragraph as ParagraphBlock, SetextHeading, LeafBlock, ContainerBlock}
 use Rattle.cmark_grammar.specs.SetextAttributes.{content_of, ends_in_braces, attributes_place, texts_before, texts_if, without_braces, setext_tokens}
-use Rattle.cmark_grammar.specs.Lists.{ListBefore, tight_behind, goes_on, definition_mark, is_title, title_tight_behind}
+use Rattle.cmark_grammar.specs.Lists.{ListBefore, tight_behind, goes_on, definition_delimiter, is_title, title_tight_behind}
 use Rattle.cmark_grammar.specs.BlockDocument.{Text, OwnedText, Html, ListItem, BlockNode, BlockDocument, Nil, Node, node, BlockKind, DefinitionList, DefinitionListTitle, DefinitionListDefinition, BlockList}
 use Rattle.cmark_grammar.specs.Derivation.{task_then, leaf_then, item_then, paragraph_kind, document_of, Derives, list_kind}
 use Rattle.cmark_grammar.specs.Ranges.{IsSlice, HasSlices}
@@ -74,12 +74,12 @@ module _ (text : List ℕ) where
 
   stretches-sliced : (begin : ℕ) (r : Row) (more : List Row) → HasSlices text (stretches text begin r more)
   stretches-sliced begin r [] = stretch-sliced begin (words_end r) Nil tt
-  stretches-sliced begin r (s ∷ more) = go (begin_of s == r.past) (stretches-sliced begin s more) (stretches-sliced (begin_of s) s more)
+  stretches-sliced begin r (s ∷ more) = go (begin_of s == r.line_end) (stretches-sliced begin s more) (stretches-sliced (begin_of s) s more)
     where
       go : (z : Bool) → HasSlices text (stretches text begin s more) → HasSlices text (stretches text (begin_of s) s more)
-          → HasSlices text (if z then stretches text begin s more else stretch_then text begin r.past (stretches text (begin_of s) s more))
+          → HasSlices text (if z then stretches text begin s more else stretch_then text begin r.line_end (stretches text (begin_of s) s more))
       go true p q = p
-      go false p q = stretch-sliced begin r.past (stretches text (begin_of s) s more) q
+      go false p q = stretch-sliced begin r.line_end (stretches text (begin_of s) s more) q
 
   paragraph-sliced : (r : Row) (more : List Row) → HasSlices text (paragraph_tokens text r more)
   paragraph-sliced r more = stretches-sliced (start_of r) r more
@@ -104,18 +104,18 @@ module _ (text : List ℕ) where
   setext-sliced attributes r more = braces-sliced attributes (content_of (r ∷ more)) (paragraph_tokens text r more) (paragraph-sliced r more)
 
   plain_line-sliced : (from : ℕ) (r : Row) → AreSliced (plain_line text from r)
-  plain_line-sliced from r = go (r.past - r.stop == 2)
+  plain_line-sliced from r = go (r.line_end - r.content_end == 2)
     where
-      go : (z : Bool) → AreSliced (if z then piece_if text from r.stop (piece_if text (suc r.stop) r.past []) else piece_if text from r.past [])
-      go true = piece_if-sliced from r.stop (piece_if text (suc r.stop) r.past []) (piece_if-sliced (suc r.stop) r.past [] tt)
-      go false = piece_if-sliced from r.past [] tt
+      go : (z : Bool) → AreSliced (if z then piece_if text from r.content_end (piece_if text (suc r.content_end) r.line_end []) else piece_if text from r.line_end [])
+      go true = piece_if-sliced from r.content_end (piece_if text (suc r.content_end) r.line_end []) (piece_if-sliced (suc r.content_end) r.line_end [] tt)
+      go false = piece_if-sliced from r.line_end [] tt
 
   spaces_if-sliced : (n at : ℕ) (ps : List Piece) → AreSliced ps → AreSliced (spaces_if n at ps)
   spaces_if-sliced zero at ps h = h
   spaces_if-sliced (suc n) at ps h = ((λ o. absurd (true≢false o)), h)
 
   verbatim-sliced : (cs : List Column) (r : Row) → AreSliced (verbatim_line text cs r)
-  verbatim-sliced cs r = spaces_if-sliced (left_columns cs) (first_place r.stop cs) (plain_line text (first_place r.stop cs) r) (plain_line-sliced (first_place r.stop cs) r)
+  verbatim-sliced cs r = spaces_if-sliced (left_columns cs) (first_place r.content_end cs) (plain_line text (first_place r.content_end cs) r) (plain_line-sliced (first_place r.content_end cs) r)
 
   merge-sliced : (p : Piece) (ps : List Piece) → (p.owned ≡ false → (p.start ≤ p.end) × (p.bytes ≡ slice text p.start p.end)) → AreSliced ps → AreSliced (merge p ps)
   merge-sliced p [] k h = (k, tt)
@@ -145,14 +145,14 @@ module _ (text : List ℕ) where
   html-sliced [] = tt
   html-sliced (r ∷ rs) = html_then-sliced (verbatim_line text r.columns r) (html_tokens text rs) (verbatim-sliced r.columns r) (html-sliced rs)
 
-  cells-sliced : (columns at past : ℕ) (cells : List (List ℕ)) → HasSlices text (cells_then text columns at past cells)
-  cells-sliced zero at past cells = tt
-  cells-sliced (suc columns) at past [] = (tt, tt, cells-sliced columns at past [])
-  cells-sliced (suc columns) at past (cell ∷ cells) =
-      (tt, stretch-sliced (at + length (take_while is_blank_byte cell)) (at + length (drop_end is_blank_byte cell)) Nil tt, cells-sliced columns (suc (at + length cell)) past cells)
+  cells-sliced : (columns at line_end : ℕ) (cells : List (List ℕ)) → HasSlices text (cells_then text columns at line_end cells)
+  cells-sliced zero at line_end cells = tt
+  cells-sliced (suc columns) at line_end [] = (tt, tt, cells-sliced columns at line_end [])
+  cells-sliced (suc columns) at line_end (cell ∷ cells) =
+      (tt, stretch-sliced (at + length (take_while is_blank_byte cell)) (at + length (drop_end is_blank_byte cell)) Nil tt, cells-sliced columns (suc (at + length cell)) line_end cells)
 
   row-sliced : (columns : ℕ) (r : Row) → HasSlices text (row_cells text columns r)
-  row-sliced columns r = cells-sliced columns (cells_start r) r.past (cells_of (words_of r))
+  row-sliced columns r = cells-sliced columns (cells_start r) r.line_end (cells_of (words_of r))
 
   rows-sliced : (columns : ℕ) (rs : List Row) → HasSlices text (row_tokens text columns rs)
   rows-sliced columns [] = tt
@@ -160,7 +160,7 @@ module _ (text : List ℕ) where
 
   leaf-sliced : (options : Options) (lookup : Lookup) (leaf : Leaf) (first : Row) (more : List Row) (after : BlockDocument) → HasSlices text after → HasSlices text (leaf_then text options lookup leaf first more after)
   leaf-sliced options lookup ThematicBreakLeaf first more after a = (tt, tt, a)
-  leaf-sliced options lookup (AtxHeadingLeaf level) first more after a = (tt, stretch-sliced (first_place first.stop (behind_hashes level first)) (end_place (first_place first.stop (behind_hashes level first)) (heading_columns options.heading_attributes level first)) Nil tt, a)
+  leaf-sliced options lookup (AtxHeadingLeaf level) first more after a = (tt, stretch-sliced (first_place first.content_end (behind_hashes level first)) (end_place (first_place first.content_end (behind_hashes level first)) (heading_columns options.heading_attributes level first)) Nil tt, a)
   leaf-sliced options lookup IndentedCodeLeaf first more after a = (tt, texts-sliced (code_pieces text 4 (first ∷ more)) Nil (code-sliced 4 (first ∷ more)) tt, a)
   leaf-sliced options lookup (FencedCodeLeaf fence) first more after a = (tt, texts-sliced (code_pieces text fence.indented (fenced_lines fence more)) Nil (code-sliced fence.indented (fenced_lines fence more)) tt, a)
   leaf-sliced options lookup (HtmlBlockLeaf kind) first more after a = (tt, html-sliced (first ∷ more), a)
@@ -168,8 +168,8 @@ module _ (text : List ℕ) where
   leaf-sliced options lookup (MetadataBlockLeaf kind) first more after a = (tt, texts-sliced (code_pieces text 0 (lines_before (ends_metadata kind) more)) Nil (code-sliced 0 (lines_before (ends_metadata kind) more)) tt, a)
   leaf-sliced options lookup (TableLeaf alignments) first more after a = (tt, (tt, row-sliced (length alignments) first, rows-sliced (length alignments) (drop 1 more)), a)
 
-  list-slice : (mark : ℕ) (number : Option ℕ) (tight : Bool) (start end : ℕ) → IsSlice text (list_kind mark number tight) start end
-  list-slice mark number tight start end = go (mark == definition_mark)
+  list-slice : (delimiter : ℕ) (number : Option ℕ) (tight : Bool) (start end : ℕ) → IsSlice text (list_kind delimiter number tight) start end
+  list-slice delimiter number tight start end = go (delimiter == definition_delimiter)
     where
       go : (z : Bool) → IsSlice text (if z then DefinitionList tight else BlockList number tight) start end
       go true = tt
@@ -195,24 +195,24 @@ module _ (text : List ℕ) where
   document-sliced options lookup direct before (BlankLine line after) = document-sliced options lookup direct before after
   document-sliced options lookup direct before (ParagraphBlock first more after) =
       let tight = title_tight_behind before after in
-      title-sliced (is_title after) tight (paragraph_kind direct) (start_of first) (past_of first more) (paragraph_tokens text first more)
-      (document_of text options lookup direct (Some (record { mark = definition_mark; tight = tight })) after) (document_of text options lookup direct None after)
-      (paragraph-slice direct _ _) (paragraph-sliced first more) (document-sliced options lookup direct (Some (record { mark = definition_mark; tight = tight })) after) (document-sliced options lookup direct None after)
+      title-sliced (is_title after) tight (paragraph_kind direct) (start_of first) (last_line_end first more) (paragraph_tokens text first more)
+      (document_of text options lookup direct (Some (record { delimiter = definition_delimiter; tight = tight })) after) (document_of text options lookup direct None after)
+      (paragraph-slice direct _ _) (paragraph-sliced first more) (document-sliced options lookup direct (Some (record { delimiter = definition_delimiter; tight = tight })) after) (document-sliced options lookup direct None after)
   document-sliced options lookup direct before (SetextHeading level first more underline after) = (tt, setext-sliced options.heading_attributes first more, document-sliced options lookup direct None after)
   document-sliced options lookup direct before (LeafBlock leaf first more after) =
       leaf-sliced options lookup leaf first more (document_of text options lookup direct None after) (document-sliced options lookup direct None after)
-  document-sliced options lookup direct before (ContainerBlock (Quote alert) first more inside after) =
+  document-sliced options lookup direct before (ContainerBlock (BlockQuote alert) first more inside after) =
       (tt, document-sliced options lookup false None inside, document-sliced options lookup direct None after)
   document-sliced options lookup direct before (ContainerBlock (Footnote label old size) first more inside after) =
       (tt, document-sliced options lookup false None inside, document-sliced options lookup direct None after)
-  document-sliced options lookup direct before (ContainerBlock (Item mark number width task) first more inside after) =
-      let tight = tight_behind before mark inside after in
-      item-sliced (goes_on mark after) (list_kind mark number tight) (node ListItem _ _) (task_then task (begin_of (without width first)) (begin_of (without (behind_box task width) first)) (document_of text options lookup tight None inside)) (document_of text options lookup direct (Some (record { mark = mark; tight = tight })) after) (list-slice mark number tight) tt
-      (task-sliced text task _ _ (document_of text options lookup tight None inside) (document-sliced options lookup tight None inside)) (document-sliced options lookup direct (Some (record { mark = mark; tight = tight })) after)
+  document-sliced options lookup direct before (ContainerBlock (Item delimiter number width task) first more inside after) =
+      let tight = tight_behind before delimiter inside after in
+      item-sliced (goes_on delimiter after) (list_kind delimiter number tight) (node ListItem _ _) (task_then task (begin_of (without width first)) (begin_of (without (behind_box task width) first)) (document_of text options lookup tight None inside)) (document_of text options lookup direct (Some (record { delimiter = delimiter; tight = tight })) after) (list-slice delimiter number tight) tt
+      (task-sliced text task _ _ (document_of text options lookup tight None inside) (document-sliced options lookup tight None inside)) (document-sliced options lookup direct (Some (record { delimiter = delimiter; tight = tight })) after)
   document-sliced options lookup direct before (ContainerBlock (ListDefinition width) first more inside after) =
-      let tight = tight_behind before definition_mark inside after in
-      item-sliced (goes_on definition_mark after) (DefinitionList tight) (node DefinitionListDefinition _ _) (document_of text options lookup tight None inside) (document_of text options lookup direct (Some (record { mark = definition_mark; tight = tight })) after) (λ s e. tt) tt
-      (document-sliced options lookup tight None inside) (document-sliced options lookup direct (Some (record { mark = definition_mark; tight = tight })) after)
+      let tight = tight_behind before definition_delimiter inside after in
+      item-sliced (goes_on definition_delimiter after) (DefinitionList tight) (node DefinitionListDefinition _ _) (document_of text options lookup tight None inside) (document_of text options lookup direct (Some (record { delimiter = definition_delimiter; tight = tight })) after) (λ s e. tt) tt
+      (document-sliced options lookup tight None inside) (document-sliced options lookup direct (Some (record { delimiter = definition_delimiter; tight = tight })) after)
 
 pub derived-slices : (text : List ℕ) (options : Options) (lookup : Lookup) (d : BlockDocument) → Derives text options lookup d → HasSlices text d
 derived-slices text options lookup d h = subst (HasSlices text) (sym h.2) (document-sliced text options lookup false None h.0)

@@ -4,7 +4,7 @@ use Rattle.std.proofs.lemmas.List.{append-nil}
 use Rattle.std.proofs.lemmas.Bool.{ltb-false}
 use Rattle.cmark_grammar.specs.Spans.{SpanKind, span_width, Spans, Nil, Single, Around, join, singles}
 use Rattle.cmark_grammar.specs.Emphasis.{Run, Pair, Sibling, Plain, Delimiter, Piece, Whole, Standing, StandFrom, places_taken}
-use Rattle.cmark_grammar.specs.Emphasis.{paired_count, pair_of, rest_of_opener, rest_of_closer, kinds_of, nest, wrapped, before, row, keep, is_tilde_or_caret, shuts, shut, left_open, stand, Closes}
+use Rattle.cmark_grammar.specs.Emphasis.{paired_count, pair_of, rest_of_opener, rest_of_closer, kinds_of, nest, wrapped, before, row, keep, is_tilde_or_caret, deactivates, deactivated, left_open, stand, Closes}
 use Rattle.cmark_grammar.specs.EmphasisModel.{closed, resolve, pairs_of, spans_of}
 use Rattle.cmark_grammar.specs.SpanEntries as entries
 use Rattle.cmark_grammar.specs.SpanEntries.{write, IsWithin, AllWithin}
@@ -218,20 +218,20 @@ module _ (Entry : Type 0) (single : Entry) (opening closing : SpanKind → List 
       go true = covers-keep r front a place h
       go false = record { front = a; own = stays r.left; cut = refl; here = sym (entries-singles r.left r.at); before = h }
 
-  covers-shut : (ps : List Piece) (s : List Entry) → Covers s ps → Covers s (map shut ps)
-  covers-shut [] s h = h
-  covers-shut (Whole f ∷ ps) s h = record { front = h.front; own = h.own; cut = h.cut; here = h.here; before = covers-shut ps h.front h.before }
-  covers-shut (Standing r ∷ ps) s h = go (is_tilde_or_caret r.mark) (covers-shut ps h.front h.before)
+  covers-deactivated : (ps : List Piece) (s : List Entry) → Covers s ps → Covers s (map deactivated ps)
+  covers-deactivated [] s h = h
+  covers-deactivated (Whole f ∷ ps) s h = record { front = h.front; own = h.own; cut = h.cut; here = h.here; before = covers-deactivated ps h.front h.before }
+  covers-deactivated (Standing r ∷ ps) s h = go (is_tilde_or_caret r.delimiter) (covers-deactivated ps h.front h.before)
     where
-      go : (b : Bool) → Covers h.front (map shut ps) → Covers s ((if b then Whole (singles r.at r.left Nil) else Standing r) ∷ map shut ps)
+      go : (b : Bool) → Covers h.front (map deactivated ps) → Covers s ((if b then Whole (singles r.at r.left Nil) else Standing r) ∷ map deactivated ps)
       go true i = record { front = h.front; own = h.own; cut = h.cut; here = h.here.1 ∙ sym (entries-singles r.left r.at); before = i }
       go false i = record { front = h.front; own = h.own; cut = h.cut; here = h.here; before = i }
 
   covers-left : (c : Run) (ps : List Piece) (s : List Entry) → Covers s ps → Covers s (left_open c ps)
-  covers-left c ps s h = go (shuts c)
+  covers-left c ps s h = go (deactivates c)
     where
-      go : (b : Bool) → Covers s (if b then map shut ps else ps)
-      go true = covers-shut ps s h
+      go : (b : Bool) → Covers s (if b then map deactivated ps else ps)
+      go true = covers-deactivated ps s h
       go false = h
 
   -- the entries after a pair
@@ -249,8 +249,8 @@ module _ (Entry : Type 0) (single : Entry) (opening closing : SpanKind → List 
       let n = paired_count o c in
       let first = i.before.front in
       let inner = i.own in
-      let ks = kinds_of c.mark n in
-      let w : widths ks ≡ n = widths-kinds c.mark n in
+      let ks = kinds_of c.delimiter n in
+      let w : widths ks ≡ n = widths-kinds c.delimiter n in
       let le = count-opener o c in
       let le' = count-closer o c in
       let at : length first ≡ o.at = i.before.here.0 in
@@ -350,10 +350,10 @@ module _ (Entry : Type 0) (single : Entry) (opening closing : SpanKind → List 
   marks (Delimiter c ∷ ts) ps s n cov place st =
       let d = closed c ps in
       let w = goes d.pairs c d.rest ps d.pieces s (stays (places_taken ts)) (closed-closes c ps) cov (place ∙ sym st.0) in
-      let size : length (w.now ++ stays d.rest.left) ≡ n + c.size = (let x = length-append w.now (stays d.rest.left) in let y = length-stays d.rest.left in omega (arith, x, y, w.place, w.sum, st.0, st.1)) in
-      let i = marks ts (stand d.rest d.pieces) (w.now ++ stays d.rest.left) (n + c.size) (covers-stand d.rest d.pieces w.now w.place w.covers) size st.2 in
+      let size : length (w.now ++ stays d.rest.left) ≡ n + c.run_length = (let x = length-append w.now (stays d.rest.left) in let y = length-stays d.rest.left in omega (arith, x, y, w.place, w.sum, st.0, st.1)) in
+      let i = marks ts (stand d.rest d.pieces) (w.now ++ stays d.rest.left) (n + c.run_length) (covers-stand d.rest d.pieces w.now w.place w.covers) size st.2 in
       let e : (c.at + c.left) + length (stays (places_taken ts)) ≡ n + (c.left + places_taken ts) = (let y = length-stays (places_taken ts) in omega (arith, y, st.0)) in
-      let f : (n + c.size) + places_taken ts ≡ n + (c.left + places_taken ts) = omega (arith, st.1) in (
+      let f : (n + c.run_length) + places_taken ts ≡ n + (c.left + places_taken ts) = omega (arith, st.1) in (
         mark-append d.pairs (resolve ts (stand d.rest d.pieces)).pairs (s ++ stays (c.left + places_taken ts))
             ∙ ap (λ l. mark_pairs (resolve ts (stand d.rest d.pieces)).pairs (mark_pairs d.pairs (s ++ l))) (stays-add c.left (places_taken ts))
             ∙ ap (mark_pairs (resolve ts (stand d.rest d.pieces)).pairs) (w.marked ∙ sym (append_assoc w.now (stays d.rest.left) (stays (places_taken ts))))

@@ -4,7 +4,7 @@ use Rattle.std.specs.Prelude.{map}
 use Rattle.std.proofs.lemmas.Bool.{ltb-true, ltb-false}
 use Rattle.cmark_grammar.specs.Spans.{SpanKind, span_width, Spans, Nil, Single, Around, join, singles, TakePlaces}
 use Rattle.cmark_grammar.specs.Emphasis.{Run, Pair, Sibling, Plain, Delimiter, Piece, Whole, Standing, StandFrom, places_taken}
-use Rattle.cmark_grammar.specs.Emphasis.{paired_count, pair_of, rest_of_opener, rest_of_closer, emphasis_kinds, tilde_kinds, caret_kinds, kinds_of, nest, wrapped, row, keep, is_tilde_or_caret, shuts, shut, left_open, stand, Closes}
+use Rattle.cmark_grammar.specs.Emphasis.{paired_count, pair_of, rest_of_opener, rest_of_closer, emphasis_kinds, tilde_kinds, caret_kinds, kinds_of, nest, wrapped, row, keep, is_tilde_or_caret, deactivates, deactivated, left_open, stand, Closes}
 use Rattle.cmark_grammar.specs.EmphasisModel.{closed, resolve, spans_of}
 use Rattle.cmark_grammar.proofs.EmphasisSound.{closed-closes}
 
@@ -27,9 +27,9 @@ widths-caret : (n : ℕ) → widths (caret_kinds n) ≡ n
 widths-caret zero = refl
 widths-caret (suc n) = let i = widths-caret n in omega (arith, i)
 
-pub widths-kinds : (mark n : ℕ) → widths (kinds_of mark n) ≡ n
+pub widths-kinds : (delimiter n : ℕ) → widths (kinds_of delimiter n) ≡ n
 unfolding kinds_of
-widths-kinds mark n = go (mark == 126) (mark == 94)
+widths-kinds delimiter n = go (delimiter == 126) (delimiter == 94)
   where
     go : (a b : Bool) → widths (if a then tilde_kinds n else if b then caret_kinds n else emphasis_kinds n) ≡ n
     go true b = widths-tilde n
@@ -121,28 +121,28 @@ reach-stand r ps h = go r.opens
     go true = reach-keep r ps h
     go false = reach-text r ps h
 
-reach-shut : (ps : List Piece) (m : ℕ) → ReachTo ps m → ReachTo (map shut ps) m
-reach-shut [] m h = h
-reach-shut (Whole f ∷ ps) m h = record { at = h.at; here = h.here; front = reach-shut ps h.at h.front }
-reach-shut (Standing r ∷ ps) m h = go (is_tilde_or_caret r.mark) (reach-shut ps r.at h.1)
+reach-deactivated : (ps : List Piece) (m : ℕ) → ReachTo ps m → ReachTo (map deactivated ps) m
+reach-deactivated [] m h = h
+reach-deactivated (Whole f ∷ ps) m h = record { at = h.at; here = h.here; front = reach-deactivated ps h.at h.front }
+reach-deactivated (Standing r ∷ ps) m h = go (is_tilde_or_caret r.delimiter) (reach-deactivated ps r.at h.1)
   where
-    go : (b : Bool) → ReachTo (map shut ps) r.at → ReachTo ((if b then Whole (singles r.at r.left Nil) else Standing r) ∷ map shut ps) m
-    go true i = subst (ReachTo (Whole (singles r.at r.left Nil) ∷ map shut ps)) h.0 (reach-text r (map shut ps) i)
+    go : (b : Bool) → ReachTo (map deactivated ps) r.at → ReachTo ((if b then Whole (singles r.at r.left Nil) else Standing r) ∷ map deactivated ps) m
+    go true i = subst (ReachTo (Whole (singles r.at r.left Nil) ∷ map deactivated ps)) h.0 (reach-text r (map deactivated ps) i)
     go false i = (h.0, i)
 
 reach-left : (c : Run) (ps : List Piece) (m : ℕ) → ReachTo ps m → ReachTo (left_open c ps) m
-reach-left c ps m h = go (shuts c)
+reach-left c ps m h = go (deactivates c)
   where
-    go : (b : Bool) → ReachTo (if b then map shut ps else ps) m
-    go true = reach-shut ps m h
+    go : (b : Bool) → ReachTo (if b then map deactivated ps else ps) m
+    go true = reach-deactivated ps m h
     go false = h
 
 reach-pair : (b : List Piece) (o c : Run) (front : List Piece) → ReachTo (b ++ (Standing o ∷ front)) c.at → ReachTo (Whole (wrapped (pair_of o c) (row b Nil)) ∷ keep (rest_of_opener o c) front) (rest_of_closer o c).at
 unfolding rest_of_opener rest_of_closer pair_of
 reach-pair b o c front h =
     let n = paired_count o c in
-    let ks = kinds_of c.mark n in
-    let w : widths ks ≡ n = widths-kinds c.mark n in
+    let ks = kinds_of c.delimiter n in
+    let w : widths ks ≡ n = widths-kinds c.delimiter n in
     let i = reach-cut b (Standing o ∷ front) Nil c.at c.at h refl in
     let inner : TakePlaces (o.at + o.left) (row b Nil) c.at = subst (λ k. TakePlaces k (row b Nil) c.at) (sym i.rest.0) i.own in
     let le = count-opener o c in
@@ -182,10 +182,10 @@ reaches (Plain at ∷ ts) ps n h st =
 reaches (Delimiter c ∷ ts) ps n h st =
     let d = closed c ps in
     let w = goes d.pairs c d.rest ps d.pieces (closed-closes c ps) (subst (ReachTo ps) (sym st.0) h) in
-    let e : d.rest.at + d.rest.left ≡ n + c.size = omega (arith, w.sum, st.0, st.1) in
-    let f : (n + c.size) + places_taken ts ≡ n + (c.left + places_taken ts) = omega (arith, st.1) in
+    let e : d.rest.at + d.rest.left ≡ n + c.run_length = omega (arith, w.sum, st.0, st.1) in
+    let f : (n + c.run_length) + places_taken ts ≡ n + (c.left + places_taken ts) = omega (arith, st.1) in
     subst (ReachTo (resolve ts (stand d.rest d.pieces)).pieces) f
-    (reaches ts (stand d.rest d.pieces) (n + c.size) (subst (ReachTo (stand d.rest d.pieces)) e (reach-stand d.rest d.pieces w.reach)) st.2)
+    (reaches ts (stand d.rest d.pieces) (n + c.run_length) (subst (ReachTo (stand d.rest d.pieces)) e (reach-stand d.rest d.pieces w.reach)) st.2)
 
 pub places : (ts : List Sibling) → StandFrom 0 ts → TakePlaces 0 (spans_of ts) (places_taken ts)
 places ts st =

@@ -5,9 +5,9 @@ use Rattle.cmark_grammar.specs.Alignment.{Alignment}
 use Rattle.cmark_grammar.specs.Containers.{Container, container_of}
 use Rattle.cmark_grammar.specs.Footnotes.{footnotes_in}
 use Rattle.cmark_grammar.specs.HtmlBlocks.{html_kind}
-use Rattle.cmark_grammar.specs.Leaves.{Fence, is_thematic_break, is_atx_heading, run, fence_of, counted, code_further}
+use Rattle.cmark_grammar.specs.Leaves.{Fence, is_thematic_break, is_atx_heading, run, fence_of, counted, code_continuation}
 use Rattle.cmark_grammar.specs.LinkDefinitions.{Defined, definition_in, bytes_over}
-use Rattle.cmark_grammar.specs.Metadata.{metadata_kind, metadata_further, holds_metadata}
+use Rattle.cmark_grammar.specs.Metadata.{metadata_kind, metadata_continuation, holds_metadata}
 use Rattle.cmark_grammar.specs.MetadataBlockKind.{MetadataBlockKind}
 use Rattle.cmark_grammar.specs.Openings.{Leaf, ThematicBreak, AtxHeading, IndentedCode, FencedCode, HtmlBlock, LinkDefinition, MetadataBlock, Table, Opening, Blank, Nests, Takes, Plain, or_else, nests_if, fenced_if, html_if, break_if, heading_if, defined_if, metadata_begun, text_lines, definition_of, interrupts, count_rows, table_if, text_of, begins_no_link, leaf_of, whole_opens, opens}
 use Rattle.cmark_grammar.specs.Options.{Options}
@@ -104,7 +104,7 @@ module _ (options : Options) where
     fills_metadata None = tt
     fills_metadata (Some kind) = go (holds_metadata kind ahead)
       where
-        go : (z : Bool) → Fills (if z then Takes (MetadataBlock kind) (counted (metadata_further kind) ahead) else Plain)
+        go : (z : Bool) → Fills (if z then Takes (MetadataBlock kind) (counted (metadata_continuation kind) ahead) else Plain)
         go true = tt
         go false = tt
 
@@ -169,7 +169,7 @@ module _ (options : Options) where
         fills_if r.lazy Plain _ tt
         (fills_or (metadata_begun (metadata_kind options r) ahead) (whole_opens options r ahead) (fills_metadata (metadata_kind options r))
         (fills_if (is_blank_line r) Blank _ tt
-        (fills_if (nat_le 4 (indent_of r)) (Takes IndentedCode (counted code_further ahead)) _ tt
+        (fills_if (nat_le 4 (indent_of r)) (Takes IndentedCode (counted code_continuation ahead)) _ tt
         (fills_or (nests_if (container_of options r)) (leaf_of options r ahead) (fills_nests (container_of options r)) fills_leaf))))
 
   shown-take : (n : ℕ) (rs : List Row) → n ≤ length (shown rs) → take n (shown rs) ≡ take n rs

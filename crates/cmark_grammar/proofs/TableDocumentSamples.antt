@@ -52,7 +52,7 @@ interrupts_not : outline (document (codes "a\nb|\n-|") tables basic_entity) ≡ 
 unfolding blocks begin opens texts lazily enter keeps underlines
 interrupts_not = refl
 
--- outside of a quote's paragraph too, where the delimiter row shows the prefixes that the head does
+-- outside of a block quote's paragraph too, where the delimiter row shows the prefixes that the head does
 lazy : outline (document (codes "> a\n|b|\n|-|") tables basic_entity) ≡
     node (BlockQuote None) 0 4 ∷ node Paragraph 2 4 ∷ node (Text (codes "a")) 2 3 ∷ node (Table (Unaligned ∷ [])) 4 11 ∷ node TableHead 4 8 ∷ node TableCell 5 6 ∷ node (Text (codes "b")) 5 6 ∷ []
 unfolding blocks begin opens texts lazily enter keeps underlines

@@ -3,11 +3,11 @@ use Rattle.std.proofs.Common.{ℕ, zero, suc, ◌+◌, Bool, true, false, ◌==�
 use Rattle.std.specs.Prelude.{if◌then◌else◌, nat_lt}
 use Rattle.cmark_grammar.specs.Answers.{Lookup}
 use Rattle.cmark_grammar.specs.Options.{Options}
-use Rattle.cmark_grammar.specs.Rows.{Row, first_place, start_of, past_of, begin_of, words_of, without}
-use Rattle.cmark_grammar.specs.Containers.{Quote, Item, Footnote, ListDefinition}
+use Rattle.cmark_grammar.specs.Rows.{Row, first_place, start_of, last_line_end, begin_of, words_of, without}
+use Rattle.cmark_grammar.specs.Containers.{BlockQuote, Item, Footnote, ListDefinition}
 use Rattle.cmark_grammar.specs.Openings.{Leaf, ThematicBreak as ThematicBreakLeaf, AtxHeading as AtxHeadingLeaf, IndentedCode as IndentedCodeLeaf, FencedCode as FencedCodeLeaf, HtmlBlock as HtmlBlockLeaf, LinkDefinition as LinkDefinitionLeaf, MetadataBlock as MetadataBlockLeaf, Table as TableLeaf}
 use Rattle.cmark_grammar.specs.Blocks.{Blocks, Nil as NoBlocks, BlankLine, Paragraph as ParagraphBlock, SetextHeading, LeafBlock, ContainerBlock}
-use Rattle.cmark_grammar.specs.Lists.{ListBefore, tight_behind, goes_on, definition_mark, is_title, title_tight_behind}
+use Rattle.cmark_grammar.specs.Lists.{ListBefore, tight_behind, goes_on, definition_delimiter, is_title, title_tight_behind}
 use Rattle.cmark_grammar.specs.Tokens.{Piece, end_place, piece_if, texts_then, words_end, stretch_then, stretches, paragraph_tokens, html_then, html_tokens, html_kind_of, verbatim_line, behind_hashes, heading_columns, code_pieces, fenced_lines, lines_before}
 use Rattle.cmark_grammar.specs.SetextAttributes.{content_of, ends_in_braces, attributes_place, texts_before, texts_if, without_braces, setext_tokens}
 use Rattle.cmark_grammar.specs.BlockDocument.{Text, OwnedText, BlockList, ListItem, DefinitionList, DefinitionListTitle, DefinitionListDefinition, BlockKind, BlockNode, BlockDocument, Nil, Node, node}
@@ -20,13 +20,13 @@ use Rattle.cmark_grammar.specs.TableTokens.{cells_then, row_cells, row_tokens}
 use Rattle.cmark_grammar.specs.TaskItems.{behind_box}
 
 -- so many cells, whatever the row has
-cells-counted : (text : List ℕ) (columns at past : ℕ) (cells : List (List ℕ)) → AreCells columns (cells_then text columns at past cells)
-cells-counted text zero at past cells = tt
-cells-counted text (suc columns) at past [] = (refl, cells-counted text columns at past [])
-cells-counted text (suc columns) at past (cell ∷ cells) = (refl, cells-counted text columns (suc (at + length cell)) past cells)
+cells-counted : (text : List ℕ) (columns at line_end : ℕ) (cells : List (List ℕ)) → AreCells columns (cells_then text columns at line_end cells)
+cells-counted text zero at line_end cells = tt
+cells-counted text (suc columns) at line_end [] = (refl, cells-counted text columns at line_end [])
+cells-counted text (suc columns) at line_end (cell ∷ cells) = (refl, cells-counted text columns (suc (at + length cell)) line_end cells)
 
 row-counted : (text : List ℕ) (columns : ℕ) (r : Row) → AreCells columns (row_cells text columns r)
-row-counted text columns r = cells-counted text columns (cells_start r) r.past (cells_of (words_of r))
+row-counted text columns r = cells-counted text columns (cells_start r) r.line_end (cells_of (words_of r))
 
 rows-counted : (text : List ℕ) (columns : ℕ) (rs : List Row) → AreRows columns (row_tokens text columns rs)
 rows-counted text columns [] = tt
@@ -46,12 +46,12 @@ stretch-rectangular text start end after h = texts-rectangular (piece_if text st
 
 stretches-rectangular : (text : List ℕ) (begin : ℕ) (r : Row) (more : List Row) → HasRectangularTables (stretches text begin r more)
 stretches-rectangular text begin r [] = stretch-rectangular text begin (words_end r) Nil tt
-stretches-rectangular text begin r (s ∷ more) = go (begin_of s == r.past) (stretches-rectangular text begin s more) (stretches-rectangular text (begin_of s) s more)
+stretches-rectangular text begin r (s ∷ more) = go (begin_of s == r.line_end) (stretches-rectangular text begin s more) (stretches-rectangular text (begin_of s) s more)
   where
     go : (z : Bool) → HasRectangularTables (stretches text begin s more) → HasRectangularTables (stretches text (begin_of s) s more)
-        → HasRectangularTables (if z then stretches text begin s more else stretch_then text begin r.past (stretches text (begin_of s) s more))
+        → HasRectangularTables (if z then stretches text begin s more else stretch_then text begin r.line_end (stretches text (begin_of s) s more))
     go true p q = p
-    go false p q = stretch-rectangular text begin r.past (stretches text (begin_of s) s more) q
+    go false p q = stretch-rectangular text begin r.line_end (stretches text (begin_of s) s more) q
 
 before-rectangular : (text : List ℕ) (at : ℕ) (d : BlockDocument) → HasRectangularTables d → HasRectangularTables (texts_before text at d)
 before-rectangular text at Nil h = tt
@@ -85,17 +85,17 @@ html-rectangular : (text : List ℕ) (rs : List Row) → HasRectangularTables (h
 html-rectangular text [] = tt
 html-rectangular text (r ∷ rs) = html-then-rectangular (verbatim_line text r.columns r) (html_tokens text rs) (html-rectangular text rs)
 
-cells-rectangular : (text : List ℕ) (columns at past : ℕ) (cells : List (List ℕ)) → HasRectangularTables (cells_then text columns at past cells)
-cells-rectangular text zero at past cells = tt
-cells-rectangular text (suc columns) at past [] = (tt, tt, cells-rectangular text columns at past [])
-cells-rectangular text (suc columns) at past (cell ∷ cells) = (
+cells-rectangular : (text : List ℕ) (columns at line_end : ℕ) (cells : List (List ℕ)) → HasRectangularTables (cells_then text columns at line_end cells)
+cells-rectangular text zero at line_end cells = tt
+cells-rectangular text (suc columns) at line_end [] = (tt, tt, cells-rectangular text columns at line_end [])
+cells-rectangular text (suc columns) at line_end (cell ∷ cells) = (
   tt,
   stretch-rectangular text (at + length (take_while is_blank_byte cell)) (at + length (drop_end is_blank_byte cell)) Nil tt,
-  cells-rectangular text columns (suc (at + length cell)) past cells,
+  cells-rectangular text columns (suc (at + length cell)) line_end cells,
 )
 
 row-rectangular : (text : List ℕ) (columns : ℕ) (r : Row) → HasRectangularTables (row_cells text columns r)
-row-rectangular text columns r = cells-rectangular text columns (cells_start r) r.past (cells_of (words_of r))
+row-rectangular text columns r = cells-rectangular text columns (cells_start r) r.line_end (cells_of (words_of r))
 
 rows-rectangular : (text : List ℕ) (columns : ℕ) (rs : List Row) → HasRectangularTables (row_tokens text columns rs)
 rows-rectangular text columns [] = tt
@@ -104,7 +104,7 @@ rows-rectangular text columns (r ∷ rs) = (tt, row-rectangular text columns r, 
 leaf-rectangular : (text : List ℕ) (options : Options) (lookup : Lookup) (leaf : Leaf) (first : Row) (more : List Row) (after : BlockDocument) → HasRectangularTables after → HasRectangularTables (leaf_then text options lookup leaf first more after)
 leaf-rectangular text options lookup ThematicBreakLeaf first more after h = (tt, tt, h)
 leaf-rectangular text options lookup (AtxHeadingLeaf level) first more after h =
-    (tt, stretch-rectangular text (first_place first.stop (behind_hashes level first)) (end_place (first_place first.stop (behind_hashes level first)) (heading_columns options.heading_attributes level first)) Nil tt, h)
+    (tt, stretch-rectangular text (first_place first.content_end (behind_hashes level first)) (end_place (first_place first.content_end (behind_hashes level first)) (heading_columns options.heading_attributes level first)) Nil tt, h)
 leaf-rectangular text options lookup IndentedCodeLeaf first more after h = (tt, texts-rectangular (code_pieces text 4 (first ∷ more)) Nil tt, h)
 leaf-rectangular text options lookup (FencedCodeLeaf fence) first more after h = (tt, texts-rectangular (code_pieces text fence.indented (fenced_lines fence more)) Nil tt, h)
 leaf-rectangular text options lookup (HtmlBlockLeaf kind) first more after h = (tt, html-rectangular text (first ∷ more), h)
@@ -120,8 +120,8 @@ task-rectangular : (task : Option Bool) (start end : ℕ) (inside : BlockDocumen
 task-rectangular None start end inside h = h
 task-rectangular (Some is_checked) start end inside h = (tt, tt, h)
 
-list-rectangular : (mark : ℕ) (number : Option ℕ) (tight : Bool) (inside : BlockDocument) → IsRectangular (list_kind mark number tight) inside
-list-rectangular mark number tight inside = go (mark == definition_mark)
+list-rectangular : (delimiter : ℕ) (number : Option ℕ) (tight : Bool) (inside : BlockDocument) → IsRectangular (list_kind delimiter number tight) inside
+list-rectangular delimiter number tight inside = go (delimiter == definition_delimiter)
   where
     go : (z : Bool) → IsRectangular (if z then DefinitionList tight else BlockList number tight) inside
     go true = tt
@@ -144,28 +144,28 @@ module _ (text : List ℕ) (options : Options) (lookup : Lookup) where
   document-rectangular direct before (BlankLine line after) = document-rectangular direct before after
   document-rectangular direct before (ParagraphBlock first more after) =
       let tight = title_tight_behind before after in
-      title-rectangular (is_title after) tight (paragraph_kind direct) (start_of first) (past_of first more) (paragraph_tokens text first more)
-      (document_of text options lookup direct (Some (record { mark = definition_mark; tight = tight })) after) (document_of text options lookup direct None after)
-      (of_kind direct) (stretches-rectangular text (start_of first) first more) (document-rectangular direct (Some (record { mark = definition_mark; tight = tight })) after) (document-rectangular direct None after)
+      title-rectangular (is_title after) tight (paragraph_kind direct) (start_of first) (last_line_end first more) (paragraph_tokens text first more)
+      (document_of text options lookup direct (Some (record { delimiter = definition_delimiter; tight = tight })) after) (document_of text options lookup direct None after)
+      (of_kind direct) (stretches-rectangular text (start_of first) first more) (document-rectangular direct (Some (record { delimiter = definition_delimiter; tight = tight })) after) (document-rectangular direct None after)
     where
       of_kind : (z : Bool) → IsRectangular (paragraph_kind z) (paragraph_tokens text first more)
       of_kind true = tt
       of_kind false = tt
   document-rectangular direct before (SetextHeading level first more underline after) = (tt, setext-rectangular text options.heading_attributes first more, document-rectangular direct None after)
   document-rectangular direct before (LeafBlock leaf first more after) = leaf-rectangular text options lookup leaf first more (document_of text options lookup direct None after) (document-rectangular direct None after)
-  document-rectangular direct before (ContainerBlock (Quote alert) first more inside after) = (tt, document-rectangular false None inside, document-rectangular direct None after)
+  document-rectangular direct before (ContainerBlock (BlockQuote alert) first more inside after) = (tt, document-rectangular false None inside, document-rectangular direct None after)
   document-rectangular direct before (ContainerBlock (Footnote label old size) first more inside after) = (tt, document-rectangular false None inside, document-rectangular direct None after)
-  document-rectangular direct before (ContainerBlock (Item mark number width task) first more inside after) =
-      let tight = tight_behind before mark inside after in
-      item-rectangular (goes_on mark after) (list_kind mark number tight) (node ListItem (begin_of first) (past_of first more))
+  document-rectangular direct before (ContainerBlock (Item delimiter number width task) first more inside after) =
+      let tight = tight_behind before delimiter inside after in
+      item-rectangular (goes_on delimiter after) (list_kind delimiter number tight) (node ListItem (begin_of first) (last_line_end first more))
       (task_then task (begin_of (without width first)) (begin_of (without (behind_box task width) first)) (document_of text options lookup tight None inside))
-      (document_of text options lookup direct (Some (record { mark = mark; tight = tight })) after) (list-rectangular mark number tight) tt
-      (task-rectangular task _ _ (document_of text options lookup tight None inside) (document-rectangular tight None inside)) (document-rectangular direct (Some (record { mark = mark; tight = tight })) after)
+      (document_of text options lookup direct (Some (record { delimiter = delimiter; tight = tight })) after) (list-rectangular delimiter number tight) tt
+      (task-rectangular task _ _ (document_of text options lookup tight None inside) (document-rectangular tight None inside)) (document-rectangular direct (Some (record { delimiter = delimiter; tight = tight })) after)
   document-rectangular direct before (ContainerBlock (ListDefinition width) first more inside after) =
-      let tight = tight_behind before definition_mark inside after in
-      item-rectangular (goes_on definition_mark after) (DefinitionList tight) (node DefinitionListDefinition (begin_of first) (past_of first more))
-      (document_of text options lookup tight None inside) (document_of text options lookup direct (Some (record { mark = definition_mark; tight = tight })) after) (λ items. tt) tt
-      (document-rectangular tight None inside) (document-rectangular direct (Some (record { mark = definition_mark; tight = tight })) after)
+      let tight = tight_behind before definition_delimiter inside after in
+      item-rectangular (goes_on definition_delimiter after) (DefinitionList tight) (node DefinitionListDefinition (begin_of first) (last_line_end first more))
+      (document_of text options lookup tight None inside) (document_of text options lookup direct (Some (record { delimiter = definition_delimiter; tight = tight })) after) (λ items. tt) tt
+      (document-rectangular tight None inside) (document-rectangular direct (Some (record { delimiter = definition_delimiter; tight = tight })) after)
 
 pub derived-rectangular : (text : List ℕ) (options : Options) (lookup : Lookup) (d : BlockDocument) → Derives text options lookup d → HasRectangularTables d
 derived-rectangular text options lookup d h = subst HasRectangularTables (sym h.2) (document-rectangular text options lookup false None h.0)

@@ -24,8 +24,8 @@ bytes-places from (c ∷ cs) to h = go (c.part == 0) refl (bytes-places (suc c.a
     go true e ih = let p : c.at ≡ from = sym (ap (λ b. if b then c.at else suc c.at) e) ∙ h.0 in omega (arith, p, ih)
     go false e ih = let p : suc c.at ≡ from = sym (ap (λ b. if b then c.at else suc c.at) e) ∙ h.0 in omega (arith, p, ih)
 
-pub words-places : (from : ℕ) (r : Row) → Lies from r → start_of r + length (words_of r) ≡ r.stop
-words-places from r h = bytes-places (start_of r) (without_indent r.columns) r.stop (start-Runs from r h)
+pub words-places : (from : ℕ) (r : Row) → Lies from r → start_of r + length (words_of r) ≡ r.content_end
+words-places from r h = bytes-places (start_of r) (without_indent r.columns) r.content_end (start-Runs from r h)
 
 pub first-less : (bs : List ℕ) → length (without_first_pipe bs) ≤ length bs
 first-less [] = omega arith
@@ -74,57 +74,57 @@ cell-order text at cell = go (nat_lt start end) refl
     go false e = omega arith
 
 -- these cells stand in order before a place
-abbrev Fit : (from at past : ℕ) → List (List ℕ) → Type 0
-Fit from at past [] = from ≤ past
-Fit from at past (cell ∷ cells) = (from ≤ at) × (at + length cell ≤ past) × Fit (at + length cell) (suc (at + length cell)) past cells
+abbrev Fit : (from at line_end : ℕ) → List (List ℕ) → Type 0
+Fit from at line_end [] = from ≤ line_end
+Fit from at line_end (cell ∷ cells) = (from ≤ at) × (at + length cell ≤ line_end) × Fit (at + length cell) (suc (at + length cell)) line_end cells
 
-fit-le : (from at past : ℕ) (cells : List (List ℕ)) → Fit from at past cells → from ≤ past
-fit-le from at past [] f = f
-fit-le from at past (cell ∷ cells) f = let a : from ≤ at = f.0 in let b : at + length cell ≤ past = f.1 in omega (arith, a, b)
+fit-le : (from at line_end : ℕ) (cells : List (List ℕ)) → Fit from at line_end cells → from ≤ line_end
+fit-le from at line_end [] f = f
+fit-le from at line_end (cell ∷ cells) f = let a : from ≤ at = f.0 in let b : at + length cell ≤ line_end = f.1 in omega (arith, a, b)
 
-fit-onto : (from at past b : ℕ) (ps : List (List ℕ)) → from ≤ at → suc at ≤ past → Fit (suc at) (suc at) past ps → Fit from at past (onto b ps)
-fit-onto from at past b [] le lt f = (le, omega (arith, lt), omega (arith, lt))
-fit-onto from at past b (p ∷ ps) le lt f =
+fit-onto : (from at line_end b : ℕ) (ps : List (List ℕ)) → from ≤ at → suc at ≤ line_end → Fit (suc at) (suc at) line_end ps → Fit from at line_end (onto b ps)
+fit-onto from at line_end b [] le lt f = (le, omega (arith, lt), omega (arith, lt))
+fit-onto from at line_end b (p ∷ ps) le lt f =
     let e : suc at + length p ≡ at + length (b ∷ p) = omega arith in
-    (le, subst (λ n. n ≤ past) e f.1, subst (λ n. Fit n (suc n) past ps) e f.2)
+    (le, subst (λ n. n ≤ line_end) e f.1, subst (λ n. Fit n (suc n) line_end ps) e f.2)
 
-parts-fit : (escaped : Bool) (from at : ℕ) (bs : List ℕ) (past : ℕ) → from ≤ at → at + length bs ≤ past → Fit from at past (parts escaped bs)
-parts-fit escaped from at [] past le lt = (le, lt, lt)
-parts-fit escaped from at (b ∷ bs) past le lt =
-    go ((b == pipe) && not escaped) (parts-fit false at (suc at) bs past (omega arith) (omega (arith, lt))) (parts-fit (b == backslash) (suc at) (suc at) bs past (omega arith) (omega (arith, lt)))
+parts-fit : (escaped : Bool) (from at : ℕ) (bs : List ℕ) (line_end : ℕ) → from ≤ at → at + length bs ≤ line_end → Fit from at line_end (parts escaped bs)
+parts-fit escaped from at [] line_end le lt = (le, lt, lt)
+parts-fit escaped from at (b ∷ bs) line_end le lt =
+    go ((b == pipe) && not escaped) (parts-fit false at (suc at) bs line_end (omega arith) (omega (arith, lt))) (parts-fit (b == backslash) (suc at) (suc at) bs line_end (omega arith) (omega (arith, lt)))
   where
-    go : (z : Bool) → Fit at (suc at) past (parts false bs) → Fit (suc at) (suc at) past (parts (b == backslash) bs) → Fit from at past (if z then [] ∷ parts false bs else onto b (parts (b == backslash) bs))
+    go : (z : Bool) → Fit at (suc at) line_end (parts false bs) → Fit (suc at) (suc at) line_end (parts (b == backslash) bs) → Fit from at line_end (if z then [] ∷ parts false bs else onto b (parts (b == backslash) bs))
     go true f g =
         let e : at ≡ at + length {A = ℕ} [] = omega arith in
-        (le, omega (arith, lt), subst (λ n. Fit n (suc n) past (parts false bs)) e f)
-    go false f g = fit-onto from at past b (parts (b == backslash) bs) le (omega (arith, lt)) g
+        (le, omega (arith, lt), subst (λ n. Fit n (suc n) line_end (parts false bs)) e f)
+    go false f g = fit-onto from at line_end b (parts (b == backslash) bs) le (omega (arith, lt)) g
 
-end-fit : (from at past : ℕ) (cells : List (List ℕ)) → Fit from at past cells → Fit from at past (without_blank_end cells)
-end-fit from at past [] f = f
-end-fit from at past (cell ∷ []) f = go (are_blank cell)
+end-fit : (from at line_end : ℕ) (cells : List (List ℕ)) → Fit from at line_end cells → Fit from at line_end (without_blank_end cells)
+end-fit from at line_end [] f = f
+end-fit from at line_end (cell ∷ []) f = go (are_blank cell)
   where
-    go : (z : Bool) → Fit from at past (if z then [] else cell ∷ [])
-    go true = fit-le from at past (cell ∷ []) f
+    go : (z : Bool) → Fit from at line_end (if z then [] else cell ∷ [])
+    go true = fit-le from at line_end (cell ∷ []) f
     go false = f
-end-fit from at past (cell ∷ (next ∷ more)) f = (f.0, f.1, end-fit (at + length cell) (suc (at + length cell)) past (next ∷ more) f.2)
+end-fit from at line_end (cell ∷ (next ∷ more)) f = (f.0, f.1, end-fit (at + length cell) (suc (at + length cell)) line_end (next ∷ more) f.2)
 
-cells-order : (text : List ℕ) (columns from at past : ℕ) (cells : List (List ℕ)) → Fit from at past cells → InOrder from (cells_then text columns at past cells) past
-cells-order text zero from at past cells f = fit-le from at past cells f
-cells-order text (suc columns) from at past [] f = (f, omega arith, cells-order text columns past at past [] (omega arith))
-cells-order text (suc columns) from at past (cell ∷ cells) f = (f.0, cell-order text at cell, cells-order text columns (at + length cell) (suc (at + length cell)) past cells f.2)
+cells-order : (text : List ℕ) (columns from at line_end : ℕ) (cells : List (List ℕ)) → Fit from at line_end cells → InOrder from (cells_then text columns at line_end cells) line_end
+cells-order text zero from at line_end cells f = fit-le from at line_end cells f
+cells-order text (suc columns) from at line_end [] f = (f, omega arith, cells-order text columns line_end at line_end [] (omega arith))
+cells-order text (suc columns) from at line_end (cell ∷ cells) f = (f.0, cell-order text at cell, cells-order text columns (at + length cell) (suc (at + length cell)) line_end cells f.2)
 
-pub row_cells-order : (text : List ℕ) (columns from : ℕ) (r : Row) → Lies from r → InOrder (start_of r) (row_cells text columns r) r.past
+pub row_cells-order : (text : List ℕ) (columns from : ℕ) (r : Row) → Lies from r → InOrder (start_of r) (row_cells text columns r) r.line_end
 row_cells-order text columns from r h =
     let w = words-places from r h in
     let s = start-words r in
-    let p : r.stop ≤ r.past = h.2 in
-    cells-order text columns (start_of r) (cells_start r) r.past (cells_of (words_of r))
-    (end-fit (start_of r) (cells_start r) r.past (parts false (without_first_pipe (words_of r)))
-    (parts-fit false (start_of r) (cells_start r) (without_first_pipe (words_of r)) r.past (omega arith) (omega (arith, w, s, p))))
+    let p : r.content_end ≤ r.line_end = h.2 in
+    cells-order text columns (start_of r) (cells_start r) r.line_end (cells_of (words_of r))
+    (end-fit (start_of r) (cells_start r) r.line_end (parts false (without_first_pipe (words_of r)))
+    (parts-fit false (start_of r) (cells_start r) (without_first_pipe (words_of r)) r.line_end (omega arith) (omega (arith, w, s, p))))
 
 pub row_tokens-order : (text : List ℕ) (columns from : ℕ) (rs : List Row) (to : ℕ) → ((low : ℕ) (r : Row) → Lies low r → low ≤ start_of r) → Along from rs to → InOrder from (row_tokens text columns rs) to
 row_tokens-order text columns from [] to low a = a
-row_tokens-order text columns from (r ∷ rs) to low a = (low from r a.0, row_cells-order text columns from r a.0, row_tokens-order text columns r.past rs to low a.1)
+row_tokens-order text columns from (r ∷ rs) to low a = (low from r a.0, row_cells-order text columns from r a.0, row_tokens-order text columns r.line_end rs to low a.1)
 
 -- ## Edges
 
@@ -229,10 +229,10 @@ module _ (E : ℕ → Type 0) where
       go false = s
   end-stand at (cell ∷ (next ∷ more)) s = (s.0, s.1, s.2, end-stand (suc (at + length cell)) (next ∷ more) s.3)
 
-  cells-edged : (text : List ℕ) (columns at past : ℕ) (cells : List (List ℕ)) → E past → Stand at cells → AllAt E (cells_then text columns at past cells)
-  cells-edged text zero at past cells e s = tt
-  cells-edged text (suc columns) at past [] e s = (e, e, tt, cells-edged text columns at past [] e tt)
-  cells-edged text (suc columns) at past (cell ∷ cells) e s = (s.0, s.2, cell-edged text at cell s.0 s.2 s.1, cells-edged text columns (suc (at + length cell)) past cells e s.3)
+  cells-edged : (text : List ℕ) (columns at line_end : ℕ) (cells : List (List ℕ)) → E line_end → Stand at cells → AllAt E (cells_then text columns at line_end cells)
+  cells-edged text zero at line_end cells e s = tt
+  cells-edged text (suc columns) at line_end [] e s = (e, e, tt, cells-edged text columns at line_end [] e tt)
+  cells-edged text (suc columns) at line_end (cell ∷ cells) e s = (s.0, s.2, cell-edged text at cell s.0 s.2 s.1, cells-edged text columns (suc (at + length cell)) line_end cells e s.3)
 
   -- behind a pipe in front
   first-stand : (at : ℕ) (bs : List ℕ) → E at → E (at + length bs) → Uncut at bs → Stand (at + (length bs - length (without_first_pipe bs))) (parts false (without_first_pipe bs))
@@ -250,17 +250,17 @@ module _ (E : ℕ → Type 0) where
   pub row_cells-edged : (text : List ℕ) (columns : ℕ) (r : Row) → GoodRow E r → AllAt E (row_cells text columns r)
   row_cells-edged text columns r g =
       let runs = start-runs r g in
-      let u = uncut-bytes (start_of r) (without_indent r.columns) r.stop runs (drop-good E (indent r.columns) r.columns g.good) in
-      let w : start_of r + length (words_of r) ≡ r.stop = bytes-places (start_of r) (without_indent r.columns) r.stop runs in
-      cells-edged text columns (cells_start r) r.past (cells_of (words_of r)) g.past
-      (end-stand (cells_start r) (parts false (without_first_pipe (words_of r))) (first-stand (start_of r) (words_of r) (start-E E r g) (subst E (sym w) g.stop) u))
+      let u = uncut-bytes (start_of r) (without_indent r.columns) r.content_end runs (drop-good E (indent r.columns) r.columns g.good) in
+      let w : start_of r + length (words_of r) ≡ r.content_end = bytes-places (start_of r) (without_indent r.columns) r.content_end runs in
+      cells-edged text columns (cells_start r) r.line_end (cells_of (words_of r)) g.line_end
+      (end-stand (cells_start r) (parts false (without_first_pipe (words_of r))) (first-stand (start_of r) (words_of r) (start-E E r g) (subst E (sym w) g.content_end) u))
     where
-      start-runs : (r : Row) → GoodRow E r → Runs (start_of r) (without_indent r.columns) r.stop
-      start-runs r g = (drop-Runs (indent r.columns) (begin_of r) r.columns r.stop g.runs).0
+      start-runs : (r : Row) → GoodRow E r → Runs (start_of r) (without_indent r.columns) r.content_end
+      start-runs r g = (drop-Runs (indent r.columns) (begin_of r) r.columns r.content_end g.runs).0
 
   pub row_tokens-edged : (text : List ℕ) (columns : ℕ) (rs : List Row) → GoodRows E rs → AllAt E (row_tokens text columns rs)
   row_tokens-edged text columns [] g = tt
-  row_tokens-edged text columns (r ∷ rs) g = (start-E E r g.0, g.0.past, row_cells-edged text columns r g.0, row_tokens-edged text columns rs g.1)
+  row_tokens-edged text columns (r ∷ rs) g = (start-E E r g.0, g.0.line_end, row_cells-edged text columns r g.0, row_tokens-edged text columns rs g.1)
 
 -- ## Count
 
@@ -318,11 +318,11 @@ cell-count text at (b ∷ bs) = go (nat_lt (at + length (take_while is_blank_byt
     go true = omega arith
     go false = omega arith
 
-cells-count : (text : List ℕ) (columns at past : ℕ) (cells : List (List ℕ)) → count_nodes (cells_then text columns at past cells) ≤ weight cells + (columns - length cells)
-cells-count text zero at past cells = omega arith
-cells-count text (suc columns) at past [] = let ih = cells-count text columns at past [] in omega (arith, ih)
-cells-count text (suc columns) at past (cell ∷ cells) =
-    let ih = cells-count text columns (suc (at + length cell)) past cells in
+cells-count : (text : List ℕ) (columns at line_end : ℕ) (cells : List (List ℕ)) → count_nodes (cells_then text columns at line_end cells) ≤ weight cells + (columns - length cells)
+cells-count text zero at line_end cells = omega arith
+cells-count text (suc columns) at line_end [] = let ih = cells-count text columns at line_end [] in omega (arith, ih)
+cells-count text (suc columns) at line_end (cell ∷ cells) =
+    let ih = cells-count text columns (suc (at + length cell)) line_end cells in
     let c = cell-count text at cell in
     omega (arith, ih, c)
 
@@ -330,7 +330,7 @@ cells-count text (suc columns) at past (cell ∷ cells) =
 pub row_cells-count : (text : List ℕ) (columns : ℕ) (r : Row) → count_nodes (row_cells text columns r) ≤ 2 * length (words_of r) + count_missing columns r
 row_cells-count text columns r =
     let bs = without_first_pipe (words_of r) in
-    let c = cells-count text columns (cells_start r) r.past (cells_of (words_of r)) in
+    let c = cells-count text columns (cells_start r) r.line_end (cells_of (words_of r)) in
     let s = parts-spread false bs in
     let w = end-weight (parts false bs) (omega (arith, s)) in
     let l = first-less (words_of r) in

@@ -56,8 +56,8 @@ lone_tag = refl
 tag_and_text : html_kind (codes "<a> x") ≡ None
 tag_and_text = refl
 
-verbatim_tag : html_kind (codes "</pre>") ≡ None
-verbatim_tag = refl
+raw_tag : html_kind (codes "</pre>") ≡ None
+raw_tag = refl
 
 comment : comment_find (codes "<!-- a -->b") 2 ≡ (let find : Find = record { end = Some 10; passed = 8 } in find)
 comment = refl

@@ -3,12 +3,12 @@ use Rattle.std.proofs.Common.{◌≡◌, ℕ, zero, suc, ◌+◌, Bool, true, fa
 use Rattle.std.specs.Prelude.{if◌then◌else◌, nat_lt}
 use Rattle.cmark_grammar.specs.Answers.{Lookup}
 use Rattle.cmark_grammar.specs.Options.{Options}
-use Rattle.cmark_grammar.specs.Rows.{Row, first_place, start_of, past_of, begin_of, words_of, without}
-use Rattle.cmark_grammar.specs.Containers.{Quote, Item, Footnote, ListDefinition}
+use Rattle.cmark_grammar.specs.Rows.{Row, first_place, start_of, last_line_end, begin_of, words_of, without}
+use Rattle.cmark_grammar.specs.Containers.{BlockQuote, Item, Footnote, ListDefinition}
 use Rattle.cmark_grammar.specs.Openings.{Leaf, ThematicBreak as ThematicBreakLeaf, AtxHeading as AtxHeadingLeaf, IndentedCode as IndentedCodeLeaf, FencedCode as FencedCodeLeaf, HtmlBlock as HtmlBlockLeaf, LinkDefinition as LinkDefinitionLeaf, MetadataBlock as MetadataBlockLeaf, Table as TableLeaf}
 use Rattle.cmark_grammar.specs.Blocks.{Blocks, Nil as NoBlocks, BlankLine, Paragraph as ParagraphBlock, SetextHeading, LeafBlock, ContainerBlock}
 use Rattle.cmark_grammar.specs.SetextAttributes.{content_of, ends_in_braces, attributes_place, texts_before, texts_if, without_braces, setext_tokens}
-use Rattle.cmark_grammar.specs.Lists.{ListBefore, tight_behind, goes_on, is_tight, definition_mark, is_title, title_tight_behind, loose_from}
+use Rattle.cmark_grammar.specs.Lists.{ListBefore, tight_behind, goes_on, is_tight, definition_delimiter, is_title, title_tight_behind, loose_from}
 use Rattle.cmark_grammar.specs.Tokens.{Piece, end_place, piece_if, texts_then, words_end, stretch_then, stretches, paragraph_tokens, html_then, html_tokens, html_kind_of, verbatim_line, behind_hashes, heading_columns, code_pieces, fenced_lines, lines_before}
 use Rattle.cmark_grammar.specs.BlockDocument.{Text, OwnedText, BlockList, ListItem, BlockNode, BlockDocument, Nil, Node, node, BlockKind, DefinitionList, DefinitionListTitle, DefinitionListDefinition}
 use Rattle.cmark_grammar.specs.Derivation.{task_then, leaf_then, item_then, paragraph_kind, document_of, Derives, list_kind}
@@ -33,12 +33,12 @@ stretch_tight tight text start end after h = texts_tight tight (piece_if text st
 
 stretches_tight : (tight : Bool) (text : List ℕ) (begin : ℕ) (r : Row) (more : List Row) → HasTightParagraphs tight (stretches text begin r more)
 stretches_tight tight text begin r [] = stretch_tight tight text begin (words_end r) Nil tt
-stretches_tight tight text begin r (s ∷ more) = go (begin_of s == r.past) (stretches_tight tight text begin s more) (stretches_tight tight text (begin_of s) s more)
+stretches_tight tight text begin r (s ∷ more) = go (begin_of s == r.line_end) (stretches_tight tight text begin s more) (stretches_tight tight text (begin_of s) s more)
   where
     go : (z : Bool) → HasTightParagraphs tight (stretches text begin s more) → HasTightParagraphs tight (stretches text (begin_of s) s more)
-        → HasTightParagraphs tight (if z then stretches text begin s more else stretch_then text begin r.past (stretches text (begin_of s) s more))
+        → HasTightParagraphs tight (if z then stretches text begin s more else stretch_then text begin r.line_end (stretches text (begin_of s) s more))
     go true p q = p
-    go false p q = stretch_tight tight text begin r.past (stretches text (begin_of s) s more) q
+    go false p q = stretch_tight tight text begin r.line_end (stretches text (begin_of s) s more) q
 
 paragraph_tight : (tight : Bool) (text : List ℕ) (r : Row) (more : List Row) → HasTightParagraphs tight (paragraph_tokens text r more)
 paragraph_tight tight text r more = stretches_tight tight text (start_of r) r more
@@ -77,17 +77,17 @@ html_tight : (text : List ℕ) (tight : Bool) (rs : List Row) → HasTightParagr
 html_tight text tight [] = tt
 html_tight text tight (r ∷ rs) = html_then_tight tight (verbatim_line text r.columns r) (html_tokens text rs) (html_tight text tight rs)
 
-cells_tight : (text : List ℕ) (tight : Bool) (columns at past : ℕ) (cells : List (List ℕ)) → HasTightParagraphs tight (cells_then text columns at past cells)
-cells_tight text tight zero at past cells = tt
-cells_tight text tight (suc columns) at past [] = (tt, tt, cells_tight text tight columns at past [])
-cells_tight text tight (suc columns) at past (cell ∷ cells) = (
+cells_tight : (text : List ℕ) (tight : Bool) (columns at line_end : ℕ) (cells : List (List ℕ)) → HasTightParagraphs tight (cells_then text columns at line_end cells)
+cells_tight text tight zero at line_end cells = tt
+cells_tight text tight (suc columns) at line_end [] = (tt, tt, cells_tight text tight columns at line_end [])
+cells_tight text tight (suc columns) at line_end (cell ∷ cells) = (
   tt,
   stretch_tight false text (at + length (take_while is_blank_byte cell)) (at + length (drop_end is_blank_byte cell)) Nil tt,
-  cells_tight text tight columns (suc (at + length cell)) past cells,
+  cells_tight text tight columns (suc (at + length cell)) line_end cells,
 )
 
 row_tight : (text : List ℕ) (tight : Bool) (columns : ℕ) (r : Row) → HasTightParagraphs tight (row_cells text columns r)
-row_tight text tight columns r = cells_tight text tight columns (cells_start r) r.past (cells_of (words_of r))
+row_tight text tight columns r = cells_tight text tight columns (cells_start r) r.line_end (cells_of (words_of r))
 
 rows_tight : (text : List ℕ) (tight : Bool) (columns : ℕ) (rs : List Row) → HasTightParagraphs tight (row_tokens text columns rs)
 rows_tight text tight columns [] = tt
@@ -95,7 +95,7 @@ rows_tight text tight columns (r ∷ rs) = (tt, row_tight text false columns r, 
 
 leaf_tight : (text : List ℕ) (options : Options) (lookup : Lookup) (tight : Bool) (leaf : Leaf) (first : Row) (more : List Row) (after : BlockDocument) → HasTightParagraphs tight after → HasTightParagraphs tight (leaf_then text options lookup leaf first more after)
 leaf_tight text options lookup tight ThematicBreakLeaf first more after h = (tt, tt, h)
-leaf_tight text options lookup tight (AtxHeadingLeaf level) first more after h = (tt, stretch_tight false text (first_place first.stop (behind_hashes level first)) (end_place (first_place first.stop (behind_hashes level first)) (heading_columns options.heading_attributes level first)) Nil tt, h)
+leaf_tight text options lookup tight (AtxHeadingLeaf level) first more after h = (tt, stretch_tight false text (first_place first.content_end (behind_hashes level first)) (end_place (first_place first.content_end (behind_hashes level first)) (heading_columns options.heading_attributes level first)) Nil tt, h)
 leaf_tight text options lookup tight IndentedCodeLeaf first more after h = (tt, texts_tight false (code_pieces text 4 (first ∷ more)) Nil tt, h)
 leaf_tight text options lookup tight (FencedCodeLeaf fence) first more after h = (tt, texts_tight false (code_pieces text fence.indented (fenced_lines fence more)) Nil tt, h)
 leaf_tight text options lookup tight (HtmlBlockLeaf kind) first more after h = (tt, html_tight text false (first ∷ more), h)
@@ -122,15 +122,15 @@ module _ (text : List ℕ) (options : Options) (lookup : Lookup) where
   is_both true b e = (refl, e)
   is_both false b e = absurd (true≢false (sym e))
 
-  list_within : (mark : ℕ) (number : Option ℕ) (tight z : Bool) → tight_within z (list_kind mark number tight) ≡ tight
-  list_within mark number tight z = go (mark == definition_mark)
+  list_within : (delimiter : ℕ) (number : Option ℕ) (tight z : Bool) → tight_within z (list_kind delimiter number tight) ≡ tight
+  list_within delimiter number tight z = go (delimiter == definition_delimiter)
     where
       go : (y : Bool) → tight_within z (if y then DefinitionList tight else BlockList number tight) ≡ tight
       go true = refl
       go false = refl
 
-  list_element : (mark : ℕ) (number : Option ℕ) (tight z : Bool) → IsElement z (list_kind mark number tight)
-  list_element mark number tight z = go (mark == definition_mark)
+  list_element : (delimiter : ℕ) (number : Option ℕ) (tight z : Bool) → IsElement z (list_kind delimiter number tight)
+  list_element delimiter number tight z = go (delimiter == definition_delimiter)
     where
       go : (y : Bool) → IsElement z (if y then DefinitionList tight else BlockList number tight)
       go true = tt
@@ -141,32 +141,32 @@ module _ (text : List ℕ) (options : Options) (lookup : Lookup) where
   rest_of_item true list tight item inside Nil k = record { list = _; items = _; after = _; is = refl; kind = k }
   rest_of_item true list tight item inside (Node others items after) k = record { list = _; items = _; after = _; is = refl; kind = k }
 
-  pub rest_of : (direct tight : Bool) (mark : ℕ) (b : Blocks) → goes_on mark b ≡ true → Rest tight (document_of text options lookup direct (Some (record { mark = mark; tight = tight })) b)
-  rest_of direct tight mark NoBlocks e = absurd (true≢false (sym e))
-  rest_of direct tight mark (BlankLine line after) e = rest_of direct tight mark after e
-  rest_of direct tight mark (ParagraphBlock first more after) e =
-      let p = is_both (definition_mark == mark) (is_title after) e in
-      let t : title_tight_behind (Some (record { mark = mark; tight = tight })) after ≡ tight = if_true (mark == definition_mark) tight (not (loose_from definition_mark false after)) (eqb_sym definition_mark mark p.0) in
-      subst (Rest tight) (sym (ap (λ z. if z then title (title_tight_behind (Some (record { mark = mark; tight = tight })) after) else other) p.1))
-      (subst (λ z. Rest z (title (title_tight_behind (Some (record { mark = mark; tight = tight })) after))) t (rest_of_item true _ (title_tight_behind (Some (record { mark = mark; tight = tight })) after) _ _ _ (λ z. refl)))
+  pub rest_of : (direct tight : Bool) (delimiter : ℕ) (b : Blocks) → goes_on delimiter b ≡ true → Rest tight (document_of text options lookup direct (Some (record { delimiter = delimiter; tight = tight })) b)
+  rest_of direct tight delimiter NoBlocks e = absurd (true≢false (sym e))
+  rest_of direct tight delimiter (BlankLine line after) e = rest_of direct tight delimiter after e
+  rest_of direct tight delimiter (ParagraphBlock first more after) e =
+      let p = is_both (definition_delimiter == delimiter) (is_title after) e in
+      let t : title_tight_behind (Some (record { delimiter = delimiter; tight = tight })) after ≡ tight = if_true (delimiter == definition_delimiter) tight (not (loose_from definition_delimiter false after)) (eqb_sym definition_delimiter delimiter p.0) in
+      subst (Rest tight) (sym (ap (λ z. if z then title (title_tight_behind (Some (record { delimiter = delimiter; tight = tight })) after) else other) p.1))
+      (subst (λ z. Rest z (title (title_tight_behind (Some (record { delimiter = delimiter; tight = tight })) after))) t (rest_of_item true _ (title_tight_behind (Some (record { delimiter = delimiter; tight = tight })) after) _ _ _ (λ z. refl)))
     where
       title : Bool → BlockDocument
-      title t = item_then true (DefinitionList t) (node DefinitionListTitle (start_of first) (past_of first more)) (paragraph_tokens text first more) (document_of text options lookup direct (Some (record { mark = definition_mark; tight = t })) after)
+      title t = item_then true (DefinitionList t) (node DefinitionListTitle (start_of first) (last_line_end first more)) (paragraph_tokens text first more) (document_of text options lookup direct (Some (record { delimiter = definition_delimiter; tight = t })) after)
 
       other : BlockDocument
-      other = Node (node (paragraph_kind direct) (start_of first) (past_of first more)) (paragraph_tokens text first more) (document_of text options lookup direct None after)
-  rest_of direct tight mark (SetextHeading level first more underline after) e = absurd (true≢false (sym e))
-  rest_of direct tight mark (LeafBlock leaf first more after) e = absurd (true≢false (sym e))
-  rest_of direct tight mark (ContainerBlock (Quote alert) first more inside after) e = absurd (true≢false (sym e))
-  rest_of direct tight mark (ContainerBlock (Footnote label old size) first more inside after) e = absurd (true≢false (sym e))
-  rest_of direct tight mark (ContainerBlock (Item m number width task) first more inside after) e =
-      let t : tight_behind (Some (record { mark = mark; tight = tight })) m inside after ≡ tight = if_true (mark == m) tight (is_tight m inside after) (eqb_sym m mark e) in
-      subst (λ z. Rest z (document_of text options lookup direct (Some (record { mark = mark; tight = tight })) (ContainerBlock (Item m number width task) first more inside after))) t
-      (rest_of_item (goes_on m after) _ (tight_behind (Some (record { mark = mark; tight = tight })) m inside after) _ _ _ (list_within m number (tight_behind (Some (record { mark = mark; tight = tight })) m inside after)))
-  rest_of direct tight mark (ContainerBlock (ListDefinition width) first more inside after) e =
-      let t : tight_behind (Some (record { mark = mark; tight = tight })) definition_mark inside after ≡ tight = if_true (mark == definition_mark) tight (is_tight definition_mark inside after) (eqb_sym definition_mark mark e) in
-      subst (λ z. Rest z (document_of text options lookup direct (Some (record { mark = mark; tight = tight })) (ContainerBlock (ListDefinition width) first more inside after))) t
-      (rest_of_item (goes_on definition_mark after) _ (tight_behind (Some (record { mark = mark; tight = tight })) definition_mark inside after) _ _ _ (λ z. refl))
+      other = Node (node (paragraph_kind direct) (start_of first) (last_line_end first more)) (paragraph_tokens text first more) (document_of text options lookup direct None after)
+  rest_of direct tight delimiter (SetextHeading level first more underline after) e = absurd (true≢false (sym e))
+  rest_of direct tight delimiter (LeafBlock leaf first more after) e = absurd (true≢false (sym e))
+  rest_of direct tight delimiter (ContainerBlock (BlockQuote alert) first more inside after) e = absurd (true≢false (sym e))
+  rest_of direct tight delimiter (ContainerBlock (Footnote label old size) first more inside after) e = absurd (true≢false (sym e))
+  rest_of direct tight delimiter (ContainerBlock (Item m number width task) first more inside after) e =
+      let t : tight_behind (Some (record { delimiter = delimiter; tight = tight })) m inside after ≡ tight = if_true (delimiter == m) tight (is_tight m inside after) (eqb_sym m delimiter e) in
+      subst (λ z. Rest z (document_of text options lookup direct (Some (record { delimiter = delimiter; tight = tight })) (ContainerBlock (Item m number width task) first more inside after))) t
+      (rest_of_item (goes_on m after) _ (tight_behind (Some (record { delimiter = delimiter; tight = tight })) m inside after) _ _ _ (list_within m number (tight_behind (Some (record { delimiter = delimiter; tight = tight })) m inside after)))
+  rest_of direct tight delimiter (ContainerBlock (ListDefinition width) first more inside after) e =
+      let t : tight_behind (Some (record { delimiter = delimiter; tight = tight })) definition_delimiter inside after ≡ tight = if_true (delimiter == definition_delimiter) tight (is_tight definition_delimiter inside after) (eqb_sym definition_delimiter delimiter e) in
+      subst (λ z. Rest z (document_of text options lookup direct (Some (record { delimiter = delimiter; tight = tight })) (ContainerBlock (ListDefinition width) first more inside after))) t
+      (rest_of_item (goes_on definition_delimiter after) _ (tight_behind (Some (record { delimiter = delimiter; tight = tight })) definition_delimiter inside after) _ _ _ (λ z. refl))
 
   item_tight : (direct joins : Bool) (list : BlockKind) (tight within : Bool) (item : BlockNode) (inside after : BlockDocument) → IsElement direct list → ((z : Bool) → tight_within z list ≡ tight) → IsElement tight item.kind → tight_within tight item.kind ≡ within
       → (joins ≡ true → Rest tight after) → HasTightParagraphs within inside → HasTightParagraphs direct after → HasTightParagraphs direct (item_then joins list item inside after)
@@ -194,15 +194,15 @@ module _ (text : List ℕ) (options : Options) (lookup : Lookup) where
   title_tight false false tight start end inside after behind rest i a b = (refl, i, b)
 
   -- a definition follows a title, and goes on with its list
-  pub title_goes_on : (b : Blocks) → is_title b ≡ true → goes_on definition_mark b ≡ true
+  pub title_goes_on : (b : Blocks) → is_title b ≡ true → goes_on definition_delimiter b ≡ true
   title_goes_on NoBlocks e = e
   title_goes_on (BlankLine line after) e = title_goes_on after e
   title_goes_on (ParagraphBlock first more after) e = absurd (true≢false (sym e))
   title_goes_on (SetextHeading level first more underline after) e = e
   title_goes_on (LeafBlock leaf first more after) e = e
-  title_goes_on (ContainerBlock (Quote alert) first more inside after) e = e
+  title_goes_on (ContainerBlock (BlockQuote alert) first more inside after) e = e
   title_goes_on (ContainerBlock (Footnote label old size) first more inside after) e = e
-  title_goes_on (ContainerBlock (Item mark number width task) first more inside after) e = absurd (true≢false (sym e))
+  title_goes_on (ContainerBlock (Item delimiter number width task) first more inside after) e = absurd (true≢false (sym e))
   title_goes_on (ContainerBlock (ListDefinition width) first more inside after) e = refl
 
   pub document-tight : (direct : Bool) (before : Option ListBefore) (b : Blocks) → HasTightParagraphs direct (document_of text options lookup direct before b)
@@ -210,24 +210,24 @@ module _ (text : List ℕ) (options : Options) (lookup : Lookup) where
   document-tight direct before (BlankLine line after) = document-tight direct before after
   document-tight direct before (ParagraphBlock first more after) =
       let tight = title_tight_behind before after in
-      title_tight (is_title after) direct tight (start_of first) (past_of first more) (paragraph_tokens text first more)
-      (document_of text options lookup direct (Some (record { mark = definition_mark; tight = tight })) after) (document_of text options lookup direct None after)
-      (λ e. rest_of direct tight definition_mark after (title_goes_on after e)) (paragraph_tight false text first more)
-      (document-tight direct (Some (record { mark = definition_mark; tight = tight })) after) (document-tight direct None after)
+      title_tight (is_title after) direct tight (start_of first) (last_line_end first more) (paragraph_tokens text first more)
+      (document_of text options lookup direct (Some (record { delimiter = definition_delimiter; tight = tight })) after) (document_of text options lookup direct None after)
+      (λ e. rest_of direct tight definition_delimiter after (title_goes_on after e)) (paragraph_tight false text first more)
+      (document-tight direct (Some (record { delimiter = definition_delimiter; tight = tight })) after) (document-tight direct None after)
   document-tight direct before (SetextHeading level first more underline after) = (tt, setext_tight false text options.heading_attributes first more, document-tight direct None after)
   document-tight direct before (LeafBlock leaf first more after) = leaf_tight text options lookup direct leaf first more (document_of text options lookup direct None after) (document-tight direct None after)
-  document-tight direct before (ContainerBlock (Quote alert) first more inside after) = (tt, document-tight false None inside, document-tight direct None after)
+  document-tight direct before (ContainerBlock (BlockQuote alert) first more inside after) = (tt, document-tight false None inside, document-tight direct None after)
   document-tight direct before (ContainerBlock (Footnote label old size) first more inside after) = (tt, document-tight false None inside, document-tight direct None after)
-  document-tight direct before (ContainerBlock (Item mark number width task) first more inside after) =
-      let tight = tight_behind before mark inside after in
-      item_tight direct (goes_on mark after) (list_kind mark number tight) tight tight (node ListItem (begin_of first) (past_of first more)) (task_then task (begin_of (without width first)) (begin_of (without (behind_box task width) first)) (document_of text options lookup tight None inside)) (document_of text options lookup direct (Some (record { mark = mark; tight = tight })) after)
-      (list_element mark number tight direct) (list_within mark number tight) tt refl
-      (rest_of direct tight mark after) (task-tight tight task _ _ (document_of text options lookup tight None inside) (document-tight tight None inside)) (document-tight direct (Some (record { mark = mark; tight = tight })) after)
+  document-tight direct before (ContainerBlock (Item delimiter number width task) first more inside after) =
+      let tight = tight_behind before delimiter inside after in
+      item_tight direct (goes_on delimiter after) (list_kind delimiter number tight) tight tight (node ListItem (begin_of first) (last_line_end first more)) (task_then task (begin_of (without width first)) (begin_of (without (behind_box task width) first)) (document_of text options lookup tight None inside)) (document_of text options lookup direct (Some (record { delimiter = delimiter; tight = tight })) after)
+      (list_element delimiter number tight direct) (list_within delimiter number tight) tt refl
+      (rest_of direct tight delimiter after) (task-tight tight task _ _ (document_of text options lookup tight None inside) (document-tight tight None inside)) (document-tight direct (Some (record { delimiter = delimiter; tight = tight })) after)
   document-tight direct before (ContainerBlock (ListDefinition width) first more inside after) =
-      let tight = tight_behind before definition_mark inside after in
-      item_tight direct (goes_on definition_mark after) (DefinitionList tight) tight tight (node DefinitionListDefinition (begin_of first) (past_of first more)) (document_of text options lookup tight None inside) (document_of text options lookup direct (Some (record { mark = definition_mark; tight = tight })) after)
+      let tight = tight_behind before definition_delimiter inside after in
+      item_tight direct (goes_on definition_delimiter after) (DefinitionList tight) tight tight (node DefinitionListDefinition (begin_of first) (last_line_end first more)) (document_of text options lookup tight None inside) (document_of text options lookup direct (Some (record { delimiter = definition_delimiter; tight = tight })) after)
       tt (λ z. refl) tt refl
-      (rest_of direct tight definition_mark after) (document-tight tight None inside) (document-tight direct (Some (record { mark = definition_mark; tight = tight })) after)
+      (rest_of direct tight definition_delimiter after) (document-tight tight None inside) (document-tight direct (Some (record { delimiter = definition_delimiter; tight = tight })) after)
 
 pub derived-tight : (text : List ℕ) (options : Options) (lookup : Lookup) (d : BlockDocument) → Derives text options lookup d → HasTightParagraphs false d
 derived-tight text options lookup d h = subst (HasTightParagraphs false) (sym h.2) (document-tight text options lookup false None h.0)

@@ -50,11 +50,11 @@ module _ (E : ℕ → Type 0) where
   html_then-edged [] after e a = a
   html_then-edged (p ∷ ps) after e a = (e.0, e.1, tt, html_then-edged ps after e.2 a)
 
-  start-runs : (r : Row) → GoodRow E r → Runs (start_of r) (without_indent r.columns) r.stop
-  start-runs r g = (drop-Runs (indent r.columns) (begin_of r) r.columns r.stop g.runs).0
+  start-runs : (r : Row) → GoodRow E r → Runs (start_of r) (without_indent r.columns) r.content_end
+  start-runs r g = (drop-Runs (indent r.columns) (begin_of r) r.columns r.content_end g.runs).0
 
   line-edge : (r : Row) → GoodRow E r → EdgeTo (start_of r) (line_columns r)
-  line-edge r g = drop_end-edge is_blank (λ c e. blank-ascii c.byte e) (start_of r) (without_indent r.columns) r.stop (start-runs r g) (drop-good E (indent r.columns) r.columns g.good) g.stop
+  line-edge r g = drop_end-edge is_blank (λ c e. blank-ascii c.byte e) (start_of r) (without_indent r.columns) r.content_end (start-runs r g) (drop-good E (indent r.columns) r.columns g.good) g.content_end
 
   piece_if-edged : (text : List ℕ) (start end : ℕ) (ps : List Piece) → E start → E end → Edged ps → Edged (piece_if text start end ps)
   piece_if-edged text start end ps a b h = go (nat_lt start end)
@@ -72,12 +72,12 @@ module _ (E : ℕ → Type 0) where
   stretches-edged : (text : List ℕ) (begin : ℕ) (r : Row) (more : List Row) → E begin → GoodRow E r → GoodRows E more → AllAt E (stretches text begin r more)
   stretches-edged text begin r [] b g gs = stretch-edged text begin (words_end r) Nil b (end-edge (start_of r) (line_columns r) (line-edge r g)) tt
   stretches-edged text begin r (s ∷ more) b g gs =
-      go (begin_of s == r.past) (stretches-edged text begin s more b gs.0 gs.1) (stretches-edged text (begin_of s) s more gs.0.begin gs.0 gs.1)
+      go (begin_of s == r.line_end) (stretches-edged text begin s more b gs.0 gs.1) (stretches-edged text (begin_of s) s more gs.0.begin gs.0 gs.1)
     where
       go : (z : Bool) → AllAt E (stretches text begin s more) → AllAt E (stretches text (begin_of s) s more)
-          → AllAt E (if z then stretches text begin s more else stretch_then text begin r.past (stretches text (begin_of s) s more))
+          → AllAt E (if z then stretches text begin s more else stretch_then text begin r.line_end (stretches text (begin_of s) s more))
       go true p q = p
-      go false p q = stretch-edged text begin r.past (stretches text (begin_of s) s more) b g.past q
+      go false p q = stretch-edged text begin r.line_end (stretches text (begin_of s) s more) b g.line_end q
 
   pub paragraph-edged : (text : List ℕ) (r : Row) (more : List Row) → GoodRow E r → GoodRows E more → AllAt E (paragraph_tokens text r more)
   paragraph-edged text r more g gs = stretches-edged text (start_of r) r more (start-E E r g) g gs
@@ -111,32 +111,32 @@ module _ (E : ℕ → Type 0) where
       let cs = drop level (without_indent r.columns) in
       let gs : AreGood E (without_indent r.columns) = drop-good E (indent r.columns) r.columns g.good in
       let gc : AreGood E cs = drop-good E level (without_indent r.columns) gs in
-      let d = drop-Runs level (start_of r) (without_indent r.columns) r.stop (start-runs r g) in
-      let ed : E (first_place r.stop cs) = drop-E E level (start_of r) (without_indent r.columns) r.stop (start-runs r g) gs f (start-E E r g) g.stop in
-      let e = drop-Runs (indent cs) (first_place r.stop cs) cs r.stop d.0 in
-      let ee : E (first_place r.stop (without_indent cs)) = drop-E E (indent cs) (first_place r.stop cs) cs r.stop d.0 gc (indent-front cs) ed g.stop in
-      let u = drop_end-edge is_blank (λ c q. blank-ascii c.byte q) (first_place r.stop (without_indent cs)) (without_indent cs) r.stop e.0 (drop-good E (indent cs) cs gc) g.stop in
-      let a = attributes-edge attributes (first_place r.stop (without_indent cs)) (without_trailing_blanks (without_indent cs)) u.mid u.runs u.good u.edge in
-      let w = closing-edge (first_place r.stop (without_indent cs)) (without_attributes attributes (without_trailing_blanks (without_indent cs))) a.mid a.runs a.good a.edge in
-      stretch-edged text (first_place r.stop (without_indent cs)) (end_place (first_place r.stop (without_indent cs)) (heading_columns attributes level r)) Nil ee (end-edge (first_place r.stop (without_indent cs)) (heading_columns attributes level r) w) tt
+      let d = drop-Runs level (start_of r) (without_indent r.columns) r.content_end (start-runs r g) in
+      let ed : E (first_place r.content_end cs) = drop-E E level (start_of r) (without_indent r.columns) r.content_end (start-runs r g) gs f (start-E E r g) g.content_end in
+      let e = drop-Runs (indent cs) (first_place r.content_end cs) cs r.content_end d.0 in
+      let ee : E (first_place r.content_end (without_indent cs)) = drop-E E (indent cs) (first_place r.content_end cs) cs r.content_end d.0 gc (indent-front cs) ed g.content_end in
+      let u = drop_end-edge is_blank (λ c q. blank-ascii c.byte q) (first_place r.content_end (without_indent cs)) (without_indent cs) r.content_end e.0 (drop-good E (indent cs) cs gc) g.content_end in
+      let a = attributes-edge attributes (first_place r.content_end (without_indent cs)) (without_trailing_blanks (without_indent cs)) u.mid u.runs u.good u.edge in
+      let w = closing-edge (first_place r.content_end (without_indent cs)) (without_attributes attributes (without_trailing_blanks (without_indent cs))) a.mid a.runs a.good a.edge in
+      stretch-edged text (first_place r.content_end (without_indent cs)) (end_place (first_place r.content_end (without_indent cs)) (heading_columns attributes level r)) Nil ee (end-edge (first_place r.content_end (without_indent cs)) (heading_columns attributes level r) w) tt
 
   -- lines as they are
   two_of : (n : ℕ) → (n == 2) ≡ true → n ≡ 2
   two_of n e = grind (arith)
 
   plain_line-edged : (text : List ℕ) (from : ℕ) (r : Row) → E from → GoodRow E r → Edged (plain_line text from r)
-  plain_line-edged text from r ef g = go (r.past - r.stop == 2) refl
+  plain_line-edged text from r ef g = go (r.line_end - r.content_end == 2) refl
     where
-      go : (z : Bool) → (r.past - r.stop == 2) ≡ z → Edged (if z then piece_if text from r.stop (piece_if text (suc r.stop) r.past []) else piece_if text from r.past [])
-      go true e = piece_if-edged text from r.stop (piece_if text (suc r.stop) r.past []) ef g.stop (piece_if-edged text (suc r.stop) r.past [] (g.feed (two_of (r.past - r.stop) e)) g.past tt)
-      go false e = piece_if-edged text from r.past [] ef g.past tt
+      go : (z : Bool) → (r.line_end - r.content_end == 2) ≡ z → Edged (if z then piece_if text from r.content_end (piece_if text (suc r.content_end) r.line_end []) else piece_if text from r.line_end [])
+      go true e = piece_if-edged text from r.content_end (piece_if text (suc r.content_end) r.line_end []) ef g.content_end (piece_if-edged text (suc r.content_end) r.line_end [] (g.feed (two_of (r.line_end - r.content_end) e)) g.line_end tt)
+      go false e = piece_if-edged text from r.line_end [] ef g.line_end tt
 
   spaces_if-edged : (n at : ℕ) (ps : List Piece) → E at → Edged ps → Edged (spaces_if n at ps)
   spaces_if-edged zero at ps e h = h
   spaces_if-edged (suc n) at ps e h = (e, e, h)
 
-  verbatim-edged : (text : List ℕ) (cs : List Column) (r : Row) → E (first_place r.stop cs) → GoodRow E r → Edged (verbatim_line text cs r)
-  verbatim-edged text cs r e g = spaces_if-edged (left_columns cs) (first_place r.stop cs) (plain_line text (first_place r.stop cs) r) e (plain_line-edged text (first_place r.stop cs) r e g)
+  verbatim-edged : (text : List ℕ) (cs : List Column) (r : Row) → E (first_place r.content_end cs) → GoodRow E r → Edged (verbatim_line text cs r)
+  verbatim-edged text cs r e g = spaces_if-edged (left_columns cs) (first_place r.content_end cs) (plain_line text (first_place r.content_end cs) r) e (plain_line-edged text (first_place r.content_end cs) r e g)
 
   merge-edged : (p : Piece) (ps : List Piece) → E p.start → E p.end → Edged ps → Edged (merge p ps)
   merge-edged p [] a b h = (a, b, h)
@@ -150,15 +150,15 @@ module _ (E : ℕ → Type 0) where
   merge_all-edged [] behind h b = b
   merge_all-edged (p ∷ ps) behind h b = merge-edged p (merge_all ps behind) h.0 h.1 (merge_all-edged ps behind h.2 b)
 
-  pub code_place-edge : (most : ℕ) (r : Row) → GoodRow E r → E (first_place r.stop (code_columns most r))
+  pub code_place-edge : (most : ℕ) (r : Row) → GoodRow E r → E (first_place r.content_end (code_columns most r))
   code_place-edge most r g = go (nat_le most (indent_of r)) refl
     where
       le : (a b : ℕ) → nat_le a b ≡ true → a ≤ b
       le a b q = grind (arith)
 
-      go : (z : Bool) → nat_le most (indent_of r) ≡ z → E (first_place r.stop (drop (if z then most else indent_of r) r.columns))
-      go true e = drop-E E most (begin_of r) r.columns r.stop g.runs g.good (front-less IsAsciiColumn most (indent r.columns) r.columns (le most (indent r.columns) e) (indent-front r.columns)) g.begin g.stop
-      go false e = drop-E E (indent r.columns) (begin_of r) r.columns r.stop g.runs g.good (indent-front r.columns) g.begin g.stop
+      go : (z : Bool) → nat_le most (indent_of r) ≡ z → E (first_place r.content_end (drop (if z then most else indent_of r) r.columns))
+      go true e = drop-E E most (begin_of r) r.columns r.content_end g.runs g.good (front-less IsAsciiColumn most (indent r.columns) r.columns (le most (indent r.columns) e) (indent-front r.columns)) g.begin g.content_end
+      go false e = drop-E E (indent r.columns) (begin_of r) r.columns r.content_end g.runs g.good (indent-front r.columns) g.begin g.content_end
 
   code_pieces-edged : (text : List ℕ) (most : ℕ) (rs : List Row) → GoodRows E rs → Edged (code_pieces text most rs)
   code_pieces-edged text most [] g = tt

@@ -3,7 +3,7 @@ use Rattle.std.proofs.Common.{◌≡◌, ℕ, zero, suc, ◌-◌, ◌≤◌, Boo
 use Rattle.std.specs.Prelude.{if◌then◌else◌, nat_lt}
 use Rattle.cmark_grammar.specs.Attributes.{is_braced, before_braces}
 use Rattle.cmark_grammar.specs.Columns.{Column, indent, without_indent, drop_end, put_before, without_trailing_blanks, is_blank}
-use Rattle.cmark_grammar.specs.Rows.{Row, first_place, begin_of, start_of, past_of}
+use Rattle.cmark_grammar.specs.Rows.{Row, first_place, begin_of, start_of, last_line_end}
 use Rattle.cmark_grammar.specs.BlockDocument.{BlockDocument, Nil, Node}
 use Rattle.cmark_grammar.specs.Ranges.{InOrder}
 use Rattle.cmark_grammar.specs.Tokens.{slice, Piece, texts_then, line_columns, end_place, words_end, stretch_then, stretches, paragraph_tokens, is_hash, without_closing, without_attributes, heading_columns, heading_tokens, piece_if, plain_line, left_columns, spaces_if, verbatim_line, touches, merge, merge_all, code_columns, code_pieces, code_tokens, stop_at, lines_before, html_then, html_tokens}
@@ -78,8 +78,8 @@ pub end_place-Runs : (from : ℕ) (cs : List Column) (to : ℕ) → Runs from cs
 end_place-Runs from [] to h = h
 end_place-Runs from (c ∷ cs) to h = end_place-Runs (suc c.at) cs to h.1
 
-pub line-UpTo : (from : ℕ) (r : Row) → Lies from r → UpTo (start_of r) (line_columns r) r.stop
-line-UpTo from r h = drop_end-UpTo is_blank (start_of r) (without_indent r.columns) r.stop (start-Runs from r h)
+pub line-UpTo : (from : ℕ) (r : Row) → Lies from r → UpTo (start_of r) (line_columns r) r.content_end
+line-UpTo from r h = drop_end-UpTo is_blank (start_of r) (without_indent r.columns) r.content_end (start-Runs from r h)
 
 piece_if-order : (text : List ℕ) (from start end : ℕ) (ps : List Piece) (to : ℕ) → from ≤ start → start ≤ end → InPieces end ps to → InPieces from (piece_if text start end ps) to
 piece_if-order text from start end ps to a b h = go (nat_lt start end)
@@ -88,42 +88,42 @@ piece_if-order text from start end ps to a b h = go (nat_lt start end)
     go true = (a, b, h)
     go false = pieces-lower from end ps to (omega (arith, a, b)) h
 
-pub stretch-order : (text : List ℕ) (start end stop : ℕ) (after : BlockDocument) (to : ℕ) → start ≤ end → end ≤ stop → InOrder stop after to → InOrder start (stretch_then text start end after) to
-stretch-order text start end stop after to some le a =
-    texts-order start (piece_if text start end []) stop after to (piece_if-order text start start end [] stop (omega arith) some le) a
+pub stretch-order : (text : List ℕ) (start end content_end : ℕ) (after : BlockDocument) (to : ℕ) → start ≤ end → end ≤ content_end → InOrder content_end after to → InOrder start (stretch_then text start end after) to
+stretch-order text start end content_end after to some le a =
+    texts-order start (piece_if text start end []) content_end after to (piece_if-order text start start end [] content_end (omega arith) some le) a
 
-words-order : (text : List ℕ) (from : ℕ) (cs : List Column) (stop : ℕ) (after : BlockDocument) (to : ℕ) → UpTo from cs stop → InOrder stop after to → InOrder from (stretch_then text from (end_place from cs) after) to
-words-order text from cs stop after to u a =
+words-order : (text : List ℕ) (from : ℕ) (cs : List Column) (content_end : ℕ) (after : BlockDocument) (to : ℕ) → UpTo from cs content_end → InOrder content_end after to → InOrder from (stretch_then text from (end_place from cs) after) to
+words-order text from cs content_end after to u a =
     let e : end_place from cs ≡ u.mid = end_place-Runs from cs u.mid u.runs in
     let b : from ≤ u.mid = Runs-le from cs u.mid u.runs in
-    let l : u.mid ≤ stop = u.low in
-    stretch-order text from (end_place from cs) stop after to (omega (arith, e, b)) (omega (arith, e, l)) a
+    let l : u.mid ≤ content_end = u.low in
+    stretch-order text from (end_place from cs) content_end after to (omega (arith, e, b)) (omega (arith, e, l)) a
 
-stretches-order : (text : List ℕ) (from begin : ℕ) (r : Row) (more : List Row) → Lies from r → begin ≤ start_of r → Along r.past more (past_of r more) → InOrder begin (stretches text begin r more) (past_of r more)
+stretches-order : (text : List ℕ) (from begin : ℕ) (r : Row) (more : List Row) → Lies from r → begin ≤ start_of r → Along r.line_end more (last_line_end r more) → InOrder begin (stretches text begin r more) (last_line_end r more)
 stretches-order text from begin r [] h b a =
     let u = line-UpTo from r h in
     let e : words_end r ≡ u.mid = end_place-Runs (start_of r) (line_columns r) u.mid u.runs in
     let c : start_of r ≤ u.mid = Runs-le (start_of r) (line_columns r) u.mid u.runs in
-    let l : u.mid ≤ r.stop = u.low in
-    stretch-order text begin (words_end r) r.stop Nil r.past (omega (arith, b, e, c)) (omega (arith, e, l)) h.2
+    let l : u.mid ≤ r.content_end = u.low in
+    stretch-order text begin (words_end r) r.content_end Nil r.line_end (omega (arith, b, e, c)) (omega (arith, e, l)) h.2
 stretches-order text from begin r (s ∷ more) h b a =
-    go (begin_of s == r.past) (stretches-order text r.past begin s more a.0 (omega (arith, b, low, past-begin, begin-low)) a.1) (stretches-order text r.past (begin_of s) s more a.0 begin-low a.1)
+    go (begin_of s == r.line_end) (stretches-order text r.line_end begin s more a.0 (omega (arith, b, low, line_end-begin, begin-low)) a.1) (stretches-order text r.line_end (begin_of s) s more a.0 begin-low a.1)
   where
-    past-begin : r.past ≤ begin_of s
-    past-begin = a.0.0
+    line_end-begin : r.line_end ≤ begin_of s
+    line_end-begin = a.0.0
 
     begin-low : begin_of s ≤ start_of s
-    begin-low = begin-start r.past s a.0
+    begin-low = begin-start r.line_end s a.0
 
-    low : start_of r ≤ r.past
-    low = let b : start_of r ≤ r.stop = Runs-le (start_of r) (without_indent r.columns) r.stop (start-Runs from r h) in let c : r.stop ≤ r.past = h.2 in omega (arith, b, c)
+    low : start_of r ≤ r.line_end
+    low = let b : start_of r ≤ r.content_end = Runs-le (start_of r) (without_indent r.columns) r.content_end (start-Runs from r h) in let c : r.content_end ≤ r.line_end = h.2 in omega (arith, b, c)
 
-    go : (z : Bool) → InOrder begin (stretches text begin s more) (past_of s more) → InOrder (begin_of s) (stretches text (begin_of s) s more) (past_of s more)
-        → InOrder begin (if z then stretches text begin s more else stretch_then text begin r.past (stretches text (begin_of s) s more)) (past_of s more)
+    go : (z : Bool) → InOrder begin (stretches text begin s more) (last_line_end s more) → InOrder (begin_of s) (stretches text (begin_of s) s more) (last_line_end s more)
+        → InOrder begin (if z then stretches text begin s more else stretch_then text begin r.line_end (stretches text (begin_of s) s more)) (last_line_end s more)
     go true p q = p
-    go false p q = stretch-order text begin r.past (begin_of s) (stretches text (begin_of s) s more) (past_of s more) (omega (arith, b, low)) past-begin q
+    go false p q = stretch-order text begin r.line_end (begin_of s) (stretches text (begin_of s) s more) (last_line_end s more) (omega (arith, b, low)) line_end-begin q
 
-pub paragraph-order : (text : List ℕ) (from : ℕ) (r : Row) (more : List Row) → Lies from r → Along r.past more (past_of r more) → InOrder (start_of r) (paragraph_tokens text r more) (past_of r more)
+pub paragraph-order : (text : List ℕ) (from : ℕ) (r : Row) (more : List Row) → Lies from r → Along r.line_end more (last_line_end r more) → InOrder (start_of r) (paragraph_tokens text r more) (last_line_end r more)
 paragraph-order text from r more h a = stretches-order text from (start_of r) r more h (omega arith) a
 
 pub without_closing-UpTo : (from : ℕ) (cs : List Column) (to : ℕ) → Runs from cs to → UpTo from (without_closing cs) to
@@ -157,43 +157,43 @@ heading-UpTo attributes from cs to h =
     let w = without_closing-UpTo from left a.mid a.runs in
     up-more from (without_closing left) u.mid to u.low (up-more from (without_closing left) a.mid u.mid a.low w)
 
-pub heading-order : (text : List ℕ) (attributes : Bool) (level from : ℕ) (r : Row) (to : ℕ) → Lies from r → r.past ≤ to → InOrder (start_of r) (heading_tokens text attributes level r) to
+pub heading-order : (text : List ℕ) (attributes : Bool) (level from : ℕ) (r : Row) (to : ℕ) → Lies from r → r.line_end ≤ to → InOrder (start_of r) (heading_tokens text attributes level r) to
 heading-order text attributes level from r to h le =
-    let d = drop-Runs level (start_of r) (without_indent r.columns) r.stop (start-Runs from r h) in
+    let d = drop-Runs level (start_of r) (without_indent r.columns) r.content_end (start-Runs from r h) in
     let cs = drop level (without_indent r.columns) in
-    let e = drop-Runs (indent cs) (first_place r.stop cs) cs r.stop d.0 in
-    let f = first_place r.stop (without_indent cs) in
-    let u = heading-UpTo attributes f (without_indent cs) r.stop e.0 in
-    let a : start_of r ≤ first_place r.stop cs = d.1 in
-    let b : first_place r.stop cs ≤ f = e.1 in
-    let p : r.stop ≤ r.past = h.2 in
+    let e = drop-Runs (indent cs) (first_place r.content_end cs) cs r.content_end d.0 in
+    let f = first_place r.content_end (without_indent cs) in
+    let u = heading-UpTo attributes f (without_indent cs) r.content_end e.0 in
+    let a : start_of r ≤ first_place r.content_end cs = d.1 in
+    let b : first_place r.content_end cs ≤ f = e.1 in
+    let p : r.content_end ≤ r.line_end = h.2 in
     InOrder-lower (start_of r) f (heading_tokens text attributes level r) to (omega (arith, a, b))
-    (words-order text f (heading_columns attributes level r) r.stop Nil to u (omega (arith, p, le)))
+    (words-order text f (heading_columns attributes level r) r.content_end Nil to u (omega (arith, p, le)))
 
 -- lines as they are
 two_of : (n : ℕ) → (n == 2) ≡ true → n ≡ 2
 two_of n e = grind (arith)
 
-plain_line-order : (text : List ℕ) (from : ℕ) (r : Row) → from ≤ r.stop → r.stop ≤ r.past → InPieces from (plain_line text from r) r.past
-plain_line-order text from r a b = go (r.past - r.stop == 2) refl
+plain_line-order : (text : List ℕ) (from : ℕ) (r : Row) → from ≤ r.content_end → r.content_end ≤ r.line_end → InPieces from (plain_line text from r) r.line_end
+plain_line-order text from r a b = go (r.line_end - r.content_end == 2) refl
   where
-    go : (z : Bool) → (r.past - r.stop == 2) ≡ z → InPieces from (if z then piece_if text from r.stop (piece_if text (suc r.stop) r.past []) else piece_if text from r.past []) r.past
+    go : (z : Bool) → (r.line_end - r.content_end == 2) ≡ z → InPieces from (if z then piece_if text from r.content_end (piece_if text (suc r.content_end) r.line_end []) else piece_if text from r.line_end []) r.line_end
     go true e =
-        let two : r.past - r.stop ≡ 2 = two_of (r.past - r.stop) e in
-        piece_if-order text from from r.stop (piece_if text (suc r.stop) r.past []) r.past (omega arith) a
-        (piece_if-order text r.stop (suc r.stop) r.past [] r.past (omega arith) (omega (arith, two)) (omega arith))
-    go false e = piece_if-order text from from r.past [] r.past (omega arith) (omega (arith, a, b)) (omega arith)
+        let two : r.line_end - r.content_end ≡ 2 = two_of (r.line_end - r.content_end) e in
+        piece_if-order text from from r.content_end (piece_if text (suc r.content_end) r.line_end []) r.line_end (omega arith) a
+        (piece_if-order text r.content_end (suc r.content_end) r.line_end [] r.line_end (omega arith) (omega (arith, two)) (omega arith))
+    go false e = piece_if-order text from from r.line_end [] r.line_end (omega arith) (omega (arith, a, b)) (omega arith)
 
 spaces_if-order : (n at : ℕ) (ps : List Piece) (to : ℕ) → InPieces at ps to → InPieces at (spaces_if n at ps) to
 spaces_if-order zero at ps to h = h
 spaces_if-order (suc n) at ps to h = (omega arith, omega arith, h)
 
-verbatim-order : (text : List ℕ) (from : ℕ) (cs : List Column) (r : Row) → Runs from cs r.stop → r.stop ≤ r.past → InPieces from (verbatim_line text cs r) r.past
+verbatim-order : (text : List ℕ) (from : ℕ) (cs : List Column) (r : Row) → Runs from cs r.content_end → r.content_end ≤ r.line_end → InPieces from (verbatim_line text cs r) r.line_end
 verbatim-order text from cs r h le =
-    let e : first_place r.stop cs ≡ from = first_place-Runs from cs r.stop h in
-    let l : from ≤ r.stop = Runs-le from cs r.stop h in
-    subst (λ f. InPieces f (verbatim_line text cs r) r.past) e
-    (spaces_if-order (left_columns cs) (first_place r.stop cs) (plain_line text (first_place r.stop cs) r) r.past (plain_line-order text (first_place r.stop cs) r (omega (arith, e, l)) le))
+    let e : first_place r.content_end cs ≡ from = first_place-Runs from cs r.content_end h in
+    let l : from ≤ r.content_end = Runs-le from cs r.content_end h in
+    subst (λ f. InPieces f (verbatim_line text cs r) r.line_end) e
+    (spaces_if-order (left_columns cs) (first_place r.content_end cs) (plain_line text (first_place r.content_end cs) r) r.line_end (plain_line-order text (first_place r.content_end cs) r (omega (arith, e, l)) le))
 
 merge-order : (from : ℕ) (p : Piece) (ps : List Piece) (to : ℕ) → from ≤ p.start → p.start ≤ p.end → InPieces p.end ps to → InPieces from (merge p ps) to
 merge-order from p [] to a b h = (a, b, h)
@@ -207,40 +207,40 @@ merge_all-order : (from : ℕ) (ps : List Piece) (mid : ℕ) (behind : List Piec
 merge_all-order from [] mid behind to h b = pieces-lower from mid behind to h b
 merge_all-order from (p ∷ ps) mid behind to h b = merge-order from p (merge_all ps behind) to h.0 h.1 (merge_all-order p.end ps mid behind to h.2 b)
 
-pub code_place : (most from : ℕ) (r : Row) → Lies from r → Runs (first_place r.stop (code_columns most r)) (code_columns most r) r.stop × (begin_of r ≤ first_place r.stop (code_columns most r))
-code_place most from r h = drop-Runs _ (begin_of r) r.columns r.stop h.1
+pub code_place : (most from : ℕ) (r : Row) → Lies from r → Runs (first_place r.content_end (code_columns most r)) (code_columns most r) r.content_end × (begin_of r ≤ first_place r.content_end (code_columns most r))
+code_place most from r h = drop-Runs _ (begin_of r) r.columns r.content_end h.1
 
 code_pieces-order : (text : List ℕ) (most from : ℕ) (rs : List Row) (to : ℕ) → Along from rs to → InPieces from (code_pieces text most rs) to
 code_pieces-order text most from [] to h = h
 code_pieces-order text most from (r ∷ rs) to h =
     let d = code_place most from r h.0 in
     let a : from ≤ begin_of r = h.0.0 in
-    let b : begin_of r ≤ first_place r.stop (code_columns most r) = d.1 in
-    merge_all-order from (verbatim_line text (code_columns most r) r) r.past (code_pieces text most rs) to
-    (pieces-lower from (first_place r.stop (code_columns most r)) (verbatim_line text (code_columns most r) r) r.past (omega (arith, a, b)) (verbatim-order text (first_place r.stop (code_columns most r)) (code_columns most r) r d.0 h.0.2))
-    (code_pieces-order text most r.past rs to h.1)
+    let b : begin_of r ≤ first_place r.content_end (code_columns most r) = d.1 in
+    merge_all-order from (verbatim_line text (code_columns most r) r) r.line_end (code_pieces text most rs) to
+    (pieces-lower from (first_place r.content_end (code_columns most r)) (verbatim_line text (code_columns most r) r) r.line_end (omega (arith, a, b)) (verbatim-order text (first_place r.content_end (code_columns most r)) (code_columns most r) r d.0 h.0.2))
+    (code_pieces-order text most r.line_end rs to h.1)
 
 pub code-order : (text : List ℕ) (most from : ℕ) (rs : List Row) (to : ℕ) → Along from rs to → InOrder from (code_tokens text most rs) to
 code-order text most from rs to h = texts-order from (code_pieces text most rs) to Nil to (code_pieces-order text most from rs to h) (omega arith)
 
 -- from the place where the first line begins without its indent
-pub indented-order : (text : List ℕ) (most from : ℕ) (r : Row) (rs : List Row) (to : ℕ) → Lies from r → Along r.past rs to → InOrder (first_place r.stop (code_columns most r)) (code_tokens text most (r ∷ rs)) to
+pub indented-order : (text : List ℕ) (most from : ℕ) (r : Row) (rs : List Row) (to : ℕ) → Lies from r → Along r.line_end rs to → InOrder (first_place r.content_end (code_columns most r)) (code_tokens text most (r ∷ rs)) to
 indented-order text most from r rs to h a =
     let d = code_place most from r h in
-    let f = first_place r.stop (code_columns most r) in
+    let f = first_place r.content_end (code_columns most r) in
     texts-order f (code_pieces text most (r ∷ rs)) to Nil to
-    (merge_all-order f (verbatim_line text (code_columns most r) r) r.past (code_pieces text most rs) to (verbatim-order text f (code_columns most r) r d.0 h.2) (code_pieces-order text most r.past rs to a)) (omega arith)
+    (merge_all-order f (verbatim_line text (code_columns most r) r) r.line_end (code_pieces text most rs) to (verbatim-order text f (code_columns most r) r d.0 h.2) (code_pieces-order text most r.line_end rs to a)) (omega arith)
 
 pub before-Along : (closes : Row → Bool) (from : ℕ) (rs : List Row) (to : ℕ) → Along from rs to → Along from (lines_before closes rs) to
 before-Along closes from [] to h = h
-before-Along closes from (r ∷ rs) to h = go (closes r) (before-Along closes r.past rs to h.1)
+before-Along closes from (r ∷ rs) to h = go (closes r) (before-Along closes r.line_end rs to h.1)
   where
-    go : (z : Bool) → Along r.past (lines_before closes rs) to → Along from (stop_at z r (lines_before closes rs)) to
+    go : (z : Bool) → Along r.line_end (lines_before closes rs) to → Along from (stop_at z r (lines_before closes rs)) to
     go true ih = Along-le from (r ∷ rs) to h
     go false ih = (h.0, ih)
 
 pub html-order : (text : List ℕ) (from : ℕ) (rs : List Row) (to : ℕ) → Along from rs to → InOrder from (html_tokens text rs) to
 html-order text from [] to h = h
 html-order text from (r ∷ rs) to h =
-    html_then-order from (verbatim_line text r.columns r) r.past (html_tokens text rs) to
-    (pieces-lower from (begin_of r) (verbatim_line text r.columns r) r.past h.0.0 (verbatim-order text (begin_of r) r.columns r h.0.1 h.0.2)) (html-order text r.past rs to h.1)
+    html_then-order from (verbatim_line text r.columns r) r.line_end (html_tokens text rs) to
+    (pieces-lower from (begin_of r) (verbatim_line text r.columns r) r.line_end h.0.0 (verbatim-order text (begin_of r) r.columns r h.0.1 h.0.2)) (html-order text r.line_end rs to h.1)

@@ -2,7 +2,7 @@
 use Rattle.std.specs.Prelude.{◌≡◌, ◌⊎◌, ℕ, Bool, true, false, List, [], ◌∷◌, ◌++◌, length, Some, None}
 use Rattle.cmark_grammar.specs.Rows.{Row, shown}
 use Rattle.cmark_grammar.specs.Leaves.{underlines}
-use Rattle.cmark_grammar.specs.Containers.{Container, Quote, Item, Footnote, ListDefinition, keeps, is_bare_start, bare_after, insides}
+use Rattle.cmark_grammar.specs.Containers.{Container, BlockQuote, Item, Footnote, ListDefinition, keeps, is_bare_start, bare_after, insides}
 use Rattle.cmark_grammar.specs.Openings.{Leaf, ThematicBreak, AtxHeading, IndentedCode, FencedCode, HtmlBlock, LinkDefinition, MetadataBlock, Blank, Nests, Takes, Plain, opens_at, texts, lazily, Table}
 use Rattle.cmark_grammar.specs.Options.{Options}
 use Rattle.cmark_grammar.specs.Places.{Place, Apart, BehindLazy, BehindTask, BehindTitle, allows_lazy, over_blank}
@@ -39,17 +39,17 @@ behind_leaf (Table alignments) = Apart
 
 -- where the first line inside such a container stands, or the one behind an alert's tag
 abbrev pub place_in : Container → Place
-place_in (Quote None) = Apart
-place_in (Quote (Some kind)) = BehindLazy
-place_in (Item mark number width None) = Apart
-place_in (Item mark number width (Some is_checked)) = BehindTask
+place_in (BlockQuote None) = Apart
+place_in (BlockQuote (Some kind)) = BehindLazy
+place_in (Item delimiter number width None) = Apart
+place_in (Item delimiter number width (Some is_checked)) = BehindTask
 place_in (Footnote label old size) = Apart
 place_in (ListDefinition width) = Apart
 
 -- where a line stands behind such a container: behind a definition another one may begin
 abbrev pub behind_container : Container → Place
-behind_container (Quote alert) = Apart
-behind_container (Item mark number width task) = Apart
+behind_container (BlockQuote alert) = Apart
+behind_container (Item delimiter number width task) = Apart
 behind_container (Footnote label old size) = Apart
 behind_container (ListDefinition width) = BehindTitle
 

@@ -4,9 +4,9 @@ use Rattle.std.specs.Prelude.{ℕ, zero, suc, Bool, true, false, ◌&&◌, nat_l
 use Rattle.cmark_grammar.specs.Options.{Options}
 use Rattle.cmark_grammar.specs.Places.{Place, Apart, BehindLazy, allows_lazy}
 use Rattle.cmark_grammar.specs.Rows.{Row, rows, shown, words_of}
-use Rattle.cmark_grammar.specs.Leaves.{Fence, Further, GoesOn, Closes, Waits, Stops, underlines, code_further, fence_further}
-use Rattle.cmark_grammar.specs.HtmlBlocks.{holds_end, html_further}
-use Rattle.cmark_grammar.specs.Metadata.{metadata_further}
+use Rattle.cmark_grammar.specs.Leaves.{Fence, Continuation, GoesOn, Closes, Waits, Stops, underlines, code_continuation, fence_continuation}
+use Rattle.cmark_grammar.specs.HtmlBlocks.{holds_end, html_continuation}
+use Rattle.cmark_grammar.specs.Metadata.{metadata_continuation}
 use Rattle.cmark_grammar.specs.MetadataBlockKind.{MetadataBlockKind}
 use Rattle.cmark_grammar.specs.Containers.{Container, is_alert, enter, keeps, strip, is_bare_start, bare_after}
 use Rattle.cmark_grammar.specs.Openings.{Leaf, ThematicBreak, AtxHeading, IndentedCode, FencedCode, HtmlBlock, LinkDefinition, MetadataBlock, Opening, Blank, Nests, Takes, Plain, opens_at, texts, lazily, Table}
@@ -26,15 +26,15 @@ leaf_in (Fenced fence) = FencedCode fence
 leaf_in (HtmlLines kind) = HtmlBlock kind
 leaf_in (Metadata kind) = MetadataBlock kind
 
-abbrev pub further_in : Verbatim → Row → Further
-further_in Indented r = code_further r
-further_in (Fenced fence) r = fence_further fence r
-further_in (HtmlLines kind) r = html_further kind r
-further_in (Metadata kind) r = metadata_further kind r
+abbrev pub continuation_in : Verbatim → Row → Continuation
+continuation_in Indented r = code_continuation r
+continuation_in (Fenced fence) r = fence_continuation fence r
+continuation_in (HtmlLines kind) r = html_continuation kind r
+continuation_in (Metadata kind) r = metadata_continuation kind r
 
-abbrev pub further_if : (is_lazy : Bool) → Verbatim → Row → Further
-further_if true verbatim r = Stops
-further_if false verbatim r = further_in verbatim r
+abbrev pub continuation_if : (is_lazy : Bool) → Verbatim → Row → Continuation
+continuation_if true verbatim r = Stops
+continuation_if false verbatim r = continuation_in verbatim r
 
 -- what is open: nothing, a paragraph, a leaf of so many lines more, a leaf whose lines are judged one by one, with blank
 -- lines that belong to it only if a later line does, or a container; or the place directly behind an alert's tag
@@ -107,7 +107,7 @@ lines_kept_or None true on off = on
 lines_kept_or None false on off = off
 
 -- one more line of a leaf whose lines are judged one by one; off: what the line begins behind it
-abbrev pub verbatim_line : Further → Blocks → Verbatim → Row → (had waiting : List Row) → Row → (off : OpenLines) → OpenLines
+abbrev pub verbatim_line : Continuation → Blocks → Verbatim → Row → (had waiting : List Row) → Row → (off : OpenLines) → OpenLines
 verbatim_line GoesOn closed verbatim first had waiting r off = InVerbatim closed verbatim first ((had ++ waiting) ++ r ∷ []) []
 verbatim_line Closes closed verbatim first had waiting r off = InLeaf closed (leaf_in verbatim) first ((had ++ waiting) ++ r ∷ []) 0
 verbatim_line Waits closed verbatim first had waiting r off = InVerbatim closed verbatim first had (waiting ++ r ∷ [])
@@ -135,7 +135,7 @@ module _ (options : Options) where
   lines_feed (InLeaf closed leaf first had zero) r ahead = lines_begin (join closed (LeafBlock leaf first had Nil)) r ahead
   lines_feed (InLeaf closed leaf first had (suc left)) r ahead = InLeaf closed leaf first (had ++ r ∷ []) left
   lines_feed (InVerbatim closed verbatim first had waiting) r ahead =
-      verbatim_line (further_if r.lazy verbatim r) closed verbatim first had waiting r
+      verbatim_line (continuation_if r.lazy verbatim r) closed verbatim first had waiting r
       (lines_begin (join (join closed (LeafBlock (leaf_in verbatim) first had Nil)) (blank_lines waiting)) r ahead)
   lines_feed (InContainer closed k first more inside) r ahead =
       lines_kept_or (keeps k (bare_after (is_bare_start k first) more) r) (lazily options k r ahead && lines_take_lazy inside)

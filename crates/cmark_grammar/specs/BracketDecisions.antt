@@ -10,7 +10,7 @@ use Rattle.cmark_grammar.specs.LabelsOverLines.{as_in_cell}
 use Rattle.cmark_grammar.specs.LeafText.{Leaf}
 use Rattle.cmark_grammar.specs.Letters.{first_is}
 use Rattle.cmark_grammar.specs.Lines.{is_content}
-use Rattle.cmark_grammar.specs.LinkDefinitions.{Found}
+use Rattle.cmark_grammar.specs.LinkDefinitions.{Parsed}
 use Rattle.cmark_grammar.specs.LinkTails.{LinkTail, link_tail_in, behind_collapsed, is_bracketed_label, reference_label_in}
 use Rattle.cmark_grammar.specs.LinkType.{LinkType, Inline, Reference, Collapsed, Shortcut, to_unknown}
 use Rattle.cmark_grammar.specs.OpenBrackets.{Taken, nearest, used_up, doubled, undoubled, tried, inactive, behind_link, dropped}
@@ -38,7 +38,7 @@ pub record Named : Type 0 where
   pub label : List ℕ
   pub link_type : LinkType
   pub end : ℕ
-  pub past : ℕ
+  pub resume : ℕ
 
 -- what stands before the first `|`, if there is one, and the place behind it
 abbrev pub name_in : List ℕ → List ℕ
@@ -64,13 +64,13 @@ module _ (reader : Reader) (leaf : Leaf) where
   stays closer s = record { result = StaysText; after = moved closer.end s }
 
   -- with the taken bracket it forms this, and the text is read on behind it: those from the taken one on are texts no more
-  abbrev pub forms : Taken → Formed → (past : ℕ) → (change : List Opener → List Opener) → State → Outcome
-  forms taken formed past change s =
-      record { result = Forms taken.nearer formed; after = record s { at = past; openers = change (drop (suc taken.nearer) s.openers) } }
+  abbrev pub forms : Taken → Formed → (resume : ℕ) → (change : List Opener → List Opener) → State → Outcome
+  forms taken formed resume change s =
+      record { result = Forms taken.nearer formed; after = record s { at = resume; openers = change (drop (suc taken.nearer) s.openers) } }
 
   -- a link, which holds no other link, or an image
-  abbrev pub links : Taken → Linked → (end past : ℕ) → State → Outcome
-  links taken linked end past s = forms taken (Linking (record { linked = linked; end = end })) past (behind_link taken.opener.bracket.is_image) s
+  abbrev pub links : Taken → Linked → (end resume : ℕ) → State → Outcome
+  links taken linked end resume s = forms taken (Linking (record { linked = linked; end = end })) resume (behind_link taken.opener.bracket.is_image) s
 
   -- ## Inline links
 
@@ -83,11 +83,11 @@ module _ (reader : Reader) (leaf : Leaf) where
 
   -- ## References
 
-  -- a reference leads to a destination: its bytes and those of the title are taken off what is left of the expansion limit (this
+  -- a reference leads to a destination: its bytes and those of the title are taken off what is left of the reference expansion limit (this
   -- profile's own)
   abbrev pub leads : Named → LinkType → Destination → Taken → State → Outcome
   leads named link_type found taken s =
-      links taken (linked link_type found (normal_form named.label)) named.end named.past (record s { expansion = s.expansion - length found.url - length found.title })
+      links taken (linked link_type found (normal_form named.label)) named.end named.resume (record s { expansion_left = s.expansion_left - length found.url - length found.title })
 
   -- where no definition has its label, the callback is asked, if there is one (this profile's own)
   abbrev pub question : Named → Bracket → Question
@@ -112,10 +112,10 @@ module _ (reader : Reader) (leaf : Leaf) where
       Settled (leads named named.link_type (record { url = found.destination; title = or_empty found.title }) taken s)
   defined_or_asked None named taken closer s = ask named taken closer s
 
-  -- without expansion nothing is looked up and nothing asked (this profile's own)
+  -- where nothing is left of the reference expansion limit nothing is looked up and nothing asked (this profile's own)
   abbrev pub refers : Named → Taken → Bracket → State → Decision
   refers named taken closer s =
-      if s.expansion == 0 then Settled (stays closer s) else defined_or_asked (reader.definition (fold named.label)) named taken closer s
+      if s.expansion_left == 0 then Settled (stays closer s) else defined_or_asked (reader.definition (fold named.label)) named taken closer s
 
   -- ## Footnote references (this profile's own)
 
@@ -144,8 +144,8 @@ module _ (reader : Reader) (leaf : Leaf) where
   as_label bytes = (as_in_cell leaf.is_cell (record { bytes = bytes; behind = [] })).bytes
 
   abbrev pub collapsed_or_shortcut : (label : List ℕ) → (end : ℕ) → Option (List ℕ) → Named
-  collapsed_or_shortcut label end None = record { label = label; link_type = Shortcut; end = end; past = end }
-  collapsed_or_shortcut label end (Some rest) = record { label = label; link_type = Collapsed; end = end; past = place rest }
+  collapsed_or_shortcut label end None = record { label = label; link_type = Shortcut; end = end; resume = end }
+  collapsed_or_shortcut label end (Some rest) = record { label = label; link_type = Collapsed; end = end; resume = place rest }
 
   abbrev pub by_own_label : (label : List ℕ) → Taken → Bracket → State → Decision
   by_own_label label taken closer s =
@@ -154,18 +154,18 @@ module _ (reader : Reader) (leaf : Leaf) where
       else Settled (stays closer s)
 
   -- the bracket that closes the label of a full reference closes no other reference
-  abbrev pub full_reference : Found → Taken → Bracket → State → Decision
+  abbrev pub full_reference : Parsed → Taken → Bracket → State → Decision
   full_reference found taken closer s =
       let end = place found.behind in
-      refers (record { label = as_label found.bytes; link_type = Reference; end = end; past = end }) taken closer (record s { label_close = Some (end - 1) })
+      refers (record { label = as_label found.bytes; link_type = Reference; end = end; resume = end }) taken closer (record s { label_close = Some (end - 1) })
 
-  abbrev pub reference_or : Option Found → Taken → Bracket → State → Decision
+  abbrev pub reference_or : Option Parsed → Taken → Bracket → State → Decision
   reference_or (Some found) taken closer s = full_reference found taken closer s
   reference_or None taken closer s =
       if is_there closer.start s.label_close then Settled (stays closer s)
       else by_own_label (between taken.opener.bracket.end closer.start) taken closer s
 
-  abbrev pub unless_footnote : Option Found → Option Found
+  abbrev pub unless_footnote : Option Parsed → Option Parsed
   unless_footnote None = None
   unless_footnote (Some found) = if is_footnote_label found.bytes then None else Some found
 

@@ -34,7 +34,7 @@ module _ (token : ℕ → Token) (decide : State → (closer : Bracket) → Deci
   -- from one state to another the text is read as these parts
   abbrev pub Reads : State → Parts → State → Type 0
   Reads s Nil t = t ≡ s
-  Reads s (Single item after) t = (past : ℕ) × (token s.at ≡ Stands item past) × Reads (moved past s) after t
+  Reads s (Single item after) t = (resume : ℕ) × (token s.at ≡ Stands item resume) × Reads (moved resume s) after t
   Reads s (Form opener inside closer formed after) t = IsForm (λ a b. Reads a inside b) (λ b. Reads b after t) s opener closer (openings inside) formed
   Reads s (Closing closer after) t = IsAlone (λ b. Reads b after t) s closer
   Reads s (Opening opener after) t = (token s.at ≡ Opens opener) × Reads (opened opener s) after t

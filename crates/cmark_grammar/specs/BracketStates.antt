@@ -14,26 +14,26 @@ pub record Opener : Type 0 where
   pub doubles : Bool
   pub is_inactive : Bool
 
--- the place that is reached; how much of the expansion limit is left; the closing bracket, if any, of the label of a full
+-- the place that is reached; how much of the reference expansion limit is left; the closing bracket, if any, of the label of a full
 -- reference, which is none of a shortcut or a collapsed reference; the questions that were put, with their answers; and the
 -- opening brackets that are texts in the list that is being read, the nearest first
 pub record State : Type 0 where
   pub at : ℕ
-  pub expansion : ℕ
+  pub expansion_left : ℕ
   pub label_close : Option ℕ
   pub asked : List Exchange
   pub openers : List Opener
 
 -- the text is read up to a place
 abbrev pub moved : ℕ → State → State
-moved past s = record { at = past; expansion = s.expansion; label_close = s.label_close; asked = s.asked; openers = s.openers }
+moved resume s = record { at = resume; expansion_left = s.expansion_left; label_close = s.label_close; asked = s.asked; openers = s.openers }
 
 abbrev pub new_opener : Bracket → Opener
 new_opener bracket = record { bracket = bracket; stands = true; doubles = true; is_inactive = false }
 
 -- an opening bracket is a text, as long as no closing one forms something with it
 abbrev pub opened : Bracket → State → State
-opened bracket s = record { at = bracket.end; expansion = s.expansion; label_close = s.label_close; asked = s.asked; openers = new_opener bracket ∷ s.openers }
+opened bracket s = record { at = bracket.end; expansion_left = s.expansion_left; label_close = s.label_close; asked = s.asked; openers = new_opener bracket ∷ s.openers }
 
 -- a closing bracket is a text, or it forms this with the opening bracket that has so many nearer ones
 pub data Result : Type 0 where

@@ -3,7 +3,7 @@ use Rattle.std.specs.Prelude.{ℕ, ◌-◌, Bool, false, ◌==◌, ◌&&◌, not
 use Rattle.std.specs.List.{prefix_len}
 use Rattle.cmark_grammar.specs.Letters.{behind_all}
 use Rattle.cmark_grammar.specs.Lines.{carriage_return, ends_line}
-use Rattle.cmark_grammar.specs.LinkDefinitions.{Found, put}
+use Rattle.cmark_grammar.specs.LinkDefinitions.{Parsed, put}
 use Rattle.cmark_grammar.specs.Tokens.{slice}
 
 abbrev pub is_backtick : ℕ → Bool
@@ -14,17 +14,17 @@ abbrev pub backticks : List ℕ → ℕ
 backticks bs = prefix_len is_backtick bs
 
 -- up to the first run of exactly so many backticks, with which what is behind begins; no run begins where one goes on
-abbrev pub up_to_run : (size : ℕ) → (goes_on : Bool) → List ℕ → Option Found
+abbrev pub up_to_run : (size : ℕ) → (goes_on : Bool) → List ℕ → Option Parsed
 up_to_run size goes_on [] = None
 up_to_run size goes_on (b ∷ bs) =
     if is_backtick b && (not goes_on && (backticks (b ∷ bs) == size)) then Some (record { bytes = []; behind = b ∷ bs })
     else put b (up_to_run size (is_backtick b) bs)
 
-abbrev pub behind_run : (size : ℕ) → Found → Found
+abbrev pub behind_run : (size : ℕ) → Parsed → Parsed
 behind_run size found = record { bytes = found.bytes; behind = drop size found.behind }
 
 -- what a code span holds whose opening run stands in front, and what is behind its closing run, which has the same length
-abbrev pub code_in : List ℕ → Option Found
+abbrev pub code_in : List ℕ → Option Parsed
 code_in bs = if backticks bs == 0 then None else option_map (behind_run (backticks bs)) (up_to_run (backticks bs) false (behind_all is_backtick bs))
 
 -- with these bytes in the place of each line ending: of a line feed, of a carriage return, and of both in this order

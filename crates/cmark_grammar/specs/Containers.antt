@@ -6,7 +6,7 @@ use Rattle.cmark_grammar.specs.Leaves.{is_parted, is_thematic_break}
 use Rattle.cmark_grammar.specs.BlockQuoteKind.{BlockQuoteKind}
 use Rattle.cmark_grammar.specs.Alerts.{alert_in}
 use Rattle.cmark_grammar.specs.Footnotes.{Footnotes, Off, Gfm, Old, footnotes_in, footnote_in, marker_columns}
-use Rattle.cmark_grammar.specs.LinkDefinitions.{Found}
+use Rattle.cmark_grammar.specs.LinkDefinitions.{Parsed}
 use Rattle.cmark_grammar.specs.Options.{Options}
 use Rattle.cmark_grammar.specs.TaskItems.{task_in, behind_box}
 
@@ -15,8 +15,8 @@ use Rattle.cmark_grammar.specs.TaskItems.{task_in, behind_box}
 -- definitions were before, and how many columns its marker has, from `[^` to the colon (this profile's own); or a definition of a definition list, with the width that
 -- its later lines have (this profile's own)
 pub data Container : Type 0 where
-  Quote : (alert : Option BlockQuoteKind) → Container
-  Item : (mark : ℕ) → (number : Option ℕ) → (width : ℕ) → (task : Option Bool) → Container
+  BlockQuote : (alert : Option BlockQuoteKind) → Container
+  Item : (delimiter : ℕ) → (number : Option ℕ) → (width : ℕ) → (task : Option Bool) → Container
   Footnote : (label : List ℕ) → (old : Bool) → (size : ℕ) → Container
   ListDefinition : (width : ℕ) → Container
 
@@ -31,7 +31,7 @@ is_delimiter b = (b == 46) || (b == 41)
 
 -- a list marker: its character, its number, and how many columns it has (CommonMark 5.2)
 pub record Marker : Type 0 where
-  pub mark : ℕ
+  pub delimiter : ℕ
   pub number : Option ℕ
   pub size : ℕ
 
@@ -45,12 +45,12 @@ number_of ds = fold (λ n d. n * 10 + (d - 48)) 0 ds
 abbrev pub delimited : List ℕ → List ℕ → Option Marker
 delimited ds [] = None
 delimited ds (b ∷ bs) =
-    if nat_lt 0 (length ds) && (nat_le (length ds) 9 && is_delimiter b) then Some (record { mark = b; number = Some (number_of ds); size = suc (length ds) }) else None
+    if nat_lt 0 (length ds) && (nat_le (length ds) 9 && is_delimiter b) then Some (record { delimiter = b; number = Some (number_of ds); size = suc (length ds) }) else None
 
 -- a bullet, or else an ordered list marker
 abbrev pub marker_of : List ℕ → Option Marker
 marker_of [] = None
-marker_of (b ∷ bs) = if is_bullet b then Some (record { mark = b; number = None; size = 1 }) else delimited (digits (b ∷ bs)) (drop (length (digits (b ∷ bs))) (b ∷ bs))
+marker_of (b ∷ bs) = if is_bullet b then Some (record { delimiter = b; number = None; size = 1 }) else delimited (digits (b ∷ bs)) (drop (length (digits (b ∷ bs))) (b ∷ bs))
 
 -- the columns behind a marker of this size
 abbrev pub behind_marker : ℕ → Row → List Column
@@ -66,7 +66,7 @@ width_with size r = indent_of r + (size + padding (behind_marker size r))
 abbrev pub item_with : Row → Option Marker → Option Container
 item_with r None = None
 item_with r (Some m) =
-    if is_parted (drop m.size (words_of r)) && not (is_thematic_break (words_of r)) then Some (Item m.mark m.number (width_with m.size r) None) else None
+    if is_parted (drop m.size (words_of r)) && not (is_thematic_break (words_of r)) then Some (Item m.delimiter m.number (width_with m.size r) None) else None
 
 abbrev pub item_of : Row → Option Container
 item_of r = item_with r (marker_of (words_of r))
@@ -76,8 +76,8 @@ begins_with b [] = false
 begins_with b (c ∷ cs) = c == b
 
 -- at most three columns of indent, and `>` (CommonMark 5.1)
-abbrev pub is_quote : Row → Bool
-is_quote r = nat_le (indent_of r) 3 && begins_with 62 (words_of r)
+abbrev pub is_block_quote : Row → Bool
+is_block_quote r = nat_le (indent_of r) 3 && begins_with 62 (words_of r)
 
 -- a column of space, if there is one
 abbrev pub one_blank : List Column → ℕ
@@ -85,15 +85,15 @@ one_blank [] = 0
 one_blank (c ∷ cs) = if is_blank c then 1 else 0
 
 -- the indent, `>` and an optional column of space
-abbrev pub quote_width : Row → ℕ
-quote_width r = suc (indent_of r + one_blank (drop (suc (indent_of r)) r.columns))
+abbrev pub block_quote_width : Row → ℕ
+block_quote_width r = suc (indent_of r + one_blank (drop (suc (indent_of r)) r.columns))
 
 -- the container that a line begins, indented by at most three columns
 abbrev pub container_with : Option Container → (quoted : Bool) → (alert : Option BlockQuoteKind) → Option Container
 container_with (Some k) quoted alert = Some k
-container_with None quoted alert = if quoted then Some (Quote alert) else None
+container_with None quoted alert = if quoted then Some (BlockQuote alert) else None
 
-abbrev pub footnote_with : (old : Bool) → Row → Option Found → Option Container
+abbrev pub footnote_with : (old : Bool) → Row → Option Parsed → Option Container
 footnote_with old r None = None
 footnote_with old r (Some found) = Some (Footnote found.bytes old (marker_columns found.bytes r.columns))
 
@@ -110,18 +110,18 @@ footnote_or None other = other
 -- a task marker directly behind an item's own marker is the item's
 abbrev pub with_task : Options → Row → Option Container → Option Container
 with_task options r None = None
-with_task options r (Some (Quote alert)) = Some (Quote alert)
-with_task options r (Some (Item mark number width task)) = Some (Item mark number width (task_in options (without width r)))
+with_task options r (Some (BlockQuote alert)) = Some (BlockQuote alert)
+with_task options r (Some (Item delimiter number width task)) = Some (Item delimiter number width (task_in options (without width r)))
 with_task options r (Some (Footnote label old size)) = Some (Footnote label old size)
 with_task options r (Some (ListDefinition width)) = Some (ListDefinition width)
 
 abbrev pub container_of : Options → Row → Option Container
-container_of options r = footnote_or (footnote_of (footnotes_in options) r) (container_with (with_task options r (item_of r)) (is_quote r) (alert_in options (without (quote_width r) r)))
+container_of options r = footnote_or (footnote_of (footnotes_in options) r) (container_with (with_task options r (item_of r)) (is_block_quote r) (alert_in options (without (block_quote_width r) r)))
 
 abbrev pub is_alert : Container → Bool
-is_alert (Quote None) = false
-is_alert (Quote (Some kind)) = true
-is_alert (Item mark number width task) = false
+is_alert (BlockQuote None) = false
+is_alert (BlockQuote (Some kind)) = true
+is_alert (Item delimiter number width task) = false
 is_alert (Footnote label old size) = false
 is_alert (ListDefinition width) = false
 
@@ -131,14 +131,14 @@ footnote_width size r = indent_of r + (size + indent (behind_marker size r))
 
 -- how many columns of the first line a container's own marker takes, with what counts to it, and with an item's task marker
 abbrev pub marker_width : Container → Row → ℕ
-marker_width (Quote alert) r = quote_width r
-marker_width (Item mark number width task) r = width
+marker_width (BlockQuote alert) r = block_quote_width r
+marker_width (Item delimiter number width task) r = width
 marker_width (Footnote label old size) r = footnote_width size r
 marker_width (ListDefinition width) r = width
 
 abbrev pub width_of : Container → Row → ℕ
-width_of (Quote alert) r = quote_width r
-width_of (Item mark number width task) r = behind_box task width
+width_of (BlockQuote alert) r = block_quote_width r
+width_of (Item delimiter number width task) r = behind_box task width
 width_of (Footnote label old size) r = footnote_width size r
 width_of (ListDefinition width) r = width
 
@@ -153,15 +153,15 @@ keep_footnote true r = if is_blank_line r then None else Some (hold r)
 keep_footnote false r = if is_blank_line r || nat_le 4 (indent_of r) then Some (without 4 r) else None
 
 abbrev pub keep_as : Container → Row → Option Row
-keep_as (Quote alert) r = if is_quote r then Some (without (quote_width r) r) else None
-keep_as (Item mark number width task) r = if is_blank_line r || nat_le width (indent_of r) then Some (without width r) else None
+keep_as (BlockQuote alert) r = if is_block_quote r then Some (without (block_quote_width r) r) else None
+keep_as (Item delimiter number width task) r = if is_blank_line r || nat_le width (indent_of r) then Some (without width r) else None
 keep_as (Footnote label old size) r = keep_footnote old r
 keep_as (ListDefinition width) r = if is_blank_line r || nat_le width (indent_of r) then Some (without width r) else None
 
 -- an item or a definition whose first line is blank behind the marker
 abbrev pub is_bare_start : Container → Row → Bool
-is_bare_start (Quote alert) first = false
-is_bare_start (Item mark number width task) first = is_blank_line (enter (Item mark number width task) first)
+is_bare_start (BlockQuote alert) first = false
+is_bare_start (Item delimiter number width task) first = is_blank_line (enter (Item delimiter number width task) first)
 is_bare_start (Footnote label old size) first = false
 is_bare_start (ListDefinition width) first = is_blank_line (enter (ListDefinition width) first)
 

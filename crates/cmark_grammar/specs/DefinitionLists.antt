@@ -1,7 +1,7 @@
 -- Definition lists: the marker of a definition, and where it begins one (this profile's own).
 use Rattle.std.specs.Prelude.{ℕ, Bool, true, false, ◌&&◌, not, nat_le, if◌then◌else◌, Option, Some, None}
 use Rattle.cmark_grammar.specs.Rows.{Row, indent_of, words_of}
-use Rattle.cmark_grammar.specs.Containers.{Container, Quote, Item, Footnote, ListDefinition, begins_with, width_with}
+use Rattle.cmark_grammar.specs.Containers.{Container, BlockQuote, Item, Footnote, ListDefinition, begins_with, width_with}
 use Rattle.cmark_grammar.specs.Options.{Options}
 use Rattle.cmark_grammar.specs.Places.{Place, is_behind_title}
 
@@ -27,7 +27,7 @@ abbrev pub definition_at : Options → Place → Row → Option ℕ
 definition_at options place r = if is_behind_title place then definition_marker options r else None
 
 abbrev pub is_definition : Container → Bool
-is_definition (Quote alert) = false
-is_definition (Item mark number width task) = false
+is_definition (BlockQuote alert) = false
+is_definition (Item delimiter number width task) = false
 is_definition (Footnote label old size) = false
 is_definition (ListDefinition width) = true

@@ -4,15 +4,15 @@ use Rattle.std.specs.Prelude.{◌≡◌, ℕ, Bool, true, false, ◌==◌, if◌
 use Rattle.cmark_grammar.specs.Answers.{Lookup}
 use Rattle.cmark_grammar.specs.Options.{Options}
 use Rattle.cmark_grammar.specs.Places.{Apart}
-use Rattle.cmark_grammar.specs.Rows.{Row, rows, without, first_place, begin_of, start_of, past_of}
+use Rattle.cmark_grammar.specs.Rows.{Row, rows, without, first_place, begin_of, start_of, last_line_end}
 use Rattle.cmark_grammar.specs.Labels.{normal_form}
 use Rattle.cmark_grammar.specs.LinkDefinitions.{Definition}
 use Rattle.cmark_grammar.specs.Metadata.{ends_metadata}
-use Rattle.cmark_grammar.specs.Containers.{Quote, Item, Footnote, ListDefinition}
+use Rattle.cmark_grammar.specs.Containers.{BlockQuote as BlockQuotePrefix, Item, Footnote, ListDefinition}
 use Rattle.cmark_grammar.specs.Openings.{Leaf, ThematicBreak as ThematicBreakLeaf, AtxHeading as AtxHeadingLeaf, IndentedCode as IndentedCodeLeaf, FencedCode as FencedCodeLeaf, HtmlBlock as HtmlBlockLeaf, LinkDefinition as LinkDefinitionLeaf, MetadataBlock as MetadataBlockLeaf, Table as TableLeaf}
 use Rattle.cmark_grammar.specs.Blocks.{Blocks, Nil as NoBlocks, BlankLine, Paragraph as ParagraphBlock, SetextHeading, LeafBlock, ContainerBlock, Body}
 use Rattle.cmark_grammar.specs.BlocksModel.{blocks}
-use Rattle.cmark_grammar.specs.Lists.{ListBefore, definition_mark, is_title, tight_behind, title_tight_behind, goes_on}
+use Rattle.cmark_grammar.specs.Lists.{ListBefore, definition_delimiter, is_title, tight_behind, title_tight_behind, goes_on}
 use Rattle.cmark_grammar.specs.Tokens.{resolved, title_lines, paragraph_tokens, heading_tokens, heading_attributes, code_tokens, lines_before, fenced_lines, html_tokens, code_columns}
 use Rattle.cmark_grammar.specs.BlockDocument.{Reference, BlockKind, Paragraph, TightParagraph, Heading, ThematicBreak, IndentedCode, FencedCode, HtmlBlock, LinkDefinition, MetadataBlock, BlockQuote, BlockList, ListItem, TaskMarker, FootnoteDefinition, DefinitionList, DefinitionListTitle, DefinitionListDefinition, BlockNode, BlockDocument, Nil, Node, node, Table}
 use Rattle.cmark_grammar.specs.SetextAttributes.{content_of, setext_attributes, setext_tokens}
@@ -20,9 +20,9 @@ use Rattle.cmark_grammar.specs.TableTokens.{table_tokens}
 use Rattle.cmark_grammar.specs.TaskItems.{behind_box}
 
 -- where the last of these lines ends, without its line ending
-abbrev pub stop_of : Row → List Row → ℕ
-stop_of first [] = first.stop
-stop_of first (r ∷ more) = stop_of r more
+abbrev pub last_content_end : Row → List Row → ℕ
+last_content_end first [] = first.content_end
+last_content_end first (r ∷ more) = last_content_end r more
 
 abbrev pub title_of : Lookup → Option (List ℕ) → Option (List ℕ)
 title_of lookup None = None
@@ -40,24 +40,24 @@ reference_of lookup definition start end = record {
 -- a leaf runs from its first byte behind the indent, which is four columns for indented code and none for HTML, to behind
 -- its last line ending (this profile's own)
 abbrev pub leaf_then : List ℕ → Options → Lookup → Leaf → Row → List Row → BlockDocument → BlockDocument
-leaf_then text options lookup ThematicBreakLeaf first more after = Node (node ThematicBreak (start_of first) (past_of first more)) Nil after
+leaf_then text options lookup ThematicBreakLeaf first more after = Node (node ThematicBreak (start_of first) (last_line_end first more)) Nil after
 leaf_then text options lookup (AtxHeadingLeaf level) first more after =
-    Node (node (Heading level (heading_attributes options.heading_attributes level first)) (start_of first) (past_of first more)) (heading_tokens text options.heading_attributes level first) after
+    Node (node (Heading level (heading_attributes options.heading_attributes level first)) (start_of first) (last_line_end first more)) (heading_tokens text options.heading_attributes level first) after
 leaf_then text options lookup IndentedCodeLeaf first more after =
-    Node (node IndentedCode (first_place first.stop (code_columns 4 first)) (past_of first more)) (code_tokens text 4 (first ∷ more)) after
+    Node (node IndentedCode (first_place first.content_end (code_columns 4 first)) (last_line_end first more)) (code_tokens text 4 (first ∷ more)) after
 leaf_then text options lookup (FencedCodeLeaf fence) first more after =
-    Node (node (FencedCode (resolved lookup fence.info)) (start_of first) (past_of first more)) (code_tokens text fence.indented (fenced_lines fence more)) after
-leaf_then text options lookup (HtmlBlockLeaf kind) first more after = Node (node HtmlBlock (begin_of first) (past_of first more)) (html_tokens text (first ∷ more)) after
+    Node (node (FencedCode (resolved lookup fence.info)) (start_of first) (last_line_end first more)) (code_tokens text fence.indented (fenced_lines fence more)) after
+leaf_then text options lookup (HtmlBlockLeaf kind) first more after = Node (node HtmlBlock (begin_of first) (last_line_end first more)) (html_tokens text (first ∷ more)) after
 leaf_then text options lookup (LinkDefinitionLeaf definition) first more after =
-    Node (node (LinkDefinition (reference_of lookup definition (start_of first) (stop_of first more))) (start_of first) (past_of first more)) Nil after
+    Node (node (LinkDefinition (reference_of lookup definition (start_of first) (last_content_end first more))) (start_of first) (last_line_end first more)) Nil after
 leaf_then text options lookup (MetadataBlockLeaf kind) first more after =
-    Node (node (MetadataBlock kind) (start_of first) (past_of first more)) (code_tokens text 0 (lines_before (ends_metadata kind) more)) after
+    Node (node (MetadataBlock kind) (start_of first) (last_line_end first more)) (code_tokens text 0 (lines_before (ends_metadata kind) more)) after
 leaf_then text options lookup (TableLeaf alignments) first more after =
-    Node (node (Table alignments) (start_of first) (past_of first more)) (table_tokens text (length alignments) first more) after
+    Node (node (Table alignments) (start_of first) (last_line_end first more)) (table_tokens text (length alignments) first more) after
 
 -- a list of the items with this character; where it is that of definitions, a definition list
-abbrev pub list_kind : (mark : ℕ) → Option ℕ → (tight : Bool) → BlockKind
-list_kind mark number tight = if mark == definition_mark then DefinitionList tight else BlockList number tight
+abbrev pub list_kind : (delimiter : ℕ) → Option ℕ → (tight : Bool) → BlockKind
+list_kind delimiter number tight = if delimiter == definition_delimiter then DefinitionList tight else BlockList number tight
 
 -- an item, a title or a definition before others of its list, or alone in its list
 abbrev pub new_list : (list : BlockKind) → BlockNode → (inside after : BlockDocument) → BlockDocument
@@ -85,26 +85,26 @@ document_of text options lookup direct list (BlankLine line after) = document_of
 document_of text options lookup direct list (ParagraphBlock first more after) =
     if is_title after then
     (let tight = title_tight_behind list after in
-    item_then true (DefinitionList tight) (node DefinitionListTitle (start_of first) (past_of first more)) (paragraph_tokens text first more)
-    (document_of text options lookup direct (Some (record { mark = definition_mark; tight = tight })) after))
-    else Node (node (paragraph_kind direct) (start_of first) (past_of first more)) (paragraph_tokens text first more) (document_of text options lookup direct None after)
+    item_then true (DefinitionList tight) (node DefinitionListTitle (start_of first) (last_line_end first more)) (paragraph_tokens text first more)
+    (document_of text options lookup direct (Some (record { delimiter = definition_delimiter; tight = tight })) after))
+    else Node (node (paragraph_kind direct) (start_of first) (last_line_end first more)) (paragraph_tokens text first more) (document_of text options lookup direct None after)
 document_of text options lookup direct list (SetextHeading level first more underline after) =
-    Node (node (Heading level (setext_attributes options.heading_attributes (content_of (first ∷ more)))) (start_of first) underline.past) (setext_tokens text options.heading_attributes first more) (document_of text options lookup direct None after)
+    Node (node (Heading level (setext_attributes options.heading_attributes (content_of (first ∷ more)))) (start_of first) underline.line_end) (setext_tokens text options.heading_attributes first more) (document_of text options lookup direct None after)
 document_of text options lookup direct list (LeafBlock leaf first more after) = leaf_then text options lookup leaf first more (document_of text options lookup direct None after)
-document_of text options lookup direct list (ContainerBlock (Quote alert) first more inside after) =
-    Node (node (BlockQuote alert) (start_of first) (past_of first more)) (document_of text options lookup false None inside) (document_of text options lookup direct None after)
+document_of text options lookup direct list (ContainerBlock (BlockQuotePrefix alert) first more inside after) =
+    Node (node (BlockQuote alert) (start_of first) (last_line_end first more)) (document_of text options lookup false None inside) (document_of text options lookup direct None after)
 document_of text options lookup direct list (ContainerBlock (Footnote label old size) first more inside after) =
-    Node (node (FootnoteDefinition (normal_form label)) (start_of first) (past_of first more)) (document_of text options lookup false None inside) (document_of text options lookup direct None after)
-document_of text options lookup direct list (ContainerBlock (Item mark number width task) first more inside after) =
-    let tight = tight_behind list mark inside after in
-    item_then (goes_on mark after) (list_kind mark number tight) (node ListItem (begin_of first) (past_of first more))
+    Node (node (FootnoteDefinition (normal_form label)) (start_of first) (last_line_end first more)) (document_of text options lookup false None inside) (document_of text options lookup direct None after)
+document_of text options lookup direct list (ContainerBlock (Item delimiter number width task) first more inside after) =
+    let tight = tight_behind list delimiter inside after in
+    item_then (goes_on delimiter after) (list_kind delimiter number tight) (node ListItem (begin_of first) (last_line_end first more))
     (task_then task (begin_of (without width first)) (begin_of (without (behind_box task width) first)) (document_of text options lookup tight None inside))
-    (document_of text options lookup direct (Some (record { mark = mark; tight = tight })) after)
+    (document_of text options lookup direct (Some (record { delimiter = delimiter; tight = tight })) after)
 document_of text options lookup direct list (ContainerBlock (ListDefinition width) first more inside after) =
-    let tight = tight_behind list definition_mark inside after in
-    item_then (goes_on definition_mark after) (DefinitionList tight) (node DefinitionListDefinition (begin_of first) (past_of first more))
+    let tight = tight_behind list definition_delimiter inside after in
+    item_then (goes_on definition_delimiter after) (DefinitionList tight) (node DefinitionListDefinition (begin_of first) (last_line_end first more))
     (document_of text options lookup tight None inside)
-    (document_of text options lookup direct (Some (record { mark = definition_mark; tight = tight })) after)
+    (document_of text options lookup direct (Some (record { delimiter = definition_delimiter; tight = tight })) after)
 
 -- the text derives the document
 abbrev pub Derives : List ℕ → Options → Lookup → BlockDocument → Type 0

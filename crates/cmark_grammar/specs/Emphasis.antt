@@ -2,19 +2,19 @@
 use Rattle.std.specs.Prelude.{◌≡◌, ℕ, zero, suc, ◌+◌, ◌-◌, ◌%◌, Bool, true, false, not, ◌==◌, ◌&&◌, ◌||◌, nat_lt, if◌then◌else◌, List, [], ◌∷◌, ◌++◌, map}
 use Rattle.cmark_grammar.specs.Spans.{SpanKind, Emphasis, Strong, SingleTilde, DoubleTilde, Caret, span_width, Spans, Nil, Single, Around, join, singles}
 
--- what is left of a delimiter run: its mark, how many bytes it had, the place of the first byte that is left, how many
+-- what is left of a delimiter run: its delimiter, how many bytes it had, the place of the first byte that is left, how many
 -- are left, and whether it can open and close
 pub record Run : Type 0 where
-  pub mark : ℕ
-  pub size : ℕ
+  pub delimiter : ℕ
+  pub run_length : ℕ
   pub at : ℕ
   pub left : ℕ
   pub opens : Bool
   pub closes : Bool
 
--- so many bytes of a mark that open, directly in front of a place, and as many that close, from a place on
+-- so many bytes of a delimiter that open, directly in front of a place, and as many that close, from a place on
 pub record Pair : Type 0 where
-  pub mark : ℕ
+  pub delimiter : ℕ
   pub from : ℕ
   pub to : ℕ
   pub count : ℕ
@@ -33,7 +33,7 @@ pub data Piece : Type 0 where
 abbrev pub StandFrom : ℕ → List Sibling → Type 0
 StandFrom n [] = Unit {0}
 StandFrom n (Plain at ∷ siblings) = (at ≡ n) × StandFrom (suc n) siblings
-StandFrom n (Delimiter run ∷ siblings) = (run.at ≡ n) × (run.left ≡ run.size) × StandFrom (n + run.size) siblings
+StandFrom n (Delimiter run ∷ siblings) = (run.at ≡ n) × (run.left ≡ run.run_length) × StandFrom (n + run.run_length) siblings
 
 -- how many places they take
 abbrev pub places_taken : List Sibling → ℕ
@@ -54,16 +54,16 @@ can_both run = run.opens && run.closes
 abbrev pub keeps_rule_of_three : (opener closer : Run) → Bool
 keeps_rule_of_three opener closer =
     not (can_both opener || can_both closer)
-    || (not ((opener.size + closer.size) % 3 == 0) || ((opener.size % 3 == 0) && (closer.size % 3 == 0)))
+    || (not ((opener.run_length + closer.run_length) % 3 == 0) || ((opener.run_length % 3 == 0) && (closer.run_length % 3 == 0)))
 
--- the same mark, and of `~` the same length (GFM 6.5)
-abbrev pub has_same_mark : (opener closer : Run) → Bool
-has_same_mark opener closer = (opener.mark == closer.mark) && (not (closer.mark == 126) || (opener.size == closer.size))
+-- the same delimiter, and of `~` the same length (GFM 6.5)
+abbrev pub has_same_delimiter : (opener closer : Run) → Bool
+has_same_delimiter opener closer = (opener.delimiter == closer.delimiter) && (not (closer.delimiter == 126) || (opener.run_length == closer.run_length))
 
 -- this run can close that open one
 unfoldable pub agrees : (opener closer : Run) → Bool
 agrees opener closer =
-    closer.closes && (nat_lt 0 closer.left && (has_same_mark opener closer && keeps_rule_of_three opener closer))
+    closer.closes && (nat_lt 0 closer.left && (has_same_delimiter opener closer && keeps_rule_of_three opener closer))
 
 -- the lesser of what is left of both is paired
 abbrev pub paired_count : (opener closer : Run) → ℕ
@@ -71,7 +71,7 @@ paired_count opener closer = if nat_lt opener.left closer.left then opener.left 
 
 -- the inner bytes of both
 unfoldable pub pair_of : (opener closer : Run) → Pair
-pair_of opener closer = record { mark = closer.mark; from = opener.at + opener.left; to = closer.at; count = paired_count opener closer }
+pair_of opener closer = record { delimiter = closer.delimiter; from = opener.at + opener.left; to = closer.at; count = paired_count opener closer }
 
 -- the opener and the closer without them
 unfoldable pub rest_of_opener : (opener closer : Run) → Run
@@ -96,8 +96,8 @@ abbrev pub caret_kinds : ℕ → List SpanKind
 caret_kinds zero = []
 caret_kinds (suc n) = Caret ∷ caret_kinds n
 
-unfoldable pub kinds_of : (mark count : ℕ) → List SpanKind
-kinds_of mark count = if mark == 126 then tilde_kinds count else if mark == 94 then caret_kinds count else emphasis_kinds count
+unfoldable pub kinds_of : (delimiter count : ℕ) → List SpanKind
+kinds_of delimiter count = if delimiter == 126 then tilde_kinds count else if delimiter == 94 then caret_kinds count else emphasis_kinds count
 
 -- spans around what stands between the places from and to
 abbrev pub nest : List SpanKind → (from to : ℕ) → Spans → Spans
@@ -107,7 +107,7 @@ nest (kind ∷ kinds) from to inside =
     (Around (record { kind = kind; start = from - span_width kind; end = to + span_width kind }) inside Nil)
 
 abbrev pub wrapped : Pair → Spans → Spans
-wrapped pair inside = nest (kinds_of pair.mark pair.count) pair.from pair.to inside
+wrapped pair inside = nest (kinds_of pair.delimiter pair.count) pair.from pair.to inside
 
 -- a piece before some spans: what is left of an open run is text
 abbrev pub before : Piece → Spans → Spans
@@ -131,20 +131,20 @@ keep run pieces = if nat_lt 0 run.left then Standing run ∷ pieces else pieces
 
 -- a tilde or a caret
 abbrev pub is_tilde_or_caret : ℕ → Bool
-is_tilde_or_caret mark = (mark == 126) || (mark == 94)
+is_tilde_or_caret delimiter = (delimiter == 126) || (delimiter == 94)
 
--- a closing run of them that finds none shuts all open ones (this profile's own)
-unfoldable pub shuts : Run → Bool
-shuts closer = closer.closes && (nat_lt 0 closer.left && is_tilde_or_caret closer.mark)
+-- a closing run of them that finds none makes all open ones inactive (this profile's own)
+unfoldable pub deactivates : Run → Bool
+deactivates closer = closer.closes && (nat_lt 0 closer.left && is_tilde_or_caret closer.delimiter)
 
-abbrev pub shut : Piece → Piece
-shut (Whole spans) = Whole spans
-shut (Standing run) = if is_tilde_or_caret run.mark then Whole (singles run.at run.left Nil) else Standing run
+abbrev pub deactivated : Piece → Piece
+deactivated (Whole spans) = Whole spans
+deactivated (Standing run) = if is_tilde_or_caret run.delimiter then Whole (singles run.at run.left Nil) else Standing run
 
 abbrev pub left_open : Run → List Piece → List Piece
-left_open closer pieces = if shuts closer then map shut pieces else pieces
+left_open closer pieces = if deactivates closer then map deactivated pieces else pieces
 
--- the closer takes the nearest open run that agrees, and those between are shut; what is between is inside the pair
+-- the closer takes the nearest open run that agrees, and those between are inactive; what is between is inside the pair
 pub record Takes (Then : Run → List Piece → Type 0) (closer : Run) (pieces : List Piece) (pair : Pair) : Type 0 where
   pub between : List Piece
   pub opener : Run

@@ -37,18 +37,18 @@ is_right_flanking before after =
     not (is_white_space_there before)
     && (not (is_punctuation_there before) || (is_white_space_there after || is_punctuation_there after))
 
--- so many of a mark are a delimiter run: `*` and `_` in any number, one or two `~` where strikethrough or subscript is
+-- so many of a delimiter are a delimiter run: `*` and `_` in any number, one or two `~` where strikethrough or subscript is
 -- read, and one `^` where superscript is (GFM 6.5, and this profile's own)
-abbrev pub is_delimiter_run : Options → (mark size : ℕ) → Bool
-is_delimiter_run options mark size =
-    (((mark == 42) || (mark == 95)) && nat_lt 0 size)
-    || ((mark == 126) && ((options.strikethrough || options.subscript) && ((size == 1) || (size == 2)))
-    || ((mark == 94) && (options.superscript && (size == 1))))
+abbrev pub is_delimiter_run : Options → (delimiter run_length : ℕ) → Bool
+is_delimiter_run options delimiter run_length =
+    (((delimiter == 42) || (delimiter == 95)) && nat_lt 0 run_length)
+    || ((delimiter == 126) && ((options.strikethrough || options.subscript) && ((run_length == 1) || (run_length == 2)))
+    || ((delimiter == 94) && (options.superscript && (run_length == 1))))
 
 -- it can open and close inside a word too (CommonMark 6.2, rules 1 to 8): all but `_`, and one `~` where no subscript is
 -- read (this profile's own)
-abbrev pub is_intraword : Options → (mark size : ℕ) → Bool
-is_intraword options mark size = not (mark == 95) && (not (mark == 126) || ((size == 2) || options.subscript))
+abbrev pub is_intraword : Options → (delimiter run_length : ℕ) → Bool
+is_intraword options delimiter run_length = not (delimiter == 95) && (not (delimiter == 126) || ((run_length == 2) || options.subscript))
 
 -- whether a run can open, and whether it can close (CommonMark 6.2, rules 1 to 8)
 pub record Flanking : Type 0 where
@@ -63,8 +63,8 @@ abbrev pub closes_beside : (intraword : Bool) → (before after : Option ℕ) �
 closes_beside intraword before after =
     is_right_flanking before after && (intraword || (not (is_left_flanking before after) || is_punctuation_there after))
 
-abbrev pub flanking : Options → (mark size : ℕ) → (before after : Option ℕ) → Flanking
-flanking options mark size before after = record {
-  opens = is_delimiter_run options mark size && opens_beside (is_intraword options mark size) before after;
-  closes = is_delimiter_run options mark size && closes_beside (is_intraword options mark size) before after;
+abbrev pub flanking : Options → (delimiter run_length : ℕ) → (before after : Option ℕ) → Flanking
+flanking options delimiter run_length before after = record {
+  opens = is_delimiter_run options delimiter run_length && opens_beside (is_intraword options delimiter run_length) before after;
+  closes = is_delimiter_run options delimiter run_length && closes_beside (is_intraword options delimiter run_length) before after;
 }

@@ -1,7 +1,7 @@
 -- The markers of footnote definitions: `[^`, a label on one line, and `]:` (this profile's own, as GitHub and the original read them).
 use Rattle.std.specs.Prelude.{ℕ, zero, suc, Bool, true, false, ◌==◌, ◌&&◌, not, if◌then◌else◌, List, [], ◌∷◌, length, Option, Some, None}
 use Rattle.cmark_grammar.specs.Columns.{Column, without_indent}
-use Rattle.cmark_grammar.specs.LinkDefinitions.{Found, up_to, label_if}
+use Rattle.cmark_grammar.specs.LinkDefinitions.{Parsed, up_to, label_if}
 use Rattle.cmark_grammar.specs.Options.{Options}
 
 -- whether footnotes are read, and if so as GitHub reads them or as they were read before
@@ -25,20 +25,20 @@ do_interrupt Gfm = true
 do_interrupt Old = false
 
 -- behind the label stands a colon
-abbrev pub colon_behind : (label : List ℕ) → List ℕ → Option Found
+abbrev pub colon_behind : (label : List ℕ) → List ℕ → Option Parsed
 colon_behind label [] = None
 colon_behind label (b ∷ bs) = if b == 58 then Some (record { bytes = label; behind = bs }) else None
 
-abbrev pub label_then_colon : Option Found → Option Found
+abbrev pub label_then_colon : Option Parsed → Option Parsed
 label_then_colon None = None
 label_then_colon (Some found) = colon_behind found.bytes found.behind
 
-abbrev pub behind_caret : List ℕ → Option Found
+abbrev pub behind_caret : List ℕ → Option Parsed
 behind_caret [] = None
 behind_caret (b ∷ bs) = if b == 94 then label_then_colon (label_if (up_to false 93 91 false bs)) else None
 
 -- the label of the marker that these bytes begin with, and the bytes behind the marker
-abbrev pub footnote_in : List ℕ → Option Found
+abbrev pub footnote_in : List ℕ → Option Parsed
 footnote_in [] = None
 footnote_in (b ∷ bs) = if b == 91 then behind_caret bs else None
 
@@ -52,7 +52,7 @@ columns_over (suc n) (c ∷ cs) = suc (columns_over (if c.part == 0 then n else 
 abbrev pub marker_columns : (label : List ℕ) → List Column → ℕ
 marker_columns label cs = columns_over (suc (suc (suc (suc (length label))))) (without_indent cs)
 
-abbrev pub is_label_found : Option Found → Bool
+abbrev pub is_label_found : Option Parsed → Bool
 is_label_found None = false
 is_label_found (Some found) = true
 

@@ -1,7 +1,7 @@
 -- Formulas between dollar signs (this profile's own).
 use Rattle.std.specs.Prelude.{ℕ, suc, ◌%◌, Bool, true, false, not, ◌==◌, ◌&&◌, if◌then◌else◌, List, [], ◌∷◌, drop, Option, Some, None}
 use Rattle.cmark_grammar.specs.Letters.{first_is}
-use Rattle.cmark_grammar.specs.LinkDefinitions.{Found, put, escapes_next, is_white}
+use Rattle.cmark_grammar.specs.LinkDefinitions.{Parsed, put, escapes_next, is_white}
 
 abbrev pub is_dollar : ℕ → Bool
 is_dollar b = b == 36
@@ -46,7 +46,7 @@ abbrev pub closes_formula : (is_display : Bool) → (last : ℕ) → (bs : List 
 closes_formula true last bs = first_is is_dollar bs
 closes_formula false last bs = is_ink last
 
-abbrev pub formula_to : (is_display : Bool) → (context : ℕ) → (escaped : Bool) → (last : ℕ) → Braces → List ℕ → Option Found
+abbrev pub formula_to : (is_display : Bool) → (context : ℕ) → (escaped : Bool) → (last : ℕ) → Braces → List ℕ → Option Parsed
 formula_to is_display context escaped last braces [] = None
 formula_to is_display context escaped last braces (b ∷ bs) =
     if not escaped && (is_dollar b && (context_of braces == context))
@@ -55,9 +55,9 @@ formula_to is_display context escaped last braces (b ∷ bs) =
 
 -- what stands behind one dollar sign and these braces, up to the one that closes it: a byte that is no white space follows, so it is not
 -- empty
-abbrev pub inline_in : Braces → List ℕ → Option Found
+abbrev pub inline_in : Braces → List ℕ → Option Parsed
 inline_in braces bs = if first_is is_ink bs then formula_to false (context_of braces) false 36 braces bs else None
 
 -- and behind two of them, which may close at once
-abbrev pub display_in : Braces → List ℕ → Option Found
+abbrev pub display_in : Braces → List ℕ → Option Parsed
 display_in braces bs = formula_to true (context_of braces) false 36 braces bs

@@ -2,7 +2,7 @@
 use Rattle.std.specs.Prelude.{ℕ, Bool, false, ◌==◌, ◌&&◌, ◌||◌, not, nat_le, if◌then◌else◌, List, [], ◌∷◌, length, drop, take_while, map, codes, bytes_eq, Option, Some, None}
 use Rattle.cmark_grammar.specs.Columns.{bytes_of}
 use Rattle.cmark_grammar.specs.Rows.{Row, is_blank_line, words_of}
-use Rattle.cmark_grammar.specs.Leaves.{Further, GoesOn, Closes, Stops, counted, are_blank, is_parted}
+use Rattle.cmark_grammar.specs.Leaves.{Continuation, GoesOn, Closes, Stops, counted, are_blank, is_parted}
 use Rattle.cmark_grammar.specs.Tags.{is_name_byte, behind_tag_start, no_prefix}
 pub use Rattle.cmark_grammar.specs.Letters.{lower, is_letter, is_number, is_alphanumeric, starts, first_is}
 
@@ -14,8 +14,8 @@ abbrev pub is_among : List ℕ → List (List ℕ) → Bool
 is_among word [] = false
 is_among word (w ∷ words) = bytes_eq word w || is_among word words
 
-abbrev pub verbatim_names : List (List ℕ)
-verbatim_names = codes "pre" ∷ codes "script" ∷ codes "style" ∷ codes "textarea" ∷ []
+abbrev pub raw_names : List (List ℕ)
+raw_names = codes "pre" ∷ codes "script" ∷ codes "style" ∷ codes "textarea" ∷ []
 
 abbrev pub block_names : List (List ℕ)
 block_names =
@@ -39,8 +39,8 @@ abbrev pub behind_name : List ℕ → List ℕ
 behind_name bs = drop (length (name_in bs)) bs
 
 -- kind 1: an opening tag whose content is taken as it is, begun
-abbrev pub begins_verbatim : List ℕ → Bool
-begins_verbatim bs = is_among (name_in bs) verbatim_names && (is_parted (behind_name bs) || first_is (λ b. b == 62) (behind_name bs))
+abbrev pub begins_raw : List ℕ → Bool
+begins_raw bs = is_among (name_in bs) raw_names && (is_parted (behind_name bs) || first_is (λ b. b == 62) (behind_name bs))
 
 -- kind 6: a tag of a block's name, begun
 abbrev pub begins_block : List ℕ → Bool
@@ -53,12 +53,12 @@ ends_in_blanks (Some rest) = are_blank rest
 
 -- kind 7: one whole open or closing tag and blanks, of a name that is not taken as it is
 abbrev pub is_lone_tag : List ℕ → Bool
-is_lone_tag bs = ends_in_blanks (behind_tag_start no_prefix bs) && not (is_among (map lower (take_while is_name_byte (behind_slash bs))) verbatim_names)
+is_lone_tag bs = ends_in_blanks (behind_tag_start no_prefix bs) && not (is_among (map lower (take_while is_name_byte (behind_slash bs))) raw_names)
 
 -- the kind of an HTML block that begins with these bytes behind `<`
 abbrev pub kind_behind : List ℕ → Option ℕ
 kind_behind bs =
-    if begins_verbatim (map lower bs) then Some 1
+    if begins_raw (map lower bs) then Some 1
     else if starts (codes "!--") bs then Some 2
     else if starts (codes "?") bs then Some 3
     else if starts (codes "![CDATA[") bs then Some 5
@@ -81,11 +81,11 @@ holds_end kind bs =
     else holds (codes "]]>") bs
 
 -- kinds 6 and 7 end before a blank line
-abbrev pub html_further : ℕ → Row → Further
-html_further kind r =
+abbrev pub html_continuation : ℕ → Row → Continuation
+html_continuation kind r =
     if nat_le 6 kind then (if is_blank_line r then Stops else GoesOn)
     else if holds_end kind (bytes_of r.columns) then Closes else GoesOn
 
 -- how many of the lines ahead belong to an HTML block that begins on this line
 abbrev pub html_lines : ℕ → Row → List Row → ℕ
-html_lines kind r ahead = if nat_le kind 5 && holds_end kind (words_of r) then 0 else counted (html_further kind) ahead
+html_lines kind r ahead = if nat_le kind 5 && holds_end kind (words_of r) then 0 else counted (html_continuation kind) ahead

@@ -14,7 +14,7 @@ use Rattle.cmark_grammar.specs.LeafText.{Leaf, bytes_from, bytes_before, place_w
 use Rattle.cmark_grammar.specs.Letters.{first_is, starts}
 use Rattle.cmark_grammar.specs.LineBreaks.{LineBreak, backslash_break_in, blank_break_in}
 use Rattle.cmark_grammar.specs.Lines.{is_content}
-use Rattle.cmark_grammar.specs.LinkDefinitions.{Found, behind_blanks}
+use Rattle.cmark_grammar.specs.LinkDefinitions.{Parsed, behind_blanks}
 use Rattle.cmark_grammar.specs.Quotes.{quote_beside}
 use Rattle.cmark_grammar.specs.Readers.{Reader}
 use Rattle.cmark_grammar.specs.Tags.{behind_tag, no_prefix}
@@ -81,15 +81,15 @@ module _ (reader : Reader) (leaf : Leaf) where
   break_or at (Some found) other = break_to at found (at + size_to at found.behind)
 
   -- a run of backticks: a code span (CommonMark 6.1), or a text
-  abbrev pub code_or : (at size : ℕ) → Option Found → Token
-  code_or at size (Some found) = item_at (Code (code_text (as_in leaf.is_cell found.bytes))) at (place_of found.behind)
-  code_or at size None = item_at Own at (at + size)
+  abbrev pub code_or : (at run_length : ℕ) → Option Parsed → Token
+  code_or at run_length (Some found) = item_at (Code (code_text (as_in leaf.is_cell found.bytes))) at (place_of found.behind)
+  code_or at run_length None = item_at Own at (at + run_length)
 
   -- the first backtick of a run is escaped: it stands for itself where the rest of the run opens a code span, and else the whole run
   -- is a text
-  abbrev pub escaped_backtick : (at size : ℕ) → Option Found → Token
-  escaped_backtick at size (Some found) = item_at Plain at (suc at)
-  escaped_backtick at size None = item_at Own at (at + size)
+  abbrev pub escaped_backtick : (at run_length : ℕ) → Option Parsed → Token
+  escaped_backtick at run_length (Some found) = item_at Plain at (suc at)
+  escaped_backtick at run_length None = item_at Own at (at + run_length)
 
   -- a backslash, with what stands behind it (CommonMark 2.4); in the cell of a table `\\|` is a literal pipe (this profile's own)
   abbrev pub escape_at : (at : ℕ) → List ℕ → Token
@@ -105,7 +105,7 @@ module _ (reader : Reader) (leaf : Leaf) where
   entity_or at None = item_at Plain at (suc at)
 
   -- an autolink (CommonMark 6.5)
-  abbrev pub autolink_or : (at : ℕ) → Option Found → Token → Token
+  abbrev pub autolink_or : (at : ℕ) → Option Parsed → Token → Token
   autolink_or at (Some found) other = item_at (Autolink found.bytes) at (place_of found.behind)
   autolink_or at None other = other
 
@@ -135,17 +135,17 @@ module _ (reader : Reader) (leaf : Leaf) where
       else autolink_or at (autolink_in bs) (markup_or at (behind_markup (source_from at)) (tag_or_text at (behind_tag no_prefix (from at))))
 
   -- a delimiter run (CommonMark 6.2), or bytes that stand for themselves
-  abbrev pub run_or : (at mark size : ℕ) → Flanking → Token
-  run_or at mark size beside =
+  abbrev pub run_or : (at delimiter run_length : ℕ) → Flanking → Token
+  run_or at delimiter run_length beside =
       if beside.opens || beside.closes
-      then item_at (Delimiters (record { mark = mark; size = size; at = 0; left = size; opens = beside.opens; closes = beside.closes })) at (at + size)
-      else item_at Plain at (at + size)
+      then item_at (Delimiters (record { delimiter = delimiter; run_length = run_length; at = 0; left = run_length; opens = beside.opens; closes = beside.closes })) at (at + run_length)
+      else item_at Plain at (at + run_length)
 
-  abbrev pub run_at : (at mark size : ℕ) → Token
-  run_at at mark size = run_or at mark size (flanking reader.options mark size (character_before at) (character_at (at + size)))
+  abbrev pub run_at : (at delimiter run_length : ℕ) → Token
+  run_at at delimiter run_length = run_or at delimiter run_length (flanking reader.options delimiter run_length (character_before at) (character_at (at + run_length)))
 
   -- a formula, or a dollar sign that is a text (this profile's own)
-  abbrev pub formula_or : (List ℕ → ItemKind) → (at : ℕ) → Option Found → Token
+  abbrev pub formula_or : (List ℕ → ItemKind) → (at : ℕ) → Option Parsed → Token
   formula_or kind at (Some found) = item_at (kind (as_in leaf.is_cell found.bytes)) at (place_of found.behind)
   formula_or kind at None = item_at Own at (suc at)
 
@@ -157,8 +157,8 @@ module _ (reader : Reader) (leaf : Leaf) where
   abbrev pub dots : (at : ℕ) → Token
   dots at = if starts (codes "...") (from at) then item_at (Written (226 ∷ 128 ∷ 166 ∷ [])) at (at + 3) else item_at Plain at (suc at)
 
-  abbrev pub hyphens : (at size : ℕ) → Token
-  hyphens at size = if nat_lt size 2 then item_at Plain at (at + size) else item_at (Written (dash_text (dashes_of size))) at (at + size)
+  abbrev pub hyphens : (at run_length : ℕ) → Token
+  hyphens at run_length = if nat_lt run_length 2 then item_at Plain at (at + run_length) else item_at (Written (dash_text (dashes_of run_length))) at (at + run_length)
 
   abbrev pub quote_at : (at b : ℕ) → Token
   quote_at at b = item_at (Quoted (quote_beside (b == 34) (character_before at) (character_at (suc at)))) at (suc at)
@@ -192,7 +192,7 @@ module _ (reader : Reader) (leaf : Leaf) where
 
   -- such bytes without a gap are one text
   abbrev pub goes_on : Token → (end : ℕ) → (more : ℕ → ℕ) → ℕ
-  goes_on (Stands item past) end more = if is_plain item.kind && (item.start == end) then more past else end
+  goes_on (Stands item resume) end more = if is_plain item.kind && (item.start == end) then more resume else end
   goes_on (Opens opener) end more = end
   goes_on (Closes closer) end more = end
   goes_on Ends end more = end
@@ -202,7 +202,7 @@ module _ (reader : Reader) (leaf : Leaf) where
   plain_end (suc n) end = goes_on (begins_at end) end (plain_end n)
 
   abbrev pub longest : Token → Token
-  longest (Stands item past) = if is_plain item.kind then item_at Plain item.start (plain_end (length (from past)) past) else Stands item past
+  longest (Stands item resume) = if is_plain item.kind then item_at Plain item.start (plain_end (length (from resume)) resume) else Stands item resume
   longest (Opens opener) = Opens opener
   longest (Closes closer) = Closes closer
   longest Ends = Ends

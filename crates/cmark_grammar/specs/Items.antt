@@ -39,7 +39,7 @@ pub record Bracket : Type 0 where
 
 -- an item, with the place from which on the text is read behind it; a bracket that opens or one that closes; or the text's end
 pub data Token : Type 0 where
-  Stands : (item : Item) → (past : ℕ) → Token
+  Stands : (item : Item) → (resume : ℕ) → Token
   Opens : (bracket : Bracket) → Token
   Closes : (bracket : Bracket) → Token
   Ends : Token

@@ -3,7 +3,7 @@ use Rattle.std.specs.Prelude.{ℕ, zero, suc, Bool, true, false, ◌||◌, if◌
 use Rattle.cmark_grammar.specs.Letters.{and_then, starts}
 use Rattle.cmark_grammar.specs.Lines.{ends_line}
 use Rattle.cmark_grammar.specs.Unescaped.{escaped_pipe}
-use Rattle.cmark_grammar.specs.LinkDefinitions.{Found, up_to_byte, escapes_next, label_if}
+use Rattle.cmark_grammar.specs.LinkDefinitions.{Parsed, up_to_byte, escapes_next, label_if}
 
 -- a backslash and a pipe, which are a literal pipe in a table (GFM 4.10)
 abbrev pub piped : List ℕ
@@ -14,7 +14,7 @@ abbrev pub with_literal_pipes : List ℕ → List ℕ
 with_literal_pipes [] = []
 with_literal_pipes (b ∷ bs) = if starts piped (b ∷ bs) || starts escaped_pipe (b ∷ bs) then with_literal_pipes bs else b ∷ with_literal_pipes bs
 
-abbrev pub as_in_cell : (is_in_table : Bool) → Found → Found
+abbrev pub as_in_cell : (is_in_table : Bool) → Parsed → Parsed
 as_in_cell is_in_table found = if is_in_table then record { bytes = with_literal_pipes found.bytes; behind = found.behind } else found
 
 module _ (prefix : List ℕ → Option ℕ) where
@@ -23,12 +23,12 @@ module _ (prefix : List ℕ → Option ℕ) where
   label_prefix b bs = if ends_line b bs then prefix bs else Some 0
 
   -- up to the closing bracket: the bytes that stand in no prefix
-  abbrev pub up_to_bracket : (escaped : Bool) → (skip : ℕ) → List ℕ → Option Found
+  abbrev pub up_to_bracket : (escaped : Bool) → (skip : ℕ) → List ℕ → Option Parsed
   up_to_bracket escaped skip [] = None
   up_to_bracket escaped (suc skip) (b ∷ bs) = up_to_bracket escaped skip bs
   up_to_bracket escaped zero (b ∷ bs) = up_to_byte escaped 93 91 true b bs (and_then (label_prefix b bs) (λ n. up_to_bracket (escapes_next escaped b) n bs))
 
   -- a label behind its opening bracket, without prefixes, and the bytes behind its closing one; what counts as a label's
   -- characters are those written, also in a table
-  abbrev pub label_over_lines : (is_in_table : Bool) → List ℕ → Option Found
+  abbrev pub label_over_lines : (is_in_table : Bool) → List ℕ → Option Parsed
   label_over_lines is_in_table bs = option_map (as_in_cell is_in_table) (label_if (up_to_bracket false 0 bs))

@@ -12,16 +12,17 @@ use Rattle.cmark_grammar.specs.Questions.{Exchange, Saying}
 use Rattle.cmark_grammar.specs.Readers.{Reader}
 use Rattle.cmark_grammar.specs.Siblings.{Inline, AreSpans}
 
--- what goes over from one leaf to the next: what is left of the expansion limit, and the questions that were put, with their answers
+-- what goes over from one leaf to the next: what is left of the reference expansion limit, and the questions that were put, with their
+-- answers
 pub record Between : Type 0 where
-  pub expansion : ℕ
+  pub expansion_left : ℕ
   pub asked : List Exchange
 
 abbrev pub entering : Leaf → Between → State
-entering leaf before = record { at = begin_of leaf.stretches; expansion = before.expansion; label_close = None; asked = before.asked; openers = [] }
+entering leaf before = record { at = begin_of leaf.stretches; expansion_left = before.expansion_left; label_close = None; asked = before.asked; openers = [] }
 
 abbrev pub leaving : State → Between
-leaving s = record { expansion = s.expansion; asked = s.asked }
+leaving s = record { expansion_left = s.expansion_left; asked = s.asked }
 
 -- the leaf is read as these events, where the questions may get these answers
 pub record ReadsLeaf (reader : Reader) (Says : Saying) (leaf : Leaf) (before : Between) (events : List Ranged) (after : Between) : Type 0 where

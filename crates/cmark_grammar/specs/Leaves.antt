@@ -5,13 +5,13 @@ use Rattle.cmark_grammar.specs.Rows.{Row, is_blank_line, indent_of, words_of}
 
 -- what one line more does to a leaf: it belongs to it and the leaf goes on, or ends; it belongs to it only where a later
 -- line does; or the leaf has ended before it
-pub data Further : Type 0 where
-  GoesOn : Further
-  Closes : Further
-  Waits : Further
-  Stops : Further
+pub data Continuation : Type 0 where
+  GoesOn : Continuation
+  Closes : Continuation
+  Waits : Continuation
+  Stops : Continuation
 
-abbrev pub count_more : Further → ℕ → ℕ
+abbrev pub count_more : Continuation → ℕ → ℕ
 count_more GoesOn n = suc n
 count_more Closes n = 1
 count_more Waits zero = 0
@@ -19,9 +19,9 @@ count_more Waits (suc n) = suc (suc n)
 count_more Stops n = 0
 
 -- how many of the lines ahead belong to a leaf
-abbrev pub counted : (Row → Further) → List Row → ℕ
-counted further [] = 0
-counted further (r ∷ ahead) = count_more (further r) (counted further ahead)
+abbrev pub counted : (Row → Continuation) → List Row → ℕ
+counted continuation [] = 0
+counted continuation (r ∷ ahead) = count_more (continuation r) (counted continuation ahead)
 
 abbrev pub is_empty : List ℕ → Bool
 is_empty [] = true
@@ -56,8 +56,8 @@ is_atx_heading bs = nat_lt 0 (run 35 bs) && (nat_le (run 35 bs) 6 && is_parted (
 -- a code fence: its indent, its character and how often that stands, and the info string behind it (CommonMark 4.5)
 pub record Fence : Type 0 where
   pub indented : ℕ
-  pub mark : ℕ
-  pub size : ℕ
+  pub delimiter : ℕ
+  pub run_length : ℕ
   pub info : List ℕ
 
 -- without blanks at both ends
@@ -65,7 +65,7 @@ abbrev pub trimmed : List ℕ → List ℕ
 trimmed bs = drop_end is_blank_byte (drop (length (take_while is_blank_byte bs)) bs)
 
 abbrev pub fence_with : ℕ → ℕ → List ℕ → Fence
-fence_with indented b bs = record { indented = indented; mark = b; size = run b bs; info = trimmed (drop (run b bs) bs) }
+fence_with indented b bs = record { indented = indented; delimiter = b; run_length = run b bs; info = trimmed (drop (run b bs) bs) }
 
 -- three or more backticks with none in the info string, or three or more tildes
 abbrev pub fence_of : ℕ → List ℕ → Option Fence
@@ -76,14 +76,14 @@ fence_of indented bs =
 
 -- at most three columns of indent, at least as many of the same character, then blanks
 abbrev pub closes_fence : Fence → Row → Bool
-closes_fence fence r = nat_le (indent_of r) 3 && (nat_le fence.size (run fence.mark (words_of r)) && are_blank (drop (run fence.mark (words_of r)) (words_of r)))
+closes_fence fence r = nat_le (indent_of r) 3 && (nat_le fence.run_length (run fence.delimiter (words_of r)) && are_blank (drop (run fence.delimiter (words_of r)) (words_of r)))
 
-abbrev pub fence_further : Fence → Row → Further
-fence_further fence r = if closes_fence fence r then Closes else GoesOn
+abbrev pub fence_continuation : Fence → Row → Continuation
+fence_continuation fence r = if closes_fence fence r then Closes else GoesOn
 
 -- an indented line goes on with indented code; blank lines belong to it between two such lines (CommonMark 4.4)
-abbrev pub code_further : Row → Further
-code_further r = if is_blank_line r then Waits else if nat_le 4 (indent_of r) then GoesOn else Stops
+abbrev pub code_continuation : Row → Continuation
+code_continuation r = if is_blank_line r then Waits else if nat_le 4 (indent_of r) then GoesOn else Stops
 
 abbrev pub is_run_of : ℕ → List ℕ → Bool
 is_run_of b bs = nat_lt 0 (run b bs) && are_blank (drop (run b bs) bs)

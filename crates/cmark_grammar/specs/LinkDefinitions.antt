@@ -6,11 +6,11 @@ use Rattle.cmark_grammar.specs.Leaves.{is_empty}
 use Rattle.cmark_grammar.specs.Tags.{behind_ending}
 
 -- what was read, and the bytes behind it
-pub record Found : Type 0 where
+pub record Parsed : Type 0 where
   pub bytes : List ℕ
   pub behind : List ℕ
 
-abbrev pub put : ℕ → Option Found → Option Found
+abbrev pub put : ℕ → Option Parsed → Option Parsed
 put b None = None
 put b (Some found) = Some (record { bytes = b ∷ found.bytes; behind = found.behind })
 
@@ -19,13 +19,13 @@ abbrev pub escapes_next : (escaped : Bool) → ℕ → Bool
 escapes_next escaped b = not escaped && (b == 92)
 
 -- up to the closer, which no backslash escapes: neither the refused byte, nor a line end where lines may not end
-abbrev pub up_to_byte : (escaped : Bool) → (closer refused : ℕ) → (over_lines : Bool) → (b : ℕ) → List ℕ → Option Found → Option Found
+abbrev pub up_to_byte : (escaped : Bool) → (closer refused : ℕ) → (over_lines : Bool) → (b : ℕ) → List ℕ → Option Parsed → Option Parsed
 up_to_byte escaped closer refused over_lines b bs found =
     if not escaped && (b == closer) then Some (record { bytes = []; behind = bs })
     else if (not escaped && (b == refused)) || (not over_lines && ((b == 10) || (b == 13))) then None
     else put b found
 
-abbrev pub up_to : (escaped : Bool) → (closer refused : ℕ) → (over_lines : Bool) → List ℕ → Option Found
+abbrev pub up_to : (escaped : Bool) → (closer refused : ℕ) → (over_lines : Bool) → List ℕ → Option Parsed
 up_to escaped closer refused over_lines [] = None
 up_to escaped closer refused over_lines (b ∷ bs) = up_to_byte escaped closer refused over_lines b bs (up_to (escapes_next escaped b) closer refused over_lines bs)
 
@@ -42,11 +42,11 @@ abbrev pub is_label : List ℕ → Bool
 is_label bs = nat_le (characters bs) 999 && nat_lt 0 (count_by (λ b. not (is_white b)) bs)
 
 -- a label behind its opening bracket, up to the next bracket, which no backslash escapes and which closes it
-abbrev pub label_if : Option Found → Option Found
+abbrev pub label_if : Option Parsed → Option Parsed
 label_if None = None
 label_if (Some found) = if is_label found.bytes then Some found else None
 
-abbrev pub label_in : List ℕ → Option Found
+abbrev pub label_in : List ℕ → Option Parsed
 label_in bs = label_if (up_to false 93 91 true bs)
 
 -- a bare destination: up to an ASCII control, a space, or a closing parenthesis without its opening one; parentheses are
@@ -57,27 +57,27 @@ ends_bare b = nat_le b 32 || (b == 127)
 abbrev pub depth_after : (escaped : Bool) → (depth b : ℕ) → ℕ
 depth_after escaped depth b = if escaped then depth else if b == 40 then suc depth else if b == 41 then depth - 1 else depth
 
-abbrev pub bare_byte : (escaped : Bool) → (depth b : ℕ) → List ℕ → Option Found → Option Found
+abbrev pub bare_byte : (escaped : Bool) → (depth b : ℕ) → List ℕ → Option Parsed → Option Parsed
 bare_byte escaped depth b bs found =
     if ends_bare b || (not escaped && ((b == 41) && (depth == 0))) then (if depth == 0 then Some (record { bytes = []; behind = b ∷ bs }) else None)
     else if not escaped && ((b == 40) && nat_le 32 depth) then None
     else put b found
 
-abbrev pub bare_in : (escaped : Bool) → (depth : ℕ) → List ℕ → Option Found
+abbrev pub bare_in : (escaped : Bool) → (depth : ℕ) → List ℕ → Option Parsed
 bare_in escaped depth [] = if depth == 0 then Some (record { bytes = []; behind = [] }) else None
 bare_in escaped depth (b ∷ bs) = bare_byte escaped depth b bs (bare_in (escapes_next escaped b) (depth_after escaped depth b) bs)
 
-abbrev pub nonempty : Option Found → Option Found
+abbrev pub nonempty : Option Parsed → Option Parsed
 nonempty None = None
 nonempty (Some found) = if is_empty found.bytes then None else Some found
 
 -- a destination: in pointed brackets on one line, or bare and not empty
-abbrev pub destination_in : List ℕ → Option Found
+abbrev pub destination_in : List ℕ → Option Parsed
 destination_in [] = None
 destination_in (b ∷ bs) = if b == 60 then up_to false 62 60 false bs else nonempty (bare_in false 0 (b ∷ bs))
 
 -- a title: in double or single quotes, or in parentheses; none of its opening bytes stands in it but an escaped one
-abbrev pub title_in : List ℕ → Option Found
+abbrev pub title_in : List ℕ → Option Parsed
 title_in [] = None
 title_in (b ∷ bs) =
     if (b == 34) || (b == 39) then up_to false b b true bs
@@ -119,27 +119,27 @@ abbrev pub defined : (label destination : List ℕ) → Option (List ℕ) → Li
 defined label destination title behind = record { definition = record { label = label; destination = destination; title = title }; behind = behind }
 
 -- without a title the line must be done behind the destination
-abbrev pub untitled : (label : List ℕ) → Found → Option Defined
+abbrev pub untitled : (label : List ℕ) → Parsed → Option Defined
 untitled label destination = if is_line_done destination.behind then Some (defined label destination.bytes None destination.behind) else None
 
 -- a title counts only if it is parted from the destination, and the line is done behind it; else the definition ends
 -- before it
-abbrev pub titled : (label : List ℕ) → Found → Option Found → Option Defined
+abbrev pub titled : (label : List ℕ) → Parsed → Option Parsed → Option Defined
 titled label destination None = untitled label destination
 titled label destination (Some title) =
     if nat_lt (length (behind_separator destination.behind)) (length destination.behind) && is_line_done title.behind
     then Some (defined label destination.bytes (Some title.bytes) title.behind)
     else untitled label destination
 
-abbrev pub with_destination : (label : List ℕ) → Option Found → Option Defined
+abbrev pub with_destination : (label : List ℕ) → Option Parsed → Option Defined
 with_destination label None = None
 with_destination label (Some destination) = titled label destination (title_in (behind_separator destination.behind))
 
-abbrev pub behind_colon : Found → List ℕ → Option Defined
+abbrev pub behind_colon : Parsed → List ℕ → Option Defined
 behind_colon label [] = None
 behind_colon label (b ∷ bs) = if b == 58 then with_destination label.bytes (destination_in (behind_separator bs)) else None
 
-abbrev pub with_label : Option Found → Option Defined
+abbrev pub with_label : Option Parsed → Option Defined
 with_label None = None
 with_label (Some label) = behind_colon label label.behind
 
@@ -150,7 +150,7 @@ definition_in (b ∷ bs) = if b == 91 then with_label (label_in bs) else None
 
 -- a line end as the text has it: CR LF where it has two bytes
 abbrev pub line_end_of : Row → List ℕ
-line_end_of r = if nat_le 2 (r.past - r.stop) then 13 ∷ 10 ∷ [] else 10 ∷ []
+line_end_of r = if nat_le 2 (r.line_end - r.content_end) then 13 ∷ 10 ∷ [] else 10 ∷ []
 
 -- a line behind its indent, and further lines, with the line ends between them
 abbrev pub further_bytes : Row → List Row → List ℕ

@@ -2,7 +2,7 @@
 use Rattle.std.specs.Prelude.{ℕ, Bool, false, ◌==◌, ◌&&◌, ◌||◌, not, List, [], ◌∷◌, codes, Option, Some, None, option_map}
 use Rattle.cmark_grammar.specs.Destinations.{link_destination_in}
 use Rattle.cmark_grammar.specs.Letters.{behind_if, behind_start, and_then}
-use Rattle.cmark_grammar.specs.LinkDefinitions.{Found, escapes_next, is_label, label_in, title_in, behind_separator}
+use Rattle.cmark_grammar.specs.LinkDefinitions.{Parsed, escapes_next, is_label, label_in, title_in, behind_separator}
 
 -- the destination and the title of an inline link, as they are written, and what is behind its closing parenthesis
 pub record LinkTail : Type 0 where
@@ -14,12 +14,12 @@ abbrev pub closed_tail : (destination : List ℕ) → (title : Option (List ℕ)
 closed_tail destination title bs = option_map (λ behind. record { destination = destination; title = title; behind = behind }) (behind_if (λ b. b == 41) (behind_separator bs))
 
 -- a title may follow its destination at once (this profile's own)
-abbrev pub with_title : (destination title : Option Found) → Option LinkTail
+abbrev pub with_title : (destination title : Option Parsed) → Option LinkTail
 with_title None title = None
 with_title (Some destination) None = closed_tail destination.bytes None destination.behind
 with_title (Some destination) (Some title) = closed_tail destination.bytes (Some title.bytes) title.behind
 
-abbrev pub title_behind : Option Found → Option Found
+abbrev pub title_behind : Option Parsed → Option Parsed
 title_behind None = None
 title_behind (Some destination) = title_in (behind_separator destination.behind)
 
@@ -32,7 +32,7 @@ abbrev pub link_tail_in : List ℕ → Option LinkTail
 link_tail_in bs = and_then (behind_if (λ b. b == 40) bs) tail_inside
 
 -- the label of a full reference behind the bracket
-abbrev pub reference_label_in : List ℕ → Option Found
+abbrev pub reference_label_in : List ℕ → Option Parsed
 reference_label_in bs = and_then (behind_if (λ b. b == 91) bs) label_in
 
 -- behind the brackets of a collapsed reference

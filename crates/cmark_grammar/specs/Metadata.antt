@@ -2,14 +2,14 @@
 use Rattle.std.specs.Prelude.{ℕ, Bool, false, ◌&&◌, ◌||◌, not, if◌then◌else◌, List, [], ◌∷◌, length, drop, codes, Option, Some, None}
 use Rattle.cmark_grammar.specs.Columns.{bytes_of}
 use Rattle.cmark_grammar.specs.Rows.{Row, is_blank_line, is_whole_line}
-use Rattle.cmark_grammar.specs.Leaves.{Further, GoesOn, Closes, are_blank}
+use Rattle.cmark_grammar.specs.Leaves.{Continuation, GoesOn, Closes, are_blank}
 use Rattle.cmark_grammar.specs.HtmlBlocks.{starts}
 use Rattle.cmark_grammar.specs.MetadataBlockKind.{MetadataBlockKind, YamlStyle, PlusesStyle}
 use Rattle.cmark_grammar.specs.Options.{Options}
 
 -- exactly these bytes, and blanks behind them
-abbrev pub is_line_of : (mark bs : List ℕ) → Bool
-is_line_of mark bs = starts mark bs && are_blank (drop (length mark) bs)
+abbrev pub is_line_of : (delimiter bs : List ℕ) → Bool
+is_line_of delimiter bs = starts delimiter bs && are_blank (drop (length delimiter) bs)
 
 -- the kind of the metadata block that a line begins, if lines behind it end one
 abbrev pub metadata_of : List ℕ → Option MetadataBlockKind
@@ -27,8 +27,8 @@ closes_metadata PlusesStyle bs = is_line_of (codes "+++") bs
 abbrev pub ends_metadata : MetadataBlockKind → Row → Bool
 ends_metadata kind r = closes_metadata kind (bytes_of r.columns)
 
-abbrev pub metadata_further : MetadataBlockKind → Row → Further
-metadata_further kind r = if ends_metadata kind r then Closes else GoesOn
+abbrev pub metadata_continuation : MetadataBlockKind → Row → Continuation
+metadata_continuation kind r = if ends_metadata kind r then Closes else GoesOn
 
 abbrev pub is_ended : MetadataBlockKind → List Row → Bool
 is_ended kind [] = false
@@ -48,6 +48,6 @@ abbrev pub metadata_if : Options → Option MetadataBlockKind → Option Metadat
 metadata_if options None = None
 metadata_if options (Some kind) = if has_metadata options kind then Some kind else None
 
--- the kind of the metadata block that a line may begin, which must stand in no container and begin with its marks
+-- the kind of the metadata block that a line may begin, which must stand in no container and begin with its delimiter
 abbrev pub metadata_kind : Options → Row → Option MetadataBlockKind
 metadata_kind options r = if is_whole_line r then metadata_if options (metadata_of (bytes_of r.columns)) else None

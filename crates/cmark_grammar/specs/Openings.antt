@@ -2,13 +2,13 @@
 use Rattle.std.specs.Prelude.{ℕ, suc, Bool, true, false, ◌==◌, ◌&&◌, ◌||◌, not, nat_le, if◌then◌else◌, List, Option, Some, None, ◌∷◌, ◌-◌, length, drop, []}
 use Rattle.cmark_grammar.specs.Alignment.{Alignment}
 use Rattle.cmark_grammar.specs.Rows.{Row, is_blank_line, indent_of, words_of, without}
-use Rattle.cmark_grammar.specs.Leaves.{Fence, underlines, counted, run, is_thematic_break, is_atx_heading, fence_of, fence_further, code_further}
+use Rattle.cmark_grammar.specs.Leaves.{Fence, underlines, counted, run, is_thematic_break, is_atx_heading, fence_of, fence_continuation, code_continuation}
 use Rattle.cmark_grammar.specs.HtmlBlocks.{html_kind, html_lines}
 use Rattle.cmark_grammar.specs.LinkDefinitions.{Definition, Defined, definition_in, bytes_over, line_ends}
-use Rattle.cmark_grammar.specs.Containers.{Container, Quote, Item, Footnote, ListDefinition, item_of, is_quote, container_of}
+use Rattle.cmark_grammar.specs.Containers.{Container, BlockQuote, Item, Footnote, ListDefinition, item_of, is_block_quote, container_of}
 use Rattle.cmark_grammar.specs.DefinitionLists.{begins_definition, definition_at, is_definition}
 use Rattle.cmark_grammar.specs.Footnotes.{Footnotes, footnotes_in, are_read, do_interrupt, footnote_in, is_label_found, is_footnote_label}
-use Rattle.cmark_grammar.specs.Metadata.{metadata_kind, holds_metadata, metadata_further}
+use Rattle.cmark_grammar.specs.Metadata.{metadata_kind, holds_metadata, metadata_continuation}
 use Rattle.cmark_grammar.specs.MetadataBlockKind.{MetadataBlockKind}
 use Rattle.cmark_grammar.specs.Options.{Options}
 use Rattle.cmark_grammar.specs.Places.{Place, is_behind_task}
@@ -50,10 +50,10 @@ is_one (Some n) = n == 1
 -- an item that begins with a blank line, or is numbered other than 1, interrupts no paragraph of its own container (CommonMark 5.2)
 abbrev pub item_interrupts : (same : Bool) → Row → Option Container → Bool
 item_interrupts same r None = false
-item_interrupts same r (Some (Quote alert)) = false
+item_interrupts same r (Some (BlockQuote alert)) = false
 item_interrupts same r (Some (Footnote label old size)) = false
 item_interrupts same r (Some (ListDefinition width)) = false
-item_interrupts same r (Some (Item mark number width task)) = not same || (is_one number && not (is_blank_line (without width r)))
+item_interrupts same r (Some (Item delimiter number width task)) = not same || (is_one number && not (is_blank_line (without width r)))
 
 abbrev pub is_some_fence : Option Fence → Bool
 is_some_fence (Some fence) = true
@@ -65,7 +65,7 @@ html_interrupts None = false
 html_interrupts (Some kind) = nat_le kind 6
 
 abbrev pub fenced_if : Option Fence → List Row → Opening
-fenced_if (Some fence) ahead = Takes (FencedCode fence) (counted (fence_further fence) ahead)
+fenced_if (Some fence) ahead = Takes (FencedCode fence) (counted (fence_continuation fence) ahead)
 fenced_if None ahead = Plain
 
 abbrev pub html_if : Row → List Row → Option ℕ → Opening
@@ -102,13 +102,13 @@ heading_if false level = Plain
 
 abbrev pub metadata_begun : Option MetadataBlockKind → List Row → Opening
 metadata_begun None ahead = Plain
-metadata_begun (Some kind) ahead = if holds_metadata kind ahead then Takes (MetadataBlock kind) (counted (metadata_further kind) ahead) else Plain
+metadata_begun (Some kind) ahead = if holds_metadata kind ahead then Takes (MetadataBlock kind) (counted (metadata_continuation kind) ahead) else Plain
 
 module _ (options : Options) where
   -- whether a line interrupts a paragraph, which stands in the same container or further in (CommonMark 4.8)
   abbrev pub interrupts : (same : Bool) → Row → List Row → Bool
   interrupts same r ahead =
-      is_blank_line r || (footnote_interrupts (footnotes_in options) r || (nat_le (indent_of r) 3 && (is_quote r || (item_interrupts same r (item_of r) || (is_thematic_break (words_of r)
+      is_blank_line r || (footnote_interrupts (footnotes_in options) r || (nat_le (indent_of r) 3 && (is_block_quote r || (item_interrupts same r (item_of r) || (is_thematic_break (words_of r)
       || (is_atx_heading (words_of r) || (is_some_fence (fence_of (indent_of r) (words_of r)) || html_interrupts (html_kind (words_of r)))))))))
 
   -- the line goes on with a paragraph in the same container; a lazy line is none of it
@@ -158,7 +158,7 @@ module _ (options : Options) where
   abbrev pub whole_opens : Row → List Row → Opening
   whole_opens r ahead =
       if is_blank_line r then Blank
-      else if nat_le 4 (indent_of r) then Takes IndentedCode (counted code_further ahead)
+      else if nat_le 4 (indent_of r) then Takes IndentedCode (counted code_continuation ahead)
       else or_else (nests_if (container_of options r)) (leaf_of r ahead)
 
   -- what a line begins, with these lines ahead; a lazy line can begin a paragraph alone. Metadata comes first: its first line is

@@ -1,8 +1,8 @@
--- Quotes as typographic ones, where smart punctuation is read (this profile's own).
+-- Quotation marks as typographic ones, where smart punctuation is read (this profile's own).
 use Rattle.std.specs.Prelude.{ℕ, Bool, true, false, not, ◌==◌, ◌&&◌, ◌||◌, if◌then◌else◌, Option, Some, None, List, [], ◌∷◌}
 use Rattle.cmark_grammar.specs.Flanking.{is_white_space_there, is_punctuation_there}
 
--- a quote, `"` if it is double and else `'`, and whether it can open and close
+-- a quotation mark, `"` if it is double and else `'`, and whether it can open and close
 pub record Quote : Type 0 where
   pub double : Bool
   pub opens : Bool

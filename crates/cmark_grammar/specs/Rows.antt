@@ -9,13 +9,13 @@ use Rattle.cmark_grammar.specs.Columns.{Column, expand, indent, without_indent, 
 pub record Row : Type 0 where
   pub columns : List Column
   pub at : ℕ
-  pub stop : ℕ
-  pub past : ℕ
+  pub content_end : ℕ
+  pub line_end : ℕ
   pub lazy : Bool
   pub held : Bool
 
 abbrev pub row_at : ℕ → List ℕ → Row
-row_at at line = record { columns = expand 0 at (content line); at = at; stop = at + length (content line); past = at + length line; lazy = false; held = false }
+row_at at line = record { columns = expand 0 at (content line); at = at; content_end = at + length (content line); line_end = at + length line; lazy = false; held = false }
 
 -- lines that begin at this place of the text
 abbrev pub rows_from : ℕ → List (List ℕ) → List Row
@@ -62,19 +62,19 @@ first_place none (c ∷ cs) = place c
 
 -- where the line begins, and where its first byte behind the indent stands
 abbrev pub begin_of : Row → ℕ
-begin_of r = first_place r.stop r.columns
+begin_of r = first_place r.content_end r.columns
 
 abbrev pub start_of : Row → ℕ
-start_of r = first_place r.stop (without_indent r.columns)
+start_of r = first_place r.content_end (without_indent r.columns)
 
 -- no column was taken from the front of the line, and it is not held, so that it stands in no container
 abbrev pub is_whole_line : Row → Bool
 is_whole_line r = (begin_of r == r.at) && not r.held
 
 -- where the last of these lines ends
-abbrev pub past_of : Row → List Row → ℕ
-past_of first [] = first.past
-past_of first (r ∷ more) = past_of r more
+abbrev pub last_line_end : Row → List Row → ℕ
+last_line_end first [] = first.line_end
+last_line_end first (r ∷ more) = last_line_end r more
 
 -- a line in front of those ahead, and the lines up to the first that lacks a prefix: what a line may look at
 abbrev pub show_as : Bool → Row → List Row → List Row

@@ -7,14 +7,14 @@ use Rattle.cmark_grammar.specs.Rows.{Row, first_place}
 use Rattle.cmark_grammar.specs.Tokens.{stretch_then, paragraph_tokens}
 
 -- a line ending between two lines: white space, in a column of its own
-abbrev pub line_end : Row → Column
-line_end r = record { byte = 10; at = r.stop; part = 0 }
+abbrev pub line_end_column : Row → Column
+line_end_column r = record { byte = 10; at = r.content_end; part = 0 }
 
 -- the columns of a heading's lines behind their prefixes, one line behind the other, without the blanks at the end
 abbrev pub content_of : List Row → List Column
 content_of [] = []
 content_of (r ∷ []) = without_trailing_blanks r.columns
-content_of (r ∷ (s ∷ more)) = r.columns ++ line_end r ∷ content_of (s ∷ more)
+content_of (r ∷ (s ∷ more)) = r.columns ++ line_end_column r ∷ content_of (s ∷ more)
 
 abbrev pub is_white : Column → Bool
 is_white c = is_white_space c.byte

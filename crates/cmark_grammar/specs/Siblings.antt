@@ -54,7 +54,7 @@ with_quotes siblings = with_characters siblings (quote_characters [] (quotes_of 
 
 -- the delimiter runs among siblings, their bytes counted from 0
 abbrev pub run_then : ℕ → ItemKind → (ℕ → List Sibling) → List Sibling
-run_then n (Delimiters run) after = Delimiter (record { mark = run.mark; size = run.size; at = n; left = run.size; opens = run.opens; closes = run.closes }) ∷ after (n + run.size)
+run_then n (Delimiters run) after = Delimiter (record { delimiter = run.delimiter; run_length = run.run_length; at = n; left = run.run_length; opens = run.opens; closes = run.closes }) ∷ after (n + run.run_length)
 run_then n _ after = after n
 
 abbrev pub runs_from : Inline → ℕ → List Sibling
@@ -63,12 +63,12 @@ runs_from (Single x after) n = run_then n x.kind (runs_from after)
 runs_from (Around tag start end inside after) n = runs_from after n
 
 -- the bytes of the runs, one after the other
-abbrev pub bytes_then : (start size : ℕ) → List Item → List Item
+abbrev pub bytes_then : (start run_length : ℕ) → List Item → List Item
 bytes_then start zero after = after
-bytes_then start (suc size) after = item Own start (suc start) ∷ bytes_then (suc start) size after
+bytes_then start (suc run_length) after = item Own start (suc start) ∷ bytes_then (suc start) run_length after
 
 abbrev pub run_bytes_then : ItemKind → (start : ℕ) → List Item → List Item
-run_bytes_then (Delimiters run) start after = bytes_then start run.size after
+run_bytes_then (Delimiters run) start after = bytes_then start run.run_length after
 run_bytes_then _ start after = after
 
 abbrev pub run_bytes : Inline → List Item
@@ -86,7 +86,7 @@ no_gaps zero gaps = gaps
 no_gaps (suc n) gaps = Nil ∷ no_gaps n gaps
 
 abbrev pub gap_then : ItemKind → Item → List Inline → List Inline
-gap_then (Delimiters run) x gaps = no_gaps run.size gaps
+gap_then (Delimiters run) x gaps = no_gaps run.run_length gaps
 gap_then _ x gaps = put_gap (Single x) gaps
 
 abbrev pub gaps_of : Inline → List Inline

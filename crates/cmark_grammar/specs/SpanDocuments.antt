@@ -20,7 +20,7 @@ use Rattle.cmark_grammar.specs.TagEnd.{end_of}
 pub record Profile : Type 0 where
   pub options : Options
   pub lookup : Lookup
-  pub expansion_limit : ℕ
+  pub reference_expansion_limit : ℕ
   pub has_callback : Bool
 
 abbrev pub footnote_label : BlockKind → List (List ℕ)
@@ -98,7 +98,7 @@ ReadsAll reader Says (Content leaf ∷ others) before events after =
     (spans later : List Ranged) × (between : Between) × ReadsLeaf reader Says leaf before spans between × ReadsAll reader Says others between later after × (events ≡ spans ++ later)
 
 abbrev pub at_start : Profile → Between
-at_start profile = record { expansion = profile.expansion_limit; asked = [] }
+at_start profile = record { expansion_left = profile.reference_expansion_limit; asked = [] }
 
 -- these events are a reading of the text, in which these questions were put and answered so, in turn and none else
 pub record IsReading (text : List ℕ) (profile : Profile) (exchanges : List Exchange) (events : List Ranged) : Type 0 where
@@ -109,7 +109,7 @@ pub record IsReading (text : List ℕ) (profile : Profile) (exchanges : List Exc
   pub asked : after.asked ≡ exchanges
 
 -- with these further questions and answers these events are left to give of these segments, where so much of the limit is left
-pub record Left (reader : Reader) (segments : List Segment) (expansion : ℕ) (exchanges : List Exchange) (events : List Ranged) : Type 0 where
+pub record Left (reader : Reader) (segments : List Segment) (expansion_left : ℕ) (exchanges : List Exchange) (events : List Ranged) : Type 0 where
   pub after : Between
-  pub reads : ReadsAll reader (IsNext exchanges) segments (record { expansion = expansion; asked = [] }) events after
+  pub reads : ReadsAll reader (IsNext exchanges) segments (record { expansion_left = expansion_left; asked = [] }) events after
   pub asked : after.asked ≡ exchanges

@@ -40,7 +40,7 @@ module _ (Entry : Type 0) (single : Entry) (opening closing : SpanKind → List 
       (write to (closing kind) (write (from - span_width kind) (opening kind) entries))
 
   abbrev pub mark_pair : Pair → List Entry → List Entry
-  mark_pair pair entries = mark_spans (kinds_of pair.mark pair.count) pair.from pair.to entries
+  mark_pair pair entries = mark_spans (kinds_of pair.delimiter pair.count) pair.from pair.to entries
 
   abbrev pub mark_pairs : List Pair → List Entry → List Entry
   mark_pairs [] entries = entries

@@ -12,21 +12,21 @@ cell_tokens text at cell = stretch_then text (at + length (take_while is_blank_b
 
 -- so many cells, of which the first begins at a place: each goes up to the pipe behind it. Further ones are left out; missing ones are
 -- filled in, empty, at the row's end
-abbrev pub cells_then : (text : List ℕ) → (columns : ℕ) → (at past : ℕ) → List (List ℕ) → BlockDocument
-cells_then text zero at past cells = Nil
-cells_then text (suc columns) at past [] = Node (node TableCell past past) Nil (cells_then text columns at past [])
-cells_then text (suc columns) at past (cell ∷ cells) =
-    Node (node TableCell at (at + length cell)) (cell_tokens text at cell) (cells_then text columns (suc (at + length cell)) past cells)
+abbrev pub cells_then : (text : List ℕ) → (columns : ℕ) → (at line_end : ℕ) → List (List ℕ) → BlockDocument
+cells_then text zero at line_end cells = Nil
+cells_then text (suc columns) at line_end [] = Node (node TableCell line_end line_end) Nil (cells_then text columns at line_end [])
+cells_then text (suc columns) at line_end (cell ∷ cells) =
+    Node (node TableCell at (at + length cell)) (cell_tokens text at cell) (cells_then text columns (suc (at + length cell)) line_end cells)
 
 abbrev pub row_cells : (text : List ℕ) → (columns : ℕ) → Row → BlockDocument
-row_cells text columns r = cells_then text columns (cells_start r) r.past (cells_of (words_of r))
+row_cells text columns r = cells_then text columns (cells_start r) r.line_end (cells_of (words_of r))
 
 -- the rows of a table: each from its first byte behind the indent to behind its line ending
 abbrev pub row_tokens : (text : List ℕ) → (columns : ℕ) → List Row → BlockDocument
 row_tokens text columns [] = Nil
-row_tokens text columns (r ∷ rs) = Node (node TableRow (start_of r) r.past) (row_cells text columns r) (row_tokens text columns rs)
+row_tokens text columns (r ∷ rs) = Node (node TableRow (start_of r) r.line_end) (row_cells text columns r) (row_tokens text columns rs)
 
 -- the head, and the rows behind the delimiter row, which stands in none of them
 abbrev pub table_tokens : (text : List ℕ) → (columns : ℕ) → Row → List Row → BlockDocument
 table_tokens text columns head more =
-    Node (node TableHead (start_of head) head.past) (row_cells text columns head) (row_tokens text columns (drop 1 more))
+    Node (node TableHead (start_of head) head.line_end) (row_cells text columns head) (row_tokens text columns (drop 1 more))

@@ -78,16 +78,16 @@ module _ (prefix : List ℕ → ℕ) where
   abbrev pub prefix_behind : ℕ → List ℕ → ℕ
   prefix_behind b bs = if ends_line b bs then prefix bs else 0
 
-  -- the first closing quote that stands in no prefix
-  abbrev pub behind_quote : (quote skip : ℕ) → List ℕ → Option (List ℕ)
-  behind_quote quote skip [] = None
-  behind_quote quote (suc skip) (b ∷ bs) = behind_quote quote skip bs
-  behind_quote quote zero (b ∷ bs) = if b == quote then Some bs else behind_quote quote (prefix_behind b bs) bs
+  -- the first closing quotation mark that stands in no prefix
+  abbrev pub behind_quotation_mark : (quote skip : ℕ) → List ℕ → Option (List ℕ)
+  behind_quotation_mark quote skip [] = None
+  behind_quotation_mark quote (suc skip) (b ∷ bs) = behind_quotation_mark quote skip bs
+  behind_quotation_mark quote zero (b ∷ bs) = if b == quote then Some bs else behind_quotation_mark quote (prefix_behind b bs) bs
 
   -- a value: in double or in single quotes, or bare
   abbrev pub behind_value : List ℕ → Option (List ℕ)
   behind_value [] = None
-  behind_value (b ∷ bs) = if (b == 34) || (b == 39) then behind_quote b 0 bs else behind_bare_value (b ∷ bs)
+  behind_value (b ∷ bs) = if (b == 34) || (b == 39) then behind_quotation_mark b 0 bs else behind_bare_value (b ∷ bs)
 
   -- a value behind an attribute's name, where `=` follows the name
   abbrev pub behind_assigned : (name : List ℕ) → List ℕ → Option (List ℕ)

@@ -168,7 +168,7 @@ stretch_then text start end after = texts_then (piece_if text start end []) afte
 abbrev pub stretches : List ℕ → (begin : ℕ) → Row → List Row → BlockDocument
 stretches text begin r [] = stretch_then text begin (words_end r) Nil
 stretches text begin r (s ∷ more) =
-    if begin_of s == r.past then stretches text begin s more else stretch_then text begin r.past (stretches text (begin_of s) s more)
+    if begin_of s == r.line_end then stretches text begin s more else stretch_then text begin r.line_end (stretches text (begin_of s) s more)
 
 -- The raw content of a paragraph or setext heading is "formed by concatenating the paragraph's lines and removing initial and
 -- final spaces or tabs" (CommonMark 4.8): stretches of the text, with the line endings in them, and without the prefixes of the
@@ -210,7 +210,7 @@ heading_columns attributes level r = without_closing (without_attributes attribu
 
 abbrev pub heading_tokens : List ℕ → (attributes : Bool) → (level : ℕ) → Row → BlockDocument
 heading_tokens text attributes level r =
-    let start = first_place r.stop (behind_hashes level r) in stretch_then text start (end_place start (heading_columns attributes level r)) Nil
+    let start = first_place r.content_end (behind_hashes level r) in stretch_then text start (end_place start (heading_columns attributes level r)) Nil
 
 -- the attributes of a heading
 abbrev pub heading_attributes : (attributes : Bool) → (level : ℕ) → Row → Attributes
@@ -219,7 +219,7 @@ heading_attributes attributes level r = attributes_of (bytes_of (attribute_colum
 -- a line as it is, from there on: of CR LF, the line feed is a piece of its own and the CR is left out
 abbrev pub plain_line : List ℕ → ℕ → Row → List Piece
 plain_line text from r =
-    if r.past - r.stop == 2 then piece_if text from r.stop (piece_if text (suc r.stop) r.past []) else piece_if text from r.past []
+    if r.line_end - r.content_end == 2 then piece_if text from r.content_end (piece_if text (suc r.content_end) r.line_end []) else piece_if text from r.line_end []
 
 -- how many columns in front are left of a tab of which a prefix took a part
 abbrev pub is_left : Column → Bool
@@ -235,7 +235,7 @@ spaces_if (suc n) at ps = record { owned = true; bytes = replicate (suc n) 32; s
 
 -- a line of code or HTML without prefixes
 abbrev pub verbatim_line : List ℕ → List Column → Row → List Piece
-verbatim_line text cs r = spaces_if (left_columns cs) (first_place r.stop cs) (plain_line text (first_place r.stop cs) r)
+verbatim_line text cs r = spaces_if (left_columns cs) (first_place r.content_end cs) (plain_line text (first_place r.content_end cs) r)
 
 -- pieces of the text that touch are one
 abbrev pub touches : Piece → Piece → Bool

@@ -48,10 +48,10 @@ module _ (o : Options) (l : Lookup) (cell : Bool) (text : List ℕ) (here : Curs
   no-texts e = ap (λ (s : InlineState). s.texts.items) e ∙ sym (append-nil old.texts.items)
 
   -- ## Line breaks
-  break-item : (texts : List CowStr) (slot : Slot) (hard : Bool) (stop at end : ℕ)
-      → slot ≡ record { kind = if hard then kind.HardBreak else kind.SoftBreak; start = if hard then stop else at; end = end }
-      → IsItem cell text texts (record { kind = if hard then HardBreak else SoftBreak; start = if hard then stop else at; end = end }) slot
-  break-item texts slot hard stop at end e = record {
+  break-item : (texts : List CowStr) (slot : Slot) (hard : Bool) (text_end at end : ℕ)
+      → slot ≡ record { kind = if hard then kind.HardBreak else kind.SoftBreak; start = if hard then text_end else at; end = end }
+      → IsItem cell text texts (record { kind = if hard then HardBreak else SoftBreak; start = if hard then text_end else at; end = end }) slot
+  break-item texts slot hard text_end at end e = record {
     start = ap (λ (s : Slot). s.start) e;
     end = ap (λ (s : Slot). s.end) e;
     says = says hard (slot.kind) (ap (λ (s : Slot). s.kind) e);
@@ -69,21 +69,21 @@ module _ (o : Options) (l : Lookup) (cell : Bool) (text : List ℕ) (here : Curs
   no-text true = refl
   no-text false = refl
 
-  pub break-appends : (stop : ℕ) (found : find.LineBreak) (slot : Slot) (hard : Bool)
-      → here.pending ≤ stop → stop ≤ here.at → here.at < length text → (here.pending < stop → is_blank_byte (get_or text (stop - 1) 0) ≡ false)
-      → ((k : ℕ) → stop ≤ k → k < here.at → is_blank_byte (get_or text k 0) ≡ true) → (get_or text here.at 0 ≡ 10) ⊎ (get_or text here.at 0 ≡ 13)
+  pub break-appends : (text_end : ℕ) (found : find.LineBreak) (slot : Slot) (hard : Bool)
+      → here.pending ≤ text_end → text_end ≤ here.at → here.at < length text → (here.pending < text_end → is_blank_byte (get_or text (text_end - 1) 0) ≡ false)
+      → ((k : ℕ) → text_end ≤ k → k < here.at → is_blank_byte (get_or text k 0) ≡ true) → (get_or text here.at 0 ≡ 10) ⊎ (get_or text here.at 0 ≡ 13)
       → option_map (shown_break text here.at) (Some found) ≡ line_break_in (drop here.at text) → IsBreakAt text here.at found
-      → hard ≡ ends_with_two_spaces (slice text stop here.at)
-      → slot ≡ record { kind = if hard then kind.HardBreak else kind.SoftBreak; start = if hard then stop else here.at; end = found.end }
-      → next.at ≡ read_on text slot.end → next.pending ≡ next.at → Puts here.pending stop slot old.slots.items new.slots.items → new ≡ record old { slots = new.slots }
+      → hard ≡ ends_with_two_spaces (slice text text_end here.at)
+      → slot ≡ record { kind = if hard then kind.HardBreak else kind.SoftBreak; start = if hard then text_end else here.at; end = found.end }
+      → next.at ≡ read_on text slot.end → next.pending ≡ next.at → Puts here.pending text_end slot old.slots.items new.slots.items → new ≡ record old { slots = new.slots }
       → Appends o l cell text here old new next
-  break-appends stop found slot hard behind before lt first blanks ends value places is-hard is at pending slots others =
-      let two : Bool = ends_with_two_spaces (slice text stop here.at) in
-      let slot-is = ap (λ z. record { kind = if z then kind.HardBreak else kind.SoftBreak; start = if z then stop else here.at; end = found.end }) is-hard in
+  break-appends text_end found slot hard behind before lt first blanks ends value places is-hard is at pending slots others =
+      let two : Bool = ends_with_two_spaces (slice text text_end here.at) in
+      let slot-is = ap (λ z. record { kind = if z then kind.HardBreak else kind.SoftBreak; start = if z then text_end else here.at; end = found.end }) is-hard in
       let a = places.behind in let b = places.ordered in let w = places.ends.0 in
       record {
-        from = stop;
-        item = record { kind = if two then HardBreak else SoftBreak; start = if two then stop else here.at; end = found.end };
+        from = text_end;
+        item = record { kind = if two then HardBreak else SoftBreak; start = if two then text_end else here.at; end = found.end };
         slot = slot;
         behind = behind;
         before = before;
@@ -91,13 +91,13 @@ module _ (o : Options) (l : Lookup) (cell : Bool) (text : List ℕ) (here : Curs
         there = inr (no-content (get_or text here.at 0) ends, first);
         own = no-text two;
         token =
-            line-token o l cell text stop here.at found.end before lt (let q : here.at ≤ found.end = omega (arith, a, b) in q) w blanks ends (found-at-ending text here.at lt found ends value)
-            ∙ ap (Stands (record { kind = if two then HardBreak else SoftBreak; start = if two then stop else here.at; end = found.end })) (sym (at ∙ ap (λ (s : Slot). read_on text s.end) is));
+            line-token o l cell text text_end here.at found.end before lt (let q : here.at ≤ found.end = omega (arith, a, b) in q) w blanks ends (found-at-ending text here.at lt found ends value)
+            ∙ ap (Stands (record { kind = if two then HardBreak else SoftBreak; start = if two then text_end else here.at; end = found.end })) (sym (at ∙ ap (λ (s : Slot). read_on text s.end) is));
         pending = pending;
         slots = slots;
         owned = [];
         texts = no-texts others;
-        is = break-item new.texts.items slot two stop here.at found.end (is ∙ slot-is);
+        is = break-item new.texts.items slot two text_end here.at found.end (is ∙ slot-is);
         others = slots-alone old new others;
       }
 
@@ -294,14 +294,14 @@ module _ (o : Options) (l : Lookup) (cell : Bool) (text : List ℕ) (here : Curs
       }
 
 -- in the cell of a table, before another backslash and a pipe
-module _ (o : Options) (l : Lookup) (cell : Bool) (text : List ℕ) (here : Cursor) (old new : InlineState) (escaped end past : ℕ) where
+module _ (o : Options) (l : Lookup) (cell : Bool) (text : List ℕ) (here : Cursor) (old new : InlineState) (escaped end resume : ℕ) where
   pub pipe-makes : here.at < length text → get_or text here.at 0 ≡ 92 → None ≡ line_break_in (drop here.at text)
-      → escaped ≡ here.at + 1 → end ≡ escaped + 1 → past ≡ end + 1 → cell ≡ true → starts piped (drop escaped text) ≡ true
+      → escaped ≡ here.at + 1 → end ≡ escaped + 1 → resume ≡ end + 1 → cell ≡ true → starts piped (drop escaped text) ≡ true
       → PushesText here.pending here.at old.slots.items new.slots.items → new ≡ record old { slots = new.slots }
-      → EscapesPipe o l cell text here old new (record { pending = end; at = past })
+      → EscapesPipe o l cell text here old new (record { pending = end; at = resume })
   pipe-makes lt is none e f g in-cell pipe slots others =
       let two : end ≡ here.at + 2 = omega (arith, e, f) in
-      let three : past ≡ here.at + 3 = omega (arith, two, g) in
+      let three : resume ≡ here.at + 3 = omega (arith, two, g) in
       record {
         cell = in-cell;
         pipe = ap (λ s. starts piped (drop s text)) (sym e) ∙ pipe;

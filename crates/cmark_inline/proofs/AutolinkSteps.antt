@@ -6,7 +6,7 @@ use Rattle.std.proofs.lemmas.Bool.{and_parts, leb-true, false_from_ne_true}
 use Rattle.std.proofs.lemmas.List.{length-take-le, get_or-drop}
 use Rattle.cmark_grammar.specs.Autolinks.{autolink_in, has_scheme, is_uri_byte, closed_by}
 use Rattle.cmark_grammar.specs.Letters.{first_is, is_letter}
-use Rattle.cmark_grammar.specs.LinkDefinitions.{Found}
+use Rattle.cmark_grammar.specs.LinkDefinitions.{Parsed}
 use Rattle.cmark_grammar.specs.Tokens.{slice}
 use Rattle.cmark_scan_parts.specs.Shown.{Part, cut_at}
 use Rattle.cmark_inline.specs.Tokens.{shown_autolink}
@@ -35,7 +35,7 @@ some-first [] e = absurd (true≢false (sym e))
 some-first (b ∷ bs) e = let n : prefix_len is_uri_byte (b ∷ bs) ≡ 1 + prefix_len is_uri_byte bs = ap (λ t. cond t (1 + prefix_len is_uri_byte bs) 0) (letter-byte b e) in omega (arith, n)
 
 -- so many bytes stand between the brackets
-record IsClosed (bs : List ℕ) (found : Found) : Type 0 where
+record IsClosed (bs : List ℕ) (found : Parsed) : Type 0 where
   size : ℕ
   some : 0 < size
   within : size < length bs
@@ -43,7 +43,7 @@ record IsClosed (bs : List ℕ) (found : Found) : Type 0 where
   bytes : found.bytes ≡ take size bs
   behind : found.behind ≡ drop (suc size) bs
 
-closed : (bs : List ℕ) (found : Found) → autolink_in bs ≡ Some found → IsClosed bs found
+closed : (bs : List ℕ) (found : Parsed) → autolink_in bs ≡ Some found → IsClosed bs found
 closed bs found e = by-scheme (has_scheme bs) refl
   where
     n : ℕ
@@ -52,10 +52,10 @@ closed bs found e = by-scheme (has_scheme bs) refl
     none : {A : Type 0} (x : A) → None ≡ Some x → ⊥
     none x q = let z : ⊥ = cc in z
 
-    same : (x y : Found) → Some x ≡ Some y → y ≡ x
+    same : (x y : Parsed) → Some x ≡ Some y → y ≡ x
     same x y q = let z : y ≡ x = cc in z
 
-    made : Found
+    made : Parsed
     made = record { bytes = take n bs; behind = drop (suc n) bs }
 
     places : (k m : ℕ) → (k < m) ⊎ (m ≤ k)
@@ -73,8 +73,8 @@ closed bs found e = by-scheme (has_scheme bs) refl
       some = some-first bs letter;
       within = lt;
       closer = eqb-true (get_or bs n 0) 62 (sym (first-at (λ b. b == 62) bs n lt) ∙ closes);
-      bytes = ap (λ (f : Found). f.bytes) is;
-      behind = ap (λ (f : Found). f.behind) is;
+      bytes = ap (λ (f : Parsed). f.bytes) is;
+      behind = ap (λ (f : Parsed). f.behind) is;
     }
     by-place letter closes is (inr le) = absurd (true≢false (sym closes ∙ first-past (λ b. b == 62) bs n le))
 
@@ -106,7 +106,7 @@ autolink-at text at part le e = go (autolink_in (drop (at + 1) text)) refl e
     same : (x y : Part) → Some x ≡ Some y → x ≡ y
     same x y q = let z : x ≡ y = cc in z
 
-    go : (m : Option Found) → autolink_in bs ≡ m → Some part ≡ cut_at (at + 1) m → IsAutolinkAt text at part.end
+    go : (m : Option Parsed) → autolink_in bs ≡ m → Some part ≡ cut_at (at + 1) m → IsAutolinkAt text at part.end
     go None q f = absurd (none part f)
     go (Some found) q f =
         let c = closed bs found q in

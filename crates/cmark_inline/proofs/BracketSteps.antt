@@ -9,35 +9,35 @@ use Rattle.cmark_grammar.specs.BracketStates.{Opener}
 use Rattle.cmark_grammar.specs.Items as items
 use Rattle.cmark_grammar.specs.OpenBrackets.{Taken, one_nearer, nearest, used_up, touches, doubled_behind, undoubled, tried}
 use Rattle.cmark_inline.specs.declared.bracket.Bracket.{Bracket}
-use Rattle.cmark_inline.specs.BracketViews.{IsFresh, ArePlaced, IsPlaced, past_opening, with_last, standing_of, pairs_behind, pairs_of, AreInactive, PairsInactive, AreDoubledInactive}
+use Rattle.cmark_inline.specs.BracketViews.{IsFresh, ArePlaced, IsPlaced, behind_opening, with_last, standing_of, pairs_behind, pairs_of, AreInactive, PairsInactive, AreDoubledInactive}
 use Rattle.cmark_inline.specs.Doubled.{DropsBehind}
 
 -- ## The nearest one that stands
 
 -- a closing bracket uses up this one, behind which so many more are on the stack
-pub record TakesOne (place : ℕ → ℕ) (os : List Opener) (bs : List Bracket) (shut : ℕ) (t : Taken) : Type 0 where
+pub record TakesOne (place : ℕ → ℕ) (os : List Opener) (bs : List Bracket) (inactive_below : ℕ) (t : Taken) : Type 0 where
   pub bracket : Bracket
   pub there : drop t.nearer bs ≡ bracket ∷ drop (suc t.nearer) bs
   pub placed : IsPlaced place t.opener bracket
   pub standing : standing_of os bs ≡ standing_of (used_up os) bs ++ (bracket ∷ [])
-  pub inactive : t.opener.is_inactive ≡ (not bracket.is_image && nat_lt (length (standing_of (used_up os) bs)) shut)
+  pub inactive : t.opener.is_inactive ≡ (not bracket.is_image && nat_lt (length (standing_of (used_up os) bs)) inactive_below)
   pub behind : drop (suc t.nearer) (used_up os) ≡ drop (suc t.nearer) os
   pub rest : standing_of (drop (suc t.nearer) os) (drop (suc t.nearer) bs) ≡ standing_of (used_up os) bs
 
-abbrev pub Takes : (place : ℕ → ℕ) → (os : List Opener) → (bs : List Bracket) → (shut : ℕ) → Option Taken → Type 0
-Takes place os bs shut None = (standing_of os bs ≡ []) × (standing_of (used_up os) bs ≡ [])
-Takes place os bs shut (Some t) = TakesOne place os bs shut t
+abbrev pub Takes : (place : ℕ → ℕ) → (os : List Opener) → (bs : List Bracket) → (inactive_below : ℕ) → Option Taken → Type 0
+Takes place os bs inactive_below None = (standing_of os bs ≡ []) × (standing_of (used_up os) bs ≡ [])
+Takes place os bs inactive_below (Some t) = TakesOne place os bs inactive_below t
 
-pub takes : (place : ℕ → ℕ) (at : ℕ) (os : List Opener) (bs : List Bracket) (shut : ℕ) → ArePlaced place at os bs → AreInactive shut os bs → Takes place os bs shut (nearest os)
-takes place at [] [] shut h k = (refl, refl)
-takes place at [] (b ∷ bs) shut h k = absurd h
-takes place at (o ∷ os) [] shut h k = absurd h
-takes place at (o ∷ os) (b ∷ bs) shut h k = go o.stands refl (takes place b.start os bs shut h.2 k.1)
+pub takes : (place : ℕ → ℕ) (at : ℕ) (os : List Opener) (bs : List Bracket) (inactive_below : ℕ) → ArePlaced place at os bs → AreInactive inactive_below os bs → Takes place os bs inactive_below (nearest os)
+takes place at [] [] inactive_below h k = (refl, refl)
+takes place at [] (b ∷ bs) inactive_below h k = absurd h
+takes place at (o ∷ os) [] inactive_below h k = absurd h
+takes place at (o ∷ os) (b ∷ bs) inactive_below h k = go o.stands refl (takes place b.start os bs inactive_below h.2 k.1)
   where
     Goal : Bool → Type 0
-    Goal z = Takes place (o ∷ os) (b ∷ bs) shut (if z then Some (record { nearer = 0; opener = o }) else one_nearer (nearest os))
+    Goal z = Takes place (o ∷ os) (b ∷ bs) inactive_below (if z then Some (record { nearer = 0; opener = o }) else one_nearer (nearest os))
 
-    later : o.stands ≡ false → (t : Option Taken) → Takes place os bs shut t → Takes place (o ∷ os) (b ∷ bs) shut (one_nearer t)
+    later : o.stands ≡ false → (t : Option Taken) → Takes place os bs inactive_below t → Takes place (o ∷ os) (b ∷ bs) inactive_below (one_nearer t)
     later e None i = (ap (λ z. with_last z b (standing_of os bs)) e ∙ i.0, ap (λ z. standing_of (if z then record o { stands = false } ∷ os else o ∷ used_up os) (b ∷ bs)) e ∙ ap (λ z. with_last z b (standing_of (used_up os) bs)) e ∙ i.1)
     later e (Some t) i =
         let same : standing_of (used_up (o ∷ os)) (b ∷ bs) ≡ standing_of (used_up os) bs = ap (λ z. standing_of (if z then record o { stands = false } ∷ os else o ∷ used_up os) (b ∷ bs)) e ∙ ap (λ z. with_last z b (standing_of (used_up os) bs)) e in
@@ -46,12 +46,12 @@ takes place at (o ∷ os) (b ∷ bs) shut h k = go o.stands refl (takes place b.
           there = i.there;
           placed = i.placed;
           standing = ap (λ z. with_last z b (standing_of os bs)) e ∙ i.standing ∙ ap (λ l. l ++ (i.bracket ∷ [])) (sym same);
-          inactive = i.inactive ∙ ap (λ l. not i.bracket.is_image && nat_lt (length l) shut) (sym same);
+          inactive = i.inactive ∙ ap (λ l. not i.bracket.is_image && nat_lt (length l) inactive_below) (sym same);
           behind = ap (λ z. drop (suc (suc t.nearer)) (if z then record o { stands = false } ∷ os else o ∷ used_up os)) e ∙ i.behind;
           rest = i.rest ∙ sym same;
         }
 
-    go : (z : Bool) → o.stands ≡ z → Takes place os bs shut (nearest os) → Goal z
+    go : (z : Bool) → o.stands ≡ z → Takes place os bs inactive_below (nearest os) → Goal z
     go true e i =
         let same : standing_of (used_up (o ∷ os)) (b ∷ bs) ≡ standing_of os bs = ap (λ z. standing_of (if z then record o { stands = false } ∷ os else o ∷ used_up os) (b ∷ bs)) e in
         record {
@@ -59,7 +59,7 @@ takes place at (o ∷ os) (b ∷ bs) shut h k = go o.stands refl (takes place b.
           there = refl;
           placed = h.0;
           standing = ap (λ z. with_last z b (standing_of os bs)) e ∙ ap (λ l. l ++ (b ∷ [])) (sym same);
-          inactive = k.0 e ∙ ap (λ l. not b.is_image && nat_lt (length l) shut) (sym same);
+          inactive = k.0 e ∙ ap (λ l. not b.is_image && nat_lt (length l) inactive_below) (sym same);
           behind = ap (λ z. drop 1 (if z then record o { stands = false } ∷ os else o ∷ used_up os)) e;
           rest = sym same;
         }
@@ -77,20 +77,20 @@ used-placed place at (o ∷ os) (b ∷ bs) h = go o.stands (used-placed place b.
     go false i = (h.0, h.1, i)
 
 -- of fewer brackets on the stack none but those are inactive
-fewer : (x : Bool) (n shut m : ℕ) → n < m → (x && nat_lt n shut) ≡ (x && nat_lt n (min shut m))
-fewer false n shut m lt = refl
-fewer true n shut m lt = go (nat_lt n shut) refl (nat_lt n (min shut m)) refl
+fewer : (x : Bool) (n inactive_below m : ℕ) → n < m → (x && nat_lt n inactive_below) ≡ (x && nat_lt n (min inactive_below m))
+fewer false n inactive_below m lt = refl
+fewer true n inactive_below m lt = go (nat_lt n inactive_below) refl (nat_lt n (min inactive_below m)) refl
   where
-    go : (y : Bool) → nat_lt n shut ≡ y → (z : Bool) → nat_lt n (min shut m) ≡ z → y ≡ z
+    go : (y : Bool) → nat_lt n inactive_below ≡ y → (z : Bool) → nat_lt n (min inactive_below m) ≡ z → y ≡ z
     go true d true e = refl
     go false d false e = refl
-    go true d false e = absurd (let a = ltb-true n shut d in let b = ltb-false n (min shut m) e in omega (arith, a, b, lt))
-    go false d true e = absurd (let a = ltb-false n shut d in let b = ltb-true n (min shut m) e in omega (arith, a, b))
+    go true d false e = absurd (let a = ltb-true n inactive_below d in let b = ltb-false n (min inactive_below m) e in omega (arith, a, b, lt))
+    go false d true e = absurd (let a = ltb-false n inactive_below d in let b = ltb-true n (min inactive_below m) e in omega (arith, a, b))
 
-pub inactive-fewer : (os : List Opener) (bs : List Bracket) (shut m : ℕ) → length (standing_of os bs) ≤ m → AreInactive shut os bs → AreInactive (min shut m) os bs
-inactive-fewer [] bs shut m le h = tt
-inactive-fewer (o ∷ os) [] shut m le h = tt
-inactive-fewer (o ∷ os) (b ∷ bs) shut m le h = (λ e. h.0 e ∙ fewer (not b.is_image) (length (standing_of os bs)) shut m (one e), inactive-fewer os bs shut m (less o.stands le) h.1)
+pub inactive-fewer : (os : List Opener) (bs : List Bracket) (inactive_below m : ℕ) → length (standing_of os bs) ≤ m → AreInactive inactive_below os bs → AreInactive (min inactive_below m) os bs
+inactive-fewer [] bs inactive_below m le h = tt
+inactive-fewer (o ∷ os) [] inactive_below m le h = tt
+inactive-fewer (o ∷ os) (b ∷ bs) inactive_below m le h = (λ e. h.0 e ∙ fewer (not b.is_image) (length (standing_of os bs)) inactive_below m (one e), inactive-fewer os bs inactive_below m (less o.stands le) h.1)
   where
     grown : length (standing_of os bs ++ (b ∷ [])) ≡ suc (length (standing_of os bs))
     grown = length-append (standing_of os bs) (b ∷ []) ∙ (let q : length (standing_of os bs) + 1 ≡ suc (length (standing_of os bs)) = omega arith in q)
@@ -103,20 +103,20 @@ inactive-fewer (o ∷ os) (b ∷ bs) shut m le h = (λ e. h.0 e ∙ fewer (not b
     less false l = l
 
 -- what is used up stands no more
-pub inactive-used : (os : List Opener) (bs : List Bracket) (shut : ℕ) → AreInactive shut os bs → AreInactive shut (used_up os) bs
-inactive-used [] bs shut h = tt
-inactive-used (o ∷ os) [] shut h = go o.stands
+pub inactive-used : (os : List Opener) (bs : List Bracket) (inactive_below : ℕ) → AreInactive inactive_below os bs → AreInactive inactive_below (used_up os) bs
+inactive-used [] bs inactive_below h = tt
+inactive-used (o ∷ os) [] inactive_below h = go o.stands
   where
-    go : (z : Bool) → AreInactive shut (if z then record o { stands = false } ∷ os else o ∷ used_up os) []
+    go : (z : Bool) → AreInactive inactive_below (if z then record o { stands = false } ∷ os else o ∷ used_up os) []
     go true = tt
     go false = tt
-inactive-used (o ∷ os) (b ∷ bs) shut h = go o.stands refl (inactive-used os bs shut h.1)
+inactive-used (o ∷ os) (b ∷ bs) inactive_below h = go o.stands refl (inactive-used os bs inactive_below h.1)
   where
-    go : (z : Bool) → o.stands ≡ z → AreInactive shut (used_up os) bs → AreInactive shut (if z then record o { stands = false } ∷ os else o ∷ used_up os) (b ∷ bs)
+    go : (z : Bool) → o.stands ≡ z → AreInactive inactive_below (used_up os) bs → AreInactive inactive_below (if z then record o { stands = false } ∷ os else o ∷ used_up os) (b ∷ bs)
     go true e i = ((λ f. absurd (true≢false (sym f))), h.1)
     go false e i = ((λ f. absurd (true≢false (sym f ∙ e))), i)
 
-pub opening-up : (z : Bool) (start : ℕ) → start < past_opening z start
+pub opening-up : (z : Bool) (start : ℕ) → start < behind_opening z start
 opening-up true start = omega arith
 opening-up false start = omega arith
 
@@ -156,39 +156,39 @@ used-pairs (o ∷ os) (b ∷ bs) = go o.stands
     go true = pairs-same o (record o { stands = false }) b.inside os bs refl
     go false = used_behind o b.inside os bs
 
-pairs_inactive_same : (shut : ℕ) (second other : Opener) (inside : ℕ) (os : List Opener) (bs : List Bracket) → other.bracket ≡ second.bracket → PairsInactive shut second inside os bs → PairsInactive shut other inside os bs
-pairs_inactive_same shut second other inside [] bs same h = tt
-pairs_inactive_same shut second other inside (o ∷ os) [] same h = tt
-pairs_inactive_same shut second other inside (o ∷ os) (b ∷ bs) same h = ((λ e. h.0 (ap (λ (t : items.Bracket). o.doubles && (not t.is_image && (t.start == o.bracket.end))) (sym same) ∙ e)), h.1)
+pairs_inactive_same : (inactive_below : ℕ) (second other : Opener) (inside : ℕ) (os : List Opener) (bs : List Bracket) → other.bracket ≡ second.bracket → PairsInactive inactive_below second inside os bs → PairsInactive inactive_below other inside os bs
+pairs_inactive_same inactive_below second other inside [] bs same h = tt
+pairs_inactive_same inactive_below second other inside (o ∷ os) [] same h = tt
+pairs_inactive_same inactive_below second other inside (o ∷ os) (b ∷ bs) same h = ((λ e. h.0 (ap (λ (t : items.Bracket). o.doubles && (not t.is_image && (t.start == o.bracket.end))) (sym same) ∙ e)), h.1)
 
-inactive_used_behind : (shut : ℕ) (second : Opener) (inside : ℕ) (os : List Opener) (bs : List Bracket) → PairsInactive shut second inside os bs → PairsInactive shut second inside (used_up os) bs
-inactive_used_behind shut second inside [] bs h = tt
-inactive_used_behind shut second inside (o ∷ os) [] h = go o.stands
+inactive_used_behind : (inactive_below : ℕ) (second : Opener) (inside : ℕ) (os : List Opener) (bs : List Bracket) → PairsInactive inactive_below second inside os bs → PairsInactive inactive_below second inside (used_up os) bs
+inactive_used_behind inactive_below second inside [] bs h = tt
+inactive_used_behind inactive_below second inside (o ∷ os) [] h = go o.stands
   where
-    go : (z : Bool) → PairsInactive shut second inside (if z then record o { stands = false } ∷ os else o ∷ used_up os) []
+    go : (z : Bool) → PairsInactive inactive_below second inside (if z then record o { stands = false } ∷ os else o ∷ used_up os) []
     go true = tt
     go false = tt
-inactive_used_behind shut second inside (o ∷ os) (b ∷ bs) h = go o.stands (inactive_used_behind shut o b.inside os bs h.1)
+inactive_used_behind inactive_below second inside (o ∷ os) (b ∷ bs) h = go o.stands (inactive_used_behind inactive_below o b.inside os bs h.1)
   where
-    go : (z : Bool) → PairsInactive shut o b.inside (used_up os) bs → PairsInactive shut second inside (if z then record o { stands = false } ∷ os else o ∷ used_up os) (b ∷ bs)
-    go true i = ((λ e. h.0 e ∙ ap (λ l. not b.is_image && nat_lt (length l) shut) (sym (pairs-same o (record o { stands = false }) b.inside os bs refl))), pairs_inactive_same shut o (record o { stands = false }) b.inside os bs refl h.1)
-    go false i = ((λ e. h.0 e ∙ ap (λ l. not b.is_image && nat_lt (length l) shut) (sym (used_behind o b.inside os bs))), i)
+    go : (z : Bool) → PairsInactive inactive_below o b.inside (used_up os) bs → PairsInactive inactive_below second inside (if z then record o { stands = false } ∷ os else o ∷ used_up os) (b ∷ bs)
+    go true i = ((λ e. h.0 e ∙ ap (λ l. not b.is_image && nat_lt (length l) inactive_below) (sym (pairs-same o (record o { stands = false }) b.inside os bs refl))), pairs_inactive_same inactive_below o (record o { stands = false }) b.inside os bs refl h.1)
+    go false i = ((λ e. h.0 e ∙ ap (λ l. not b.is_image && nat_lt (length l) inactive_below) (sym (used_behind o b.inside os bs))), i)
 
-pub doubled-used : (shut : ℕ) (os : List Opener) (bs : List Bracket) → AreDoubledInactive shut os bs → AreDoubledInactive shut (used_up os) bs
-doubled-used shut [] bs h = tt
-doubled-used shut (o ∷ os) [] h = go o.stands
+pub doubled-used : (inactive_below : ℕ) (os : List Opener) (bs : List Bracket) → AreDoubledInactive inactive_below os bs → AreDoubledInactive inactive_below (used_up os) bs
+doubled-used inactive_below [] bs h = tt
+doubled-used inactive_below (o ∷ os) [] h = go o.stands
   where
-    go : (z : Bool) → AreDoubledInactive shut (if z then record o { stands = false } ∷ os else o ∷ used_up os) []
+    go : (z : Bool) → AreDoubledInactive inactive_below (if z then record o { stands = false } ∷ os else o ∷ used_up os) []
     go true = tt
     go false = tt
-doubled-used shut (o ∷ os) (b ∷ bs) h = go o.stands
+doubled-used inactive_below (o ∷ os) (b ∷ bs) h = go o.stands
   where
-    go : (z : Bool) → AreDoubledInactive shut (if z then record o { stands = false } ∷ os else o ∷ used_up os) (b ∷ bs)
-    go true = pairs_inactive_same shut o (record o { stands = false }) b.inside os bs refl h
-    go false = inactive_used_behind shut o b.inside os bs h
+    go : (z : Bool) → AreDoubledInactive inactive_below (if z then record o { stands = false } ∷ os else o ∷ used_up os) (b ∷ bs)
+    go true = pairs_inactive_same inactive_below o (record o { stands = false }) b.inside os bs refl h
+    go false = inactive_used_behind inactive_below o b.inside os bs h
 
 -- the doubled one that is tried: its first bracket, with another one directly behind it
-pub record TriesOne (place : ℕ → ℕ) (most : ℕ) (second : Opener) (inside : ℕ) (os : List Opener) (bs : List Bracket) (shut : ℕ) (t : Taken) : Type 0 where
+pub record TriesOne (place : ℕ → ℕ) (most : ℕ) (second : Opener) (inside : ℕ) (os : List Opener) (bs : List Bracket) (inactive_below : ℕ) (t : Taken) : Type 0 where
   pub more : ℕ
   pub nearer_is : t.nearer ≡ suc more
   pub bracket : Bracket
@@ -199,12 +199,12 @@ pub record TriesOne (place : ℕ → ℕ) (most : ℕ) (second : Opener) (inside
   pub meets : place inner ≡ t.opener.bracket.end
   pub next : place (inner + 1) ≡ suc (place inner)
   pub pairs : pairs_behind second inside os bs ≡ pairs_behind second inside (tried more os) bs ++ (record bracket { inside = inner + 1 } ∷ [])
-  pub inactive : t.opener.is_inactive ≡ (not bracket.is_image && nat_lt (length (pairs_behind second inside (tried more os) bs)) shut)
-  pub left : PairsInactive shut second inside (tried more os) bs
+  pub inactive : t.opener.is_inactive ≡ (not bracket.is_image && nat_lt (length (pairs_behind second inside (tried more os) bs)) inactive_below)
+  pub left : PairsInactive inactive_below second inside (tried more os) bs
 
-abbrev pub Tries : (place : ℕ → ℕ) → (most : ℕ) → (second : Opener) → (inside : ℕ) → (os : List Opener) → (bs : List Bracket) → (shut : ℕ) → Option Taken → Type 0
-Tries place most second inside os bs shut None = pairs_behind second inside os bs ≡ []
-Tries place most second inside os bs shut (Some t) = TriesOne place most second inside os bs shut t
+abbrev pub Tries : (place : ℕ → ℕ) → (most : ℕ) → (second : Opener) → (inside : ℕ) → (os : List Opener) → (bs : List Bracket) → (inactive_below : ℕ) → Option Taken → Type 0
+Tries place most second inside os bs inactive_below None = pairs_behind second inside os bs ≡ []
+Tries place most second inside os bs inactive_below (Some t) = TriesOne place most second inside os bs inactive_below t
 
 and-left : (a b : Bool) → (a && b) ≡ true → a ≡ true
 and-left true b e = refl
@@ -218,15 +218,15 @@ not-true : (a : Bool) → not a ≡ true → a ≡ false
 not-true true e = absurd (true≢false (sym e))
 not-true false e = refl
 
-pub tries : (place : ℕ → ℕ) (at most : ℕ) (second : Opener) (inner : Bracket) (os : List Opener) (bs : List Bracket) (shut : ℕ) → IsPlaced place second inner → ArePlaced place at os bs → PairsInactive shut second inner.inside os bs → inner.inside ≤ most → at ≤ most
-    → Tries place most second inner.inside os bs shut (doubled_behind second os)
-tries place at most second inner [] [] shut p h k low up = refl
-tries place at most second inner [] (b ∷ bs) shut p h k low up = refl
-tries place at most second inner (o ∷ os) [] shut p h k low up = absurd h
-tries place at most second inner (o ∷ os) (b ∷ bs) shut p h k low up =
+pub tries : (place : ℕ → ℕ) (at most : ℕ) (second : Opener) (inner : Bracket) (os : List Opener) (bs : List Bracket) (inactive_below : ℕ) → IsPlaced place second inner → ArePlaced place at os bs → PairsInactive inactive_below second inner.inside os bs → inner.inside ≤ most → at ≤ most
+    → Tries place most second inner.inside os bs inactive_below (doubled_behind second os)
+tries place at most second inner [] [] inactive_below p h k low up = refl
+tries place at most second inner [] (b ∷ bs) inactive_below p h k low up = refl
+tries place at most second inner (o ∷ os) [] inactive_below p h k low up = absurd h
+tries place at most second inner (o ∷ os) (b ∷ bs) inactive_below p h k low up =
     let w = h.1 in
     let further : b.start < b.inside = subst (λ m. b.start < m) (sym h.0.in_text) (opening-up b.is_image b.start) in
-    go (o.doubles && touches second o) refl (tries place b.start most o b os bs shut h.0 h.2 k.1 (let q : b.inside ≤ most = omega (arith, w, up) in q) (let q : b.start ≤ most = omega (arith, w, up, further) in q))
+    go (o.doubles && touches second o) refl (tries place b.start most o b os bs inactive_below h.0 h.2 k.1 (let q : b.inside ≤ most = omega (arith, w, up) in q) (let q : b.start ≤ most = omega (arith, w, up, further) in q))
   where
     entry : Bracket
     entry = record b { inside = inner.inside }
@@ -234,7 +234,7 @@ tries place at most second inner (o ∷ os) (b ∷ bs) shut p h k low up =
     front : List Bracket → Bool → List Bracket
     front l z = with_last z entry l
 
-    later : (o.doubles && touches second o) ≡ false → (t : Option Taken) → Tries place most o b.inside os bs shut t → Tries place most second inner.inside (o ∷ os) (b ∷ bs) shut (one_nearer t)
+    later : (o.doubles && touches second o) ≡ false → (t : Option Taken) → Tries place most o b.inside os bs inactive_below t → Tries place most second inner.inside (o ∷ os) (b ∷ bs) inactive_below (one_nearer t)
     later e None i = ap (front (pairs_behind o b.inside os bs)) e ∙ i
     later e (Some t) i =
         let same : pairs_behind second inner.inside (tried (suc i.more) (o ∷ os)) (b ∷ bs) ≡ pairs_behind o b.inside (tried i.more os) bs = ap (front (pairs_behind o b.inside (tried i.more os) bs)) e in
@@ -249,18 +249,18 @@ tries place at most second inner (o ∷ os) (b ∷ bs) shut p h k low up =
           meets = i.meets;
           next = i.next;
           pairs = ap (front (pairs_behind o b.inside os bs)) e ∙ i.pairs ∙ ap (λ l. l ++ (record i.bracket { inside = i.inner + 1 } ∷ [])) (sym same);
-          inactive = i.inactive ∙ ap (λ l. not i.bracket.is_image && nat_lt (length l) shut) (sym same);
+          inactive = i.inactive ∙ ap (λ l. not i.bracket.is_image && nat_lt (length l) inactive_below) (sym same);
           left = ((λ f. absurd (true≢false (sym f ∙ e))), i.left);
         }
 
-    go : (z : Bool) → (o.doubles && touches second o) ≡ z → Tries place most o b.inside os bs shut (doubled_behind o os)
-        → Tries place most second inner.inside (o ∷ os) (b ∷ bs) shut (if z then Some (record { nearer = 1; opener = o }) else one_nearer (doubled_behind o os))
+    go : (z : Bool) → (o.doubles && touches second o) ≡ z → Tries place most o b.inside os bs inactive_below (doubled_behind o os)
+        → Tries place most second inner.inside (o ∷ os) (b ∷ bs) inactive_below (if z then Some (record { nearer = 1; opener = o }) else one_nearer (doubled_behind o os))
     go true e i =
         let t = and-right o.doubles (touches second o) e in
         let plain : second.bracket.is_image ≡ false = not-true second.bracket.is_image (and-left (not second.bracket.is_image) (second.bracket.start == o.bracket.end) t) in
         let image : inner.is_image ≡ false = sym (ap (λ (c : items.Bracket). c.is_image) p.bracket) ∙ plain in
         let meets : place inner.start ≡ o.bracket.end = sym (ap (λ (c : items.Bracket). c.start) p.bracket) ∙ eqb-true second.bracket.start o.bracket.end (and-right (not second.bracket.is_image) (second.bracket.start == o.bracket.end) t) in
-        let last : inner.inside ≡ inner.start + 1 = p.in_text ∙ ap (λ z. past_opening z inner.start) image in
+        let last : inner.inside ≡ inner.start + 1 = p.in_text ∙ ap (λ z. behind_opening z inner.start) image in
         let same : pairs_behind second inner.inside (undoubled o ∷ os) (b ∷ bs) ≡ pairs_behind o b.inside os bs = pairs-same o (undoubled o) b.inside os bs refl in
         record {
           more = 0;
@@ -271,10 +271,10 @@ tries place at most second inner (o ∷ os) (b ∷ bs) shut p h k low up =
           placed = h.0;
           before = subst (λ m. m ≤ most) last low;
           meets = meets;
-          next = ap place (sym last) ∙ p.in_source ∙ ap (λ z. past_opening z (place inner.start)) image ∙ (let q : place inner.start + 1 ≡ suc (place inner.start) = omega arith in q);
+          next = ap place (sym last) ∙ p.in_source ∙ ap (λ z. behind_opening z (place inner.start)) image ∙ (let q : place inner.start + 1 ≡ suc (place inner.start) = omega arith in q);
           pairs = ap (front (pairs_behind o b.inside os bs)) e ∙ ap (λ l. l ++ (entry ∷ [])) (sym same) ∙ ap (λ n. pairs_behind second inner.inside (undoubled o ∷ os) (b ∷ bs) ++ (record b { inside = n } ∷ [])) last;
-          inactive = k.0 e ∙ ap (λ l. not b.is_image && nat_lt (length l) shut) (sym same);
-          left = ((λ f. absurd (true≢false (sym f))), pairs_inactive_same shut o (undoubled o) b.inside os bs refl k.1);
+          inactive = k.0 e ∙ ap (λ l. not b.is_image && nat_lt (length l) inactive_below) (sym same);
+          left = ((λ f. absurd (true≢false (sym f))), pairs_inactive_same inactive_below o (undoubled o) b.inside os bs refl k.1);
         }
     go false e i = later e (doubled_behind o os) i
 
@@ -299,12 +299,12 @@ tried-rest (suc k) n [] bs = refl
 tried-rest (suc k) zero (o ∷ os) bs = refl
 tried-rest (suc k) (suc n) (o ∷ os) bs = tried-rest k n os bs
 
-pub inactive-tried : (n : ℕ) (os : List Opener) (bs : List Bracket) (shut : ℕ) → AreInactive shut os bs → AreInactive shut (tried n os) bs
-inactive-tried n [] bs shut h = tt
-inactive-tried zero (o ∷ os) [] shut h = tt
-inactive-tried (suc n) (o ∷ os) [] shut h = tt
-inactive-tried zero (o ∷ os) (b ∷ bs) shut h = h
-inactive-tried (suc n) (o ∷ os) (b ∷ bs) shut h = ((λ e. h.0 e ∙ ap (λ l. not b.is_image && nat_lt (length l) shut) (sym (tried-standing n os bs))), inactive-tried n os bs shut h.1)
+pub inactive-tried : (n : ℕ) (os : List Opener) (bs : List Bracket) (inactive_below : ℕ) → AreInactive inactive_below os bs → AreInactive inactive_below (tried n os) bs
+inactive-tried n [] bs inactive_below h = tt
+inactive-tried zero (o ∷ os) [] inactive_below h = tt
+inactive-tried (suc n) (o ∷ os) [] inactive_below h = tt
+inactive-tried zero (o ∷ os) (b ∷ bs) inactive_below h = h
+inactive-tried (suc n) (o ∷ os) (b ∷ bs) inactive_below h = ((λ e. h.0 e ∙ ap (λ l. not b.is_image && nat_lt (length l) inactive_below) (sym (tried-standing n os bs))), inactive-tried n os bs inactive_below h.1)
 
 -- ## Those behind the bracket that is taken
 
@@ -356,10 +356,10 @@ placed-lower place at more [] (b ∷ bs) le h = absurd h
 placed-lower place at more (o ∷ os) [] le h = absurd h
 placed-lower place at more (o ∷ os) (b ∷ bs) le h = (h.0, (let x = h.1 in let q : b.inside ≤ more = omega (arith, x, le) in q), h.2)
 
-pub fresh-past : (place : ℕ → ℕ) (at more shut : ℕ) (os : List Opener) (bs : List Bracket) → at < more → ArePlaced place at os bs → IsFresh more shut os bs
-fresh-past place at more shut [] bs lt h = tt
-fresh-past place at more shut (o ∷ os) [] lt h = tt
-fresh-past place at more shut (o ∷ os) (b ∷ bs) lt h = λ e. absurd (let x = h.1 in omega (arith, x, lt, e))
+pub fresh-past : (place : ℕ → ℕ) (at more inactive_below : ℕ) (os : List Opener) (bs : List Bracket) → at < more → ArePlaced place at os bs → IsFresh more inactive_below os bs
+fresh-past place at more inactive_below [] bs lt h = tt
+fresh-past place at more inactive_below (o ∷ os) [] lt h = tt
+fresh-past place at more inactive_below (o ∷ os) (b ∷ bs) lt h = λ e. absurd (let x = h.1 in omega (arith, x, lt, e))
 
 -- brackets that all end up to a place, and brackets that all end behind it
 abbrev pub AllUpTo : ℕ → List Bracket → Type 0

@@ -91,16 +91,16 @@ prefix-run p (b ∷ bs) (suc n) le all stop =
     ∙ (let i = prefix-run p bs n (let q : n ≤ length bs = omega (arith, le) in q) (λ k lt. all (suc k) (let q : suc k < suc n = omega (arith, lt) in q)) (λ lt. stop (let q : suc n < length (b ∷ bs) = omega (arith, lt) in q)) in
     let q : 1 + prefix_len p bs ≡ suc n = omega (arith, i) in q)
 
-pub run-size : (text bytes : List ℕ) (at end mark : ℕ) → bytes ≡ text → at < end → end ≤ length bytes → ((k : ℕ) → at ≤ k → k < end → get_or bytes k 0 ≡ mark) → (end < length bytes → (get_or bytes end 0 == mark) ≡ false)
+pub run-size : (text bytes : List ℕ) (at end delimiter : ℕ) → bytes ≡ text → at < end → end ≤ length bytes → ((k : ℕ) → at ≤ k → k < end → get_or bytes k 0 ≡ delimiter) → (end < length bytes → (get_or bytes end 0 == delimiter) ≡ false)
     → end ≡ at + prefix_len (λ b. b == get_or text at 0) (drop at text)
-run-size text bytes at end mark same lt le all stop =
-    let first : get_or bytes at 0 ≡ mark = all at (omega arith) lt in
+run-size text bytes at end delimiter same lt le all stop =
+    let first : get_or bytes at 0 ≡ delimiter = all at (omega arith) lt in
     let n : ℕ = end - at in
     let d = length-drop at bytes in
-    let i = prefix-run (λ b. b == mark) (drop at bytes) n (let q : n ≤ length (drop at bytes) = omega (arith, d, le, lt) in q)
-    (λ k h. ap (λ b. b == mark) (get_or-drop at bytes k 0 ∙ all (at + k) (let q : at ≤ at + k = omega arith in q) (let q : at + k < end = omega (arith, h, lt) in q)) ∙ eq-eqb mark mark refl)
-    (λ h. ap (λ b. b == mark) (get_or-drop at bytes n 0 ∙ ap (λ k. get_or bytes k 0) (let q : at + n ≡ end = omega (arith, lt) in q)) ∙ stop (let q : end < length bytes = omega (arith, h, d, lt) in q)) in
-    (let q : end ≡ at + prefix_len (λ b. b == mark) (drop at bytes) = omega (arith, i, lt) in q)
+    let i = prefix-run (λ b. b == delimiter) (drop at bytes) n (let q : n ≤ length (drop at bytes) = omega (arith, d, le, lt) in q)
+    (λ k h. ap (λ b. b == delimiter) (get_or-drop at bytes k 0 ∙ all (at + k) (let q : at ≤ at + k = omega arith in q) (let q : at + k < end = omega (arith, h, lt) in q)) ∙ eq-eqb delimiter delimiter refl)
+    (λ h. ap (λ b. b == delimiter) (get_or-drop at bytes n 0 ∙ ap (λ k. get_or bytes k 0) (let q : at + n ≡ end = omega (arith, lt) in q)) ∙ stop (let q : end < length bytes = omega (arith, h, d, lt) in q)) in
+    (let q : end ≡ at + prefix_len (λ b. b == delimiter) (drop at bytes) = omega (arith, i, lt) in q)
     ∙ ap (λ m. at + prefix_len (λ b. b == m) (drop at bytes)) (sym first)
     ∙ ap (λ bs. at + prefix_len (λ b. b == get_or bs at 0) (drop at bs)) same
 

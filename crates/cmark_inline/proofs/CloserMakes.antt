@@ -52,7 +52,7 @@ use Rattle.cmark_inline.proofs.HidingReads.{footnote-reads, wikilink-reads}
 use Rattle.cmark_inline.proofs.TargetSteps.{behind-is, closer-end, footnote-named, next-of, there-same}
 
 abbrev pub with_openers : List Opener → State → State
-with_openers openers s = record { at = s.at; expansion = s.expansion; label_close = s.label_close; asked = s.asked; openers = openers }
+with_openers openers s = record { at = s.at; expansion_left = s.expansion_left; label_close = s.label_close; asked = s.asked; openers = openers }
 
 pub decide-is : (reader : Reader) (read : Leaf) (s : State) (closer : items.Bracket) → decide reader read s closer ≡ taking reader read (nearest s.openers) closer (with_openers (used_up s.openers) s)
 unfolding decide
@@ -97,7 +97,7 @@ module _ (options : Options) (lookup : Lookup) (references : RefDefs) (footnotes
 
   none_stand : (t : Taken) → tk ≡ Some t → NoneStand (suc t.nearer) os bs
   none_stand t e =
-      let i = subst (Takes place s.openers bs old.brackets.shut) e (takes place close s.openers bs old.brackets.shut shows.openers.placed shows.openers.inactive) in
+      let i = subst (Takes place s.openers bs old.brackets.inactive_below) e (takes place close s.openers bs old.brackets.inactive_below shows.openers.placed shows.openers.inactive) in
       ap (λ l. standing_of l (drop (suc t.nearer) bs)) i.behind ∙ i.rest
 
   -- no wikilink is formed
@@ -241,7 +241,7 @@ module _ (options : Options) (lookup : Lookup) (references : RefDefs) (footnotes
         → ShowsState options.wikilinks text place next.at s2 bs2 new
     shown os2 bs2 s2 e lt h m = record {
       openers = subst (λ (l : List Opener). StandFor options.wikilinks place next.at l bs2 new.brackets new.doubled) (sym e) (stand-lower options.wikilinks place close next.at os2 bs2 new.brackets new.doubled (let q : close ≤ next.at = omega (arith, lt) in q) h);
-      fresh = subst (λ (l : List Opener). IsFresh next.at new.brackets.shut l bs2) (sym e) (fresh-past place close next.at new.brackets.shut os2 bs2 lt h.placed);
+      fresh = subst (λ (l : List Opener). IsFresh next.at new.brackets.inactive_below l bs2) (sym e) (fresh-past place close next.at new.brackets.inactive_below os2 bs2 lt h.placed);
       remembers = m;
     }
 
@@ -276,7 +276,7 @@ module _ (options : Options) (lookup : Lookup) (references : RefDefs) (footnotes
             let size = length-drop (close + 1) text in
             let some = byte.0 in
             let there : get_or text (close + 1) 0 ≡ 93 = ap (λ k. get_or text k 0) (let q : close + 1 ≡ close + 1 + 0 = omega arith in q) ∙ sym (get_or-drop (close + 1) text 0 0) ∙ byte.1 in
-            let past = next-of reader read text place p (close + 1) 93 (let q : close + 1 < length text = omega (arith, some, size) in q) there refl in
+            let resume = next-of reader read text place p (close + 1) 93 (let q : close + 1 < length text = omega (arith, some, size) in q) there refl in
             let comes : ComesTo R (decide reader read s closer) (wikilink reader read first closer used) before after = subst (λ (d : Decision). ComesTo R d (wikilink reader read first closer used) before after)
             (sym (decide-is reader read s closer ∙ ap cond (tests_are ∙ trying) ∙ ap (λ d. wikilink_or reader read d tk closer used) f
             ∙ ap (λ z. if z then with_taken reader read tk closer (with_openers (tried first.nearer os) s) else Settled (wikilink reader read first closer used)) goes))
@@ -285,12 +285,12 @@ module _ (options : Options) (lookup : Lookup) (references : RefDefs) (footnotes
             record {
               outcome = wikilink reader read first closer used;
               comes = comes;
-              at = ap suc (closer-end reader read text place p close closer c) ∙ sym past ∙ ap place (let q : close + 1 + 1 ≡ close + 2 = omega arith in q ∙ sym at);
+              at = ap suc (closer-end reader read text place p close closer c) ∙ sym resume ∙ ap place (let q : close + 1 + 1 ≡ close + 2 = omega arith in q ∙ sym at);
               pending = pending;
               shows = shown (map undoubled (map inactive (drop (suc first.nearer) os))) (drop (suc first.nearer) bs) (wikilink reader read first closer used).after refl lt
-                  (wikilink-formed options.wikilinks place close close first.nearer os bs i.bracket mid.brackets mid.doubled h here i.there (record new.brackets { shut = min mid.brackets.shut (length new.brackets.standing.items) }) new.brackets new.doubled
-                  (record { drops = leaving.drops; shut = refl }) (record { standing = refl; shut = leaving.shut }) leaving.none)
-                  (record { expansion = m.expansion; label = m.label; within = m.within });
+                  (wikilink-formed options.wikilinks place close close first.nearer os bs i.bracket mid.brackets mid.doubled h here i.there (record new.brackets { inactive_below = min mid.brackets.inactive_below (length new.brackets.standing.items) }) new.brackets new.doubled
+                  (record { drops = leaving.drops; inactive_below = refl }) (record { standing = refl; inactive_below = leaving.inactive_below }) leaving.none)
+                  (record { expansion_left = m.expansion_left; label = m.label; within = m.within });
               notes = tt;
               reads = λ ended.
                   wikilink-reads leaf reader read place closer s bs from close old mine mid new flushed rows text same c (let q : close + 1 < length text = omega (arith, some, size) in q) first i sound stands options (sym r.options_are)
@@ -319,18 +319,18 @@ module _ (options : Options) (lookup : Lookup) (references : RefDefs) (footnotes
         go false q = absurd (let z : ⊥ = cc in z)
 
     -- a footnote reference
-    pub footnote-closes : (mid : InlineState) (taken : Option Bracket) → IsReady mid.brackets mid.doubled → TakenAs place bs tk taken → Remembers text place s mid → true ≡ forms_footnote options footnotes (footnote_of options (is_cell_of leaf) (is_there close mid.shut_close) text close taken)
+    pub footnote-closes : (mid : InlineState) (taken : Option Bracket) → IsReady mid.brackets mid.doubled → TakenAs place bs tk taken → Remembers text place s mid → true ≡ forms_footnote options footnotes (footnote_of options (is_cell_of leaf) (is_there close mid.label_close) text close taken)
         → IfSome taken (λ b. b.inside ≤ close) → IfSome taken (λ b. LeavesFootnote b.start mid new) → Remembers text place s new → next.at ≡ close + 1 → next.pending ≡ next.at → after ≡ before
-        → IfSome (footnote_of options (is_cell_of leaf) (is_there close mid.shut_close) text close taken) (λ label. KeepsLabel label mid.texts.items new.texts.items) → mid.texts ≡ old.texts
+        → IfSome (footnote_of options (is_cell_of leaf) (is_there close mid.label_close) text close taken) (λ label. KeepsLabel label mid.texts.items new.texts.items) → mid.texts ≡ old.texts
         → (mine : InlineState) → IsFlushed from close old mine → SameRows mine mid
-        → IfSome taken (λ b. IfSome (footnote_of options (is_cell_of leaf) (is_there close mid.shut_close) text close taken) (λ label. WritesReference b (normal_form label) (close + 1) mid new)) → Goal
+        → IfSome taken (λ b. IfSome (footnote_of options (is_cell_of leaf) (is_there close mid.label_close) text close taken) (λ label. WritesReference b (normal_form label) (close + 1) mid new)) → Goal
     footnote-closes mid taken ready takes m0 formed up leaves m at pending same_callback keeps texts mine flushed rows writes = go taken refl tk refl
       where
         lt : close < next.at
         lt = let q = at in omega (arith, q)
 
         note_of : Option Bracket → Option (List ℕ)
-        note_of b = footnote_of options (is_cell_of leaf) (is_there close mid.shut_close) text close b
+        note_of b = footnote_of options (is_cell_of leaf) (is_there close mid.label_close) text close b
 
         go : (b : Option Bracket) → taken ≡ b → (d : Option Taken) → tk ≡ d → Goal
         go None e d f = absurd (true≢false (formed ∙ ap (λ b. forms_footnote options footnotes (note_of b)) e))
@@ -352,12 +352,12 @@ module _ (options : Options) (lookup : Lookup) (references : RefDefs) (footnotes
                 let made = subst (λ (o : Option (List ℕ)). IfSome o (λ label. WritesReference b (normal_form label) (close + 1) mid new)) g written in
                 let owned = subst (λ (o : Option (List ℕ)). IfSome o (λ label. KeepsLabel label mid.texts.items new.texts.items)) g kept in
                 let w = c.within in
-                let shut = there-same reader read text place p close closer.start mid.shut_close s.label_close (let q : close ≤ length text = omega (arith, w) in q) m0.within c.start m0.label in
+                let inactive_below = there-same reader read text place p close closer.start mid.label_close s.label_close (let q : close ≤ length text = omega (arith, w) in q) m0.within c.start m0.label in
                 let to : Outcome = forms reader read t (Footnote (normal_form note) closer.end) closer.end (map dropped) s2 in
                 let comes : ComesTo R (decide reader read s closer) to before after = subst (λ (d : Decision). ComesTo R d to before after)
                 (sym (decide-is reader read s closer ∙ ready.decision ∙ ap (λ d. with_taken reader read d closer s2) f
                 ∙ ap (λ z. if z then Settled (stays reader read closer s2) else link_or reader read (link_tail_in (decisions.behind reader read closer.end)) t closer s2) i.0
-                ∙ footnote-named options (is_cell_of leaf) reader read text place p r.options_are r.cell close closer c t b i.2 le footnotes s2 (is_there close mid.shut_close) note shut r.footnotes_are g (sym h)))
+                ∙ footnote-named options (is_cell_of leaf) reader read text place p r.options_are r.cell close closer c t b i.2 le footnotes s2 (is_there close mid.label_close) note inactive_below r.footnotes_are g (sym h)))
                 (refl, same_callback) in
                 record {
                   outcome = forms reader read t (Footnote (normal_form note) closer.end) closer.end (map dropped) s2;
@@ -366,7 +366,7 @@ module _ (options : Options) (lookup : Lookup) (references : RefDefs) (footnotes
                   pending = pending;
                   shows = shown (map dropped (drop (suc t.nearer) ready.openers)) (drop (suc t.nearer) bs) (forms reader read t (Footnote (normal_form note) closer.end) closer.end (map dropped) s2).after refl lt
                       (footnote-formed options.wikilinks place close close t.nearer ready.openers bs b mid.brackets mid.doubled ready.view here i.1 new.brackets new.doubled leaving.none leaving.drops)
-                      (record { expansion = m.expansion; label = m.label; within = m.within });
+                      (record { expansion_left = m.expansion_left; label = m.label; within = m.within });
                   notes = (owned.0, owned.1, owned.2 ∙ ap (λ v. v.items ++ (owned.0 ∷ [])) texts);
                   reads = λ ended.
                       footnote-reads leaf reader read place closer s bs from close old mine mid new flushed rows text same c t.opener b i.2 le (normal_form note) made t.nearer i.1 to.after (comes-any R (decide reader read s closer) to s.asked before after comes);
@@ -379,11 +379,11 @@ module _ (options : Options) (lookup : Lookup) (references : RefDefs) (footnotes
         subst (λ (v : Brackets). StandFor options.wikilinks place close (drop (suc n) os2) (drop (suc n) bs) v new.doubled) (sym leaves.same)
         (image-formed options.wikilinks place close close n os2 bs b mid.brackets mid.doubled h here there new.doubled none leaves.drops)
     element false n os2 b mid h there none leaves =
-        link-formed options.wikilinks place close close n os2 bs b mid.brackets mid.doubled h here there new.brackets leaves.between new.doubled none leaves.shuts leaves.drops leaves.shuts_doubled
+        link-formed options.wikilinks place close close n os2 bs b mid.brackets mid.doubled h here there new.brackets leaves.between new.doubled none leaves.deactivates leaves.drops leaves.deactivates_doubled
 
     pub target-closes : (st between : InlineState) (b : Bracket) (taken : Option Bracket) (target : Target) → IsReady st.brackets st.doubled → TakenAs place bs tk taken → taken ≡ Some b → Remembers text place s st → between.brackets ≡ st.brackets → between.doubled ≡ st.doubled
-        → TargetDecides R options lookup references leaf text b close st between (Some target) before after → false ≡ forms_footnote options footnotes (footnote_of options (is_cell_of leaf) (is_there close st.shut_close) text close taken)
-        → close < target.past → target.past ≤ length text → EndsWithin text between.shut_close → FormsTarget options b target between new next → between.links ≡ old.links
+        → TargetDecides R options lookup references leaf text b close st between (Some target) before after → false ≡ forms_footnote options footnotes (footnote_of options (is_cell_of leaf) (is_there close st.label_close) text close taken)
+        → close < target.resume → target.resume ≤ length text → EndsWithin text between.label_close → FormsTarget options b target between new next → between.links ≡ old.links
         → ((nearer : ℕ) → drop nearer bs ≡ b ∷ drop (suc nearer) bs → reads.place_of leaf (target.end - 1) + 1 ≡ place target.end → (after : State) → ReadsFor (record { result = Forms nearer (Linking (record { linked = shown_parts target.parts; end = place target.end })); after = after })) → Goal
     target-closes st between b taken target ready takes e m same_brackets same_doubled decides no_note lt within label formed table reading = go tk refl
       where
@@ -394,34 +394,34 @@ module _ (options : Options) (lookup : Lookup) (references : RefDefs) (footnotes
         go None f = absurd (let q : taken ≡ None = subst (λ d. TakenAs place bs d taken) f takes in let z : ⊥ = cc in z)
         go (Some t) f =
             let i = taken_is t taken b (subst (λ d. TakenAs place bs d taken) f takes) e in
-            let all = decides footnotes reader read place t closer s2 r c i.2 (record { expansion = m.expansion; label = m.label; within = m.within }) (sym (no_note ∙ ap (λ o. forms_footnote options footnotes (footnote_of options (is_cell_of leaf) (is_there close st.shut_close) text close o)) e)) in
+            let all = decides footnotes reader read place t closer s2 r c i.2 (record { expansion_left = m.expansion_left; label = m.label; within = m.within }) (sym (no_note ∙ ap (λ o. forms_footnote options footnotes (footnote_of options (is_cell_of leaf) (is_there close st.label_close) text close o)) e)) in
             let l = all.0 in
             let at = formed.at in
-            let to : Outcome = target_outcome reader read place t closer (with_left between.expansion (option_map place between.shut_close) l.asked s2) (Some target) in
+            let to : Outcome = target_outcome reader read place t closer (with_left between.expansion_left (option_map place between.label_close) l.asked s2) (Some target) in
             let comes : ComesTo R (decide reader read s closer) to before after = subst (λ (d : Decision). ComesTo R d to before after)
             (sym (decide-is reader read s closer ∙ ready.decision ∙ ap (λ d. with_taken reader read d closer s2) f
             ∙ ap (λ z. if z then Settled (stays reader read closer s2) else link_or reader read (link_tail_in (decisions.behind reader read closer.end)) t closer s2) i.0))
             l.comes in
             record {
-              outcome = target_outcome reader read place t closer (with_left between.expansion (option_map place between.shut_close) l.asked s2) (Some target);
+              outcome = target_outcome reader read place t closer (with_left between.expansion_left (option_map place between.label_close) l.asked s2) (Some target);
               comes = comes;
               reads = λ ended. reading t.nearer i.1 all.1 to.after (comes-any R (decide reader read s closer) to s.asked before after comes);
               at = ap place (sym at);
               pending = formed.pending ∙ sym at;
               shows = shown (behind_link t.opener.bracket.is_image (drop (suc t.nearer) ready.openers)) (drop (suc t.nearer) bs)
-                  (target_outcome reader read place t closer (with_left between.expansion (option_map place between.shut_close) l.asked s2) (Some target)).after refl (let q : close < next.at = omega (arith, lt, at) in q)
+                  (target_outcome reader read place t closer (with_left between.expansion_left (option_map place between.label_close) l.asked s2) (Some target)).after refl (let q : close < next.at = omega (arith, lt, at) in q)
                   (subst (λ z. StandFor options.wikilinks place close (behind_link z (drop (suc t.nearer) ready.openers)) (drop (suc t.nearer) bs) new.brackets new.doubled) (sym (ap (λ (x : items.Bracket). x.is_image) i.2.bracket))
                   (element b.is_image t.nearer ready.openers b between
                   (subst (λ (v : Brackets). StandFor options.wikilinks place close ready.openers bs v between.doubled) (sym same_brackets) (subst (λ (v : Brackets). StandFor options.wikilinks place close ready.openers bs st.brackets v) (sym same_doubled) ready.view))
                   i.1 (ready.none t f) formed.leaves))
-                  (record { expansion = sym formed.expansion; label = ap (option_map place) (sym formed.label); within = subst (EndsWithin text) (sym formed.label) label });
+                  (record { expansion_left = sym formed.expansion_left; label = ap (option_map place) (sym formed.label); within = subst (EndsWithin text) (sym formed.label) label });
               notes = (target.parts, refl, formed.links ∙ ap (λ v. v.items ++ (target.parts ∷ [])) table);
             }
 
     -- a text
-    pub text-closes : (st between : InlineState) (taken : Option Bracket) → IsReady st.brackets st.doubled → TakenAs place bs tk taken → Remembers text place s st → false ≡ forms_footnote options footnotes (footnote_of options (is_cell_of leaf) (is_there close st.shut_close) text close taken)
+    pub text-closes : (st between : InlineState) (taken : Option Bracket) → IsReady st.brackets st.doubled → TakenAs place bs tk taken → Remembers text place s st → false ≡ forms_footnote options footnotes (footnote_of options (is_cell_of leaf) (is_there close st.label_close) text close taken)
         → LinksTaken R options lookup references leaf text taken close st between None before after
-        → new.brackets ≡ between.brackets → new.doubled ≡ between.doubled → new.expansion ≡ between.expansion → new.shut_close ≡ between.shut_close → next.at ≡ close + 1 → next.pending ≡ next.at → new.links ≡ between.links → st.links ≡ old.links
+        → new.brackets ≡ between.brackets → new.doubled ≡ between.doubled → new.expansion_left ≡ between.expansion_left → new.label_close ≡ between.label_close → next.at ≡ close + 1 → next.pending ≡ next.at → new.links ≡ between.links → st.links ≡ old.links
         → ((after : State) → ReadsFor (record { result = StaysText; after = after })) → Goal
     text-closes st between taken ready takes m no_note links same_brackets same_doubled left label at pending table old_table reading = go taken refl links
       where
@@ -452,9 +452,9 @@ module _ (options : Options) (lookup : Lookup) (references : RefDefs) (footnotes
               shows = shown ready.openers bs (stays reader read closer s2).after refl lt
                   (view_by between (ap (λ (x : InlineState). x.brackets) same_state) (ap (λ (x : InlineState). x.doubled) same_state) same_brackets same_doubled)
                   (record {
-                    expansion = m.expansion ∙ sym (left ∙ ap (λ (x : InlineState). x.expansion) same_state);
-                    label = m.label ∙ ap (option_map place) (sym (label ∙ ap (λ (x : InlineState). x.shut_close) same_state));
-                    within = subst (EndsWithin text) (sym (label ∙ ap (λ (x : InlineState). x.shut_close) same_state)) m.within;
+                    expansion_left = m.expansion_left ∙ sym (left ∙ ap (λ (x : InlineState). x.expansion_left) same_state);
+                    label = m.label ∙ ap (option_map place) (sym (label ∙ ap (λ (x : InlineState). x.label_close) same_state));
+                    within = subst (EndsWithin text) (sym (label ∙ ap (λ (x : InlineState). x.label_close) same_state)) m.within;
                   });
               notes = table ∙ ap (λ (x : InlineState). x.links) same_state ∙ old_table;
             }
@@ -467,8 +467,8 @@ module _ (options : Options) (lookup : Lookup) (references : RefDefs) (footnotes
                 let same_state : between ≡ l.between = subst (λ t. Formed options b t l.between between None) g formed in
                 let i = taken_is t taken b (subst (λ d. TakenAs place bs d taken) f takes) e in
                 let decided = subst (λ (x : Option Target). TargetDecides R options lookup references leaf text b close st l.between x before after) g l.decides in
-                let k = (decided footnotes reader read place t closer s2 r c i.2 (record { expansion = m.expansion; label = m.label; within = m.within }) (sym (no_note ∙ ap (λ o. forms_footnote options footnotes (footnote_of options (is_cell_of leaf) (is_there close st.shut_close) text close o)) e))).0 in
-                let s3 : State = with_left l.between.expansion (option_map place l.between.shut_close) k.asked s2 in
+                let k = (decided footnotes reader read place t closer s2 r c i.2 (record { expansion_left = m.expansion_left; label = m.label; within = m.within }) (sym (no_note ∙ ap (λ o. forms_footnote options footnotes (footnote_of options (is_cell_of leaf) (is_there close st.label_close) text close o)) e))).0 in
+                let s3 : State = with_left l.between.expansion_left (option_map place l.between.label_close) k.asked s2 in
                 let comes : ComesTo R (decide reader read s closer) (stays reader read closer s3) before after = subst (λ (d : Decision). ComesTo R d (stays reader read closer s3) before after)
                 (sym (decide-is reader read s closer ∙ ready.decision ∙ ap (λ d. with_taken reader read d closer s2) f
                 ∙ ap (λ z. if z then Settled (stays reader read closer s2) else link_or reader read (link_tail_in (decisions.behind reader read closer.end)) t closer s2) i.0))
@@ -481,15 +481,15 @@ module _ (options : Options) (lookup : Lookup) (references : RefDefs) (footnotes
                   pending = pending;
                   shows = shown ready.openers bs (stays reader read closer s3).after refl lt (view_by l.between l.same.brackets l.same.doubled (same_brackets ∙ ap (λ (x : InlineState). x.brackets) same_state) (same_doubled ∙ ap (λ (x : InlineState). x.doubled) same_state))
                       (record {
-                        expansion = sym (left ∙ ap (λ (x : InlineState). x.expansion) same_state);
-                        label = ap (option_map place) (sym (label ∙ ap (λ (x : InlineState). x.shut_close) same_state));
-                        within = subst (EndsWithin text) (sym (label ∙ ap (λ (x : InlineState). x.shut_close) same_state)) (l.label m.within);
+                        expansion_left = sym (left ∙ ap (λ (x : InlineState). x.expansion_left) same_state);
+                        label = ap (option_map place) (sym (label ∙ ap (λ (x : InlineState). x.label_close) same_state));
+                        within = subst (EndsWithin text) (sym (label ∙ ap (λ (x : InlineState). x.label_close) same_state)) (l.label m.within);
                       });
                   notes = table ∙ ap (λ (x : InlineState). x.links) same_state ∙ l.table ∙ old_table;
                 }
 
     -- what `link` did
-    pub linked-closes : (st : InlineState) (taken : Option Bracket) → IsReady st.brackets st.doubled → TakenAs place bs tk taken → Remembers text place s st → false ≡ forms_footnote options footnotes (footnote_of options (is_cell_of leaf) (is_there close st.shut_close) text close taken)
+    pub linked-closes : (st : InlineState) (taken : Option Bracket) → IsReady st.brackets st.doubled → TakenAs place bs tk taken → Remembers text place s st → false ≡ forms_footnote options footnotes (footnote_of options (is_cell_of leaf) (is_there close st.label_close) text close taken)
         → LinksTaken R options lookup references leaf text taken close st new (Some next) before after → close < next.at → next.at ≤ length text → st.links ≡ old.links
         → (mine : InlineState) → IsFlushed from close old mine → SameRows mine st → IfSome taken (IsTakenFrom st) → Goal
     linked-closes st taken ready takes m no_note links lt within old_table mine flushed rows stand = go taken refl links
@@ -512,14 +512,14 @@ module _ (options : Options) (lookup : Lookup) (references : RefDefs) (footnotes
                 } in
                 let placed = (subst (λ (o : Option Bracket). IfSome o (IsTakenFrom st)) e stand).placed in
                 target-closes st l.between b taken target ready takes e m l.same.brackets l.same.doubled (subst (λ (x : Option Target). TargetDecides R options lookup references leaf text b close st l.between x before after) g l.decides) no_note
-                (let q : close < target.past = omega (arith, lt, at) in q) (let q : target.past ≤ length text = omega (arith, within, at) in q) (l.label m.within) f (l.table ∙ old_table)
+                (let q : close < target.resume = omega (arith, lt, at) in q) (let q : target.resume ≤ length text = omega (arith, within, at) in q) (l.label m.within) f (l.table ∙ old_table)
                 (λ nearer there ends after comes. link-reads leaf reader read place closer s bs from close old mine l.between new flushed (rows-on mine st l.between rows between) b target (subst (λ o. WritesElement o b target l.between new) (sym r.options_are) f.writes)
                 (subst (λ (x : List Slot). b.slot < length x) (sym between.slots) placed.there) (λ d. subst (λ (x : List Slot). (get_or x b.slot d).kind ≡ kind.Text) (sym between.slots) (placed.text d)) nearer there ends after comes)
 
   -- ## The calls on the way
 
-  pub remembers-on : (st new : InlineState) → Remembers text place s st → new.expansion ≡ st.expansion → new.shut_close ≡ st.shut_close → Remembers text place s new
-  remembers-on st new m e f = record { expansion = m.expansion ∙ sym e; label = m.label ∙ ap (option_map place) (sym f); within = subst (EndsWithin text) (sym f) m.within }
+  pub remembers-on : (st new : InlineState) → Remembers text place s st → new.expansion_left ≡ st.expansion_left → new.label_close ≡ st.label_close → Remembers text place s new
+  remembers-on st new m e f = record { expansion_left = m.expansion_left ∙ sym e; label = m.label ∙ ap (option_map place) (sym f); within = subst (EndsWithin text) (sym f) m.within }
 
   pub record IsStage (st : InlineState) (taken : Option Bracket) : Type 0 where
     pub table : st.links ≡ old.links
@@ -539,7 +539,7 @@ module _ (options : Options) (lookup : Lookup) (references : RefDefs) (footnotes
         texts = ap (λ (x : InlineState). x.texts) b ∙ ap (λ (x : InlineState). x.texts) a;
         view = t.0;
         taken_as = t.1;
-        remembers = remembers-on old took shows.remembers (ap (λ (x : InlineState). x.expansion) b ∙ ap (λ (x : InlineState). x.expansion) a) (ap (λ (x : InlineState). x.shut_close) b ∙ ap (λ (x : InlineState). x.shut_close) a);
+        remembers = remembers-on old took shows.remembers (ap (λ (x : InlineState). x.expansion_left) b ∙ ap (λ (x : InlineState). x.expansion_left) a) (ap (λ (x : InlineState). x.label_close) b ∙ ap (λ (x : InlineState). x.label_close) a);
       }
 
   pub record IsTriedStage (st : InlineState) (taken : Option Bracket) : Type 0 where
@@ -555,7 +555,7 @@ module _ (options : Options) (lookup : Lookup) (references : RefDefs) (footnotes
     texts = ap (λ (x : InlineState). x.texts) a ∙ i.texts;
     ready = ready st.brackets took.doubled st.doubled (subst (λ (x : InlineState). StandFor options.wikilinks place close os bs x.brackets took.doubled) (sym a) i.view) tries none;
     taken_as = i.taken_as;
-    remembers = remembers-on took st i.remembers (ap (λ (x : InlineState). x.expansion) a) (ap (λ (x : InlineState). x.shut_close) a);
+    remembers = remembers-on took st i.remembers (ap (λ (x : InlineState). x.expansion_left) a) (ap (λ (x : InlineState). x.label_close) a);
   }
 
 pub inside-up : (text : List ℕ) (close : ℕ) (taken : Option Bracket) → IfSome taken (IsBracket text close) → IfSome taken (λ b. b.inside ≤ close)

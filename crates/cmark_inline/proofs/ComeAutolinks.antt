@@ -79,8 +79,8 @@ module _ (leaf : LeafText) (reader : Reader) (read : Leaf) (place : ℕ → ℕ)
       let u = ap place (let q : e - 2 ≡ e - 1 - 1 = omega arith in q) in
       record { some = some; within = omega (arith, w); sizes = omega (arith, z, a, b, c, p, q, u, some); last = omega (arith, z, a, b, c, p, q, u, some); content = λ i lt. subst (λ n. is_content (get_or text n 0) ≡ true) (let q : s + (1 + i) ≡ s + 1 + i = omega arith in q) (t.content (1 + i) (omega (arith, lt))) }
 
-  joined : (at : ℕ) (x : Item) (past : ℕ) → begins_at reader.options reader.lookup cell text at ≡ Stands x past → may_open_markup (drop at text) ≡ false → Joined reader read text place r.places (Stands x past)
-  joined at x past t none =
+  joined : (at : ℕ) (x : Item) (resume : ℕ) → begins_at reader.options reader.lookup cell text at ≡ Stands x resume → may_open_markup (drop at text) ≡ false → Joined reader read text place r.places (Stands x resume)
+  joined at x resume t none =
       subst (Joined reader read text place r.places) (ap (λ c. begins_at reader.options reader.lookup c text at) r.cell ∙ t) (begins-joined reader read text place r.places at none)
 
   module _ {F : Type 0} (R : F → BrokenLink → Option (CowStr × CowStr) → F → Type 0) (before : Between) (initial now : F) (here : Cursor) (m : ℕ) (old new : InlineState) (next : Cursor) (sound : IsSound old) (h : HasReached R leaf reader read place before initial m old now)
@@ -148,7 +148,7 @@ module _ (leaf : LeafText) (reader : Reader) (read : Leaf) (place : ℕ → ℕ)
               (subst (λ l. IsReached reader read before q brackets l (places_of old.delimiters.placed.items) (map (λ (y : PlacedQuote). y.slot) old.quotes.placed.items) (runs_of old.delimiters.placed.items) (quotes_of old.quotes.placed.items)) all reached));
           at_is = refl;
           shows = shows-on reader.options.wikilinks text place here.at next.at f.p.state (moved (place next.at) f.p.state) f.bs mid new (omega (arith, further))
-              (record { brackets = ap (λ (s : InlineState). s.brackets) others; doubled = ap (λ (s : InlineState). s.doubled) others; expansion = ap (λ (s : InlineState). s.expansion) others; label = ap (λ (s : InlineState). s.shut_close) others })
+              (record { brackets = ap (λ (s : InlineState). s.brackets) others; doubled = ap (λ (s : InlineState). s.doubled) others; expansion_left = ap (λ (s : InlineState). s.expansion_left) others; label = ap (λ (s : InlineState). s.label_close) others })
               refl refl refl f.shows;
           answered = f.answered;
         }

@@ -18,7 +18,7 @@ use Rattle.cmark_inline_model.specs.LikeSlots.{IsLike}
 use Rattle.cmark_inline_model.specs.PartLists.{join}
 use Rattle.cmark_inline_model.specs.PlacedTokens.{placed, one_stretch, text_reader}
 use Rattle.cmark_inline_model.specs.SlotRows.{ItemSlot}
-use Rattle.cmark_inline.specs.BracketViews.{past_opening}
+use Rattle.cmark_inline.specs.BracketViews.{behind_opening}
 use Rattle.cmark_inline.specs.Closers.{ShowsState}
 use Rattle.cmark_inline.specs.CursorProgress.{HasReached}
 use Rattle.cmark_inline.specs.Reached.{ReadsPlaces}
@@ -43,7 +43,7 @@ use Rattle.cmark_inline.proofs.ReachedSteps.{opening-read}
 last-same : {X : Type 0} (xs : List X) (a b : X) → xs ++ (a ∷ []) ≡ xs ++ (b ∷ []) → a ≡ b
 last-same xs a b e = sym (get_or_push xs a a (length xs) refl) ∙ ap (λ l. get_or l (length xs) a) e ∙ get_or_push xs b a (length xs) refl
 
-past-size : (is_image : Bool) (at : ℕ) → (at < past_opening is_image at) × ((n : ℕ) → past_opening is_image n ≡ n + (past_opening is_image at - at))
+past-size : (is_image : Bool) (at : ℕ) → (at < behind_opening is_image at) × ((n : ℕ) → behind_opening is_image n ≡ n + (behind_opening is_image at - at))
 past-size true at = (omega arith, λ n. (let q : n + 2 ≡ n + (at + 2 - at) = omega arith in q))
 past-size false at = (omega arith, λ n. (let q : n + 1 ≡ n + (at + 1 - at) = omega arith in q))
 
@@ -75,8 +75,8 @@ module _ (leaf : LeafText) (reader : Reader) (read : Leaf) (place : ℕ → ℕ)
         let f = flushed leaf reader read place r R before initial now m here.pending here.at old new a.puts.before room h held (omega (arith, further, within)) (stops-there reader.options reader.lookup cell text here.at (Opens (bracket a.is_image here.at next.at)) a.token tt) a.puts.text in
         let others = a.puts.others in
         let shows : ShowsState reader.options.wikilinks text place here.at f.p.state f.bs old =
-        shows-on reader.options.wikilinks text place here.at here.at f.p.state f.p.state f.bs mid old (omega arith) (record { brackets = refl; doubled = refl; expansion = refl; label = refl }) refl refl refl f.shows in
-        let source : place next.at ≡ past_opening a.is_image (place here.at) =
+        shows-on reader.options.wikilinks text place here.at here.at f.p.state f.p.state f.bs mid old (omega arith) (record { brackets = refl; doubled = refl; expansion_left = refl; label = refl }) refl refl refl f.shows in
+        let source : place next.at ≡ behind_opening a.is_image (place here.at) =
         ap place (let q : next.at ≡ here.at + (next.at - here.at) = omega (arith, further) in q)
         ∙ steps leaf reader read place r (next.at - here.at) here.at (omega (arith, further, within)) (λ k low high. a.bytes k low (omega (arith, high, further)))
         ∙ ap (λ n. place here.at + (n - here.at)) inside ∙ sym (size.1 (place here.at)) in

@@ -102,7 +102,7 @@ module _ (leaf : LeafText) (reader : Reader) (read : Leaf) (place : ℕ → ℕ)
         let others = flush.others in
         let shows : ShowsState reader.options.wikilinks text place here.at f.p.state f.bs old =
         shows-on reader.options.wikilinks text place here.at here.at f.p.state f.p.state f.bs flush.flushed old (omega arith)
-        (record { brackets = sym (ap (λ (s : InlineState). s.brackets) others); doubled = sym (ap (λ (s : InlineState). s.doubled) others); expansion = sym (ap (λ (s : InlineState). s.expansion) others); label = sym (ap (λ (s : InlineState). s.shut_close) others) })
+        (record { brackets = sym (ap (λ (s : InlineState). s.brackets) others); doubled = sym (ap (λ (s : InlineState). s.doubled) others); expansion_left = sym (ap (λ (s : InlineState). s.expansion_left) others); label = sym (ap (λ (s : InlineState). s.label_close) others) })
         refl refl refl f.shows in
         let c = closes reader read place closer f.p.state f.bs same (record { within = lt; byte = byte; start = refl; end = refl }) shows in
         let t : token reader read f.p.state.at ≡ Closes closer = ap (token reader read) f.at_is ∙ closing-token here.at lt byte in

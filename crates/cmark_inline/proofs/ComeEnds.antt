@@ -35,7 +35,7 @@ use Rattle.cmark_inline.proofs.PendingReads.{flushed-reached, stops-there, token
 use Rattle.cmark_inline.proofs.PlainChains.{IsHeld}
 use Rattle.cmark_inline.proofs.TokenSteps.{from-is}
 
-module _ (leaf : LeafText) (reader : Reader) (read : Leaf) (place : ℕ → ℕ) (r : ReadsPlaces leaf reader read place) {F : Type 0} (R : F → BrokenLink → Option (CowStr × CowStr) → F → Type 0) (expansion : ℕ) (initial : F) where
+module _ (leaf : LeafText) (reader : Reader) (read : Leaf) (place : ℕ → ℕ) (r : ReadsPlaces leaf reader read place) {F : Type 0} (R : F → BrokenLink → Option (CowStr × CowStr) → F → Type 0) (expansion_left : ℕ) (initial : F) where
   abbrev text : List ℕ
   text = text_of leaf
 
@@ -43,9 +43,9 @@ module _ (leaf : LeafText) (reader : Reader) (read : Leaf) (place : ℕ → ℕ)
   cell = is_cell_of leaf
 
   abbrev before : Between
-  before = record { expansion = expansion; asked = [] }
+  before = record { expansion_left = expansion_left; asked = [] }
 
-  pub begin-come : (state : InlineState) → IsCleared state → state.expansion ≡ expansion → HasCome R leaf reader read place before initial (record { pending = 0; at = 0 }) state initial
+  pub begin-come : (state : InlineState) → IsCleared state → state.expansion_left ≡ expansion_left → HasCome R leaf reader read place before initial (record { pending = 0; at = 0 }) state initial
   begin-come state c left = record {
     from = 0;
     reached = record {
@@ -62,7 +62,7 @@ module _ (leaf : LeafText) (reader : Reader) (read : Leaf) (place : ℕ → ℕ)
           doubled_inactive = λ w. tt;
         };
         fresh = tt;
-        remembers = record { expansion = sym left; label = ap (option_map place) (sym c.label); within = subst (EndsWithin text) (sym c.label) tt };
+        remembers = record { expansion_left = sym left; label = ap (option_map place) (sym c.label); within = subst (EndsWithin text) (sym c.label) tt };
       };
       answered = refl;
     };
@@ -101,13 +101,13 @@ module _ (leaf : LeafText) (reader : Reader) (read : Leaf) (place : ℕ → ℕ)
         → shown_slots leaf new.texts.items new.links.items new.slots.items
         ≡ marked reader.options (places_of mid.delimiters.placed.items) (marks_by (length (places_of mid.delimiters.placed.items)) (pairs_of (siblings_from 0 mid.delimiters.placed.items)))
         (quoted (map (λ (q : PlacedQuote). q.slot) mid.quotes.placed.items) (characters_of mid.quotes.placed.items) (shown_slots leaf mid.texts.items mid.links.items mid.slots.items)) []
-        → new.walk.next ≡ 0 → new.walk.opened.items ≡ [] → new.expansion ≡ mid.expansion → ResolvesAs R leaf reader read expansion new initial now
+        → new.walk.next ≡ 0 → new.walk.opened.items ≡ [] → new.expansion_left ≡ mid.expansion_left → ResolvesAs R leaf reader read expansion_left new initial now
     end-reads source new slots next opened left =
         let siblings = siblings_from 0 mid.delimiters.placed.items in
         let h = reached in record {
           asked = h.p.state.asked;
           answered = h.answered;
           reads = λ rest.
-              (subst (λ n. ReadsLeaf reader (IsNext (h.p.state.asked ++ rest)) read before (events_to_come leaf new) (record { expansion = n; asked = h.p.state.asked })) (h.shows.remembers.expansion ∙ sym left)
+              (subst (λ n. ReadsLeaf reader (IsNext (h.p.state.asked ++ rest)) read before (events_to_come leaf new) (record { expansion_left = n; asked = h.p.state.asked })) (h.shows.remembers.expansion_left ∙ sym left)
               (leaf-read leaf reader read place before h.p h.bs mid new h.has_read source (ap (token reader read) h.at_is ∙ end-token) (pairs_of siblings) (spans_of siblings) (sound siblings) slots next opened (h.p.state.asked ++ rest) rest refl));
         }

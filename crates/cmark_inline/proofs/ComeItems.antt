@@ -74,13 +74,13 @@ module _ (leaf : LeafText) (reader : Reader) (read : Leaf) (place : ℕ → ℕ)
   cell = is_cell_of leaf
 
   -- an item that is no text is read as it begins
-  pub other-token : (at : ℕ) (x : Item) (past : ℕ) → at ≤ length text → begins_at reader.options reader.lookup cell text at ≡ Stands x past → is_plain x.kind ≡ false → may_open_markup (drop at text) ≡ false
-      → token reader read (place at) ≡ Stands (placed_item place x) (place past)
+  pub other-token : (at : ℕ) (x : Item) (resume : ℕ) → at ≤ length text → begins_at reader.options reader.lookup cell text at ≡ Stands x resume → is_plain x.kind ≡ false → may_open_markup (drop at text) ≡ false
+      → token reader read (place at) ≡ Stands (placed_item place x) (place resume)
   unfolding token
-  other-token at x past le t own none =
+  other-token at x resume le t own none =
       token-placed leaf reader read place r at le none
       ∙ ap (λ y. placed place (longest (text_reader reader.options reader.lookup text) (one_stretch cell text) y)) t
-      ∙ ap (λ z. placed place (if z then item_at Plain x.start (plain_end (text_reader reader.options reader.lookup text) (one_stretch cell text) (length (from (text_reader reader.options reader.lookup text) (one_stretch cell text) past)) past) else Stands x past)) own
+      ∙ ap (λ z. placed place (if z then item_at Plain x.start (plain_end (text_reader reader.options reader.lookup text) (one_stretch cell text) (length (from (text_reader reader.options reader.lookup text) (one_stretch cell text) resume)) resume) else Stands x resume)) own
 
   module _ {F : Type 0} (R : F → BrokenLink → Option (CowStr × CowStr) → F → Type 0) (before : Between) (initial now : F) where
     abbrev Reached : ℕ → InlineState → Type 0
@@ -111,7 +111,7 @@ module _ (leaf : LeafText) (reader : Reader) (read : Leaf) (place : ℕ → ℕ)
           let none : may_open_markup (drop a.from text) ≡ false = no-markup-at text a.from (omega (arith, further, within)) (no-less a) in
           let others = a.others in
           item-reached leaf reader read place before R initial now a.from next.at mid new flush (omega (arith, further))
-          (record { brackets = ap (λ (s : InlineState). s.brackets) others; doubled = ap (λ (s : InlineState). s.doubled) others; expansion = ap (λ (s : InlineState). s.expansion) others; label = ap (λ (s : InlineState). s.shut_close) others })
+          (record { brackets = ap (λ (s : InlineState). s.brackets) others; doubled = ap (λ (s : InlineState). s.doubled) others; expansion_left = ap (λ (s : InlineState). s.expansion_left) others; label = ap (λ (s : InlineState). s.label_close) others })
           (shown-longer leaf old.texts.items new.texts.items a.owned old.links.items new.links.items [] front a.texts (ap (λ (s : InlineState). s.links.items) others ∙ sym (append-nil old.links.items))
           ((keeps-pending old mid refl here.pending a.from a.slots.text).sound sound).named)
           a.item.kind (place a.item.start) (suc (place (a.item.end - 1))) a.slot

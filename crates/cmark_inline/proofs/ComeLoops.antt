@@ -33,11 +33,11 @@ module _ {F : Type 0} (R : F → BrokenLink → Option (CowStr × CowStr) → F 
     bytes = h.bytes;
   }
 
-  pub begin-comes : (footnotes : FootnoteDefs) (leaf : LeafText) (initial : F) (state : InlineState) → IsCleared state → ComesTo R options lookup references footnotes leaf state.expansion initial (record { pending = 0; at = 0 }) state initial
-  begin-comes footnotes leaf initial state c = λ reader read place same places. begin-come leaf reader read place places R state.expansion initial state c refl
+  pub begin-comes : (footnotes : FootnoteDefs) (leaf : LeafText) (initial : F) (state : InlineState) → IsCleared state → ComesTo R options lookup references footnotes leaf state.expansion_left initial (record { pending = 0; at = 0 }) state initial
+  begin-comes footnotes leaf initial state c = λ reader read place same places. begin-come leaf reader read place places R state.expansion_left initial state c refl
 
-  pub comes-further : (footnotes notes : FootnoteDefs) (leaf : LeafText) (expansion : ℕ) (initial : F) (cursor next : Cursor) (old new : InlineState) (now later : F) → SameFootnotes footnotes notes
-      → ComesTo R options lookup references footnotes leaf expansion initial cursor old now → ComesOn R options lookup references notes leaf cursor next old new now later
-      → AreEnded leaf old.slots.items → ComesTo R options lookup references footnotes leaf expansion initial next new later
-  comes-further footnotes notes leaf expansion initial cursor next old new now later e h k ended = λ reader read place same places.
-      k reader read place (record { expansion = expansion; asked = [] }) initial (reads-notes footnotes notes leaf reader read place e same) places ended (h reader read place same places)
+  pub comes-further : (footnotes notes : FootnoteDefs) (leaf : LeafText) (expansion_left : ℕ) (initial : F) (cursor next : Cursor) (old new : InlineState) (now later : F) → SameFootnotes footnotes notes
+      → ComesTo R options lookup references footnotes leaf expansion_left initial cursor old now → ComesOn R options lookup references notes leaf cursor next old new now later
+      → AreEnded leaf old.slots.items → ComesTo R options lookup references footnotes leaf expansion_left initial next new later
+  comes-further footnotes notes leaf expansion_left initial cursor next old new now later e h k ended = λ reader read place same places.
+      k reader read place (record { expansion_left = expansion_left; asked = [] }) initial (reads-notes footnotes notes leaf reader read place e same) places ended (h reader read place same places)

@@ -120,7 +120,7 @@ module _ (leaf : LeafText) (reader : Reader) (read : Leaf) (place : ℕ → ℕ)
         let further = w.further in
         let within = w.within in
         let size = a.size in
-        let room = has-room new a.before (byte_slots here.at a.run.size) a.slots in
+        let room = has-room new a.before (byte_slots here.at a.run.run_length) a.slots in
         let mid : InlineState = with_slots old new a.before room in
         let f = flushed leaf reader read place r R before initial now m here.pending here.at old new a.before room h held (omega (arith, further, within)) (stops-there reader.options reader.lookup cell text here.at (Stands x next.at) a.token refl) a.text_is in
         let others = a.others in
@@ -131,11 +131,11 @@ module _ (leaf : LeafText) (reader : Reader) (read : Leaf) (place : ℕ → ℕ)
           has_read =
               run-read leaf reader read place before f.p f.bs mid new f.has_read
               (ap (λ y. shown_slots leaf y new.links.items a.before) (ap (λ (s : InlineState). s.texts.items) others) ∙ ap (λ y. shown_slots leaf old.texts.items y a.before) (ap (λ (s : InlineState). s.links.items) others))
-              (record { slot = length a.before; run = a.run }) (place here.at) (suc (place (next.at - 1))) (place next.at) (byte_slots here.at a.run.size) (ap (token reader read) f.at_is ∙ t)
-              (bytes-like a.run.size here.at new.texts.items new.links.items (omega (arith, size, within)) (λ k low high. a.bytes k low (omega (arith, size, high)))) refl a.slots a.placed (ap (λ (s : InlineState). s.quotes.placed.items) others);
+              (record { slot = length a.before; run = a.run }) (place here.at) (suc (place (next.at - 1))) (place next.at) (byte_slots here.at a.run.run_length) (ap (token reader read) f.at_is ∙ t)
+              (bytes-like a.run.run_length here.at new.texts.items new.links.items (omega (arith, size, within)) (λ k low high. a.bytes k low (omega (arith, size, high)))) refl a.slots a.placed (ap (λ (s : InlineState). s.quotes.placed.items) others);
           at_is = refl;
           shows = shows-on reader.options.wikilinks text place here.at next.at f.p.state (moved (place next.at) f.p.state) f.bs mid new (omega (arith, further))
-              (record { brackets = ap (λ (s : InlineState). s.brackets) others; doubled = ap (λ (s : InlineState). s.doubled) others; expansion = ap (λ (s : InlineState). s.expansion) others; label = ap (λ (s : InlineState). s.shut_close) others })
+              (record { brackets = ap (λ (s : InlineState). s.brackets) others; doubled = ap (λ (s : InlineState). s.doubled) others; expansion_left = ap (λ (s : InlineState). s.expansion_left) others; label = ap (λ (s : InlineState). s.label_close) others })
               refl refl refl f.shows;
           answered = f.answered;
         }
@@ -163,7 +163,7 @@ module _ (leaf : LeafText) (reader : Reader) (read : Leaf) (place : ℕ → ℕ)
               (text-like here.at next.at side (Quoted (shown_quote a.quote)) (λ y. refl) new.texts.items new.links.items) refl a.slots (ap (λ (s : InlineState). s.delimiters.placed.items) others) a.placed;
           at_is = refl;
           shows = shows-on reader.options.wikilinks text place here.at next.at f.p.state (moved (place next.at) f.p.state) f.bs mid new (omega (arith, further))
-              (record { brackets = ap (λ (s : InlineState). s.brackets) others; doubled = ap (λ (s : InlineState). s.doubled) others; expansion = ap (λ (s : InlineState). s.expansion) others; label = ap (λ (s : InlineState). s.shut_close) others })
+              (record { brackets = ap (λ (s : InlineState). s.brackets) others; doubled = ap (λ (s : InlineState). s.doubled) others; expansion_left = ap (λ (s : InlineState). s.expansion_left) others; label = ap (λ (s : InlineState). s.label_close) others })
               refl refl refl f.shows;
           answered = f.answered;
         }

@@ -121,7 +121,7 @@ module _ (leaf : LeafText) (reader : Reader) (read : Leaf) (place : ℕ → ℕ)
         let mid : InlineState = with_slots old new puts.before room in
         let f = flushed leaf reader read place r R before initial now m here.pending here.at old new puts.before room h held (omega (arith, further, within)) (stops-markup reader.options reader.lookup cell text here.at opens) puts.text in
         item-reached leaf reader read place before R initial now here.at next.at mid new f (omega (arith, further))
-        (record { brackets = ap (λ (s : InlineState). s.brackets) others; doubled = ap (λ (s : InlineState). s.doubled) others; expansion = ap (λ (s : InlineState). s.expansion) others; label = ap (λ (s : InlineState). s.shut_close) others })
+        (record { brackets = ap (λ (s : InlineState). s.brackets) others; doubled = ap (λ (s : InlineState). s.doubled) others; expansion_left = ap (λ (s : InlineState). s.expansion_left) others; label = ap (λ (s : InlineState). s.label_close) others })
         (ap (λ y. shown_slots leaf y new.links.items puts.before) (ap (λ (s : InlineState). s.texts.items) others) ∙ ap (λ y. shown_slots leaf old.texts.items y puts.before) (ap (λ (s : InlineState). s.links.items) others))
         x.kind x.start x.end slot t (either x own) like puts.slot_is (ap (λ (s : InlineState). s.delimiters.placed.items) others) (ap (λ (s : InlineState). s.quotes.placed.items) others)
       where

@@ -10,7 +10,7 @@ use Rattle.cmark_grammar.specs.InlineTokens.{bracket, code_or, item_at}
 use Rattle.cmark_grammar.specs.Items.{ItemKind, Plain, Own, Code, Autolink, Delimiters, Quoted, Item, Token, Stands, Opens, Closes, Ends}
 use Rattle.cmark_grammar.specs.LeafReading.{Between}
 use Rattle.cmark_grammar.specs.LeafText.{Leaf}
-use Rattle.cmark_grammar.specs.LinkDefinitions.{Found, behind_blanks}
+use Rattle.cmark_grammar.specs.LinkDefinitions.{Parsed, behind_blanks}
 use Rattle.cmark_grammar.specs.Lines.{is_content}
 use Rattle.cmark_grammar.specs.Options.{Options}
 use Rattle.cmark_grammar.specs.Readers.{Reader}
@@ -80,7 +80,7 @@ tick_kind Own = true
 tick_kind other = false
 
 abbrev ticks : Token → Bool
-ticks (Stands x past) = tick_kind x.kind
+ticks (Stands x resume) = tick_kind x.kind
 ticks (Opens b) = false
 ticks (Closes b) = false
 ticks Ends = false
@@ -165,7 +165,7 @@ module _ (leaf : LeafText) (reader : Reader) (read : Leaf) (place : ℕ → ℕ)
         tick-token : (t : Token) → begins_at reader.options reader.lookup cell text at ≡ t → ticks t ≡ true
         tick-token t e = sym (ap ticks (sym (code-begins reader.options reader.lookup cell text at lt tick) ∙ e)) ∙ go (backticks (drop at text)) (code_in (drop at text))
           where
-            go : (n : ℕ) (found : Option Found) → ticks (code_or (reading reader.options reader.lookup text) (whole cell text) at n found) ≡ true
+            go : (n : ℕ) (found : Option Parsed) → ticks (code_or (reading reader.options reader.lookup text) (whole cell text) at n found) ≡ true
             go n None = refl
             go n (Some found) = refl
 
@@ -316,7 +316,7 @@ module _ (leaf : LeafText) (reader : Reader) (read : Leaf) (place : ℕ → ℕ)
               let texts : new.texts.items ≡ old.texts.items = ap (λ (s : InlineState). s.texts.items) others in
               let links : new.links.items ≡ old.links.items = ap (λ (s : InlineState). s.links.items) others in
               item-reached leaf reader read place before R initial now m next.at old new come.reached (omega (arith, low, some))
-              (record { brackets = ap (λ (s : InlineState). s.brackets) others; doubled = ap (λ (s : InlineState). s.doubled) others; expansion = ap (λ (s : InlineState). s.expansion) others; label = ap (λ (s : InlineState). s.shut_close) others })
+              (record { brackets = ap (λ (s : InlineState). s.brackets) others; doubled = ap (λ (s : InlineState). s.doubled) others; expansion_left = ap (λ (s : InlineState). s.expansion_left) others; label = ap (λ (s : InlineState). s.label_close) others })
               (ap (λ y. shown_slots leaf y new.links.items old.slots.items) texts ∙ ap (λ y. shown_slots leaf old.texts.items y old.slots.items) links)
               Own (place start) (suc (place (next.at - 1))) slot (other-token leaf reader read place r m x next.at (omega (arith, low, some, within)) t.0 refl none) refl
               (slot-like leaf reader read place r.places r.cell r.bytes new.texts.items new.links.items slot x m next.at t.0 none (record { start = refl; end = refl; says = tt }) some within)

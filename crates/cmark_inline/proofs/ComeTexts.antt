@@ -12,7 +12,7 @@ use Rattle.cmark_grammar.specs.InlineTokens.{code_or, escaped_backtick, item_at}
 use Rattle.cmark_grammar.specs.Items.{ItemKind, Own, Code, Token, Stands}
 use Rattle.cmark_grammar.specs.LabelsOverLines.{piped}
 use Rattle.cmark_grammar.specs.Letters.{first_is}
-use Rattle.cmark_grammar.specs.LinkDefinitions.{Found}
+use Rattle.cmark_grammar.specs.LinkDefinitions.{Parsed}
 use Rattle.cmark_grammar.specs.Options.{Options}
 use Rattle.cmark_grammar.specs.Tokens.{is_punctuation}
 use Rattle.cmark_inline_model.specs.PlacedTokens.{StopsAt}
@@ -27,16 +27,16 @@ use Rattle.cmark_inline.proofs.PlainBytes.{plain-last, plain-tick}
 use Rattle.cmark_inline.proofs.PlainChains.{IsHeld, Reaches, before-or-behind, held-further, held-order, reaches-all, reaches-one}
 use Rattle.cmark_inline.proofs.TokenSteps.{code-begins}
 
-abbrev past_of : Token → ℕ
-past_of (Stands x past) = past
-past_of other = 0
+abbrev resume_of : Token → ℕ
+resume_of (Stands x resume) = resume
+resume_of other = 0
 
 abbrev code_kind : ItemKind → Bool
 code_kind (Code bytes) = true
 code_kind other = false
 
 abbrev is_code : Token → Bool
-is_code (Stands x past) = code_kind x.kind
+is_code (Stands x resume) = code_kind x.kind
 is_code other = false
 
 module _ (o : Options) (l : Lookup) (cell : Bool) (text : List ℕ) where
@@ -95,7 +95,7 @@ module _ (o : Options) (l : Lookup) (cell : Bool) (text : List ℕ) where
     pub escapes-stop : Escapes o l cell text here old new next → StopsAt (reading o l text) (whole cell text) here.at
     escapes-stop x = by (first_is is_backtick (drop (here.at + 1) text)) refl
       where
-        found : (n : ℕ) (f : Option Found) → begins_at o l cell text here.at ≡ escaped_backtick (reading o l text) (whole cell text) next.pending n f → StopsAt (reading o l text) (whole cell text) here.at
+        found : (n : ℕ) (f : Option Parsed) → begins_at o l cell text here.at ≡ escaped_backtick (reading o l text) (whole cell text) next.pending n f → StopsAt (reading o l text) (whole cell text) here.at
         found n (Some f) t = stops-before o l cell text here.at next.pending (suc next.pending) t (let e = x.pending in omega (arith, e))
         found n None t = stops-there o l cell text here.at (item_at Own next.pending (next.pending + n)) t refl
 
@@ -163,10 +163,10 @@ module _ (o : Options) (l : Lookup) (cell : Bool) (text : List ℕ) where
         )
 
     -- the special byte is the next one of the run
-    pub escaped-next : (stop : ℕ) → to ≤ stop → stop ≤ length text → StandUpTo o l cell text to stop → stop ≡ to
-    escaped-next stop le within stands = go (before-or-behind stop to)
+    pub escaped-next : (text_end : ℕ) → to ≤ text_end → text_end ≤ length text → StandUpTo o l cell text to text_end → text_end ≡ to
+    escaped-next text_end le within stands = go (before-or-behind text_end to)
       where
-        go : (stop ≤ to) ⊎ (to < stop) → stop ≡ to
+        go : (text_end ≤ to) ⊎ (to < text_end) → text_end ≡ to
         go (inl below) = omega (arith, below, le)
         go (inr lt) =
             let t = tick-there in
@@ -180,7 +180,7 @@ module _ (o : Options) (l : Lookup) (cell : Bool) (text : List ℕ) where
     pub escaped-begun : is_some (code_in (drop to text)) ≡ true → HasBegun o l cell text at start to
     escaped-begun e = go (code_in (drop to text)) refl
       where
-        go : (f : Option Found) → code_in (drop to text) ≡ f → HasBegun o l cell text at start to
+        go : (f : Option Parsed) → code_in (drop to text) ≡ f → HasBegun o l cell text at start to
         go None q = absurd (true≢false (sym e ∙ ap is_some q))
         go (Some f) q = record {
           end = suc start;
@@ -191,15 +191,15 @@ module _ (o : Options) (l : Lookup) (cell : Bool) (text : List ℕ) where
         }
 
     -- where it does not, the whole run is a text
-    pub escaped-own : (past : ℕ) → begins_at o l cell text to ≡ item_at Own to past → (begins_at o l cell text at ≡ item_at Own start past) × (start < past)
-    escaped-own past t = go (code_in (drop to text)) refl
+    pub escaped-own : (resume : ℕ) → begins_at o l cell text to ≡ item_at Own to resume → (begins_at o l cell text at ≡ item_at Own start resume) × (start < resume)
+    escaped-own resume t = go (code_in (drop to text)) refl
       where
-        go : (f : Option Found) → code_in (drop to text) ≡ f → (begins_at o l cell text at ≡ item_at Own start past) × (start < past)
+        go : (f : Option Parsed) → code_in (drop to text) ≡ f → (begins_at o l cell text at ≡ item_at Own start resume) × (start < resume)
         go (Some f) q = absurd (true≢false (sym (ap is_code (sym t ∙ code-there ∙ ap (code_or (reading o l text) (whole cell text) to (backticks (drop to text))) q))))
         go None q =
-            let is : past ≡ to + backticks (drop to text) = ap past_of (sym t ∙ code-there ∙ ap (code_or (reading o l text) (whole cell text) to (backticks (drop to text))) q) in
+            let is : resume ≡ to + backticks (drop to text) = ap resume_of (sym t ∙ code-there ∙ ap (code_or (reading o l text) (whole cell text) to (backticks (drop to text))) q) in
             let n = rest_size in
             let b = h.behind in (
-              h.token ∙ ap (escaped_backtick (reading o l text) (whole cell text) start (backticks (drop start text))) q ∙ ap (item_at Own start) (let e : start + backticks (drop start text) ≡ past = omega (arith, is, n, b) in e),
-              (let e : start < past = omega (arith, is, b) in e),
+              h.token ∙ ap (escaped_backtick (reading o l text) (whole cell text) start (backticks (drop start text))) q ∙ ap (item_at Own start) (let e : start + backticks (drop start text) ≡ resume = omega (arith, is, n, b) in e),
+              (let e : start < resume = omega (arith, is, b) in e),
             )

@@ -23,43 +23,43 @@ use Rattle.cmark_inline.specs.declared.reference.Destination.{Destination}
 use Rattle.cmark_inline.specs.declared.link.Target.{Target}
 
 module _ {F : Type 0} (R : F → BrokenLink → Option (CowStr × CowStr) → F → Type 0) (reader : Reader) (leaf : Leaf) (place : ℕ → ℕ) (taken : Taken) (closer : items.Bracket) where
-  abbrev Leads : (decision : Decision) (s : State) (expansion : ℕ) (label_close : Option ℕ) (found : Option Target) (before after : F) → Type 0
-  Leads decision s expansion label_close found before after = LeadsTo R reader leaf place taken closer decision s expansion label_close found before after
+  abbrev Leads : (decision : Decision) (s : State) (expansion_left : ℕ) (label_close : Option ℕ) (found : Option Target) (before after : F) → Type 0
+  Leads decision s expansion_left label_close found before after = LeadsTo R reader leaf place taken closer decision s expansion_left label_close found before after
 
   -- nothing is formed, and nothing asked
-  pub stays-settled : (decision : Decision) (s : State) (expansion : ℕ) (label_close : Option ℕ) (found : Option Target) (before after : F) → decision ≡ Settled (stays reader leaf closer s)
-      → found ≡ None → after ≡ before → expansion ≡ s.expansion → label_close ≡ s.label_close → Leads decision s expansion label_close found before after
-  stays-settled decision s expansion label_close found before after e none same left label =
-      subst (λ d. Leads d s expansion label_close found before after) (sym e)
-      (subst (λ (t : Option Target). Leads (Settled (stays reader leaf closer s)) s expansion label_close t before after) (sym none)
-      (record { asked = s.asked; comes = (ap (λ n. stays reader leaf closer (with_left n label_close s.asked s)) left ∙ ap (λ l. stays reader leaf closer (with_left s.expansion l s.asked s)) label, same) }))
+  pub stays-settled : (decision : Decision) (s : State) (expansion_left : ℕ) (label_close : Option ℕ) (found : Option Target) (before after : F) → decision ≡ Settled (stays reader leaf closer s)
+      → found ≡ None → after ≡ before → expansion_left ≡ s.expansion_left → label_close ≡ s.label_close → Leads decision s expansion_left label_close found before after
+  stays-settled decision s expansion_left label_close found before after e none same left label =
+      subst (λ d. Leads d s expansion_left label_close found before after) (sym e)
+      (subst (λ (t : Option Target). Leads (Settled (stays reader leaf closer s)) s expansion_left label_close t before after) (sym none)
+      (record { asked = s.asked; comes = (ap (λ n. stays reader leaf closer (with_left n label_close s.asked s)) left ∙ ap (λ l. stays reader leaf closer (with_left s.expansion_left l s.asked s)) label, same) }))
 
   -- the same link
-  same : (s : State) (label_close : Option ℕ) (asked : List Exchange) (t : Target) (form : link.LinkType) (destination title id : List ℕ) (left end past : ℕ)
+  same : (s : State) (label_close : Option ℕ) (asked : List Exchange) (t : Target) (form : link.LinkType) (destination title id : List ℕ) (left end resume : ℕ)
       → shown_link_type t.parts.link_type ≡ form → text_bytes t.parts.dest_url ≡ destination → text_bytes t.parts.title ≡ title → text_bytes t.parts.id ≡ id
-      → left ≡ (s.expansion - length destination) - length title → place t.end ≡ end → place t.past ≡ past → label_close ≡ s.label_close
+      → left ≡ (s.expansion_left - length destination) - length title → place t.end ≡ end → place t.resume ≡ resume → label_close ≡ s.label_close
       → target_outcome reader leaf place taken closer (with_left left label_close asked s) (Some t)
-      ≡ links reader leaf taken (linked form (record { url = destination; title = title }) id) end past (with_left ((s.expansion - length destination) - length title) s.label_close asked s)
-  same s label_close asked t form destination title id left end past a b c d e f g h =
-      ap (λ z. links reader leaf taken (record { link_type = z; destination = text_bytes t.parts.dest_url; title = text_bytes t.parts.title; id = text_bytes t.parts.id }) (place t.end) (place t.past) (with_left left label_close asked s)) a
-      ∙ ap (λ z. links reader leaf taken (record { link_type = form; destination = z; title = text_bytes t.parts.title; id = text_bytes t.parts.id }) (place t.end) (place t.past) (with_left left label_close asked s)) b
-      ∙ ap (λ z. links reader leaf taken (record { link_type = form; destination = destination; title = z; id = text_bytes t.parts.id }) (place t.end) (place t.past) (with_left left label_close asked s)) c
-      ∙ ap (λ z. links reader leaf taken (record { link_type = form; destination = destination; title = title; id = z }) (place t.end) (place t.past) (with_left left label_close asked s)) d
-      ∙ ap (λ z. links reader leaf taken (record { link_type = form; destination = destination; title = title; id = id }) z (place t.past) (with_left left label_close asked s)) f
+      ≡ links reader leaf taken (linked form (record { url = destination; title = title }) id) end resume (with_left ((s.expansion_left - length destination) - length title) s.label_close asked s)
+  same s label_close asked t form destination title id left end resume a b c d e f g h =
+      ap (λ z. links reader leaf taken (record { link_type = z; destination = text_bytes t.parts.dest_url; title = text_bytes t.parts.title; id = text_bytes t.parts.id }) (place t.end) (place t.resume) (with_left left label_close asked s)) a
+      ∙ ap (λ z. links reader leaf taken (record { link_type = form; destination = z; title = text_bytes t.parts.title; id = text_bytes t.parts.id }) (place t.end) (place t.resume) (with_left left label_close asked s)) b
+      ∙ ap (λ z. links reader leaf taken (record { link_type = form; destination = destination; title = z; id = text_bytes t.parts.id }) (place t.end) (place t.resume) (with_left left label_close asked s)) c
+      ∙ ap (λ z. links reader leaf taken (record { link_type = form; destination = destination; title = title; id = z }) (place t.end) (place t.resume) (with_left left label_close asked s)) d
+      ∙ ap (λ z. links reader leaf taken (record { link_type = form; destination = destination; title = title; id = id }) z (place t.resume) (with_left left label_close asked s)) f
       ∙ ap (λ z. links reader leaf taken (record { link_type = form; destination = destination; title = title; id = id }) end z (with_left left label_close asked s)) g
-      ∙ ap (λ z. links reader leaf taken (record { link_type = form; destination = destination; title = title; id = id }) end past (with_left z label_close asked s)) e
-      ∙ ap (λ z. links reader leaf taken (record { link_type = form; destination = destination; title = title; id = id }) end past (with_left ((s.expansion - length destination) - length title) z asked s)) h
+      ∙ ap (λ z. links reader leaf taken (record { link_type = form; destination = destination; title = title; id = id }) end resume (with_left z label_close asked s)) e
+      ∙ ap (λ z. links reader leaf taken (record { link_type = form; destination = destination; title = title; id = id }) end resume (with_left ((s.expansion_left - length destination) - length title) z asked s)) h
 
-  -- a reference with something left of the expansion limit
-  led : (named : Named) (s : State) (form : LinkType) (defined : Option block.Reference) (def : Option LinkDef) (expansion : ℕ) (label_close : Option ℕ) (found : Option Target) (before after : F)
+  -- a reference with something left of the reference expansion limit
+  led : (named : Named) (s : State) (form : LinkType) (defined : Option block.Reference) (def : Option LinkDef) (expansion_left : ℕ) (label_close : Option ℕ) (found : Option Target) (before after : F)
       → reader.has_callback ≡ true → option_map said defined ≡ option_map said_by def → named.link_type ≡ shown_link_type form
       → Refers R def form (normal_form named.label) taken.opener.bracket.start named.end before after found
-      → expansion ≡ left_behind s.expansion found → label_close ≡ s.label_close → ((t : Target) → found ≡ Some t → (place t.end ≡ named.end) × (place t.past ≡ named.past))
-      → Leads (defined_or_asked reader leaf defined named taken closer s) s expansion label_close found before after
-  led named s form None (Some def) expansion label_close found before after callback defs shown refers left label ends = absurd (let z : ⊥ = cc in z)
-  led named s form (Some reference) None expansion label_close found before after callback defs shown refers left label ends = absurd (let z : ⊥ = cc in z)
-  led named s form (Some reference) (Some def) expansion label_close None before after callback defs shown refers left label ends = absurd refers.1
-  led named s form (Some reference) (Some def) expansion label_close (Some t) before after callback defs shown refers left label ends =
+      → expansion_left ≡ left_behind s.expansion_left found → label_close ≡ s.label_close → ((t : Target) → found ≡ Some t → (place t.end ≡ named.end) × (place t.resume ≡ named.resume))
+      → Leads (defined_or_asked reader leaf defined named taken closer s) s expansion_left label_close found before after
+  led named s form None (Some def) expansion_left label_close found before after callback defs shown refers left label ends = absurd (let z : ⊥ = cc in z)
+  led named s form (Some reference) None expansion_left label_close found before after callback defs shown refers left label ends = absurd (let z : ⊥ = cc in z)
+  led named s form (Some reference) (Some def) expansion_left label_close None before after callback defs shown refers left label ends = absurd refers.1
+  led named s form (Some reference) (Some def) expansion_left label_close (Some t) before after callback defs shown refers left label ends =
       let told : said_in t.parts ≡ said reference = refers.1.2 ∙ sym (some defs) in
       let destination = ap (λ (x : Said). x.destination) told in
       let title = ap (λ (x : Said). x.title) told in
@@ -67,17 +67,17 @@ module _ {F : Type 0} (R : F → BrokenLink → Option (CowStr × CowStr) → F 
       record {
         asked = s.asked;
         comes = (
-          same s label_close s.asked t named.link_type reference.destination (or_empty reference.title) (normal_form named.label) expansion named.end named.past
+          same s label_close s.asked t named.link_type reference.destination (or_empty reference.title) (normal_form named.label) expansion_left named.end named.resume
               (ap shown_link_type refers.1.0 ∙ sym shown) destination title refers.1.1
-              (left ∙ ap (λ l. (s.expansion - length l) - length (text_bytes t.parts.title)) destination ∙ ap (λ l. (s.expansion - length reference.destination) - length l) title) e.0 e.1 label,
+              (left ∙ ap (λ l. (s.expansion_left - length l) - length (text_bytes t.parts.title)) destination ∙ ap (λ l. (s.expansion_left - length reference.destination) - length l) title) e.0 e.1 label,
           refers.0,
         );
       }
     where
       some : Some (said reference) ≡ Some (said_by def) → said reference ≡ said_by def
       some q = let z : said reference ≡ said_by def = cc in z
-  led named s form None None expansion label_close found before after callback defs shown refers left label ends =
-      subst (λ d. Leads d s expansion label_close found before after) (sym (ap (λ z. if z then Asks asks replied else Settled (stays reader leaf closer s)) callback)) (go refers.0 found (refers.1, refers.2) left ends)
+  led named s form None None expansion_left label_close found before after callback defs shown refers left label ends =
+      subst (λ d. Leads d s expansion_left label_close found before after) (sym (ap (λ z. if z then Asks asks replied else Settled (stays reader leaf closer s)) callback)) (go refers.0 found (refers.1, refers.2) left ends)
     where
       asks : Question
       asks = question reader leaf named taken.opener.bracket
@@ -97,13 +97,13 @@ module _ {F : Type 0} (R : F → BrokenLink → Option (CowStr × CowStr) → F 
           ∙ ap (λ z. record { start = taken.opener.bracket.start; end = z; link_type = named.link_type; reference = normal_form named.label }) q.end
 
       go : (d : Option Destination) (t : Option Target) → Answers R form (normal_form named.label) taken.opener.bracket.start named.end before after d × IsAnswered form (normal_form named.label) d t
-          → expansion ≡ left_behind s.expansion t → ((x : Target) → t ≡ Some x → (place x.end ≡ named.end) × (place x.past ≡ named.past)) → Leads (Asks asks replied) s expansion label_close t before after
+          → expansion_left ≡ left_behind s.expansion_left t → ((x : Target) → t ≡ Some x → (place x.end ≡ named.end) × (place x.resume ≡ named.resume)) → Leads (Asks asks replied) s expansion_left label_close t before after
       go None None h l e = record {
         asked = asked None;
         comes = (
           None,
           record { link = h.0.0; told = None; question_is = this h.0.0 h.0.1; answer_is = refl; run = h.0.2 },
-          ap (λ n. stays reader leaf closer (with_left n label_close (asked None) s)) l ∙ ap (λ z. stays reader leaf closer (with_left s.expansion z (asked None) s)) label,
+          ap (λ n. stays reader leaf closer (with_left n label_close (asked None) s)) l ∙ ap (λ z. stays reader leaf closer (with_left s.expansion_left z (asked None) s)) label,
         );
       }
       go None (Some t) h l e = absurd h.1
@@ -118,25 +118,25 @@ module _ {F : Type 0} (R : F → BrokenLink → Option (CowStr × CowStr) → F 
             comes = (
               Some answer,
               record { link = h.0.0; told = Some (parted d); question_is = this h.0.0 h.0.1; answer_is = refl; run = h.0.2 },
-              same s label_close (asked (Some answer)) t (link.to_unknown named.link_type) answer.url answer.title (normal_form named.label) expansion named.end named.past
+              same s label_close (asked (Some answer)) t (link.to_unknown named.link_type) answer.url answer.title (normal_form named.label) expansion_left named.end named.resume
                   (h.1.0 ∙ ap link.to_unknown (sym shown)) url title h.1.1
-                  (l ∙ ap (λ z. (s.expansion - length z) - length (text_bytes t.parts.title)) url ∙ ap (λ z. (s.expansion - length answer.url) - length z) title) p.0 p.1 label,
+                  (l ∙ ap (λ z. (s.expansion_left - length z) - length (text_bytes t.parts.title)) url ∙ ap (λ z. (s.expansion_left - length answer.url) - length z) title) p.0 p.1 label,
             );
           }
 
-  -- a reference: without expansion nothing is looked up and nothing asked
-  pub refers-spent : (named : Named) (s : State) (expansion : ℕ) (label_close : Option ℕ) (before after : F) → s.expansion ≡ 0 → after ≡ before → expansion ≡ s.expansion → label_close ≡ s.label_close
-      → Leads (refers reader leaf named taken closer s) s expansion label_close None before after
-  refers-spent named s expansion label_close before after spent same left label =
-      stays-settled (refers reader leaf named taken closer s) s expansion label_close None before after
+  -- a reference: where nothing is left of the reference expansion limit nothing is looked up and nothing asked
+  pub refers-spent : (named : Named) (s : State) (expansion_left : ℕ) (label_close : Option ℕ) (before after : F) → s.expansion_left ≡ 0 → after ≡ before → expansion_left ≡ s.expansion_left → label_close ≡ s.label_close
+      → Leads (refers reader leaf named taken closer s) s expansion_left label_close None before after
+  refers-spent named s expansion_left label_close before after spent same left label =
+      stays-settled (refers reader leaf named taken closer s) s expansion_left label_close None before after
       (ap (λ n. if n == 0 then Settled (stays reader leaf closer s) else defined_or_asked reader leaf (reader.definition (fold named.label)) named taken closer s) spent) refl same left label
 
-  pub refers-led : (named : Named) (s : State) (form : LinkType) (def : Option LinkDef) (expansion : ℕ) (label_close : Option ℕ) (found : Option Target) (before after : F)
-      → reader.has_callback ≡ true → option_map said (reader.definition (fold named.label)) ≡ option_map said_by def → (s.expansion == 0) ≡ false → named.link_type ≡ shown_link_type form
+  pub refers-led : (named : Named) (s : State) (form : LinkType) (def : Option LinkDef) (expansion_left : ℕ) (label_close : Option ℕ) (found : Option Target) (before after : F)
+      → reader.has_callback ≡ true → option_map said (reader.definition (fold named.label)) ≡ option_map said_by def → (s.expansion_left == 0) ≡ false → named.link_type ≡ shown_link_type form
       → Refers R def form (normal_form named.label) taken.opener.bracket.start named.end before after found
-      → expansion ≡ left_behind s.expansion found → label_close ≡ s.label_close → ((t : Target) → found ≡ Some t → (place t.end ≡ named.end) × (place t.past ≡ named.past))
-      → Leads (refers reader leaf named taken closer s) s expansion label_close found before after
-  refers-led named s form def expansion label_close found before after callback defs some shown refers left label ends =
-      subst (λ d. Leads d s expansion label_close found before after)
+      → expansion_left ≡ left_behind s.expansion_left found → label_close ≡ s.label_close → ((t : Target) → found ≡ Some t → (place t.end ≡ named.end) × (place t.resume ≡ named.resume))
+      → Leads (refers reader leaf named taken closer s) s expansion_left label_close found before after
+  refers-led named s form def expansion_left label_close found before after callback defs some shown refers left label ends =
+      subst (λ d. Leads d s expansion_left label_close found before after)
       (sym (ap (λ z. if z then Settled (stays reader leaf closer s) else defined_or_asked reader leaf (reader.definition (fold named.label)) named taken closer s) some))
-      (led named s form (reader.definition (fold named.label)) def expansion label_close found before after callback defs shown refers left label ends)
+      (led named s form (reader.definition (fold named.label)) def expansion_left label_close found before after callback defs shown refers left label ends)

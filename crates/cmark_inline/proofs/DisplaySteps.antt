@@ -53,9 +53,9 @@ first-place at (suc size) l lt = refl
 
 run-start : (k : ℕ) (placed : List PlacedRun) (d : PlacedRun) → HaveSizes placed → k < length placed → get_or (places_of placed) (bytes_in (take k (runs_of placed))) 0 ≡ (get_or placed k d).slot
 run-start k [] d sizes lt = absurd (omega (arith, lt))
-run-start zero (x ∷ placed) d sizes lt = first-place x.slot x.run.size (places_of placed) (sizes 0 d lt)
+run-start zero (x ∷ placed) d sizes lt = first-place x.slot x.run.run_length (places_of placed) (sizes 0 d lt)
 run-start (suc k) (x ∷ placed) d sizes lt =
-    get-places (bytes_in (take k (runs_of placed))) x.slot x.run.size (places_of placed) ∙ run-start k placed d (λ j e l. sizes (suc j) e (let q : suc j < suc (length placed) = omega (arith, l) in q)) (omega (arith, lt))
+    get-places (bytes_in (take k (runs_of placed))) x.slot x.run.run_length (places_of placed) ∙ run-start k placed d (λ j e l. sizes (suc j) e (let q : suc j < suc (length placed) = omega (arith, l) in q)) (omega (arith, lt))
 
 runs-left : (at : ℕ) (runs : List PlacedRun) (quotes : List PlacedQuote) (b left : Bracket) → HaveSizes runs → AreLeft at runs quotes b left → LeavesRuns b.runs left.runs at (runs_of runs) (places_of runs)
 runs-left at runs quotes b left sizes h =

@@ -43,21 +43,21 @@ label-off : (options : Options) (between : List ℕ) → options.footnotes ≡ f
 label-off options [] off = refl
 label-off options (b ∷ bs) off = ap (λ y. if y && ((b == 94) && fits_footnote options bs) then Some bs else None) off
 
-pub none-off : (options : Options) (is_cell is_shut : Bool) (text : List ℕ) (close : ℕ) (taken : Option Bracket) → options.footnotes ≡ false → footnote_of options is_cell is_shut text close taken ≡ None
-none-off options is_cell is_shut text close None off = refl
-none-off options is_cell is_shut text close (Some bracket) off = ap (option_map (as_label is_cell)) (go (is_shut || (is_some (link_tail_in (drop (close + 1) text)) || is_some (unless_footnote options (reference_label_in (drop (close + 1) text))))))
+pub none-off : (options : Options) (is_cell closes_label : Bool) (text : List ℕ) (close : ℕ) (taken : Option Bracket) → options.footnotes ≡ false → footnote_of options is_cell closes_label text close taken ≡ None
+none-off options is_cell closes_label text close None off = refl
+none-off options is_cell closes_label text close (Some bracket) off = ap (option_map (as_label is_cell)) (go (closes_label || (is_some (link_tail_in (drop (close + 1) text)) || is_some (unless_footnote options (reference_label_in (drop (close + 1) text))))))
   where
     go : (z : Bool) → (if z then None else footnote_label options (slice text bracket.inside close)) ≡ None
     go true = refl
     go false = label-off options (slice text bracket.inside close) off
 
 -- a use is counted of the footnote of the label that was found
-pub counts-found : (options : Options) (is_cell cell is_shut shut : Bool) (text : List ℕ) (close : ℕ) (taken : Option Bracket) (bracket : Bracket) (written label : List ℕ) (old new : FootnoteDefs)
-    → taken ≡ Some bracket → shut ≡ is_shut → Some written ≡ footnote_behind options shut (slice text bracket.inside close) (drop (close + 1) text) → cell ≡ is_cell → label ≡ as_label cell written → Counts (fold label) old new
-    → CountsOf (footnote_of options is_cell is_shut text close taken) old new
-counts-found options is_cell cell is_shut shut text close taken bracket written label old new took shutting found celled is counts =
-    subst (λ t. CountsOf (footnote_of options is_cell is_shut text close t) old new) (sym took)
-    (subst (λ m. CountsOf (option_map (as_label is_cell) m) old new) (found ∙ ap (λ z. footnote_behind options z (slice text bracket.inside close) (drop (close + 1) text)) shutting)
+pub counts-found : (options : Options) (is_cell cell closes_label closes : Bool) (text : List ℕ) (close : ℕ) (taken : Option Bracket) (bracket : Bracket) (written label : List ℕ) (old new : FootnoteDefs)
+    → taken ≡ Some bracket → closes ≡ closes_label → Some written ≡ footnote_behind options closes (slice text bracket.inside close) (drop (close + 1) text) → cell ≡ is_cell → label ≡ as_label cell written → Counts (fold label) old new
+    → CountsOf (footnote_of options is_cell closes_label text close taken) old new
+counts-found options is_cell cell closes_label closes text close taken bracket written label old new took closing found celled is counts =
+    subst (λ t. CountsOf (footnote_of options is_cell closes_label text close t) old new) (sym took)
+    (subst (λ m. CountsOf (option_map (as_label is_cell) m) old new) (found ∙ ap (λ z. footnote_behind options z (slice text bracket.inside close) (drop (close + 1) text)) closing)
     (subst (λ l. Counts (fold l) old new) (is ∙ ap (λ z. as_label z written) celled) counts))
 
 -- ## The slots of a reference, and of the `!` before one

@@ -26,7 +26,7 @@ runs-low slots low place [] h least le = λ k d lt. absurd (omega (arith, lt))
 runs-low slots low place (r ∷ runs) h least le =
     let f = h.1 in
     let q : least ≤ r.slot = omega (arith, f, le) in
-    all-cons (λ (r : PlacedRun). least ≤ r.slot) r runs q (runs-low slots (r.slot + r.run.size) (h.0 + r.run.size) runs h.4 least (omega (arith, q)))
+    all-cons (λ (r : PlacedRun). least ≤ r.slot) r runs q (runs-low slots (r.slot + r.run.run_length) (h.0 + r.run.run_length) runs h.4 least (omega (arith, q)))
 
 -- a text before those that are settled becomes another slot, which stands alone
 pub settle-set : (low : ℕ) (slots : List Slot) (runs : List PlacedRun) (quotes : List PlacedQuote) → CanSettle low slots runs quotes → (at : ℕ) (s : Slot) → at < low → at < length slots → ((d : Slot) → (get_or slots at d).kind ≡ kind.Text)

@@ -6,7 +6,7 @@ use Rattle.cmark_grammar.specs.Formulas.{Braces, is_dollar, no_braces, braces_be
 use Rattle.cmark_grammar.specs.InlineTokens.{as_in, is_plain, item_at, before, dollar, formula_or, place_of}
 use Rattle.cmark_grammar.specs.Items.{ItemKind, Plain, Own, InlineMath, DisplayMath, Token, Stands}
 use Rattle.cmark_grammar.specs.Letters.{first_is}
-use Rattle.cmark_grammar.specs.LinkDefinitions.{Found}
+use Rattle.cmark_grammar.specs.LinkDefinitions.{Parsed}
 use Rattle.cmark_grammar.specs.Options.{Options}
 use Rattle.cmark_grammar.specs.Readers.{Reader}
 use Rattle.cmark_grammar.specs.Tokens.{slice}
@@ -55,7 +55,7 @@ module _ (o : Options) (l : Lookup) (cell : Bool) (text : List ℕ) (at : ℕ) (
   pub formula-begins : (double : Bool) → double ≡ first_is is_dollar (drop (at + 1) text) → begins_at o l cell text at ≡ formula_or r (whole cell text) (kind_by double) at (formula_at text at)
   formula-begins double e = by-places ∙ ap (λ z. opens z (drop (at + 1) text) (braces_at text at)) (sym e) ∙ chosen double ∙ ap (formula_or r (whole cell text) (kind_by double) at) (ap (by double) e)
     where
-      by : Bool → Bool → Option Found
+      by : Bool → Bool → Option Parsed
       by d z = if z then display_in (braces_at text at) (drop (at + 2) text) else inline_in (braces_at text at) (drop (at + 1) text)
 
       chosen : (d : Bool) → opens d (drop (at + 1) text) (braces_at text at) ≡ formula_or r (whole cell text) (kind_by d) at (if d then display_in (braces_at text at) (drop (at + 2) text) else inline_in (braces_at text at) (drop (at + 1) text))

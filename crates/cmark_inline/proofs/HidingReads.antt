@@ -29,7 +29,7 @@ use Rattle.cmark_inline_model.specs.RowParts.{runs_in}
 use Rattle.cmark_inline_model.specs.RowPasses.{StandsFor}
 use Rattle.cmark_inline_model.specs.SlotRows as row
 use Rattle.cmark_inline_model.specs.SlotRows.{LaysOut, seen, slots_of}
-use Rattle.cmark_inline.specs.BracketViews.{IsPlaced, past_opening}
+use Rattle.cmark_inline.specs.BracketViews.{IsPlaced, behind_opening}
 use Rattle.cmark_inline.specs.Closers.{ReadsOn}
 use Rattle.cmark_inline.specs.Decided.{IsCloser}
 use Rattle.cmark_inline.specs.Doubled.{nearest}
@@ -93,8 +93,8 @@ module _ (leaf : LeafText) (reader : Reader) (read : Leaf) (place : ℕ → ℕ)
   -- the `[` behind a `!`
   behind-mark : (o : Opener) (b : Bracket) → IsPlaced place o b → b.is_image ≡ true → b.inside ≤ length (text_of leaf) → place (b.start + 1) ≡ suc (place b.start)
   behind-mark o b p image le =
-      let inside : b.inside ≡ b.start + 2 = p.in_text ∙ ap (λ z. past_opening z b.start) image in
-      let source : place b.inside ≡ place b.start + 2 = p.in_source ∙ ap (λ z. past_opening z (place b.start)) image in
+      let inside : b.inside ≡ b.start + 2 = p.in_text ∙ ap (λ z. behind_opening z b.start) image in
+      let source : place b.inside ≡ place b.start + 2 = p.in_source ∙ ap (λ z. behind_opening z (place b.start)) image in
       let one = places.places.places.order b.start (b.start + 1) (omega arith) (omega (arith, inside, le)) in
       let two = places.places.places.order (b.start + 1) b.inside (omega (arith, inside)) le in
       omega (arith, one, two, source)
@@ -110,7 +110,7 @@ module _ (leaf : LeafText) (reader : Reader) (read : Leaf) (place : ℕ → ℕ)
     starts : b.start < length (text_of leaf)
     starts = let e = p.in_text in go b.is_image e
       where
-        go : (z : Bool) → b.inside ≡ past_opening z b.start → b.start < length (text_of leaf)
+        go : (z : Bool) → b.inside ≡ behind_opening z b.start → b.start < length (text_of leaf)
         go true e = let w = within in let l = before in omega (arith, e, w, l)
         go false e = let w = within in let l = before in omega (arith, e, w, l)
 
@@ -129,7 +129,7 @@ module _ (leaf : LeafText) (reader : Reader) (read : Leaf) (place : ℕ → ℕ)
 
     stands-as : (z : Bool) → b.is_image ≡ z → StandsAs z
     stands-as true e =
-        let next : b.start + 1 < length (text_of leaf) = (let i = p.in_text ∙ ap (λ z. past_opening z b.start) e in let l = before in let w = within in omega (arith, i, l, w)) in
+        let next : b.start + 1 < length (text_of leaf) = (let i = p.in_text ∙ ap (λ z. behind_opening z b.start) e in let l = before in let w = within in omega (arith, i, l, w)) in
         let first : place_of leaf (b.start + 1) ≡ suc start_of = places.bytes (b.start + 1) next ∙ behind-mark o b p e (let l = before in let w = within in omega (arith, l, w)) in
         record {
           row = row.ItemSlot (item items.Own start_of (suc start_of)) ∷ (as_reference (suc start_of) ∷ hidden);

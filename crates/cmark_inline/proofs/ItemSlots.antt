@@ -17,7 +17,7 @@ use Rattle.cmark_inline_model.specs.LikeSlots.{IsLike, is_html}
 use Rattle.cmark_inline_model.specs.PlacedTokens.{AreLeafPlaces, may_open_markup, is_as_written, placed_item}
 use Rattle.cmark_inline_model.specs.SlotRows.{ItemSlot}
 use Rattle.cmark_inline_model.proofs.TogetherTokens.{byte-lines, byte-together}
-use Rattle.cmark_inline.specs.SlotViews.{first_of, past_of, written, bytes_or_none, text_at, slot_as, shown_slot}
+use Rattle.cmark_inline.specs.SlotViews.{first_of, slot_end, written, bytes_or_none, text_at, slot_as, shown_slot}
 use Rattle.cmark_inline.specs.Tokens.{begins_at, Says, IsItem}
 use Rattle.cmark_inline.specs.declared.link.LinkParts.{LinkParts}
 use Rattle.cmark_inline.specs.declared.slot.Slot.{Slot}
@@ -41,16 +41,16 @@ module _ (leaf : LeafText) (reader : Reader) (read : Leaf) (place : ℕ → ℕ)
     first_is : first_of leaf slot ≡ place s
     first_is = ap (place_of leaf) start ∙ bytes s (omega arith)
 
-    past_is : past_of leaf slot ≡ suc (place (e - 1))
+    past_is : slot_end leaf slot ≡ suc (place (e - 1))
     past_is = ap (λ i. place_of leaf (i - 1) + 1) end ∙ ap (λ i. i + 1) (bytes (e - 1) (omega arith)) ∙ (let q : place (e - 1) + 1 ≡ suc (place (e - 1)) = omega arith in q)
 
     written_is : written leaf slot.start slot.end ≡ slice text s e
     written_is = ap (λ i. slice text i slot.end) start ∙ ap (slice text s) end
 
     -- the same range, and the same event
-    gives : (k : ItemKind) (x : ItemKind) → (takes_lines (slice reader.source (first_of leaf slot) (past_of leaf slot)) ≡ true → is_html k ≡ is_html x) → ((i j : ℕ) (y : Item) → event_of reader.source y k ≡ event_of reader.source (placed x) x)
-        → IsLike reader.source (ItemSlot (record { kind = k; start = first_of leaf slot; end = past_of leaf slot })) (ItemSlot (placed x))
-    gives k x lines h = record { start = first_is; end = past_is; event = h 0 0 (record { kind = k; start = first_of leaf slot; end = past_of leaf slot }); lines = lines }
+    gives : (k : ItemKind) (x : ItemKind) → (takes_lines (slice reader.source (first_of leaf slot) (slot_end leaf slot)) ≡ true → is_html k ≡ is_html x) → ((i j : ℕ) (y : Item) → event_of reader.source y k ≡ event_of reader.source (placed x) x)
+        → IsLike reader.source (ItemSlot (record { kind = k; start = first_of leaf slot; end = slot_end leaf slot })) (ItemSlot (placed x))
+    gives k x lines h = record { start = first_is; end = past_is; event = h 0 0 (record { kind = k; start = first_of leaf slot; end = slot_end leaf slot }); lines = lines }
 
     -- what the bytes of the source are, where the item is as it is written
     as_text : (x : ItemKind) → slice reader.source (place s) (suc (place (e - 1))) ≡ slice text s e → event_of reader.source (placed Plain) Plain ≡ event.Text (written leaf slot.start slot.end)
@@ -68,17 +68,17 @@ module _ (leaf : LeafText) (reader : Reader) (read : Leaf) (place : ℕ → ℕ)
     item-like (DisplayMath bs) (kind.DisplayMath from to) b none says = gives (DisplayMath (as_in (is_cell_of leaf) (written leaf from to))) (DisplayMath bs) (λ q. refl) (λ i j y. ap event.DisplayMath says)
     item-like Html kind.InlineHtml b none says =
         gives (OwnedHtml (written leaf slot.start slot.end)) Html
-        (λ q. absurd (true≢false (sym q ∙ ap takes_lines (ap (λ n. slice reader.source n (past_of leaf slot)) first_is ∙ ap (slice reader.source (place s)) past_is ∙ b refl) ∙ none refl))) (λ i j y. ap event.InlineHtml (written_is ∙ sym (b refl)))
+        (λ q. absurd (true≢false (sym q ∙ ap takes_lines (ap (λ n. slice reader.source n (slot_end leaf slot)) first_is ∙ ap (slice reader.source (place s)) past_is ∙ b refl) ∙ none refl))) (λ i j y. ap event.InlineHtml (written_is ∙ sym (b refl)))
     item-like (OwnedHtml bs) kind.InlineHtml b none says = gives (OwnedHtml (written leaf slot.start slot.end)) (OwnedHtml bs) (λ q. refl) (λ i j y. ap event.InlineHtml says)
     item-like SoftBreak kind.SoftBreak b none says = gives SoftBreak SoftBreak (λ q. refl) (λ i j y. refl)
     item-like HardBreak kind.HardBreak b none says = gives HardBreak HardBreak (λ q. refl) (λ i j y. refl)
     item-like x k b none says = absurd says
 
-  pub slot-like : (texts : List CowStr) (links : List LinkParts) (slot : Slot) (item : Item) (at past : ℕ) → begins_at reader.options reader.lookup (is_cell_of leaf) text at ≡ Stands item past → may_open_markup (drop at text) ≡ false
+  pub slot-like : (texts : List CowStr) (links : List LinkParts) (slot : Slot) (item : Item) (at resume : ℕ) → begins_at reader.options reader.lookup (is_cell_of leaf) text at ≡ Stands item resume → may_open_markup (drop at text) ≡ false
       → IsItem (is_cell_of leaf) text texts item slot → item.start < item.end → item.end ≤ length text → IsLike reader.source (shown_slot leaf texts links slot) (ItemSlot (placed_item place item))
-  slot-like texts links slot item at past token none is some within =
+  slot-like texts links slot item at resume token none is some within =
       item-like texts links slot item.start item.end is.start is.end some within item.kind slot.kind
-      (byte-together reader read text place places at none item past here) (λ h. byte-lines reader read text place places at none item past here (html-written item.kind h)) is.says
+      (byte-together reader read text place places at none item resume here) (λ h. byte-lines reader read text place places at none item resume here (html-written item.kind h)) is.says
     where
-      here : begins_at reader.options reader.lookup read.is_cell text at ≡ Stands item past
-      here = subst (λ c. begins_at reader.options reader.lookup c text at ≡ Stands item past) (sym cell) token
+      here : begins_at reader.options reader.lookup read.is_cell text at ≡ Stands item resume
+      here = subst (λ c. begins_at reader.options reader.lookup c text at ≡ Stands item resume) (sym cell) token

@@ -40,18 +40,18 @@ keeps-on old mid new a b = record { sound = λ h. b.sound (a.sound h); ends = λ
 
 -- ## Where the slots end
 
-pub ended-pending : (leaf : LeafText) (old new : List Slot) (start stop : ℕ) → PushesText start stop old new → AreEnded leaf old → AreEnded leaf new
-ended-pending leaf old new start stop p e = go (cases_lt start stop)
+pub ended-pending : (leaf : LeafText) (old new : List Slot) (start text_end : ℕ) → PushesText start text_end old new → AreEnded leaf old → AreEnded leaf new
+ended-pending leaf old new start text_end p e = go (cases_lt start text_end)
   where
-    go : (start < stop) ⊎ (stop ≤ start) → AreEnded leaf new
+    go : (start < text_end) ⊎ (text_end ≤ start) → AreEnded leaf new
     go (inl lt) =
-        let s : Slot = record { kind = kind.Text; start = start; end = stop } in
+        let s : Slot = record { kind = kind.Text; start = start; end = text_end } in
         subst (AreEnded leaf) (sym (p.0 lt)) (ended-on old (old ++ (s ∷ [])) (no-more-push old s (refl, refl, refl)) leaf e)
     go (inr le) = subst (AreEnded leaf) (sym (p.1 le)) e
 
-pub ended-puts : (leaf : LeafText) (old new : List Slot) (start stop : ℕ) (slot : Slot) → Puts start stop slot old new → AreEnded leaf old → EndsIn leaf slot.end (source_end slot.kind) → AreEnded leaf new
-ended-puts leaf old new start stop slot p e s =
-    subst (AreEnded leaf) (sym p.slot_is) (one-ended (length p.before) slot p.before (p.before ++ (slot ∷ [])) (adds-push p.before slot) leaf (ended-pending leaf old p.before start stop p.text e) s)
+pub ended-puts : (leaf : LeafText) (old new : List Slot) (start text_end : ℕ) (slot : Slot) → Puts start text_end slot old new → AreEnded leaf old → EndsIn leaf slot.end (source_end slot.kind) → AreEnded leaf new
+ended-puts leaf old new start text_end slot p e s =
+    subst (AreEnded leaf) (sym p.slot_is) (one-ended (length p.before) slot p.before (p.before ++ (slot ∷ [])) (adds-push p.before slot) leaf (ended-pending leaf old p.before start text_end p.text e) s)
 
 ended-bytes : (leaf : LeafText) (slots : List Slot) (start size : ℕ) → AreEnded leaf slots → AreEnded leaf (slots ++ byte_slots start size)
 ended-bytes leaf slots start size e = λ k d lt. go k d lt (cases_lt k (length slots))
@@ -71,31 +71,31 @@ ended-bytes leaf slots start size e = λ k d lt. go k d lt (cases_lt k (length s
 -- ## Slots alone
 
 module _ (old new : InlineState) (others : new ≡ record old { slots = new.slots }) where
-  pub keeps-pending : (start stop : ℕ) → PushesText start stop old.slots.items new.slots.items → KeepsSound old new
-  keeps-pending start stop p = record {
-    sound = λ h. subst IsSound (sym others) (sound-pending (length old.texts.items) (length old.links.items) old.slots.items new.slots.items old.delimiters.placed.items old.quotes.placed.items old.brackets.standing.items old.doubled.standing.items start stop p h);
-    ends = λ leaf e. ended-pending leaf old.slots.items new.slots.items start stop p e;
+  pub keeps-pending : (start text_end : ℕ) → PushesText start text_end old.slots.items new.slots.items → KeepsSound old new
+  keeps-pending start text_end p = record {
+    sound = λ h. subst IsSound (sym others) (sound-pending (length old.texts.items) (length old.links.items) old.slots.items new.slots.items old.delimiters.placed.items old.quotes.placed.items old.brackets.standing.items old.doubled.standing.items start text_end p h);
+    ends = λ leaf e. ended-pending leaf old.slots.items new.slots.items start text_end p e;
   }
 
-  sound-puts : (start stop : ℕ) (slot : Slot) → Puts start stop slot old.slots.items new.slots.items → ((i : ℕ) → last_in slot.kind i ≡ i) → text_named slot.kind ≡ None → link_named slot.kind ≡ None → IsSound old → IsSound new
-  sound-puts start stop slot p alone bare none h =
+  sound-puts : (start text_end : ℕ) (slot : Slot) → Puts start text_end slot old.slots.items new.slots.items → ((i : ℕ) → last_in slot.kind i ≡ i) → text_named slot.kind ≡ None → link_named slot.kind ≡ None → IsSound old → IsSound new
+  sound-puts start text_end slot p alone bare none h =
       subst IsSound (sym others) (subst (λ l. AreSound (length old.texts.items) (length old.links.items) l old.delimiters.placed.items old.quotes.placed.items old.brackets.standing.items old.doubled.standing.items) (sym p.slot_is)
       (sound-plain (length old.texts.items) (length old.links.items) p.before old.delimiters.placed.items old.quotes.placed.items old.brackets.standing.items old.doubled.standing.items
-      (sound-pending (length old.texts.items) (length old.links.items) old.slots.items p.before old.delimiters.placed.items old.quotes.placed.items old.brackets.standing.items old.doubled.standing.items start stop p.text h) slot alone bare none))
+      (sound-pending (length old.texts.items) (length old.links.items) old.slots.items p.before old.delimiters.placed.items old.quotes.placed.items old.brackets.standing.items old.doubled.standing.items start text_end p.text h) slot alone bare none))
 
-  pub keeps-puts : (start stop : ℕ) (slot : Slot) → Puts start stop slot old.slots.items new.slots.items → StandsAlone slot.kind → KeepsSound old new
-  keeps-puts start stop slot p a = record {
-    sound = λ h. sound-puts start stop slot p a.1 a.0.0 a.0.1 h;
-    ends = λ leaf e. ended-puts leaf old.slots.items new.slots.items start stop slot p e (subst (λ o. EndsIn leaf slot.end o) (sym a.0.2) tt);
+  pub keeps-puts : (start text_end : ℕ) (slot : Slot) → Puts start text_end slot old.slots.items new.slots.items → StandsAlone slot.kind → KeepsSound old new
+  keeps-puts start text_end slot p a = record {
+    sound = λ h. sound-puts start text_end slot p a.1 a.0.0 a.0.1 h;
+    ends = λ leaf e. ended-puts leaf old.slots.items new.slots.items start text_end slot p e (subst (λ o. EndsIn leaf slot.end o) (sym a.0.2) tt);
   }
 
   -- the slot may be a part of the source
-  pub keeps-source : (start stop : ℕ) (slot : Slot) → Puts start stop slot old.slots.items new.slots.items → ((i : ℕ) → last_in slot.kind i ≡ i) → text_named slot.kind ≡ None → link_named slot.kind ≡ None → IsSound old → IsSound new
-  keeps-source start stop slot p alone bare none h = sound-puts start stop slot p alone bare none h
+  pub keeps-source : (start text_end : ℕ) (slot : Slot) → Puts start text_end slot old.slots.items new.slots.items → ((i : ℕ) → last_in slot.kind i ≡ i) → text_named slot.kind ≡ None → link_named slot.kind ≡ None → IsSound old → IsSound new
+  keeps-source start text_end slot p alone bare none h = sound-puts start text_end slot p alone bare none h
 
 -- ## Slots that name the next text or the next link
 
-module _ (old between new : InlineState) (start stop : ℕ) (slot : Slot) (puts : Puts start stop slot old.slots.items new.slots.items) (owned : CowStr) (texts : between.texts.items ≡ old.texts.items ++ (owned ∷ [])) (others : new ≡ record between { slots = new.slots }) (rest : between ≡ record old { texts = between.texts })
+module _ (old between new : InlineState) (start text_end : ℕ) (slot : Slot) (puts : Puts start text_end slot old.slots.items new.slots.items) (owned : CowStr) (texts : between.texts.items ≡ old.texts.items ++ (owned ∷ [])) (others : new ≡ record between { slots = new.slots }) (rest : between ≡ record old { texts = between.texts })
     (names : text_named slot.kind ≡ Some (length old.texts.items)) (no_link : link_named slot.kind ≡ None) (no_end : source_end slot.kind ≡ None) (alone : (i : ℕ) → last_in slot.kind i ≡ i) where
   pub keeps-owned : KeepsSound old new
   keeps-owned = record {
@@ -105,8 +105,8 @@ module _ (old between new : InlineState) (start stop : ℕ) (slot : Slot) (puts 
         (subst (λ t. AreSound t (length old.links.items) new.slots.items old.delimiters.placed.items old.quotes.placed.items old.brackets.standing.items old.doubled.standing.items) (sym (ap length texts ∙ n))
         (subst (λ l. AreSound (length old.texts.items + 1) (length old.links.items) l old.delimiters.placed.items old.quotes.placed.items old.brackets.standing.items old.doubled.standing.items) (sym puts.slot_is)
         (sound-text (length old.texts.items) (length old.links.items) puts.before old.delimiters.placed.items old.quotes.placed.items old.brackets.standing.items old.doubled.standing.items
-        (sound-pending (length old.texts.items) (length old.links.items) old.slots.items puts.before old.delimiters.placed.items old.quotes.placed.items old.brackets.standing.items old.doubled.standing.items start stop puts.text h) slot alone names no_link))));
-    ends = λ leaf e. ended-puts leaf old.slots.items new.slots.items start stop slot puts e (subst (λ o. EndsIn leaf slot.end o) (sym no_end) tt);
+        (sound-pending (length old.texts.items) (length old.links.items) old.slots.items puts.before old.delimiters.placed.items old.quotes.placed.items old.brackets.standing.items old.doubled.standing.items start text_end puts.text h) slot alone names no_link))));
+    ends = λ leaf e. ended-puts leaf old.slots.items new.slots.items start text_end slot puts e (subst (λ o. EndsIn leaf slot.end o) (sym no_end) tt);
   }
 
 module _ (old new : InlineState) (start at end : ℕ) (puts : PutsAutolink (length old.links.items) start at end old.slots.items new.slots.items) (parts : LinkParts) (links : new.links.items ≡ old.links.items ++ (parts ∷ [])) (others : new ≡ record old { slots = new.slots; links = new.links }) where
@@ -161,8 +161,8 @@ keeps-quote options lookup is_cell text here old new next a =
       ends = λ leaf e. subst (AreEnded leaf) (sym a.slots) (ended-on a.before (a.before ++ (s ∷ [])) (no-more-push a.before s (refl, refl, refl)) leaf (ended-pending leaf old.slots.items a.before here.pending here.at a.text_is e));
     }
 
-module _ (old new : InlineState) (before : List Slot) (start at : ℕ) (run : PlacedRun) (text : List ℕ) (pending : PushesText start at old.slots.items before) (slots : new.slots.items ≡ before ++ byte_slots at run.run.size)
-    (placed : new.delimiters.placed.items ≡ old.delimiters.placed.items ++ (run ∷ [])) (others : new ≡ record old { slots = new.slots; delimiters = new.delimiters }) (some : 0 < run.run.size) (there : run.slot ≡ length before) (are : AreSlots text at before) where
+module _ (old new : InlineState) (before : List Slot) (start at : ℕ) (run : PlacedRun) (text : List ℕ) (pending : PushesText start at old.slots.items before) (slots : new.slots.items ≡ before ++ byte_slots at run.run.run_length)
+    (placed : new.delimiters.placed.items ≡ old.delimiters.placed.items ++ (run ∷ [])) (others : new ≡ record old { slots = new.slots; delimiters = new.delimiters }) (some : 0 < run.run.run_length) (there : run.slot ≡ length before) (are : AreSlots text at before) where
   pub keeps-run : KeepsSound old new
   keeps-run = record {
     sound = λ h. subst IsSound (sym others)
@@ -171,7 +171,7 @@ module _ (old new : InlineState) (before : List Slot) (start at : ℕ) (run : Pl
         (sound-run (length old.texts.items) (length old.links.items) before old.delimiters.placed.items old.quotes.placed.items old.brackets.standing.items old.doubled.standing.items
         (sound-pending (length old.texts.items) (length old.links.items) old.slots.items before old.delimiters.placed.items old.quotes.placed.items old.brackets.standing.items old.doubled.standing.items start at pending h)
         at run some there (λ k d lt. (are k d lt).before))));
-    ends = λ leaf e. subst (AreEnded leaf) (sym slots) (ended-bytes leaf before at run.run.size (ended-pending leaf old.slots.items before start at pending e));
+    ends = λ leaf e. subst (AreEnded leaf) (sym slots) (ended-bytes leaf before at run.run.run_length (ended-pending leaf old.slots.items before start at pending e));
   }
 
 pub break-alone : (z : Bool) → StandsAlone (if z then kind.HardBreak else kind.SoftBreak)

@@ -3,7 +3,7 @@ use Rattle.std.specs.Prelude.{if◌then◌else◌, not, ◌&&◌, ◌||◌, drop
 use Rattle.std.proofs.Common.{◌≡◌, ℕ, ◌+◌, ◌-◌, ◌<◌, ◌≤◌, ◌==◌, Bool, true, false, true≢false, List, [], ◌∷◌, ◌++◌, length, get_or, refl, sym, ap, subst, ◌∙◌, arith, length-append, length-drop, eqb-true}
 use Rattle.std.proofs.lemmas.List.{get_or-drop, get_or-append_right}
 use Rattle.cmark_grammar.specs.Letters.{and_then}
-use Rattle.cmark_grammar.specs.LinkDefinitions.{Found, put, escapes_next, up_to, is_label, label_if, label_in}
+use Rattle.cmark_grammar.specs.LinkDefinitions.{Parsed, put, escapes_next, up_to, is_label, label_if, label_in}
 use Rattle.cmark_grammar.specs.LinkTails.{reference_label_in}
 
 -- these bytes stand before a closing bracket, and those behind it
@@ -11,14 +11,14 @@ pub record ClosesBefore (bs : List ℕ) (behind : List ℕ) : Type 0 where
   pub before : List ℕ
   pub is : bs ≡ before ++ (93 ∷ behind)
 
-abbrev Closes : List ℕ → Option Found → Type 0
+abbrev Closes : List ℕ → Option Parsed → Type 0
 Closes bs None = Unit {0}
 Closes bs (Some found) = ClosesBefore bs found.behind
 
 more : (b : ℕ) (bs behind : List ℕ) → ClosesBefore bs behind → ClosesBefore (b ∷ bs) behind
 more b bs behind h = record { before = b ∷ h.before; is = ap (λ l. b ∷ l) h.is }
 
-closes_put : (b : ℕ) (bs : List ℕ) (found : Option Found) → Closes bs found → Closes (b ∷ bs) (put b found)
+closes_put : (b : ℕ) (bs : List ℕ) (found : Option Parsed) → Closes bs found → Closes (b ∷ bs) (put b found)
 closes_put b bs None h = tt
 closes_put b bs (Some found) h = more b bs found.behind h
 
@@ -26,7 +26,7 @@ up_to_closes : (escaped : Bool) (refused : ℕ) (over : Bool) (bs : List ℕ) �
 up_to_closes escaped refused over [] = tt
 up_to_closes escaped refused over (b ∷ bs) = go (not escaped && (b == 93)) refl ((not escaped && (b == refused)) || (not over && ((b == 10) || (b == 13)))) (up_to_closes (escapes_next escaped b) refused over bs)
   where
-    rest : Option Found
+    rest : Option Parsed
     rest = up_to (escapes_next escaped b) 93 refused over bs
 
     right : (x y : Bool) → (x && y) ≡ true → y ≡ true
@@ -41,7 +41,7 @@ up_to_closes escaped refused over (b ∷ bs) = go (not escaped && (b == 93)) ref
 label_closes : (bs : List ℕ) → Closes bs (label_in bs)
 label_closes bs = go (up_to false 93 91 true bs) (up_to_closes false 91 true bs)
   where
-    go : (found : Option Found) → Closes bs found → Closes bs (label_if found)
+    go : (found : Option Parsed) → Closes bs found → Closes bs (label_if found)
     go None h = tt
     go (Some found) h = either (is_label found.bytes)
       where
@@ -53,7 +53,7 @@ reference_closes : (bs : List ℕ) → Closes bs (reference_label_in bs)
 reference_closes [] = tt
 reference_closes (b ∷ bs) = go (b == 91) (label_closes bs)
   where
-    shift : (found : Option Found) → Closes bs found → Closes (b ∷ bs) found
+    shift : (found : Option Parsed) → Closes bs found → Closes (b ∷ bs) found
     shift None h = tt
     shift (Some found) h = more b bs found.behind h
 
@@ -62,7 +62,7 @@ reference_closes (b ∷ bs) = go (b == 91) (label_closes bs)
     go false h = tt
 
 -- the byte before what is behind the label of a full reference is its closing bracket
-pub label-ends : (text : List ℕ) (at end : ℕ) (found : Found) → reference_label_in (drop at text) ≡ Some found → found.behind ≡ drop end text → end ≤ length text → (0 < end) × (get_or text (end - 1) 0 ≡ 93)
+pub label-ends : (text : List ℕ) (at end : ℕ) (found : Parsed) → reference_label_in (drop at text) ≡ Some found → found.behind ≡ drop end text → end ≤ length text → (0 < end) × (get_or text (end - 1) 0 ≡ 93)
 label-ends text at end found e behind within =
     let h : ClosesBefore (drop at text) found.behind = subst (Closes (drop at text)) e (reference_closes (drop at text)) in
     let a = ap length h.is in

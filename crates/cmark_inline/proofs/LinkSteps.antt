@@ -50,17 +50,17 @@ take-places n at (suc size) l =
 pub bytes-behind : (n : ℕ) (placed : List PlacedRun) → drop (bytes_in (take n (runs_of placed))) (places_of placed) ≡ places_of (drop n placed)
 bytes-behind zero placed = refl
 bytes-behind (suc n) [] = refl
-bytes-behind (suc n) (x ∷ placed) = drop-places (bytes_in (take n (runs_of placed))) x.slot x.run.size (places_of placed) ∙ bytes-behind n placed
+bytes-behind (suc n) (x ∷ placed) = drop-places (bytes_in (take n (runs_of placed))) x.slot x.run.run_length (places_of placed) ∙ bytes-behind n placed
 
 pub bytes-front : (n : ℕ) (placed : List PlacedRun) → take (bytes_in (take n (runs_of placed))) (places_of placed) ≡ places_of (take n placed)
 bytes-front zero placed = refl
 bytes-front (suc n) [] = refl
-bytes-front (suc n) (x ∷ placed) = take-places (bytes_in (take n (runs_of placed))) x.slot x.run.size (places_of placed) ∙ ap (run_places x.slot x.run.size) (bytes-front n placed)
+bytes-front (suc n) (x ∷ placed) = take-places (bytes_in (take n (runs_of placed))) x.slot x.run.run_length (places_of placed) ∙ ap (run_places x.slot x.run.run_length) (bytes-front n placed)
 
 pub siblings-counted : (at : ℕ) (placed : List PlacedRun) → counted at (runs_of placed) ≡ siblings_from at placed
 siblings-counted at [] = refl
 siblings-counted at (x ∷ placed) =
-    ap (λ l. Delimiter (record { mark = x.run.mark; size = x.run.size; at = at; left = x.run.size; opens = x.run.opens; closes = x.run.closes }) ∷ l) (siblings-counted (at + x.run.size) placed)
+    ap (λ l. Delimiter (record { delimiter = x.run.delimiter; run_length = x.run.run_length; at = at; left = x.run.run_length; opens = x.run.opens; closes = x.run.closes }) ∷ l) (siblings-counted (at + x.run.run_length) placed)
 
 pub quotes-map : (placed : List PlacedQuote) → map shown_quote (map (λ (p : PlacedQuote). p.quote) placed) ≡ quotes_of placed
 quotes-map [] = refl

@@ -17,7 +17,7 @@ use Rattle.cmark_grammar.specs.Letters.{starts}
 use Rattle.cmark_grammar.specs.Lines.{is_content}
 use Rattle.cmark_grammar.specs.Options.{Options}
 use Rattle.cmark_grammar.specs.Quotes.{quote_beside}
-use Rattle.cmark_inline.specs.Tokens.{whole, reading, begins_at, is_mark}
+use Rattle.cmark_inline.specs.Tokens.{whole, reading, begins_at, is_run_delimiter}
 use Rattle.cmark_inline.proofs.TokenSteps.{from-is, front, begins-with, unsigned}
 use Rattle.cmark_inline.proofs.ReadingOn.{before-is}
 
@@ -29,8 +29,8 @@ module _ (o : Options) (l : Lookup) (cell : Bool) (text : List ℕ) (at : ℕ) (
   at-is place = ap (λ bs. first_of (chars bs)) (from-is o l cell text place)
 
   -- ## Runs
-  run-begins : (b : ℕ) → get_or text at 0 ≡ b → is_mark b ≡ true → begins_at o l cell text at ≡ run_at (reading o l text) (whole cell text) at b (prefix_len (λ c. c == b) (drop at text))
-  run-begins b is mark = go (or_cases (b == 42) ((b == 95) || ((b == 126) || (b == 94))) mark)
+  run-begins : (b : ℕ) → get_or text at 0 ≡ b → is_run_delimiter b ≡ true → begins_at o l cell text at ≡ run_at (reading o l text) (whole cell text) at b (prefix_len (λ c. c == b) (drop at text))
+  run-begins b is delimiter = go (or_cases (b == 42) ((b == 95) || ((b == 126) || (b == 94))) delimiter)
     where
       Is : ℕ → Type 0
       Is m = begins_at o l cell text at ≡ run_at (reading o l text) (whole cell text) at m (prefix_len (λ c. c == m) (drop at text))
@@ -53,14 +53,14 @@ module _ (o : Options) (l : Lookup) (cell : Bool) (text : List ℕ) (at : ℕ) (
       go (inl h) = let e = eqb-true b 42 h in at-mark 42 e (begins-with o l cell text at 42 lt (is ∙ e))
       go (inr h) = more (or_cases (b == 95) ((b == 126) || (b == 94)) h)
 
-  pub run-is : (b end size : ℕ) (before after : Option ℕ) → get_or text at 0 ≡ b → is_mark b ≡ true
+  pub run-is : (b end size : ℕ) (before after : Option ℕ) → get_or text at 0 ≡ b → is_run_delimiter b ≡ true
       → end ≡ at + prefix_len (λ c. c == get_or text at 0) (drop at text) → size ≡ end - at
       → before ≡ first_of (reverse (chars (take at text))) → after ≡ first_of (chars (drop end text))
       → begins_at o l cell text at ≡ run_or (reading o l text) (whole cell text) at b size (flanking o b size before after)
-  run-is b end size before after is mark ends sized left right =
+  run-is b end size before after is delimiter ends sized left right =
       let n : ℕ = prefix_len (λ c. c == b) (drop at text) in
       let same : n ≡ size = ap (λ m. prefix_len (λ c. c == m) (drop at text)) (sym is) ∙ (let q : prefix_len (λ c. c == get_or text at 0) (drop at text) ≡ size = omega (arith, ends, sized) in q) in
-      run-begins b is mark
+      run-begins b is delimiter
       ∙ ap (run_at (reading o l text) (whole cell text) at b) same
       ∙ ap (λ x. run_or (reading o l text) (whole cell text) at b size (flanking o b size x (character_at (reading o l text) (whole cell text) (at + size)))) (before-at ∙ sym left)
       ∙ ap (λ x. run_or (reading o l text) (whole cell text) at b size (flanking o b size before x))
@@ -70,7 +70,7 @@ module _ (o : Options) (l : Lookup) (cell : Bool) (text : List ℕ) (at : ℕ) (
   pub run-plain : (b end size : ℕ) (beside : Flanking) → begins_at o l cell text at ≡ run_or (reading o l text) (whole cell text) at b size beside → at + size ≡ end
       → beside.opens ≡ false → beside.closes ≡ false → begins_at o l cell text at ≡ item_at Plain at end
   run-plain b end size beside is ends left right =
-      is ∙ ap (λ z. if z then item_at (Delimiters (record { mark = b; size = size; at = 0; left = size; opens = beside.opens; closes = beside.closes })) at (at + size) else item_at Plain at (at + size)) (both beside.opens beside.closes left right)
+      is ∙ ap (λ z. if z then item_at (Delimiters (record { delimiter = b; run_length = size; at = 0; left = size; opens = beside.opens; closes = beside.closes })) at (at + size) else item_at Plain at (at + size)) (both beside.opens beside.closes left right)
       ∙ ap (item_at Plain at) ends
     where
       both : (x y : Bool) → x ≡ false → y ≡ false → (x || y) ≡ false
@@ -79,10 +79,10 @@ module _ (o : Options) (l : Lookup) (cell : Bool) (text : List ℕ) (at : ℕ) (
 
   pub run-marks : (b end size : ℕ) (beside : Flanking) → begins_at o l cell text at ≡ run_or (reading o l text) (whole cell text) at b size beside → at + size ≡ end
       → (beside.opens || beside.closes) ≡ true
-      → begins_at o l cell text at ≡ item_at (Delimiters (record { mark = b; size = size; at = 0; left = size; opens = beside.opens; closes = beside.closes })) at end
+      → begins_at o l cell text at ≡ item_at (Delimiters (record { delimiter = b; run_length = size; at = 0; left = size; opens = beside.opens; closes = beside.closes })) at end
   run-marks b end size beside is ends some =
-      is ∙ ap (λ z. if z then item_at (Delimiters (record { mark = b; size = size; at = 0; left = size; opens = beside.opens; closes = beside.closes })) at (at + size) else item_at Plain at (at + size)) some
-      ∙ ap (item_at (Delimiters (record { mark = b; size = size; at = 0; left = size; opens = beside.opens; closes = beside.closes })) at) ends
+      is ∙ ap (λ z. if z then item_at (Delimiters (record { delimiter = b; run_length = size; at = 0; left = size; opens = beside.opens; closes = beside.closes })) at (at + size) else item_at Plain at (at + size)) some
+      ∙ ap (item_at (Delimiters (record { delimiter = b; run_length = size; at = 0; left = size; opens = beside.opens; closes = beside.closes })) at) ends
 
   -- ## Typographic punctuation
   module _ (smart : o.smart_punctuation ≡ true) where
@@ -141,14 +141,14 @@ unfolding encode
 ellipsis-bytes = refl
 
 -- each byte of a run ends no line
-pub run-content : (text : List ℕ) (at end b : ℕ) → get_or text at 0 ≡ b → is_mark b ≡ true → end ≡ at + prefix_len (λ c. c == get_or text at 0) (drop at text) → (k : ℕ) → at ≤ k → k < end → is_content (get_or text k 0) ≡ true
-run-content text at end b is mark ends k low high =
+pub run-content : (text : List ℕ) (at end b : ℕ) → get_or text at 0 ≡ b → is_run_delimiter b ≡ true → end ≡ at + prefix_len (λ c. c == get_or text at 0) (drop at text) → (k : ℕ) → at ≤ k → k < end → is_content (get_or text k 0) ≡ true
+run-content text at end b is delimiter ends k low high =
     let p : ℕ → Bool = λ c. c == get_or text at 0 in
     let inside : k - at < prefix_len p (drop at text) = omega (arith, ends, low, high) in
     let byte : get_or text k 0 ≡ b =
     ap (λ i. get_or text i 0) (let q : k ≡ at + (k - at) = omega (arith, low) in q) ∙ sym (get_or-drop at text (k - at) 0)
     ∙ eqb-true (get_or (drop at text) (k - at) 0) (get_or text at 0) (prefix_len_passes p (drop at text) (k - at) 0 inside) ∙ is in
-    ap is_content byte ∙ go (or_cases (b == 42) ((b == 95) || ((b == 126) || (b == 94))) mark)
+    ap is_content byte ∙ go (or_cases (b == 42) ((b == 95) || ((b == 126) || (b == 94))) delimiter)
   where
     last : ((b == 126) ≡ true) ⊎ ((b == 94) ≡ true) → is_content b ≡ true
     last (inl h) = ap is_content (eqb-true b 126 h)
@@ -166,7 +166,7 @@ run-content text at end b is mark ends k low high =
 module _ (o : Options) (l : Lookup) (cell : Bool) (text : List ℕ) (at : ℕ) (lt : at < length text) (b end size : ℕ) (before after : Option ℕ) (beside : Flanking) where
   pub record IsRunAt : Type 0 where
     pub byte : get_or text at 0 ≡ b
-    pub mark : is_mark b ≡ true
+    pub delimiter : is_run_delimiter b ≡ true
     pub ends : end ≡ at + prefix_len (λ c. c == get_or text at 0) (drop at text)
     pub some : at < end
     pub sized : size ≡ end - at
@@ -175,7 +175,7 @@ module _ (o : Options) (l : Lookup) (cell : Bool) (text : List ℕ) (at : ℕ) (
     pub flanks : beside ≡ flanking o b size before after
 
   run-of : IsRunAt → begins_at o l cell text at ≡ run_or (reading o l text) (whole cell text) at b size beside
-  run-of h = run-is o l cell text at lt b end size before after h.byte h.mark h.ends h.sized h.left h.right ∙ ap (run_or (reading o l text) (whole cell text) at b size) (sym h.flanks)
+  run-of h = run-is o l cell text at lt b end size before after h.byte h.delimiter h.ends h.sized h.left h.right ∙ ap (run_or (reading o l text) (whole cell text) at b size) (sym h.flanks)
 
   size-is : IsRunAt → at + size ≡ end
   size-is h = let s = h.sized in let lt = h.some in let q : at + size ≡ end = omega (arith, s, lt) in q
@@ -184,5 +184,5 @@ module _ (o : Options) (l : Lookup) (cell : Bool) (text : List ℕ) (at : ℕ) (
   run-stays h x y = run-plain o l cell text at lt b end size beside (run-of h) (size-is h) (not-true beside.opens x) (not-true beside.closes y)
 
   pub run-begins-there : IsRunAt → (beside.opens || beside.closes) ≡ true
-      → begins_at o l cell text at ≡ item_at (Delimiters (record { mark = b; size = size; at = 0; left = size; opens = beside.opens; closes = beside.closes })) at end
+      → begins_at o l cell text at ≡ item_at (Delimiters (record { delimiter = b; run_length = size; at = 0; left = size; opens = beside.opens; closes = beside.closes })) at end
   run-begins-there h x = run-marks o l cell text at lt b end size beside (run-of h) (size-is h) x

@@ -17,7 +17,7 @@ use Rattle.cmark_leaf_text.specs.Reads.{place_of}
 use Rattle.cmark_leaf_text.specs.declared.leaf_text.LeafText.{LeafText}
 use Rattle.cmark_text.specs.declared.text.CowStr.{CowStr}
 use Rattle.cmark_inline.specs.MarkedSlots.{AreAhead, AreBegun, AreReady, AreWhole, BeganFrom, EndWithin, Merges, SameBefore, begun_as, ended, last_in, shown_mark, whole_to}
-use Rattle.cmark_inline.specs.SlotViews.{slot_as, shown_slot, shown_slots, shown_element, item_slot, first_of, past_of}
+use Rattle.cmark_inline.specs.SlotViews.{slot_as, shown_slot, shown_slots, shown_element, item_slot, first_of, slot_end}
 use Rattle.cmark_inline.specs.Wikilinks.{Hides, hidden}
 use Rattle.cmark_inline.specs.declared.link.LinkParts.{LinkParts}
 use Rattle.cmark_inline.specs.declared.slot.Element.{Element}
@@ -329,17 +329,17 @@ module _ (leaf : LeafText) (texts : List CowStr) (links : List LinkParts) where
   starts : (slot : Slot) → slot.kind ≡ kind.Text → start_in (view slot) ≡ first_of leaf slot
   starts slot e = ap (λ k. start_in (slot_as leaf texts links slot k)) e
 
-  ends : (slot : Slot) → slot.kind ≡ kind.Text → end_in (view slot) ≡ past_of leaf slot
+  ends : (slot : Slot) → slot.kind ≡ kind.Text → end_in (view slot) ≡ slot_end leaf slot
   ends slot e = ap (λ k. end_in (slot_as leaf texts links slot k)) e
 
   starts-at : (slots : List Slot) (at : ℕ) → at < length slots → ((d : Slot) → (get_or slots at d).kind ≡ kind.Text) → start_in (get_or (views slots) at row.NothingSlot) ≡ first_of leaf (get_or slots at no-slot)
   starts-at slots at lt text = ap start_in (get_or-map (shown_slot leaf texts links) slots at no-slot row.NothingSlot lt) ∙ starts (get_or slots at no-slot) (text no-slot)
 
-  ends-at : (slots : List Slot) (at : ℕ) → at < length slots → ((d : Slot) → (get_or slots at d).kind ≡ kind.Text) → end_in (get_or (views slots) at row.NothingSlot) ≡ past_of leaf (get_or slots at no-slot)
+  ends-at : (slots : List Slot) (at : ℕ) → at < length slots → ((d : Slot) → (get_or slots at d).kind ≡ kind.Text) → end_in (get_or (views slots) at row.NothingSlot) ≡ slot_end leaf (get_or slots at no-slot)
   ends-at slots at lt text = ap end_in (get_or-map (shown_slot leaf texts links) slots at no-slot row.NothingSlot lt) ∙ ends (get_or slots at no-slot) (text no-slot)
 
   -- where the greater of two ends stands
-  past-greater : (one other : Slot) → one.end ≤ other.end → place_of leaf (max one.end other.end - 1) + 1 ≡ past_of leaf other
+  past-greater : (one other : Slot) → one.end ≤ other.end → place_of leaf (max one.end other.end - 1) + 1 ≡ slot_end leaf other
   past-greater one other le = ap (λ n. place_of leaf (n - 1) + 1) (let q : max one.end other.end ≡ other.end = omega (arith, le) in q)
 
   some-view : (slots : List Slot) (first at : ℕ) (e : Element) → first < at → at < length slots → ((d : Slot) → (get_or slots first d).kind ≡ kind.Text) → ((d : Slot) → (get_or slots at d).kind ≡ kind.Text)

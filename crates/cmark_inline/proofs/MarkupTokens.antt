@@ -24,7 +24,7 @@ kind_marks other = false
 
 -- HTML, or a text of its own
 abbrev pub marks : Token → Bool
-marks (Stands x past) = kind_marks x.kind
+marks (Stands x resume) = kind_marks x.kind
 marks (Opens b) = false
 marks (Closes b) = false
 marks Ends = false

@@ -24,15 +24,15 @@ none_ends at most l up lt = go (slice_get_cases l (length l - 1)).1
     go (inl h) = ap (if_ends at) h.2 ∙ apart h.0 (subst (λ (x : Bracket). x.inside ≤ most) h.3 (up (length l - 1) h.0 h.1))
     go (inr h) = ap (if_ends at) h.1
 
-by_stack : (at : ℕ) (st : Brackets) (l : List Bracket) → st.standing.items ≡ l → touching at st ≡ (if nat_lt st.shut (length l) then if_ends at (slice_get l (length l - 1)) else None)
-by_stack at st l e = ap (λ l. if nat_lt st.shut (length l) then if_ends at (slice_get l (length l - 1)) else None) e
+by_stack : (at : ℕ) (st : Brackets) (l : List Bracket) → st.standing.items ≡ l → touching at st ≡ (if nat_lt st.inactive_below (length l) then if_ends at (slice_get l (length l - 1)) else None)
+by_stack at st l e = ap (λ l. if nat_lt st.inactive_below (length l) then if_ends at (slice_get l (length l - 1)) else None) e
 
 -- the nearest bracket is the one that touches, if it ends where the new one begins
-touch : (place : ℕ → ℕ) (at : ℕ) (os : List Opener) (bs : List Bracket) (st : Brackets) → ArePlaced place at os bs → IsFresh at st.shut os bs → Holds st (standing_of os bs)
+touch : (place : ℕ → ℕ) (at : ℕ) (os : List Opener) (bs : List Bracket) (st : Brackets) → ArePlaced place at os bs → IsFresh at st.inactive_below os bs → Holds st (standing_of os bs)
     → (second : Opener) (inside : ℕ) → second.bracket.is_image ≡ false → second.bracket.start ≡ place at → ((a : ℕ) → a < at → place a < place at)
     → with_double (touching at st) inside (pairs_of os bs) ≡ pairs_behind second inside os bs
 touch place at [] bs st p f h second inside plain start order =
-    ap (λ t. with_double t inside []) (by_stack at st [] h.are ∙ go (nat_lt st.shut 0))
+    ap (λ t. with_double t inside []) (by_stack at st [] h.are ∙ go (nat_lt st.inactive_below 0))
   where
     go : (z : Bool) → (if z then if_ends at None else None) ≡ None
     go true = refl
@@ -69,7 +69,7 @@ touch place at (o ∷ os) (b ∷ bs) st p f h second inside plain start order = 
         let list : st.standing.items ≡ standing_of os bs ++ (b ∷ []) = h.are ∙ ap (λ z. with_last z b (standing_of os bs)) is.0 in
         let low = is.2 in
         let n = length-append (standing_of os bs) (b ∷ []) in
-        let few : nat_lt st.shut (length (standing_of os bs ++ (b ∷ []))) ≡ true = lt-ltb st.shut (length (standing_of os bs ++ (b ∷ []))) (let q : st.shut < length (standing_of os bs ++ (b ∷ [])) = omega (arith, low, n) in q) in
+        let few : nat_lt st.inactive_below (length (standing_of os bs ++ (b ∷ []))) ≡ true = lt-ltb st.inactive_below (length (standing_of os bs ++ (b ∷ []))) (let q : st.inactive_below < length (standing_of os bs ++ (b ∷ [])) = omega (arith, low, n) in q) in
         let found : touching at st ≡ Some b = by_stack at st (standing_of os bs ++ (b ∷ [])) list
         ∙ ap (λ z. if z then if_ends at (slice_get (standing_of os bs ++ (b ∷ [])) (length (standing_of os bs ++ (b ∷ [])) - 1)) else None) few
         ∙ ap (if_ends at) (get-last (standing_of os bs) b)
@@ -80,7 +80,7 @@ touch place at (o ∷ os) (b ∷ bs) st p f h second inside plain start order = 
         let le = p.1 in
         let lt : b.inside < at = differs b.inside at le n in
         let up = standing-up-to place b.inside (o ∷ os) (b ∷ bs) (p.0, (let q : b.inside ≤ b.inside = omega arith in q), p.2) in
-        let found : touching at st ≡ None = by_stack at st (standing_of (o ∷ os) (b ∷ bs)) h.are ∙ either (nat_lt st.shut (length (standing_of (o ∷ os) (b ∷ bs)))) (none_ends at b.inside (standing_of (o ∷ os) (b ∷ bs)) up lt) in
+        let found : touching at st ≡ None = by_stack at st (standing_of (o ∷ os) (b ∷ bs)) h.are ∙ either (nat_lt st.inactive_below (length (standing_of (o ∷ os) (b ∷ bs)))) (none_ends at b.inside (standing_of (o ∷ os) (b ∷ bs)) up lt) in
         ap (λ t. with_double t inside doubled) found ∙ sym (ap (λ z. with_last (o.doubles && z) entry doubled) (apart lt) ∙ ap (λ z. with_last z entry doubled) (none o.doubles))
       where
         differs : (x y : ℕ) → x ≤ y → (x ≡ y → ⊥) → x < y
@@ -105,27 +105,27 @@ untouched second inside (o ∷ os) (b ∷ bs) image =
 
 -- the new bracket is the nearest
 pub pushed : (wikilinks : Bool) (place : ℕ → ℕ) (at : ℕ) (os : List Opener) (bs : List Bracket) (st new db ndb : Brackets) (bracket : items.Bracket) (b : Bracket)
-    → StandFor wikilinks place at os bs st db → IsFresh at st.shut os bs → IsPlaced place (new_opener bracket) b → b.start ≡ at → ((a : ℕ) → a < at → place a < place at)
-    → new.standing.items ≡ st.standing.items ++ (b ∷ []) → new.shut ≡ st.shut
-    → ndb.standing.items ≡ (if not b.is_image && wikilinks then with_double (touching at st) b.inside db.standing.items else db.standing.items) → ndb.shut ≡ db.shut
-    → StandFor wikilinks place b.inside (new_opener bracket ∷ os) (b ∷ bs) new ndb × IsFresh b.inside new.shut (new_opener bracket ∷ os) (b ∷ bs)
-pushed wikilinks place at os bs st new db ndb bracket b h f p begins order are shut pairs shut2 = (
+    → StandFor wikilinks place at os bs st db → IsFresh at st.inactive_below os bs → IsPlaced place (new_opener bracket) b → b.start ≡ at → ((a : ℕ) → a < at → place a < place at)
+    → new.standing.items ≡ st.standing.items ++ (b ∷ []) → new.inactive_below ≡ st.inactive_below
+    → ndb.standing.items ≡ (if not b.is_image && wikilinks then with_double (touching at st) b.inside db.standing.items else db.standing.items) → ndb.inactive_below ≡ db.inactive_below
+    → StandFor wikilinks place b.inside (new_opener bracket ∷ os) (b ∷ bs) new ndb × IsFresh b.inside new.inactive_below (new_opener bracket ∷ os) (b ∷ bs)
+pushed wikilinks place at os bs st new db ndb bracket b h f p begins order are inactive_below pairs inactive_below2 = (
   record {
     placed = (p, (let q : b.inside ≤ b.inside = omega arith in q), subst (λ n. ArePlaced place n os bs) (sym begins) h.placed);
-    standing_are = record { are = are ∙ ap (λ l. l ++ (b ∷ [])) h.standing_are.are; few = (let x = h.standing_are.few in let n = length-append (standing_of os bs) (b ∷ []) in let q : new.shut ≤ length (standing_of os bs ++ (b ∷ [])) = omega (arith, x, n, shut) in q) };
-    inactive = subst (λ n. AreInactive n (new_opener bracket ∷ os) (b ∷ bs)) (sym shut) ((λ e. active b.is_image (length (standing_of os bs)) st.shut h.standing_are.few), h.inactive);
-    doubled_are = λ e. (let d = h.doubled_are e in let w = with_pair e in record { are = w; few = subst (λ n. n ≤ length (pairs_behind (new_opener bracket) b.inside os bs)) (sym shut2) (grows e) });
-    doubled_inactive = λ e. subst (λ n. PairsInactive n (new_opener bracket) b.inside os bs) (sym shut2) (new_pair os bs db.shut h.placed h.inactive f h.standing_are.few (h.doubled_are e).few (h.doubled_inactive e));
+    standing_are = record { are = are ∙ ap (λ l. l ++ (b ∷ [])) h.standing_are.are; few = (let x = h.standing_are.few in let n = length-append (standing_of os bs) (b ∷ []) in let q : new.inactive_below ≤ length (standing_of os bs ++ (b ∷ [])) = omega (arith, x, n, inactive_below) in q) };
+    inactive = subst (λ n. AreInactive n (new_opener bracket ∷ os) (b ∷ bs)) (sym inactive_below) ((λ e. active b.is_image (length (standing_of os bs)) st.inactive_below h.standing_are.few), h.inactive);
+    doubled_are = λ e. (let d = h.doubled_are e in let w = with_pair e in record { are = w; few = subst (λ n. n ≤ length (pairs_behind (new_opener bracket) b.inside os bs)) (sym inactive_below2) (grows e) });
+    doubled_inactive = λ e. subst (λ n. PairsInactive n (new_opener bracket) b.inside os bs) (sym inactive_below2) (new_pair os bs db.inactive_below h.placed h.inactive f h.standing_are.few (h.doubled_are e).few (h.doubled_inactive e));
   },
-  λ e. (refl, refl, subst (λ n. n ≤ length (standing_of os bs)) (sym shut) h.standing_are.few),
+  λ e. (refl, refl, subst (λ n. n ≤ length (standing_of os bs)) (sym inactive_below) h.standing_are.few),
 )
   where
-    active : (image : Bool) (n shut : ℕ) → shut ≤ n → false ≡ (not image && nat_lt n shut)
-    active true n shut le = refl
-    active false n shut le = go (nat_lt n shut) refl
+    active : (image : Bool) (n inactive_below : ℕ) → inactive_below ≤ n → false ≡ (not image && nat_lt n inactive_below)
+    active true n inactive_below le = refl
+    active false n inactive_below le = go (nat_lt n inactive_below) refl
       where
-        go : (z : Bool) → nat_lt n shut ≡ z → false ≡ z
-        go true e = absurd (let l = ltb-true n shut e in omega (arith, l, le))
+        go : (z : Bool) → nat_lt n inactive_below ≡ z → false ≡ z
+        go true e = absurd (let l = ltb-true n inactive_below e in omega (arith, l, le))
         go false e = refl
 
     image : bracket.is_image ≡ b.is_image
@@ -152,20 +152,20 @@ pushed wikilinks place at os bs st new db ndb bracket b h f p begins order are s
         go true = let n = length-append (pairs_behind x c.inside ps cs) (record c { inside = inside } ∷ []) in omega (arith, n)
         go false = omega arith
 
-    grows : wikilinks ≡ true → db.shut ≤ length (pairs_behind (new_opener bracket) b.inside os bs)
+    grows : wikilinks ≡ true → db.inactive_below ≤ length (pairs_behind (new_opener bracket) b.inside os bs)
     grows e = let a = (h.doubled_are e).few in let c = longer (new_opener bracket) b.inside os bs in omega (arith, a, c)
 
-    new_pair : (ps : List Opener) (cs : List Bracket) (dshut : ℕ) → ArePlaced place at ps cs → AreInactive st.shut ps cs → IsFresh at st.shut ps cs → st.shut ≤ length (standing_of ps cs) → dshut ≤ length (pairs_of ps cs) → AreDoubledInactive dshut ps cs
-        → PairsInactive dshut (new_opener bracket) b.inside ps cs
-    new_pair [] cs dshut pl k fr few dfew di = tt
-    new_pair (x ∷ ps) [] dshut pl k fr few dfew di = tt
-    new_pair (x ∷ ps) (c ∷ cs) dshut pl k fr few dfew di = (
+    new_pair : (ps : List Opener) (cs : List Bracket) (doubled_below : ℕ) → ArePlaced place at ps cs → AreInactive st.inactive_below ps cs → IsFresh at st.inactive_below ps cs → st.inactive_below ≤ length (standing_of ps cs) → doubled_below ≤ length (pairs_of ps cs) → AreDoubledInactive doubled_below ps cs
+        → PairsInactive doubled_below (new_opener bracket) b.inside ps cs
+    new_pair [] cs doubled_below pl k fr few dfew di = tt
+    new_pair (x ∷ ps) [] doubled_below pl k fr few dfew di = tt
+    new_pair (x ∷ ps) (c ∷ cs) doubled_below pl k fr few dfew di = (
       (λ e.
           (let t = and-right (not bracket.is_image) (bracket.start == x.bracket.end) (and-right x.doubles (touches (new_opener bracket) x) e) in
           let same : place at ≡ place c.inside = sym start ∙ eqb-true bracket.start x.bracket.end t ∙ ap (λ (y : items.Bracket). y.end) pl.0.bracket in
           let met : c.inside ≡ at = one c.inside pl.1 same in
           let is = fr met in
-          k.0 is.0 ∙ sym (active c.is_image (length (standing_of ps cs)) st.shut is.2) ∙ active c.is_image (length (pairs_behind x c.inside ps cs)) dshut dfew)),
+          k.0 is.0 ∙ sym (active c.is_image (length (standing_of ps cs)) st.inactive_below is.2) ∙ active c.is_image (length (pairs_behind x c.inside ps cs)) doubled_below dfew)),
       di,
     )
       where

@@ -33,7 +33,7 @@ some-there (y ∷ xs) zero x e = omega arith
 some-there (y ∷ xs) (suc i) x e = let h = some-there xs i x e in omega (arith, h)
 
 touching-is : (place : ℕ) (brackets : Brackets) (first : Bracket) → touching place brackets ≡ Some first → LastOf place brackets.standing.items first
-touching-is place brackets first e = go (nat_lt brackets.shut (length brackets.standing.items)) refl (slice_get brackets.standing.items (length brackets.standing.items - 1)) refl
+touching-is place brackets first e = go (nat_lt brackets.inactive_below (length brackets.standing.items)) refl (slice_get brackets.standing.items (length brackets.standing.items - 1)) refl
   where
     ends : (o : Option Bracket) → slice_get brackets.standing.items (length brackets.standing.items - 1) ≡ o → if_ends place o ≡ Some first → LastOf place brackets.standing.items first
     ends None s f = absurd (let z : ⊥ = cc in z)
@@ -49,7 +49,7 @@ touching-is place brackets first e = go (nat_lt brackets.shut (length brackets.s
             )
         by false t = absurd (let q : None ≡ Some first = sym (ap (λ z. if z then Some b else None) t) ∙ f in let z : ⊥ = cc in z)
 
-    go : (z : Bool) → nat_lt brackets.shut (length brackets.standing.items) ≡ z → (o : Option Bracket) → slice_get brackets.standing.items (length brackets.standing.items - 1) ≡ o → LastOf place brackets.standing.items first
+    go : (z : Bool) → nat_lt brackets.inactive_below (length brackets.standing.items) ≡ z → (o : Option Bracket) → slice_get brackets.standing.items (length brackets.standing.items - 1) ≡ o → LastOf place brackets.standing.items first
     go true t o s = ends o s (ap (if_ends place) (sym s) ∙ sym (ap (λ z. if z then if_ends place (slice_get brackets.standing.items (length brackets.standing.items - 1)) else None) t) ∙ e)
     go false t o s = absurd (let q : None ≡ Some first = sym (ap (λ z. if z then if_ends place (slice_get brackets.standing.items (length brackets.standing.items - 1)) else None) t) ∙ e in let z : ⊥ = cc in z)
 
@@ -268,4 +268,4 @@ first-nearest (Some b) active = refl
 
 pub last-nearest : (brackets : Brackets) (t : Bracket × Bool) → nearest brackets ≡ Some t → slice_get brackets.standing.items (length brackets.standing.items - 1) ≡ Some t.0
 last-nearest brackets t e =
-    sym (first-nearest (slice_get brackets.standing.items (length brackets.standing.items - 1)) (nat_lt brackets.shut (length brackets.standing.items))) ∙ ap first-in e
+    sym (first-nearest (slice_get brackets.standing.items (length brackets.standing.items - 1)) (nat_lt brackets.inactive_below (length brackets.standing.items))) ∙ ap first-in e

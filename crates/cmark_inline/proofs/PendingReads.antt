@@ -45,17 +45,17 @@ module _ (o : Options) (l : Lookup) (cell : Bool) (text : List ℕ) where
   turn = (omega arith, omega arith, omega arith)
 
   -- an item begins there or further on, and the text is read on behind it
-  pub record IsWithin (at : ℕ) (x : Item) (past : ℕ) : Type 0 where
+  pub record IsWithin (at : ℕ) (x : Item) (resume : ℕ) : Type 0 where
     pub begins : at ≤ x.start
-    pub ends : x.end ≤ past
-    pub further : at < past
-    pub within : past ≤ length text
+    pub ends : x.end ≤ resume
+    pub further : at < resume
+    pub within : resume ≤ length text
 
-  pub item-within : (at : ℕ) (x : Item) (past : ℕ) → begins_at o l cell text at ≡ Stands x past → IsWithin at x past
-  item-within at x past t =
+  pub item-within : (at : ℕ) (x : Item) (resume : ℕ) → begins_at o l cell text at ≡ Stands x resume → IsWithin at x resume
+  item-within at x resume t =
       let h = subst (Onward one alone (length text) turn at) t (begins-at-onward one alone (length text) turn at) in
       let w = h.2 in
-      record { begins = h.0.begins; ends = h.0.ends; further = h.1; within = (let q : past ≤ length text = omega (arith, w) in q) }
+      record { begins = h.0.begins; ends = h.0.ends; further = h.1; within = (let q : resume ≤ length text = omega (arith, w) in q) }
 
   -- where a text begins, no markup opens
   pub text-no-markup : (at start end : ℕ) → begins_at o l cell text at ≡ item_at Plain start end → may_open_markup (drop at text) ≡ false
@@ -123,14 +123,14 @@ module _ (leaf : LeafText) (reader : Reader) (read : Leaf) (place : ℕ → ℕ)
         (ap (λ (s : InlineState). s.delimiters.placed.items) others) (ap (λ (s : InlineState). s.quotes.placed.items) others) (same-brackets others) h)
       where
         same-brackets : new ≡ record old { slots = new.slots } → SameBrackets old new
-        same-brackets e = record { brackets = ap (λ (s : InlineState). s.brackets) e; doubled = ap (λ (s : InlineState). s.doubled) e; expansion = ap (λ (s : InlineState). s.expansion) e; label = ap (λ (s : InlineState). s.shut_close) e }
+        same-brackets e = record { brackets = ap (λ (s : InlineState). s.brackets) e; doubled = ap (λ (s : InlineState). s.doubled) e; expansion_left = ap (λ (s : InlineState). s.expansion_left) e; label = ap (λ (s : InlineState). s.label_close) e }
     flushed-reached at start to old new h (inr b) within stops pushes others =
         let texts : new.texts.items ≡ old.texts.items = ap (λ (s : InlineState). s.texts.items) others in
         let links : new.links.items ≡ old.links.items = ap (λ (s : InlineState). s.links.items) others in
         let some = begun-order reader.options reader.lookup cell text at start to b in
         let fits = (item-within reader.options reader.lookup cell text at (text_item start b.end) b.end b.token).begins in
         item-reached leaf reader read place before R initial now at to old new h (omega (arith, fits, some))
-        (record { brackets = ap (λ (s : InlineState). s.brackets) others; doubled = ap (λ (s : InlineState). s.doubled) others; expansion = ap (λ (s : InlineState). s.expansion) others; label = ap (λ (s : InlineState). s.shut_close) others })
+        (record { brackets = ap (λ (s : InlineState). s.brackets) others; doubled = ap (λ (s : InlineState). s.doubled) others; expansion_left = ap (λ (s : InlineState). s.expansion_left) others; label = ap (λ (s : InlineState). s.label_close) others })
         (ap (λ t. shown_slots leaf t new.links.items old.slots.items) texts ∙ ap (λ t. shown_slots leaf old.texts.items t old.slots.items) links)
         Plain (place start) (placed_item place (text_item start to)).end (text_slot start to) (begun-placed at start to b within stops) refl (begun-like at start to b within stops new.texts.items new.links.items)
         (pushes.0 some) (ap (λ (s : InlineState). s.delimiters.placed.items) others) (ap (λ (s : InlineState). s.quotes.placed.items) others)

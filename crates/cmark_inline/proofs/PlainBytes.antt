@@ -21,7 +21,7 @@ use Rattle.cmark_grammar.specs.LeafText.{Leaf}
 use Rattle.cmark_grammar.specs.Letters.{first_is, starts}
 use Rattle.cmark_grammar.specs.LineBreaks.{LineBreak, backslash_break_in, blank_break, blank_break_in}
 use Rattle.cmark_grammar.specs.Lines.{is_content}
-use Rattle.cmark_grammar.specs.LinkDefinitions.{Found, behind_blanks}
+use Rattle.cmark_grammar.specs.LinkDefinitions.{Parsed, behind_blanks}
 use Rattle.cmark_grammar.specs.Options.{Options}
 use Rattle.cmark_grammar.specs.Readers.{Reader}
 use Rattle.cmark_grammar.specs.Tags.{behind_ending, behind_line_feed, behind_tag, no_prefix}
@@ -38,13 +38,13 @@ is_break _ = false
 
 -- a line break is read
 abbrev pub breaks : Token → Bool
-breaks (Stands x past) = is_break x.kind
+breaks (Stands x resume) = is_break x.kind
 breaks (Opens b) = false
 breaks (Closes b) = false
 breaks Ends = false
 
 abbrev plain_token : Token → Bool
-plain_token (Stands x past) = is_plain x.kind
+plain_token (Stands x resume) = is_plain x.kind
 plain_token (Opens b) = false
 plain_token (Closes b) = false
 plain_token Ends = false
@@ -62,12 +62,12 @@ module _ (o : Options) (l : Lookup) (cell : Bool) (text : List ℕ) (at : ℕ) (
   abbrev bs : List ℕ
   bs = drop (suc at) text
 
-  abbrev Bytes : (past : ℕ) → Type 0
-  Bytes past = (past ≡ suc at) ⊎ ((is_blank_byte b ≡ false) × ((j : ℕ) → at ≤ j → j < past → get_or text j 0 ≡ b))
+  abbrev Bytes : (resume : ℕ) → Type 0
+  Bytes resume = (resume ≡ suc at) ⊎ ((is_blank_byte b ≡ false) × ((j : ℕ) → at ≤ j → j < resume → get_or text j 0 ≡ b))
 
   -- a text that begins there is one byte, or equal ones, which are no blanks
   abbrev Same : Token → Type 0
-  Same (Stands x past) = is_plain x.kind ≡ true → x.start ≡ at → Bytes past
+  Same (Stands x resume) = is_plain x.kind ≡ true → x.start ≡ at → Bytes resume
   Same (Opens c) = Unit {0}
   Same (Closes c) = Unit {0}
   Same Ends = Unit {0}
@@ -90,11 +90,11 @@ module _ (o : Options) (l : Lookup) (cell : Bool) (text : List ℕ) (at : ℕ) (
       hard true = refl
       hard false = refl
 
-  code_same : (n : ℕ) (found : Option Found) → Same (code_or r leaf at n found)
+  code_same : (n : ℕ) (found : Option Parsed) → Same (code_or r leaf at n found)
   code_same n None = λ p s. other p
   code_same n (Some found) = λ p s. other p
 
-  escaped_same : (n : ℕ) (found : Option Found) → Same (escaped_backtick r leaf (suc at) n found)
+  escaped_same : (n : ℕ) (found : Option Parsed) → Same (escaped_backtick r leaf (suc at) n found)
   escaped_same n None = λ p s. other p
   escaped_same n (Some found) = λ p s. absurd (omega (arith, s))
 
@@ -122,7 +122,7 @@ module _ (o : Options) (l : Lookup) (cell : Bool) (text : List ℕ) (at : ℕ) (
   markup_same None t h = h
   markup_same (Some rest) t h = λ p s. other p
 
-  autolink_same : (found : Option Found) (t : Token) → Same t → Same (autolink_or r leaf at found t)
+  autolink_same : (found : Option Parsed) (t : Token) → Same t → Same (autolink_or r leaf at found t)
   autolink_same None t h = h
   autolink_same (Some found) t h = λ p s. other p
 
@@ -146,10 +146,10 @@ module _ (o : Options) (l : Lookup) (cell : Bool) (text : List ℕ) (at : ℕ) (
   run_same : is_blank_byte b ≡ false → (beside : Flanking) → Same (run_or r leaf at b (prefix_len (λ c. c == b) (b ∷ bs)) beside)
   run_same none beside =
       let n = prefix_len (λ c. c == b) (b ∷ bs) in
-      when (beside.opens || beside.closes) (item_at (Delimiters (record { mark = b; size = n; at = 0; left = n; opens = beside.opens; closes = beside.closes })) at (at + n)) (item_at Plain at (at + n)) (λ e p s. other p)
+      when (beside.opens || beside.closes) (item_at (Delimiters (record { delimiter = b; run_length = n; at = 0; left = n; opens = beside.opens; closes = beside.closes })) at (at + n)) (item_at Plain at (at + n)) (λ e p s. other p)
       (λ e p s. inr (none, λ j low high. run_bytes b refl j low (subst (λ x. j < at + prefix_len (λ c. c == b) x) there high)))
 
-  formula_same : (kind : List ℕ → ItemKind) → ((x : List ℕ) → is_plain (kind x) ≡ false) → (found : Option Found) → Same (formula_or r leaf kind at found)
+  formula_same : (kind : List ℕ → ItemKind) → ((x : List ℕ) → is_plain (kind x) ≡ false) → (found : Option Parsed) → Same (formula_or r leaf kind at found)
   formula_same kind never None = λ p s. other p
   formula_same kind never (Some found) = λ p s. other (sym (never (as_in leaf.is_cell found.bytes)) ∙ p)
 
@@ -214,7 +214,7 @@ module _ (o : Options) (l : Lookup) (cell : Bool) (text : List ℕ) (at : ℕ) (
   pub plain-tick : (start end : ℕ) → begins_at o l cell text at ≡ item_at Plain start end → b ≡ 96 → ⊥
   plain-tick start end t is = true≢false (sym (sym (go (backticks (drop at text)) (code_in (drop at text))) ∙ ap plain_token (sym (code-begins o l cell text at lt is) ∙ t)))
     where
-      go : (n : ℕ) (found : Option Found) → plain_token (code_or r leaf at n found) ≡ false
+      go : (n : ℕ) (found : Option Parsed) → plain_token (code_or r leaf at n found) ≡ false
       go n None = refl
       go n (Some found) = refl
 

@@ -12,7 +12,7 @@ use Rattle.cmark_leaf_text.specs.declared.leaf_text.LeafText.{LeafText}
 use Rattle.cmark_text.specs.declared.text.CowStr.{CowStr}
 use Rattle.cmark_inline.specs.MarkedSlots.{HaveTexts}
 use Rattle.cmark_inline.specs.QuoteSlots.{with_character, with_characters}
-use Rattle.cmark_inline.specs.SlotViews.{slot_as, shown_slot, shown_slots, item_slot, first_of, past_of}
+use Rattle.cmark_inline.specs.SlotViews.{slot_as, shown_slot, shown_slots, item_slot, first_of, slot_end}
 use Rattle.cmark_inline.specs.declared.link.LinkParts.{LinkParts}
 use Rattle.cmark_inline.specs.declared.quote.PlacedQuote.{PlacedQuote}
 use Rattle.cmark_inline.specs.declared.slot.Slot.{Slot}
@@ -59,7 +59,7 @@ module _ (leaf : LeafText) (texts : List CowStr) (links : List LinkParts) where
   starts slot k (inl e) = ap (λ (x : SlotKind). start_in (slot_as leaf texts links slot x)) e
   starts slot k (inr h) = ap (λ (x : SlotKind). start_in (slot_as leaf texts links slot x)) h.1
 
-  ends : (slot : Slot) (k : SlotKind) → HasRange k → end_in (slot_as leaf texts links slot k) ≡ past_of leaf slot
+  ends : (slot : Slot) (k : SlotKind) → HasRange k → end_in (slot_as leaf texts links slot k) ≡ slot_end leaf slot
   ends slot k (inl e) = ap (λ (x : SlotKind). end_in (slot_as leaf texts links slot x)) e
   ends slot k (inr h) = ap (λ (x : SlotKind). end_in (slot_as leaf texts links slot x)) h.1
 
@@ -70,7 +70,7 @@ module _ (leaf : LeafText) (texts : List CowStr) (links : List LinkParts) where
       let v = view-at slots at d row.NothingSlot lt in
       ap (shown_slots leaf texts links) (sym (becomes slots at character d lt))
       ∙ map-set (shown_slot leaf texts links) slots at (as_character character s)
-      ∙ ap (λ n. set (views slots) at (item_slot (items.Written (encode_utf8 character)) n (past_of leaf s))) (sym (ap start_in v ∙ starts s s.kind h))
+      ∙ ap (λ n. set (views slots) at (item_slot (items.Written (encode_utf8 character)) n (slot_end leaf s))) (sym (ap start_in v ∙ starts s s.kind h))
       ∙ ap (λ n. set (views slots) at (item_slot (items.Written (encode_utf8 character)) (start_in (get_or (views slots) at row.NothingSlot)) n)) (sym (ap end_in v ∙ ends s s.kind h))
 
   abbrev quotes : List PlacedQuote → List Quote

@@ -34,12 +34,12 @@ use Rattle.cmark_inline.specs.declared.state.InlineState.{InlineState}
 use Rattle.cmark_inline.proofs.ReachedSteps.{own-read}
 
 -- ## Opening brackets
--- the stacks of brackets stay as they are, and so does what is left of the expansion limit
+-- the stacks of brackets stay as they are, and so does what is left of the reference expansion limit
 pub record SameBrackets (old new : InlineState) : Type 0 where
   pub brackets : new.brackets ≡ old.brackets
   pub doubled : new.doubled ≡ old.doubled
-  pub expansion : new.expansion ≡ old.expansion
-  pub label : new.shut_close ≡ old.shut_close
+  pub expansion_left : new.expansion_left ≡ old.expansion_left
+  pub label : new.label_close ≡ old.label_close
 
 placed-up : (place : ℕ → ℕ) (at to : ℕ) (os : List Opener) (bs : List Bracket) → at ≤ to → ArePlaced place at os bs → ArePlaced place to os bs
 placed-up place at to [] [] le h = tt
@@ -47,13 +47,13 @@ placed-up place at to [] (b ∷ bs) le h = h
 placed-up place at to (o ∷ os) [] le h = h
 placed-up place at to (o ∷ os) (b ∷ bs) le h = (h.0, let a = h.1 in omega (arith, a, le), h.2)
 
-fresh-up : (place : ℕ → ℕ) (at to shut : ℕ) (os : List Opener) (bs : List Bracket) → at ≤ to → ArePlaced place at os bs → IsFresh at shut os bs → IsFresh to shut os bs
-fresh-up place at to shut [] bs le p h = tt
-fresh-up place at to shut (o ∷ os) [] le p h = tt
-fresh-up place at to shut (o ∷ os) (b ∷ bs) le p h = λ e. h (let a = p.1 in omega (arith, a, e, le))
+fresh-up : (place : ℕ → ℕ) (at to inactive_below : ℕ) (os : List Opener) (bs : List Bracket) → at ≤ to → ArePlaced place at os bs → IsFresh at inactive_below os bs → IsFresh to inactive_below os bs
+fresh-up place at to inactive_below [] bs le p h = tt
+fresh-up place at to inactive_below (o ∷ os) [] le p h = tt
+fresh-up place at to inactive_below (o ∷ os) (b ∷ bs) le p h = λ e. h (let a = p.1 in omega (arith, a, e, le))
 
 pub shows-on : (wikilinks : Bool) (text : List ℕ) (place : ℕ → ℕ) (at to : ℕ) (s t : State) (bs : List Bracket) (old new : InlineState) → at ≤ to → SameBrackets old new
-    → t.openers ≡ s.openers → t.expansion ≡ s.expansion → t.label_close ≡ s.label_close → ShowsState wikilinks text place at s bs old → ShowsState wikilinks text place to t bs new
+    → t.openers ≡ s.openers → t.expansion_left ≡ s.expansion_left → t.label_close ≡ s.label_close → ShowsState wikilinks text place at s bs old → ShowsState wikilinks text place to t bs new
 shows-on wikilinks text place at to s t bs old new le e openers left label h =
     let b = h.openers in
     let stand : StandFor wikilinks place to s.openers bs old.brackets old.doubled = record {
@@ -66,10 +66,10 @@ shows-on wikilinks text place at to s t bs old new le e openers left label h =
     record {
       openers = subst (λ os. StandFor wikilinks place to os bs new.brackets new.doubled) (sym openers)
           (subst (λ (x : Brackets). StandFor wikilinks place to s.openers bs x new.doubled) (sym e.brackets) (subst (λ (x : Brackets). StandFor wikilinks place to s.openers bs old.brackets x) (sym e.doubled) stand));
-      fresh = subst (λ os. IsFresh to new.brackets.shut os bs) (sym openers)
-          (subst (λ (x : Brackets). IsFresh to x.shut s.openers bs) (sym e.brackets) (fresh-up place at to old.brackets.shut s.openers bs le b.placed h.fresh));
+      fresh = subst (λ os. IsFresh to new.brackets.inactive_below os bs) (sym openers)
+          (subst (λ (x : Brackets). IsFresh to x.inactive_below s.openers bs) (sym e.brackets) (fresh-up place at to old.brackets.inactive_below s.openers bs le b.placed h.fresh));
       remembers = record {
-        expansion = left ∙ h.remembers.expansion ∙ sym e.expansion;
+        expansion_left = left ∙ h.remembers.expansion_left ∙ sym e.expansion_left;
         label = label ∙ h.remembers.label ∙ ap (option_map place) (sym e.label);
         within = subst (EndsWithin text) (sym e.label) h.remembers.within;
       };
@@ -101,16 +101,16 @@ module _ (leaf : LeafText) (reader : Reader) (read : Leaf) (place : ℕ → ℕ)
       answered = h.answered;
     }
 
-    pub item-reached : (at past : ℕ) (old new : InlineState) → Reached at old → at ≤ past → SameBrackets old new
+    pub item-reached : (at resume : ℕ) (old new : InlineState) → Reached at old → at ≤ resume → SameBrackets old new
         → shown_slots leaf new.texts.items new.links.items old.slots.items ≡ shown_slots leaf old.texts.items old.links.items old.slots.items
-        → (kind : ItemKind) (start end : ℕ) (slot : Slot) → token reader read (place at) ≡ Stands (item kind start end) (place past) → has_own_slot kind ≡ true
+        → (kind : ItemKind) (start end : ℕ) (slot : Slot) → token reader read (place at) ≡ Stands (item kind start end) (place resume) → has_own_slot kind ≡ true
         → IsLike reader.source (shown_slot leaf new.texts.items new.links.items slot) (ItemSlot (item kind start end))
-        → new.slots.items ≡ old.slots.items ++ (slot ∷ []) → new.delimiters.placed.items ≡ old.delimiters.placed.items → new.quotes.placed.items ≡ old.quotes.placed.items → Reached past new
-    item-reached at past old new h le e same kind start end slot t own like slots runs quotes = record {
-      p = pass (moved (place past) h.p.state) (join h.p.here (Single (item kind start end) Nil));
+        → new.slots.items ≡ old.slots.items ++ (slot ∷ []) → new.delimiters.placed.items ≡ old.delimiters.placed.items → new.quotes.placed.items ≡ old.quotes.placed.items → Reached resume new
+    item-reached at resume old new h le e same kind start end slot t own like slots runs quotes = record {
+      p = pass (moved (place resume) h.p.state) (join h.p.here (Single (item kind start end) Nil));
       bs = h.bs;
-      has_read = own-read leaf reader read place before h.p h.bs old new h.has_read same kind start end (place past) slot (ap (token reader read) h.at_is ∙ t) own like slots runs quotes;
+      has_read = own-read leaf reader read place before h.p h.bs old new h.has_read same kind start end (place resume) slot (ap (token reader read) h.at_is ∙ t) own like slots runs quotes;
       at_is = refl;
-      shows = shows-on reader.options.wikilinks (text_of leaf) place at past h.p.state (moved (place past) h.p.state) h.bs old new le e refl refl refl h.shows;
+      shows = shows-on reader.options.wikilinks (text_of leaf) place at resume h.p.state (moved (place resume) h.p.state) h.bs old new le e refl refl refl h.shows;
       answered = h.answered;
     }

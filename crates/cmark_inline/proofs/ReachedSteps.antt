@@ -37,7 +37,7 @@ run-places-append at (suc size) a b = ap (λ l. at ∷ l) (run-places-append (su
 
 places-append : (a b : List PlacedRun) → places_of (a ++ b) ≡ places_of a ++ places_of b
 places-append [] b = refl
-places-append (x ∷ a) b = ap (run_places x.slot x.run.size) (places-append a b) ∙ run-places-append x.slot x.run.size (places_of a) (places_of b)
+places-append (x ∷ a) b = ap (run_places x.slot x.run.run_length) (places-append a b) ∙ run-places-append x.slot x.run.run_length (places_of a) (places_of b)
 
 module _ (leaf : LeafText) (reader : Reader) (read : Leaf) (place : ℕ → ℕ) (before : Between) (p : Pass) (bs : List Bracket) (old new : InlineState) (h : HasRead leaf reader read place before p bs old)
     (same : shown_slots leaf new.texts.items new.links.items old.slots.items ≡ shown_slots leaf old.texts.items old.links.items old.slots.items) where
@@ -60,45 +60,45 @@ module _ (leaf : LeafText) (reader : Reader) (read : Leaf) (place : ℕ → ℕ)
   count = length-map old.slots.items (shown_slot leaf old.texts.items old.links.items)
 
   -- a slot of its own
-  pub own-read : (kind : ItemKind) (start end past : ℕ) (slot : Slot) → token reader read p.state.at ≡ Stands (item kind start end) past → has_own_slot kind ≡ true → IsLike reader.source (shown_slot leaf new.texts.items new.links.items slot) (ItemSlot (item kind start end))
+  pub own-read : (kind : ItemKind) (start end resume : ℕ) (slot : Slot) → token reader read p.state.at ≡ Stands (item kind start end) resume → has_own_slot kind ≡ true → IsLike reader.source (shown_slot leaf new.texts.items new.links.items slot) (ItemSlot (item kind start end))
       → new.slots.items ≡ old.slots.items ++ (slot ∷ []) → new.delimiters.placed.items ≡ old.delimiters.placed.items → new.quotes.placed.items ≡ old.quotes.placed.items
-      → HasRead leaf reader read place before (pass (moved past p.state) (join p.here (Single (item kind start end) Nil))) bs new
-  own-read kind start end past slot t own like slots_are runs_are quotes_are =
-      let q = pass (moved past p.state) (join p.here (Single (item kind start end) Nil)) in
-      let r = reached-own reader read before p brackets slots_before (places_of old.delimiters.placed.items) places_before (runs_of old.delimiters.placed.items) (quotes_of old.quotes.placed.items) h kind start end past
+      → HasRead leaf reader read place before (pass (moved resume p.state) (join p.here (Single (item kind start end) Nil))) bs new
+  own-read kind start end resume slot t own like slots_are runs_are quotes_are =
+      let q = pass (moved resume p.state) (join p.here (Single (item kind start end) Nil)) in
+      let r = reached-own reader read before p brackets slots_before (places_of old.delimiters.placed.items) places_before (runs_of old.delimiters.placed.items) (quotes_of old.quotes.placed.items) h kind start end resume
       (shown_slot leaf new.texts.items new.links.items slot) t own like in
       subst (λ l. IsReached reader read before q brackets (shown new.slots.items) (places_of new.delimiters.placed.items) (map (λ (x : PlacedQuote). x.slot) l) (runs_of new.delimiters.placed.items) (quotes_of l)) (sym quotes_are)
       (subst (λ l. IsReached reader read before q brackets (shown new.slots.items) (places_of l) places_before (runs_of l) (quotes_of old.quotes.placed.items)) (sym runs_are)
       (subst (λ l. IsReached reader read before q brackets l (places_of old.delimiters.placed.items) places_before (runs_of old.delimiters.placed.items) (quotes_of old.quotes.placed.items)) (grown (slot ∷ []) slots_are) r))
 
   -- a delimiter run
-  pub run-read : (run : PlacedRun) (start end past : ℕ) (more : List Slot) → token reader read p.state.at ≡ Stands (item (Delimiters (shown_run run.run)) start end) past → AreLike reader.source (shown more) (run_slots start run.run.size []) → run.slot ≡ length old.slots.items
+  pub run-read : (run : PlacedRun) (start end resume : ℕ) (more : List Slot) → token reader read p.state.at ≡ Stands (item (Delimiters (shown_run run.run)) start end) resume → AreLike reader.source (shown more) (run_slots start run.run.run_length []) → run.slot ≡ length old.slots.items
       → new.slots.items ≡ old.slots.items ++ more → new.delimiters.placed.items ≡ old.delimiters.placed.items ++ (run ∷ []) → new.quotes.placed.items ≡ old.quotes.placed.items
-      → HasRead leaf reader read place before (pass (moved past p.state) (join p.here (Single (item (Delimiters (shown_run run.run)) start end) Nil))) bs new
-  run-read run start end past more t like slot_is slots_are runs_are quotes_are =
+      → HasRead leaf reader read place before (pass (moved resume p.state) (join p.here (Single (item (Delimiters (shown_run run.run)) start end) Nil))) bs new
+  run-read run start end resume more t like slot_is slots_are runs_are quotes_are =
       let kind = Delimiters (shown_run run.run) in
-      let q = pass (moved past p.state) (join p.here (Single (item kind start end) Nil)) in
-      let r = reached-run reader read before p brackets slots_before (places_of old.delimiters.placed.items) places_before (runs_of old.delimiters.placed.items) (quotes_of old.quotes.placed.items) h (shown_run run.run) start end past
+      let q = pass (moved resume p.state) (join p.here (Single (item kind start end) Nil)) in
+      let r = reached-run reader read before p brackets slots_before (places_of old.delimiters.placed.items) places_before (runs_of old.delimiters.placed.items) (quotes_of old.quotes.placed.items) h (shown_run run.run) start end resume
       (shown more) t like in
-      let bytes : places_of old.delimiters.placed.items ++ run_places (length slots_before) run.run.size [] ≡ places_of new.delimiters.placed.items =
-      ap (λ n. places_of old.delimiters.placed.items ++ run_places n run.run.size []) (count ∙ sym slot_is) ∙ sym (places-append old.delimiters.placed.items (run ∷ [])) ∙ ap places_of (sym runs_are) in
+      let bytes : places_of old.delimiters.placed.items ++ run_places (length slots_before) run.run.run_length [] ≡ places_of new.delimiters.placed.items =
+      ap (λ n. places_of old.delimiters.placed.items ++ run_places n run.run.run_length []) (count ∙ sym slot_is) ∙ sym (places-append old.delimiters.placed.items (run ∷ [])) ∙ ap places_of (sym runs_are) in
       let runs : runs_of old.delimiters.placed.items ++ (shown_run run.run ∷ []) ≡ runs_of new.delimiters.placed.items =
       sym (map-append (λ (x : PlacedRun). shown_run x.run) old.delimiters.placed.items (run ∷ [])) ∙ ap runs_of (sym runs_are) in
       subst (λ l. IsReached reader read before q brackets (shown new.slots.items) (places_of new.delimiters.placed.items) (map (λ (x : PlacedQuote). x.slot) l) (runs_of new.delimiters.placed.items) (quotes_of l)) (sym quotes_are)
       (subst (λ l. IsReached reader read before q brackets (shown new.slots.items) (places_of new.delimiters.placed.items) places_before l (quotes_of old.quotes.placed.items)) runs
       (subst (λ l. IsReached reader read before q brackets (shown new.slots.items) l places_before (runs_of old.delimiters.placed.items ++ (shown_run run.run ∷ [])) (quotes_of old.quotes.placed.items)) bytes
-      (subst (λ l. IsReached reader read before q brackets l (places_of old.delimiters.placed.items ++ run_places (length slots_before) run.run.size []) places_before (runs_of old.delimiters.placed.items ++ (shown_run run.run ∷ [])) (quotes_of old.quotes.placed.items))
+      (subst (λ l. IsReached reader read before q brackets l (places_of old.delimiters.placed.items ++ run_places (length slots_before) run.run.run_length []) places_before (runs_of old.delimiters.placed.items ++ (shown_run run.run ∷ [])) (quotes_of old.quotes.placed.items))
       (grown more slots_are) r)))
 
   -- a quote
-  pub quote-read : (quote : PlacedQuote) (start end past : ℕ) (slot : Slot) → token reader read p.state.at ≡ Stands (item (Quoted (shown_quote quote.quote)) start end) past
+  pub quote-read : (quote : PlacedQuote) (start end resume : ℕ) (slot : Slot) → token reader read p.state.at ≡ Stands (item (Quoted (shown_quote quote.quote)) start end) resume
       → IsLike reader.source (shown_slot leaf new.texts.items new.links.items slot) (ItemSlot (item (Quoted (shown_quote quote.quote)) start end)) → quote.slot ≡ length old.slots.items
       → new.slots.items ≡ old.slots.items ++ (slot ∷ []) → new.delimiters.placed.items ≡ old.delimiters.placed.items → new.quotes.placed.items ≡ old.quotes.placed.items ++ (quote ∷ [])
-      → HasRead leaf reader read place before (pass (moved past p.state) (join p.here (Single (item (Quoted (shown_quote quote.quote)) start end) Nil))) bs new
-  quote-read quote start end past slot t like slot_is slots_are runs_are quotes_are =
+      → HasRead leaf reader read place before (pass (moved resume p.state) (join p.here (Single (item (Quoted (shown_quote quote.quote)) start end) Nil))) bs new
+  quote-read quote start end resume slot t like slot_is slots_are runs_are quotes_are =
       let kind = Quoted (shown_quote quote.quote) in
-      let q = pass (moved past p.state) (join p.here (Single (item kind start end) Nil)) in
-      let r = reached-quote reader read before p brackets slots_before (places_of old.delimiters.placed.items) places_before (runs_of old.delimiters.placed.items) (quotes_of old.quotes.placed.items) h (shown_quote quote.quote) start end past
+      let q = pass (moved resume p.state) (join p.here (Single (item kind start end) Nil)) in
+      let r = reached-quote reader read before p brackets slots_before (places_of old.delimiters.placed.items) places_before (runs_of old.delimiters.placed.items) (quotes_of old.quotes.placed.items) h (shown_quote quote.quote) start end resume
       (shown_slot leaf new.texts.items new.links.items slot) t like in
       let places : places_before ++ (length slots_before ∷ []) ≡ map (λ (x : PlacedQuote). x.slot) new.quotes.placed.items =
       ap (λ n. places_before ++ (n ∷ [])) (count ∙ sym slot_is) ∙ sym (map-append (λ (x : PlacedQuote). x.slot) old.quotes.placed.items (quote ∷ [])) ∙ ap (map (λ (x : PlacedQuote). x.slot)) (sym quotes_are) in

@@ -33,7 +33,7 @@ use Rattle.cmark_inline.specs.declared.slot.SlotKind.TheVariants as kind
 
 pub stand-so : (at : ℕ) (placed : List PlacedRun) → StandFrom at (siblings_from at placed)
 stand-so at [] = tt
-stand-so at (p ∷ placed) = (refl, refl, stand-so (at + p.run.size) placed)
+stand-so at (p ∷ placed) = (refl, refl, stand-so (at + p.run.run_length) placed)
 
 pub length-run : (at size : ℕ) (behind : List ℕ) → length (run_places at size behind) ≡ size + length behind
 length-run at zero behind = let e : length behind ≡ 0 + length behind = omega arith in e
@@ -41,16 +41,16 @@ length-run at (suc size) behind = let h = length-run (suc at) size behind in let
 
 pub length-places : (at : ℕ) (placed : List PlacedRun) → length (places_of placed) ≡ places_taken (siblings_from at placed)
 length-places at [] = refl
-length-places at (p ∷ placed) = length-run p.slot p.run.size (places_of placed) ∙ ap (λ n. p.run.size + n) (length-places (at + p.run.size) placed)
+length-places at (p ∷ placed) = length-run p.slot p.run.run_length (places_of placed) ∙ ap (λ n. p.run.run_length + n) (length-places (at + p.run.run_length) placed)
 
 -- one more run is gathered, its bytes counted from there on
 pub gathered-more : (runs : List code_run.Run) (n : code_run.Run) (next : PlacedRun) (others : List PlacedRun) (count : ℕ)
-    → n ≡ record { mark = next.run.mark; size = next.run.size; at = count; left = next.run.size; opens = next.run.opens; closes = next.run.closes }
-    → map shown_run (runs ++ (n ∷ [])) ++ runs_of (siblings_from (count + next.run.size) others) ≡ map shown_run runs ++ runs_of (siblings_from count (next ∷ others))
+    → n ≡ record { delimiter = next.run.delimiter; run_length = next.run.run_length; at = count; left = next.run.run_length; opens = next.run.opens; closes = next.run.closes }
+    → map shown_run (runs ++ (n ∷ [])) ++ runs_of (siblings_from (count + next.run.run_length) others) ≡ map shown_run runs ++ runs_of (siblings_from count (next ∷ others))
 gathered-more runs n next others count e =
-    ap (λ l. l ++ runs_of (siblings_from (count + next.run.size) others)) (map-append shown_run runs (n ∷ []))
-    ∙ append_assoc (map shown_run runs) (shown_run n ∷ []) (runs_of (siblings_from (count + next.run.size) others))
-    ∙ ap (λ (r : code_run.Run). map shown_run runs ++ (shown_run r ∷ runs_of (siblings_from (count + next.run.size) others))) e
+    ap (λ l. l ++ runs_of (siblings_from (count + next.run.run_length) others)) (map-append shown_run runs (n ∷ []))
+    ∙ append_assoc (map shown_run runs) (shown_run n ∷ []) (runs_of (siblings_from (count + next.run.run_length) others))
+    ∙ ap (λ (r : code_run.Run). map shown_run runs ++ (shown_run r ∷ runs_of (siblings_from (count + next.run.run_length) others))) e
 
 -- ## Their marks
 
@@ -130,7 +130,7 @@ module _ (Entry : Type 0) (single : Entry) (open_side close_side : SpanKind → 
   length-pairs : (pairs : List Pair) (all : List Entry) → length (entries.mark_pairs Entry single open_side close_side pairs all) ≡ length all
   length-pairs [] all = refl
   length-pairs (pair ∷ pairs) all =
-      length-pairs pairs (entries.mark_pair Entry single open_side close_side pair all) ∙ length-spans (kinds_of pair.mark pair.count) pair.from pair.to all
+      length-pairs pairs (entries.mark_pair Entry single open_side close_side pair all) ∙ length-spans (kinds_of pair.delimiter pair.count) pair.from pair.to all
 
   length-stays : (count : ℕ) → length (entries.stays Entry single open_side close_side count) ≡ count
   length-stays zero = refl
@@ -183,7 +183,7 @@ bytes-ahead (suc size) s at from end slots behind f e is h =
 
 pub all-ahead : (slots : List Slot) (from place : ℕ) (placed : List PlacedRun) → HaveBytes slots from place placed → AreAhead slots from place (places_of placed)
 all-ahead slots from place [] h = tt
-all-ahead slots from place (p ∷ placed) h = bytes-ahead p.run.size p.slot h.0 from place slots (places_of placed) h.1 h.2 h.3 (all-ahead slots (p.slot + p.run.size) (h.0 + p.run.size) placed h.4)
+all-ahead slots from place (p ∷ placed) h = bytes-ahead p.run.run_length p.slot h.0 from place slots (places_of placed) h.1 h.2 h.3 (all-ahead slots (p.slot + p.run.run_length) (h.0 + p.run.run_length) placed h.4)
 
 -- runs that stand so from one slot and one place on do so from the first ones on
 pub have-all : (slots : List Slot) (from place : ℕ) (placed : List PlacedRun) → HaveBytes slots from place placed → HaveBytes slots 0 0 placed
@@ -254,7 +254,7 @@ pub runs-from : (low : ℕ) (slots : List Slot) (from place : ℕ) (placed : Lis
 runs-from low slots from place [] le h = tt
 runs-from low slots from place (p ∷ placed) le h =
     let f = h.1 in
-    (omega (arith, le, f), runs-from low slots (p.slot + p.run.size) (h.0 + p.run.size) placed (omega (arith, le, f)) h.4)
+    (omega (arith, le, f), runs-from low slots (p.slot + p.run.run_length) (h.0 + p.run.run_length) placed (omega (arith, le, f)) h.4)
 
 -- what is the same before a slot stays so
 pub same-on : (low : ℕ) (old mid new : List Slot) → SameBefore low old mid → SameBefore low mid new → SameBefore low old new

@@ -23,7 +23,7 @@ use Rattle.cmark_text.specs.Short.{IsShortZeroCopy, shown_plain, shown_short}
 use Rattle.cmark_text.specs.Shown.{shown_end}
 use Rattle.cmark_inline.specs.Elements.{emphasis_tag}
 use Rattle.cmark_inline.specs.Shorts.{AreSome, IsAlone, IsCodeOf, IsNextFirst, IsShortFirst, IsTextOf, PassesFirst, StandsFor}
-use Rattle.cmark_inline.specs.SlotViews.{events_of, first_of, past_of, shown_element, shown_opened, shown_slots, slot_as}
+use Rattle.cmark_inline.specs.SlotViews.{events_of, first_of, slot_end, shown_element, shown_opened, shown_slots, slot_as}
 use Rattle.cmark_inline.specs.declared.event.Opened.{Opened}
 use Rattle.cmark_inline.specs.declared.link.LinkParts.{LinkParts}
 use Rattle.cmark_inline.specs.declared.slot.Element.{Element}
@@ -48,7 +48,7 @@ plain-element links (element.Image index) t h = cc
 
 module _ (leaf : LeafText) (texts : List CowStr) (links : List LinkParts) (slot : Slot) (slots : List Slot) (opened : List Opened) where
   abbrev here : Event → Ranged
-  here e = over (source_of leaf) (first_of leaf slot) (past_of leaf slot) e
+  here e = over (source_of leaf) (first_of leaf slot) (slot_end leaf slot) e
 
   abbrev from : SlotKind → List Ranged → List Ranged
   from k ends = slot_events (source_of leaf) (slot_as leaf texts links slot k ∷ shown_slots leaf texts links slots) ends
@@ -84,8 +84,8 @@ module _ (leaf : LeafText) (texts : List CowStr) (links : List LinkParts) (slot 
     given = here (shown_short s);
     is = refl;
     follows = record {
-      range = part-range (source_of leaf) (first_of leaf slot) (past_of leaf slot) (there leaf slot.start slot.end read part);
-      opens = short-opens s opened (first_of leaf slot) (past_of leaf slot) inline;
+      range = part-range (source_of leaf) (first_of leaf slot) (slot_end leaf slot) (there leaf slot.start slot.end read part);
+      opens = short-opens s opened (first_of leaf slot) (slot_end leaf slot) inline;
     };
     lent = lent;
     first = short-first s stands inline;
@@ -131,7 +131,7 @@ module _ (leaf : LeafText) (texts : List CowStr) (links : List LinkParts) (slot 
         given = here (event.Start (shown_plain tag));
         is = refl;
         follows = record {
-          range = part-range (source_of leaf) (first_of leaf slot) (past_of leaf slot) (there leaf slot.start slot.end read part);
+          range = part-range (source_of leaf) (first_of leaf slot) (slot_end leaf slot) (there leaf slot.start slot.end read part);
           opens = (span, (one, record { tag_is = sym same; start_is = refl; end_is = refl }, refl));
         };
         lent = tt;

@@ -17,7 +17,7 @@ use Rattle.cmark_leaf_text.specs.declared.leaf_text.LeafText.{LeafText}
 use Rattle.cmark_text.specs.declared.text.CowStr.{CowStr}
 use Rattle.cmark_text.specs.Shown.{shown}
 use Rattle.cmark_inline.specs.Opens.{Gives, Passes, shown_given}
-use Rattle.cmark_inline.specs.SlotViews.{slot_as, shown_slot, shown_slots, shown_open, shown_opened, events_of, event_in, first_of, past_of, item_slot, text_named, link_of, link_named, linked_or_none, bytes_or_none, shown_element, IsThere, Differ, AreOnce, EndsBehind, CanBeGiven, KeepsOthers, IsFirst, with_given}
+use Rattle.cmark_inline.specs.SlotViews.{slot_as, shown_slot, shown_slots, shown_open, shown_opened, events_of, event_in, first_of, slot_end, item_slot, text_named, link_of, link_named, linked_or_none, bytes_or_none, shown_element, IsThere, Differ, AreOnce, EndsBehind, CanBeGiven, KeepsOthers, IsFirst, with_given}
 use Rattle.cmark_inline.specs.declared.event.Given.{Given}
 use Rattle.cmark_inline.specs.declared.event.Opened.{Opened}
 use Rattle.cmark_inline.specs.declared.link.LinkParts.{LinkParts}
@@ -73,7 +73,7 @@ same-element old new (element.Image index) s = ap (λ (o : Option LinkParts). ta
 module _ (leaf : LeafText) (texts texts1 : List CowStr) (links links1 : List LinkParts) where
   pub same-slot : (slot : Slot) (k : SlotKind) → SameAt (text_named k) texts texts1 → SameAt (link_named k) links links1 → slot_as leaf texts1 links1 slot k ≡ slot_as leaf texts links slot k
   same-slot slot kind.Text s l = refl
-  same-slot slot (kind.OwnedText index) s l = ap (λ (o : Option CowStr). item_slot (items.Written (bytes_or_none o)) (first_of leaf slot) (past_of leaf slot)) s
+  same-slot slot (kind.OwnedText index) s l = ap (λ (o : Option CowStr). item_slot (items.Written (bytes_or_none o)) (first_of leaf slot) (slot_end leaf slot)) s
   same-slot slot (kind.Character character) s l = refl
   same-slot slot (kind.Whole last) s l = refl
   same-slot slot kind.SoftBreak s l = refl
@@ -86,8 +86,8 @@ module _ (leaf : LeafText) (texts texts1 : List CowStr) (links links1 : List Lin
   same-slot slot (kind.CutHtml from) s l = refl
   same-slot slot (kind.SourceText end) s l = refl
   same-slot slot kind.Empty s l = refl
-  same-slot slot (kind.FootnoteReference index) s l = ap (λ (o : Option CowStr). item_slot (items.FootnoteReference (bytes_or_none o)) (first_of leaf slot) (past_of leaf slot)) s
-  same-slot slot (kind.Begin e) s l = ap (λ (t : Tag). row.BeginSlot t (first_of leaf slot) (past_of leaf slot)) (same-element links links1 e l)
+  same-slot slot (kind.FootnoteReference index) s l = ap (λ (o : Option CowStr). item_slot (items.FootnoteReference (bytes_or_none o)) (first_of leaf slot) (slot_end leaf slot)) s
+  same-slot slot (kind.Begin e) s l = ap (λ (t : Tag). row.BeginSlot t (first_of leaf slot) (slot_end leaf slot)) (same-element links links1 e l)
   same-slot slot kind.End s l = refl
   same-slot slot kind.Nothing s l = refl
 
@@ -145,10 +145,10 @@ module _ (leaf : LeafText) (texts : List CowStr) (links : List LinkParts) (slot 
   by-kind k e = ap (λ (x : SlotKind). slot_events (source_of leaf) (slot_as leaf texts links slot x ∷ shown_slots leaf texts links slots) (shown_opened opened)) e
 
   abbrev begins : Element → Ranged
-  begins e = over (source_of leaf) (first_of leaf slot) (past_of leaf slot) (event.Start (shown_element links e))
+  begins e = over (source_of leaf) (first_of leaf slot) (slot_end leaf slot) (event.Start (shown_element links e))
 
   abbrev closes : Element → Ranged
-  closes e = over (source_of leaf) (first_of leaf slot) (past_of leaf slot) (event.End (end_of (shown_element links e)))
+  closes e = over (source_of leaf) (first_of leaf slot) (slot_end leaf slot) (event.End (end_of (shown_element links e)))
 
   -- an element begins
   pub begin-first : (texts1 : List CowStr) (links1 : List LinkParts) (opened1 : List Opened) (given : Given) (e : Element) → slot.kind ≡ kind.Begin e → CanBeGiven leaf texts links (slot ∷ slots)
@@ -163,7 +163,7 @@ module _ (leaf : LeafText) (texts : List CowStr) (links : List LinkParts) (slot 
 
   -- what has the range of its bytes
   single-kind : (k : SlotKind) → ((end : ℕ) → k ≡ kind.SourceHtml end → ⊥) → ((end : ℕ) → k ≡ kind.SourceText end → ⊥) → (k ≡ kind.Empty → ⊥) → ((e : Element) → k ≡ kind.Begin e → ⊥) → (k ≡ kind.End → ⊥) → (k ≡ kind.Nothing → ⊥)
-      → (rows : List row.Slot) (ends : List Ranged) → slot_events (source_of leaf) (slot_as leaf texts links slot k ∷ rows) ends ≡ over (source_of leaf) (first_of leaf slot) (past_of leaf slot) (event_in leaf texts slot k) ∷ slot_events (source_of leaf) rows ends
+      → (rows : List row.Slot) (ends : List Ranged) → slot_events (source_of leaf) (slot_as leaf texts links slot k ∷ rows) ends ≡ over (source_of leaf) (first_of leaf slot) (slot_end leaf slot) (event_in leaf texts slot k) ∷ slot_events (source_of leaf) rows ends
   single-kind kind.Text html text empty begin end nothing rows ends = refl
   single-kind (kind.OwnedText index) html text empty begin end nothing rows ends = refl
   single-kind (kind.Character character) html text empty begin end nothing rows ends = refl
@@ -185,11 +185,11 @@ module _ (leaf : LeafText) (texts : List CowStr) (links : List LinkParts) (slot 
 
   pub single-first : (texts1 : List CowStr) (links1 : List LinkParts) (opened1 : List Opened) (given : Given) → ((end : ℕ) → slot.kind ≡ kind.SourceHtml end → ⊥) → ((end : ℕ) → slot.kind ≡ kind.SourceText end → ⊥) → (slot.kind ≡ kind.Empty → ⊥)
       → ((e : Element) → slot.kind ≡ kind.Begin e → ⊥) → (slot.kind ≡ kind.End → ⊥) → (slot.kind ≡ kind.Nothing → ⊥) → CanBeGiven leaf texts links (slot ∷ slots) → KeepsOthers (text_named slot.kind) texts texts1 → links1 ≡ links → opened1 ≡ opened
-      → shown given.event ≡ event_in leaf texts slot slot.kind → given.range.start ≡ first_of leaf slot → given.range.end ≡ past_of leaf slot
+      → shown given.event ≡ event_in leaf texts slot slot.kind → given.range.start ≡ first_of leaf slot → given.range.end ≡ slot_end leaf slot
       → events_of leaf texts links (slot ∷ slots) opened ≡ shown_given given ∷ events_of leaf texts1 links1 slots opened1
   single-first texts1 links1 opened1 given html text empty begin end nothing h ts ls o value start last =
       let seen = seen-behind leaf texts texts1 links links1 slot slots h ts (keeps-same (link_named slot.kind) links links1 ls) in
-      let here : over (source_of leaf) (first_of leaf slot) (past_of leaf slot) (event_in leaf texts slot slot.kind) ≡ shown_given given = cc in
+      let here : over (source_of leaf) (first_of leaf slot) (slot_end leaf slot) (event_in leaf texts slot slot.kind) ≡ shown_given given = cc in
       single-kind slot.kind html text empty begin end nothing (shown_slots leaf texts links slots) (shown_opened opened)
       ∙ ap (λ x. x ∷ events_of leaf texts links slots opened) here
       ∙ ap (λ l. shown_given given ∷ slot_events (source_of leaf) l (shown_opened opened)) (sym seen)

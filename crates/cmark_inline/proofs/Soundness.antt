@@ -107,7 +107,7 @@ module _ (texts links : ℕ) (before : List Slot) (runs : List PlacedRun) (quote
         quotes_order = λ i j d less lt. let k = length_push quotes q in order i j d less (let w : j ≤ length quotes = omega (arith, lt, k) in w) (cases_lt j (length quotes));
         runs_are = m.runs_are;
         sizes = m.sizes;
-        apart = All-push (λ (p : PlacedQuote). All (λ (r : PlacedRun). (p.slot < r.slot) ⊎ (r.slot + r.run.size ≤ p.slot)) runs) quotes q m.apart (λ k d lt. let w = within k d lt in inr (omega (arith, w, at)));
+        apart = All-push (λ (p : PlacedQuote). All (λ (r : PlacedRun). (p.slot < r.slot) ⊎ (r.slot + r.run.run_length ≤ p.slot)) runs) quotes q m.apart (λ k d lt. let w = within k d lt in inr (omega (arith, w, at)));
         standing_are = λ k d lt. let t = (h.standing_are k d lt).there in placed-quote new runs quotes (get_or standing k d) (m.standing_are k d lt) q (omega (arith, t, at));
         doubled_are = λ k d lt. let t = (h.doubled_are k d lt).there in placed-quote new runs quotes (get_or doubled k d) (m.doubled_are k d lt) q (omega (arith, t, at));
         ordered = m.ordered;
@@ -144,23 +144,23 @@ sound-bytes texts links slots runs quotes standing doubled start (suc size) h =
     append-one (z ∷ xs) x ys = ap (λ l. z ∷ l) (append-one xs x ys)
 
 module _ (texts links : ℕ) (before : List Slot) (runs : List PlacedRun) (quotes : List PlacedQuote) (standing doubled : List Bracket) (h : AreSound texts links before runs quotes standing doubled) where
-  pub sound-run : (start : ℕ) (r : PlacedRun) → 0 < r.run.size → r.slot ≡ length before → ((k : ℕ) (d : Slot) → k < length before → (get_or before k d).end ≤ start)
-      → AreSound texts links (before ++ byte_slots start r.run.size) (runs ++ (r ∷ [])) quotes standing doubled
+  pub sound-run : (start : ℕ) (r : PlacedRun) → 0 < r.run.run_length → r.slot ≡ length before → ((k : ℕ) (d : Slot) → k < length before → (get_or before k d).end ≤ start)
+      → AreSound texts links (before ++ byte_slots start r.run.run_length) (runs ++ (r ∷ [])) quotes standing doubled
   sound-run start r some at ends =
-      let new : List Slot = before ++ byte_slots start r.run.size in
-      let m = sound-bytes texts links before runs quotes standing doubled start r.run.size h in
+      let new : List Slot = before ++ byte_slots start r.run.run_length in
+      let m = sound-bytes texts links before runs quotes standing doubled start r.run.run_length h in
       let within = runs-within before 0 0 runs h.sizes h.runs_are in
-      let mine : take r.run.size (drop r.slot new) ≡ byte_slots start r.run.size =
-      ap (λ n. take r.run.size (drop n new)) at ∙ ap (take r.run.size) (drop-append_seam before (byte_slots start r.run.size)) ∙ take_all r.run.size (byte_slots start r.run.size) (let l = length-bytes start r.run.size in let q : length (byte_slots start r.run.size) ≤ r.run.size = omega (arith, l) in q) in
+      let mine : take r.run.run_length (drop r.slot new) ≡ byte_slots start r.run.run_length =
+      ap (λ n. take r.run.run_length (drop n new)) at ∙ ap (take r.run.run_length) (drop-append_seam before (byte_slots start r.run.run_length)) ∙ take_all r.run.run_length (byte_slots start r.run.run_length) (let l = length-bytes start r.run.run_length in let q : length (byte_slots start r.run.run_length) ≤ r.run.run_length = omega (arith, l) in q) in
       record {
         named = m.named;
         whole = m.whole;
         within = m.within;
         quotes_are = m.quotes_are;
         quotes_order = m.quotes_order;
-        runs_are = have-push new 0 0 (length before) start runs r (omega arith) (omega arith) within h.sizes (λ k d lt. subst (λ (x : Slot). x.end ≤ start) (sym (get_or_append_left before (byte_slots start r.run.size) d k lt)) (ends k d lt)) (let q : length before ≤ r.slot = omega (arith, at) in q) mine m.runs_are;
-        sizes = All-push (λ (x : PlacedRun). 0 < x.run.size) runs r m.sizes some;
-        apart = λ k d lt. All-push (λ (x : PlacedRun). ((get_or quotes k d).slot < x.slot) ⊎ (x.slot + x.run.size ≤ (get_or quotes k d).slot)) runs r (m.apart k d lt) (let t = (h.quotes_are k d lt).0 in inl (omega (arith, t, at)));
+        runs_are = have-push new 0 0 (length before) start runs r (omega arith) (omega arith) within h.sizes (λ k d lt. subst (λ (x : Slot). x.end ≤ start) (sym (get_or_append_left before (byte_slots start r.run.run_length) d k lt)) (ends k d lt)) (let q : length before ≤ r.slot = omega (arith, at) in q) mine m.runs_are;
+        sizes = All-push (λ (x : PlacedRun). 0 < x.run.run_length) runs r m.sizes some;
+        apart = λ k d lt. All-push (λ (x : PlacedRun). ((get_or quotes k d).slot < x.slot) ⊎ (x.slot + x.run.run_length ≤ (get_or quotes k d).slot)) runs r (m.apart k d lt) (let t = (h.quotes_are k d lt).0 in inl (omega (arith, t, at)));
         standing_are = λ k d lt. let t = (h.standing_are k d lt).there in placed-run new runs quotes (get_or standing k d) (m.standing_are k d lt) r (omega (arith, t, at));
         doubled_are = λ k d lt. let t = (h.doubled_are k d lt).there in placed-run new runs quotes (get_or doubled k d) (m.doubled_are k d lt) r (omega (arith, t, at));
         ordered = m.ordered;
@@ -226,11 +226,11 @@ module _ (texts links : ℕ) (slots : List Slot) (runs : List PlacedRun) (quotes
         (subst (λ (y : PlacedQuote). (get_or quotes i d).slot < y.slot) (sym (get_or-take bracket.quotes quotes j d high)) (h.quotes_order i j d less (let q : j < length quotes = omega (arith, lt, a) in q)));
     runs_are = have-kept slots new 0 0 (take bracket.runs runs) le sizes (keeps-before bracket.slot slots new (take bracket.runs runs) same
         (λ k d lt. let a = length-take bracket.runs runs in let low : k < bracket.runs = omega (arith, lt, a) in
-        subst (λ (r : PlacedRun). r.slot + r.run.size ≤ bracket.slot) (sym (get_or-take bracket.runs runs k d low)) (p.runs_before k d low)))
+        subst (λ (r : PlacedRun). r.slot + r.run.run_length ≤ bracket.slot) (sym (get_or-take bracket.runs runs k d low)) (p.runs_before k d low)))
         (have-take slots 0 0 bracket.runs runs h.runs_are);
     sizes = sizes;
-    apart = All-take (λ (q : PlacedQuote). All (λ (r : PlacedRun). (q.slot < r.slot) ⊎ (r.slot + r.run.size ≤ q.slot)) (take bracket.runs runs)) bracket.quotes quotes
-        (λ k d lt. All-take (λ (r : PlacedRun). ((get_or quotes k d).slot < r.slot) ⊎ (r.slot + r.run.size ≤ (get_or quotes k d).slot)) bracket.runs runs (h.apart k d lt));
+    apart = All-take (λ (q : PlacedQuote). All (λ (r : PlacedRun). (q.slot < r.slot) ⊎ (r.slot + r.run.run_length ≤ q.slot)) (take bracket.runs runs)) bracket.quotes quotes
+        (λ k d lt. All-take (λ (r : PlacedRun). ((get_or quotes k d).slot < r.slot) ⊎ (r.slot + r.run.run_length ≤ (get_or quotes k d).slot)) bracket.runs runs (h.apart k d lt));
     standing_are = λ k d lt. cut (get_or standing k d) (h.standing_are k d lt) (before k d lt);
     doubled_are = λ k d lt. cut (get_or doubled k d) (h.doubled_are k d lt) (before_too k d lt);
     ordered = h.ordered;
@@ -240,7 +240,7 @@ module _ (texts links : ℕ) (slots : List Slot) (runs : List PlacedRun) (quotes
   }
     where
       sizes : HaveSizes (take bracket.runs runs)
-      sizes = All-take (λ (r : PlacedRun). 0 < r.run.size) bracket.runs runs h.sizes
+      sizes = All-take (λ (r : PlacedRun). 0 < r.run.run_length) bracket.runs runs h.sizes
 
       cut : (b : Bracket) → IsPlaced slots runs quotes b → b.slot < bracket.slot → IsPlaced new (take bracket.runs runs) (take bracket.quotes quotes) b
       cut b q lt =
@@ -260,9 +260,9 @@ module _ (texts links : ℕ) (slots : List Slot) (runs : List PlacedRun) (quotes
         (λ k d lt. let a = length-drop bracket.runs runs in
         subst (λ (r : PlacedRun). bracket.slot + 1 ≤ r.slot) (sym (get_or-drop bracket.runs runs k d))
         (let b = p.runs_behind (bracket.runs + k) d (omega arith) (omega (arith, lt, a)) in let q : bracket.slot + 1 ≤ (get_or runs (bracket.runs + k) d).slot = omega (arith, b) in q));
-    sizes = all-drop (λ (r : PlacedRun). 0 < r.run.size) bracket.runs runs h.sizes;
-    apart = all-drop (λ (q : PlacedQuote). All (λ (r : PlacedRun). (q.slot < r.slot) ⊎ (r.slot + r.run.size ≤ q.slot)) (drop bracket.runs runs)) bracket.quotes quotes
-        (λ k d lt. all-drop (λ (r : PlacedRun). ((get_or quotes k d).slot < r.slot) ⊎ (r.slot + r.run.size ≤ (get_or quotes k d).slot)) bracket.runs runs (h.apart k d lt));
+    sizes = all-drop (λ (r : PlacedRun). 0 < r.run.run_length) bracket.runs runs h.sizes;
+    apart = all-drop (λ (q : PlacedQuote). All (λ (r : PlacedRun). (q.slot < r.slot) ⊎ (r.slot + r.run.run_length ≤ q.slot)) (drop bracket.runs runs)) bracket.quotes quotes
+        (λ k d lt. all-drop (λ (r : PlacedRun). ((get_or quotes k d).slot < r.slot) ⊎ (r.slot + r.run.run_length ≤ (get_or quotes k d).slot)) bracket.runs runs (h.apart k d lt));
   }
 
 -- all quotes and all runs can be settled

@@ -14,7 +14,7 @@ use Rattle.cmark_grammar.specs.Items.{Plain, Token, Opens, Closes}
 use Rattle.cmark_grammar.specs.Letters.{first_is}
 use Rattle.cmark_grammar.specs.Options.{Options}
 use Rattle.cmark_grammar.specs.SpecialBytes.{is_one_of, is_always_special, is_special}
-use Rattle.cmark_inline.specs.Tokens.{whole, reading, begins_at, is_mark, is_other}
+use Rattle.cmark_inline.specs.Tokens.{whole, reading, begins_at, is_run_delimiter, is_other}
 use Rattle.cmark_inline.proofs.TokenSteps.{begins-with, unsigned}
 
 -- ## Special bytes
@@ -107,11 +107,11 @@ sign-passes f b (x ∷ xs) all e = go (sign-passes f b xs all.1) (or_cases (x ==
     go rest (inr h) = rest h
 
 abbrev is_known : ℕ → Bool
-is_known n = has_call n || (is_mark n || is_other n)
+is_known n = has_call n || (is_run_delimiter n || is_other n)
 
--- all others are marks, pipes or braces
-pub other-special : (o : Options) (b : ℕ) → has_call b ≡ false → is_special o b ≡ true → (is_mark b ≡ true) ⊎ (is_other b ≡ true)
-other-special o b uncalled e = or_cases (is_mark b) (is_other b) (others (or_cases (has_call b) (is_mark b || is_other b) (known (special-kinds o b e))))
+-- all others are delimiters of runs, pipes or braces
+pub other-special : (o : Options) (b : ℕ) → has_call b ≡ false → is_special o b ≡ true → (is_run_delimiter b ≡ true) ⊎ (is_other b ≡ true)
+other-special o b uncalled e = or_cases (is_run_delimiter b) (is_other b) (others (or_cases (has_call b) (is_run_delimiter b || is_other b) (known (special-kinds o b e))))
   where
     here : (n : ℕ) → (b == n) ≡ true → is_known n ≡ true → is_known b ≡ true
     here n h k = ap is_known (eqb-true b n h) ∙ k
@@ -124,7 +124,7 @@ other-special o b uncalled e = or_cases (is_mark b) (is_other b) (others (or_cas
     known (inr (inr (inr (inr (inl h))))) = sign-passes is_known b (codes "${}") (refl, (refl, (refl, tt))) h.1
     known (inr (inr (inr (inr (inr h))))) = sign-passes is_known b (codes ".-\"'") (refl, (refl, (refl, (refl, tt)))) h.1
 
-    others : (has_call b ≡ true) ⊎ ((is_mark b || is_other b) ≡ true) → (is_mark b || is_other b) ≡ true
+    others : (has_call b ≡ true) ⊎ ((is_run_delimiter b || is_other b) ≡ true) → (is_run_delimiter b || is_other b) ≡ true
     others (inl h) = absurd (true≢false (sym h ∙ uncalled))
     others (inr h) = h
 

@@ -24,14 +24,14 @@ no-new-push ss s e = λ from h k d le lt. go from h k d le (nat_lt k (length ss)
 pub no-new : (ss ts : List Slot) (s : Slot) → begins_link s.kind ≡ false → ts ≡ ss ++ (s ∷ []) → NoNewLink ss ts
 no-new ss ts s e p = subst (NoNewLink ss) (sym p) (no-new-push ss s e)
 
-pub free-on : (ss ts : List Slot) (bs : List Bracket) (shut : ℕ) → AreFree ss bs shut → NoNewLink ss ts → AreFree ts bs shut
-free-on ss ts bs shut h new = λ i d le lt. new (get_or bs i d).slot (h i d le lt)
+pub free-on : (ss ts : List Slot) (bs : List Bracket) (inactive_below : ℕ) → AreFree ss bs inactive_below → NoNewLink ss ts → AreFree ts bs inactive_below
+free-on ss ts bs inactive_below h new = λ i d le lt. new (get_or bs i d).slot (h i d le lt)
 
 -- a bracket more, with its own slot
-pub free-push : (ss : List Slot) (bs cs : List Bracket) (b : Bracket) (shut : ℕ) → AreFree ss bs shut → HoldNoLink ss b.slot → cs ≡ bs ++ (b ∷ []) → AreFree ss cs shut
-free-push ss bs cs b shut h new p = subst (λ l. AreFree ss l shut) (sym p) (λ i d le lt. go i d le (nat_lt i (length bs)) refl (let l = length_push bs b in let q : i ≤ length bs = omega (arith, lt, l) in q))
+pub free-push : (ss : List Slot) (bs cs : List Bracket) (b : Bracket) (inactive_below : ℕ) → AreFree ss bs inactive_below → HoldNoLink ss b.slot → cs ≡ bs ++ (b ∷ []) → AreFree ss cs inactive_below
+free-push ss bs cs b inactive_below h new p = subst (λ l. AreFree ss l inactive_below) (sym p) (λ i d le lt. go i d le (nat_lt i (length bs)) refl (let l = length_push bs b in let q : i ≤ length bs = omega (arith, lt, l) in q))
   where
-    go : (i : ℕ) (d : Bracket) → shut ≤ i → (z : Bool) → nat_lt i (length bs) ≡ z → i ≤ length bs → HoldNoLink ss (get_or (bs ++ (b ∷ [])) i d).slot
+    go : (i : ℕ) (d : Bracket) → inactive_below ≤ i → (z : Bool) → nat_lt i (length bs) ≡ z → i ≤ length bs → HoldNoLink ss (get_or (bs ++ (b ∷ [])) i d).slot
     go i d le true e m = subst (λ (c : Bracket). HoldNoLink ss c.slot) (sym (get_or_append_left bs (b ∷ []) d i (ltb-true i (length bs) e))) (h i d le (ltb-true i (length bs) e))
     go i d le false e m = subst (λ (c : Bracket). HoldNoLink ss c.slot) (sym (get_or_push bs b d i (let g = ltb-false i (length bs) e in let q : length bs ≡ i = omega (arith, g, m) in q))) new
 
@@ -45,9 +45,9 @@ pub record Keeps (text : List ℕ) (at : ℕ) (ss : List Slot) (v w : Brackets) 
   pub slots : AreSlots text at ss
   pub brackets : AreBrackets text at v.standing.items
   pub few : length ss ≤ at
-  pub free : AreFree ss v.standing.items v.shut
+  pub free : AreFree ss v.standing.items v.inactive_below
   pub doubled : AreBrackets text at w.standing.items
-  pub doubled_free : AreFree ss w.standing.items w.shut
+  pub doubled_free : AreFree ss w.standing.items w.inactive_below
   pub runs : bytes ≤ length ss
 
 module _ (text : List ℕ) where
@@ -77,9 +77,9 @@ module _ (text : List ℕ) where
         slots = subst (AreSlots text b) (sym e) (All-push (IsSlot text b) ss s (slots-on a b ss h.slots le) new);
         brackets = brackets-on a b v.standing.items h.brackets le;
         few = (let q : length ts ≤ b = omega (arith, l, m, room) in q);
-        free = free-on ss ts v.standing.items v.shut h.free (no-new ss ts s none e);
+        free = free-on ss ts v.standing.items v.inactive_below h.free (no-new ss ts s none e);
         doubled = brackets-on a b w.standing.items h.doubled le;
-        doubled_free = free-on ss ts w.standing.items w.shut h.doubled_free (no-new ss ts s none e);
+        doubled_free = free-on ss ts w.standing.items w.inactive_below h.doubled_free (no-new ss ts s none e);
         runs = let q : n ≤ length ts = omega (arith, l, m, r) in q;
       }
 
@@ -100,9 +100,9 @@ module _ (text : List ℕ) where
             slots = subst (AreSlots text b) (sym (pushed.1 g)) k.slots;
             brackets = k.brackets;
             few = subst (λ (l : List Slot). length l ≤ b) (sym (pushed.1 g)) k.few;
-            free = subst (λ (l : List Slot). AreFree l v.standing.items v.shut) (sym (pushed.1 g)) k.free;
+            free = subst (λ (l : List Slot). AreFree l v.standing.items v.inactive_below) (sym (pushed.1 g)) k.free;
             doubled = k.doubled;
-            doubled_free = subst (λ (l : List Slot). AreFree l w.standing.items w.shut) (sym (pushed.1 g)) k.doubled_free;
+            doubled_free = subst (λ (l : List Slot). AreFree l w.standing.items w.inactive_below) (sym (pushed.1 g)) k.doubled_free;
             runs = subst (λ (l : List Slot). n ≤ length l) (sym (pushed.1 g)) k.runs;
           }
 

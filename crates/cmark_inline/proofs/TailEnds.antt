@@ -5,7 +5,7 @@ use Rattle.std.proofs.lemmas.List.{get_or-drop}
 use Rattle.cmark_grammar.specs.Columns.{is_blank_byte}
 use Rattle.cmark_grammar.specs.Destinations.{link_destination_in}
 use Rattle.cmark_grammar.specs.Letters.{first_is, behind_if, and_then}
-use Rattle.cmark_grammar.specs.LinkDefinitions.{Found, bare_in, behind_blanks, behind_next_line, behind_separator, depth_after, ends_bare, escapes_next, put, title_in, up_to}
+use Rattle.cmark_grammar.specs.LinkDefinitions.{Parsed, bare_in, behind_blanks, behind_next_line, behind_separator, depth_after, ends_bare, escapes_next, put, title_in, up_to}
 use Rattle.cmark_grammar.specs.LinkTails.{LinkTail, closed_tail, link_tail_in, tail_inside, title_behind, with_title}
 use Rattle.cmark_grammar.specs.Tags.{behind_ending, behind_line_feed}
 
@@ -21,46 +21,46 @@ either P false x y p q = q
 
 -- ## Destinations and titles
 
-abbrev FoundRest : List ℕ → Option Found → Type 0
-FoundRest bs None = Unit {0}
-FoundRest bs (Some found) = IsRest bs found.behind
+abbrev ParsedRest : List ℕ → Option Parsed → Type 0
+ParsedRest bs None = Unit {0}
+ParsedRest bs (Some found) = IsRest bs found.behind
 
-put_rest : (b : ℕ) (bs : List ℕ) (o : Option Found) → FoundRest bs o → FoundRest (b ∷ bs) (put b o)
+put_rest : (b : ℕ) (bs : List ℕ) (o : Option Parsed) → ParsedRest bs o → ParsedRest (b ∷ bs) (put b o)
 put_rest b bs None h = tt
 put_rest b bs (Some found) h = onward (b ∷ bs) bs found.behind (1, refl) h
 
-on_rest : (bs s : List ℕ) (o : Option Found) → IsRest bs s → FoundRest s o → FoundRest bs o
+on_rest : (bs s : List ℕ) (o : Option Parsed) → IsRest bs s → ParsedRest s o → ParsedRest bs o
 on_rest bs s None h k = tt
 on_rest bs s (Some found) h k = onward bs s found.behind h k
 
-up_rest : (escaped : Bool) (closer refused : ℕ) (over : Bool) (bs : List ℕ) → FoundRest bs (up_to escaped closer refused over bs)
+up_rest : (escaped : Bool) (closer refused : ℕ) (over : Bool) (bs : List ℕ) → ParsedRest bs (up_to escaped closer refused over bs)
 up_rest escaped closer refused over [] = tt
 up_rest escaped closer refused over (b ∷ bs) =
-    let after : Option Found = up_to (escapes_next escaped b) closer refused over bs in
-    either (FoundRest (b ∷ bs)) (not escaped && (b == closer)) (Some (record { bytes = []; behind = bs })) (if (not escaped && (b == refused)) || (not over && ((b == 10) || (b == 13))) then None else put b after)
+    let after : Option Parsed = up_to (escapes_next escaped b) closer refused over bs in
+    either (ParsedRest (b ∷ bs)) (not escaped && (b == closer)) (Some (record { bytes = []; behind = bs })) (if (not escaped && (b == refused)) || (not over && ((b == 10) || (b == 13))) then None else put b after)
     (1, refl)
-    (either (FoundRest (b ∷ bs)) ((not escaped && (b == refused)) || (not over && ((b == 10) || (b == 13)))) None (put b after) tt (put_rest b bs after (up_rest (escapes_next escaped b) closer refused over bs)))
+    (either (ParsedRest (b ∷ bs)) ((not escaped && (b == refused)) || (not over && ((b == 10) || (b == 13)))) None (put b after) tt (put_rest b bs after (up_rest (escapes_next escaped b) closer refused over bs)))
 
-bare_rest : (escaped : Bool) (depth : ℕ) (bs : List ℕ) → FoundRest bs (bare_in escaped depth bs)
-bare_rest escaped depth [] = either (FoundRest []) (depth == 0) (Some (record { bytes = []; behind = [] })) None (0, refl) tt
+bare_rest : (escaped : Bool) (depth : ℕ) (bs : List ℕ) → ParsedRest bs (bare_in escaped depth bs)
+bare_rest escaped depth [] = either (ParsedRest []) (depth == 0) (Some (record { bytes = []; behind = [] })) None (0, refl) tt
 bare_rest escaped depth (b ∷ bs) =
-    let after : Option Found = bare_in (escapes_next escaped b) (depth_after escaped depth b) bs in
-    let ends : Option Found = if depth == 0 then Some (record { bytes = []; behind = b ∷ bs }) else None in
-    let on : Option Found = if not escaped && ((b == 40) && nat_le 32 depth) then None else put b after in
-    either (FoundRest (b ∷ bs)) (ends_bare b || (not escaped && ((b == 41) && (depth == 0)))) ends on
-    (either (FoundRest (b ∷ bs)) (depth == 0) (Some (record { bytes = []; behind = b ∷ bs })) None (0, refl) tt)
-    (either (FoundRest (b ∷ bs)) (not escaped && ((b == 40) && nat_le 32 depth)) None (put b after) tt (put_rest b bs after (bare_rest (escapes_next escaped b) (depth_after escaped depth b) bs)))
+    let after : Option Parsed = bare_in (escapes_next escaped b) (depth_after escaped depth b) bs in
+    let ends : Option Parsed = if depth == 0 then Some (record { bytes = []; behind = b ∷ bs }) else None in
+    let on : Option Parsed = if not escaped && ((b == 40) && nat_le 32 depth) then None else put b after in
+    either (ParsedRest (b ∷ bs)) (ends_bare b || (not escaped && ((b == 41) && (depth == 0)))) ends on
+    (either (ParsedRest (b ∷ bs)) (depth == 0) (Some (record { bytes = []; behind = b ∷ bs })) None (0, refl) tt)
+    (either (ParsedRest (b ∷ bs)) (not escaped && ((b == 40) && nat_le 32 depth)) None (put b after) tt (put_rest b bs after (bare_rest (escapes_next escaped b) (depth_after escaped depth b) bs)))
 
-destination_rest : (bs : List ℕ) → FoundRest bs (link_destination_in bs)
+destination_rest : (bs : List ℕ) → ParsedRest bs (link_destination_in bs)
 destination_rest bs =
-    either (FoundRest bs) (first_is (λ b. b == 60) bs) (up_to false 62 60 false (drop 1 bs)) (bare_in false 0 bs) (on_rest bs (drop 1 bs) (up_to false 62 60 false (drop 1 bs)) (1, refl) (up_rest false 62 60 false (drop 1 bs))) (bare_rest false 0 bs)
+    either (ParsedRest bs) (first_is (λ b. b == 60) bs) (up_to false 62 60 false (drop 1 bs)) (bare_in false 0 bs) (on_rest bs (drop 1 bs) (up_to false 62 60 false (drop 1 bs)) (1, refl) (up_rest false 62 60 false (drop 1 bs))) (bare_rest false 0 bs)
 
-title_rest : (bs : List ℕ) → FoundRest bs (title_in bs)
+title_rest : (bs : List ℕ) → ParsedRest bs (title_in bs)
 title_rest [] = tt
 title_rest (b ∷ bs) =
-    either (FoundRest (b ∷ bs)) ((b == 34) || (b == 39)) (up_to false b b true bs) (if b == 40 then up_to false 41 40 true bs else None)
+    either (ParsedRest (b ∷ bs)) ((b == 34) || (b == 39)) (up_to false b b true bs) (if b == 40 then up_to false 41 40 true bs else None)
     (on_rest (b ∷ bs) bs (up_to false b b true bs) (1, refl) (up_rest false b b true bs))
-    (either (FoundRest (b ∷ bs)) (b == 40) (up_to false 41 40 true bs) None (on_rest (b ∷ bs) bs (up_to false 41 40 true bs) (1, refl) (up_rest false 41 40 true bs)) tt)
+    (either (ParsedRest (b ∷ bs)) (b == 40) (up_to false 41 40 true bs) None (on_rest (b ∷ bs) bs (up_to false 41 40 true bs) (1, refl) (up_rest false 41 40 true bs)) tt)
 
 -- ## What parts them
 
@@ -113,12 +113,12 @@ closed_ends destination title bs = on_tail bs (behind_separator bs) (closed_tail
         by true e = (0, ap (λ c. c ∷ l) (eqb-true b 41 e))
         by false e = tt
 
-titled_ends : (bs : List ℕ) (destination title : Option Found) → FoundRest bs destination → FoundRest bs title → TailEnds bs (with_title destination title)
+titled_ends : (bs : List ℕ) (destination title : Option Parsed) → ParsedRest bs destination → ParsedRest bs title → TailEnds bs (with_title destination title)
 titled_ends bs None title h k = tt
 titled_ends bs (Some destination) None h k = on_tail bs destination.behind (closed_tail destination.bytes None destination.behind) h (closed_ends destination.bytes None destination.behind)
 titled_ends bs (Some destination) (Some title) h k = on_tail bs title.behind (closed_tail destination.bytes (Some title.bytes) title.behind) k (closed_ends destination.bytes (Some title.bytes) title.behind)
 
-behind_rest : (bs : List ℕ) (destination : Option Found) → FoundRest bs destination → FoundRest bs (title_behind destination)
+behind_rest : (bs : List ℕ) (destination : Option Parsed) → ParsedRest bs destination → ParsedRest bs (title_behind destination)
 behind_rest bs None h = tt
 behind_rest bs (Some destination) h =
     let s = behind_separator destination.behind in
@@ -127,7 +127,7 @@ behind_rest bs (Some destination) h =
 inside_ends : (bs : List ℕ) → TailEnds bs (tail_inside bs)
 inside_ends bs =
     let s = behind_separator bs in
-    let found : FoundRest bs (link_destination_in s) = on_rest bs s (link_destination_in s) (separator_rest bs) (destination_rest s) in
+    let found : ParsedRest bs (link_destination_in s) = on_rest bs s (link_destination_in s) (separator_rest bs) (destination_rest s) in
     titled_ends bs (link_destination_in s) (title_behind (link_destination_in s)) found (behind_rest bs (link_destination_in s) found)
 
 tail_ends : (bs : List ℕ) → TailEnds bs (link_tail_in bs)

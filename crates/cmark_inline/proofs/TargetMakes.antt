@@ -21,30 +21,30 @@ use Rattle.cmark_leaf_text.specs.Reads.{text_of, is_cell_of, place_of}
 use Rattle.cmark_leaf_text.specs.declared.leaf_text.LeafText.{LeafText}
 use Rattle.cmark_text.specs.Shown.{shown_link_type}
 use Rattle.cmark_text.specs.declared.text.CowStr.{CowStr}
-use Rattle.cmark_inline.specs.BracketViews.{IsPlaced, past_opening}
+use Rattle.cmark_inline.specs.BracketViews.{IsPlaced, behind_opening}
 use Rattle.cmark_inline_model.specs.TextPlaces.{ArePlaces}
 use Rattle.cmark_inline.specs.Decided.{EndsTogether, ReadsSame, IsCloser, EndsWithin, Remembers, ComesTo, is_full, target_outcome, with_left, LeadsTo, TargetDecides}
 use Rattle.cmark_inline.specs.Footnoted.{as_label}
 use Rattle.cmark_inline.specs.Linked as linked
-use Rattle.cmark_inline.specs.Linked.{InlineLink, Refers, left_behind, reference_behind, shown_asked, shown_target}
+use Rattle.cmark_inline.specs.Linked.{InlineLink, Refers, left_behind, reference_behind, shown_link_reference, shown_target}
 use Rattle.cmark_inline.specs.declared.bracket.Bracket.{Bracket}
 use Rattle.cmark_inline.specs.declared.callback.BrokenLink.{BrokenLink}
-use Rattle.cmark_inline.specs.declared.reference.Asked.{Asked}
+use Rattle.cmark_inline.specs.declared.reference.LinkReference.{LinkReference}
 use Rattle.cmark_inline.specs.declared.link.Target.{Target}
 use Rattle.cmark_inline.specs.declared.state.InlineState.{InlineState}
 use Rattle.cmark_inline.proofs.DecisionSteps.{refers-spent, refers-led, stays-settled}
 use Rattle.cmark_inline.proofs.TailEnds.{tail-ends}
-use Rattle.cmark_inline.proofs.TargetSteps.{asked-named, asked-none, behind-is, inline-named, label_behind, named, next-of, there-same, with_label}
+use Rattle.cmark_inline.proofs.TargetSteps.{reference-named, reference-none, behind-is, inline-named, label_behind, named, next-of, there-same, with_label}
 
 -- the same label behind a reference
-label_kept : (place : ℕ → ℕ) (a : Asked) (old new : Option ℕ) (label : Option ℕ) → label ≡ option_map place old → new ≡ (if is_full (shown_link_type a.link_type) then Some (a.end - 1) else old) → option_map place new ≡ label_behind place a label
+label_kept : (place : ℕ → ℕ) (a : LinkReference) (old new : Option ℕ) (label : Option ℕ) → label ≡ option_map place old → new ≡ (if is_full (shown_link_type a.link_type) then Some (a.end - 1) else old) → option_map place new ≡ label_behind place a label
 label_kept place a old new label e f = ap (option_map place) f ∙ go (is_full (shown_link_type a.link_type))
   where
     go : (z : Bool) → option_map place (if z then Some (a.end - 1) else old) ≡ (if z then Some (place (a.end - 1)) else label)
     go true = refl
     go false = sym e
 
-pub label-within : (text : List ℕ) (a : Asked) (old new : Option ℕ) → a.end ≤ length text → new ≡ (if is_full (shown_link_type a.link_type) then Some (a.end - 1) else old) → EndsWithin text old → EndsWithin text new
+pub label-within : (text : List ℕ) (a : LinkReference) (old new : Option ℕ) → a.end ≤ length text → new ≡ (if is_full (shown_link_type a.link_type) then Some (a.end - 1) else old) → EndsWithin text old → EndsWithin text new
 label-within text a old new le f w = subst (EndsWithin text) (sym f) (go (is_full (shown_link_type a.link_type)))
   where
     go : (z : Bool) → EndsWithin text (if z then Some (a.end - 1) else old)
@@ -95,16 +95,16 @@ module _ {F : Type 0} (R : F → BrokenLink → Option (CowStr × CowStr) → F 
       ∙ sym (next-of reader read text place (places footnotes reader read place r) (end - 1) b (let l : end - 1 < length text = omega (arith, pos, lend) in l) byte content)
       ∙ ap place (let l : end - 1 + 1 ≡ end = omega (arith, pos) in l)
 
-  pub inline-decides : (t : Target) (before : F) → t.end ≤ length text → t.past ≡ t.end → Some (shown_target text t) ≡ option_map (linked.inline_link lookup cell) (link_tail_in rest)
+  pub inline-decides : (t : Target) (before : F) → t.end ≤ length text → t.resume ≡ t.end → Some (shown_target text t) ≡ option_map (linked.inline_link lookup cell) (link_tail_in rest)
       → TargetDecides R options lookup references leaf text bracket close old old (Some t) before before
-  inline-decides t before lend past shown = λ footnotes reader read place taken closer s r c p mem none.
-      let e = inline-named lookup cell reader read text place (places footnotes reader read place r) r.lookup_is r.cell close closer c taken s t lend past shown in
+  inline-decides t before lend resume shown = λ footnotes reader read place taken closer s r c p mem none.
+      let e = inline-named lookup cell reader read text place (places footnotes reader read place r) r.lookup_is r.cell close closer c taken s t lend resume shown in
       let last = inline-ends t lend shown in (
         record {
           asked = s.asked;
-          comes = subst (λ (d : Decision). ComesTo R d (target_outcome reader read place taken closer (with_left old.expansion (option_map place old.shut_close) s.asked s) (Some t)) before before) (sym e) (
-            ap (λ n. target_outcome reader read place taken closer (with_left n (option_map place old.shut_close) s.asked s) (Some t)) (sym mem.expansion)
-                ∙ ap (λ l. target_outcome reader read place taken closer (with_left s.expansion l s.asked s) (Some t)) (sym mem.label),
+          comes = subst (λ (d : Decision). ComesTo R d (target_outcome reader read place taken closer (with_left old.expansion_left (option_map place old.label_close) s.asked s) (Some t)) before before) (sym e) (
+            ap (λ n. target_outcome reader read place taken closer (with_left n (option_map place old.label_close) s.asked s) (Some t)) (sym mem.expansion_left)
+                ∙ ap (λ l. target_outcome reader read place taken closer (with_left s.expansion_left l s.asked s) (Some t)) (sym mem.label),
             refl,
           );
         },
@@ -118,19 +118,19 @@ module _ {F : Type 0} (R : F → BrokenLink → Option (CowStr × CowStr) → F 
     unlinked reader read place closer taken s p c =
         ap (λ t. link_or reader read t taken closer s) (ap link_tail_in (behind-is reader read text place p close closer c) ∙ no_tail lookup cell (link_tail_in rest) no_inline)
 
-    pub none-decides : (at : F) → None ≡ reference_behind options (is_there close old.shut_close) label rest → TargetDecides R options lookup references leaf text bracket close old old None at at
+    pub none-decides : (at : F) → None ≡ reference_behind options (is_there close old.label_close) label rest → TargetDecides R options lookup references leaf text bracket close old old None at at
     none-decides at shown = λ footnotes reader read place taken closer s r c p mem none.
         let q = places footnotes reader read place r in
         let w = c.within in
-        let shut = there-same reader read text place q close closer.start old.shut_close s.label_close (let l : close ≤ length text = omega (arith, w) in l) mem.within c.start mem.label in (
-          stays-settled R reader read place taken closer (link_or reader read (link_tail_in (decisions.behind reader read closer.end)) taken closer s) s old.expansion (option_map place old.shut_close) None at at
+        let inactive_below = there-same reader read text place q close closer.start old.label_close s.label_close (let l : close ≤ length text = omega (arith, w) in l) mem.within c.start mem.label in (
+          stays-settled R reader read place taken closer (link_or reader read (link_tail_in (decisions.behind reader read closer.end)) taken closer s) s old.expansion_left (option_map place old.label_close) None at at
               (unlinked reader read place closer taken s q c
-              ∙ asked-none options cell reader read text place q r.options_are r.cell close closer c taken bracket p before footnotes s (is_there close old.shut_close) shut r.footnotes_are shown (no_tail lookup cell (link_tail_in rest) no_inline) none)
-              refl refl (sym mem.expansion) (sym mem.label),
+              ∙ reference-none options cell reader read text place q r.options_are r.cell close closer c taken bracket p before footnotes s (is_there close old.label_close) inactive_below r.footnotes_are shown (no_tail lookup cell (link_tail_in rest) no_inline) none)
+              refl refl (sym mem.expansion_left) (sym mem.label),
           tt,
         )
 
-    module _ (a : Asked) (lend : a.end ≤ length text) (lpast : a.past ≤ length text) (shown : Some (shown_asked text a) ≡ reference_behind options (is_there close old.shut_close) label rest) where
+    module _ (a : LinkReference) (lend : a.end ≤ length text) (lresume : a.resume ≤ length text) (shown : Some (shown_link_reference text a) ≡ reference_behind options (is_there close old.label_close) label rest) where
       abbrev Is : (reader : Reader) (read : Leaf) (place : ℕ → ℕ) (closer : items.Bracket) (taken : Taken) (s : State) → Type 0
       Is reader read place closer taken s =
           (link_or reader read (link_tail_in (decisions.behind reader read closer.end)) taken closer s ≡ decisions.refers reader read (named place cell a) taken closer (with_label (label_behind place a s.label_close) s))
@@ -142,8 +142,8 @@ module _ {F : Type 0} (R : F → BrokenLink → Option (CowStr × CowStr) → F 
           let q = places footnotes reader read place r in
           let w = c.within in
           let size = ap length same in
-          let shut = there-same reader read text place q close closer.start old.shut_close s.label_close (let l : close ≤ length text = omega (arith, w) in l) mem.within c.start mem.label in
-          let n = asked-named options cell reader read text place q r.options_are r.cell close closer c taken bracket p before s (is_there close old.shut_close) a lend lpast shut shown in
+          let inactive_below = there-same reader read text place q close closer.start old.label_close s.label_close (let l : close ≤ length text = omega (arith, w) in l) mem.within c.start mem.label in
+          let n = reference-named options cell reader read text place q r.options_are r.cell close closer c taken bracket p before s (is_there close old.label_close) a lend lresume inactive_below shown in
           let pos = n.ends.some in
           let up : bracket.start < bracket.inside = subst (λ m. bracket.start < m) (sym p.in_text) (opening bracket.is_image bracket.start) in (
             unlinked reader read place closer taken s q c ∙ n.same,
@@ -154,43 +154,43 @@ module _ {F : Type 0} (R : F → BrokenLink → Option (CowStr × CowStr) → F 
                 ∙ ap place (let l : a.end - 1 + 1 ≡ a.end = omega (arith, pos) in l),
           )
         where
-          opening : (z : Bool) (start : ℕ) → start < past_opening z start
+          opening : (z : Bool) (start : ℕ) → start < behind_opening z start
           opening true start = omega arith
           opening false start = omega arith
 
-      module _ (new : InlineState) (closes : new.shut_close ≡ (if is_full (shown_link_type a.link_type) then Some (a.end - 1) else old.shut_close)) where
+      module _ (new : InlineState) (closes : new.label_close ≡ (if is_full (shown_link_type a.link_type) then Some (a.end - 1) else old.label_close)) where
         moved_on : (reader : Reader) (read : Leaf) (place : ℕ → ℕ) (taken : Taken) (closer : items.Bracket) (s : State) (found : Option Target) (at after : F) (to : Decision) (m : Option ℕ)
             → link_or reader read (link_tail_in (decisions.behind reader read closer.end)) taken closer s ≡ to
-            → LeadsTo R reader read place taken closer to (with_label m s) new.expansion (option_map place new.shut_close) found at after
-            → LeadsTo R reader read place taken closer (link_or reader read (link_tail_in (decisions.behind reader read closer.end)) taken closer s) s new.expansion (option_map place new.shut_close) found at after
+            → LeadsTo R reader read place taken closer to (with_label m s) new.expansion_left (option_map place new.label_close) found at after
+            → LeadsTo R reader read place taken closer (link_or reader read (link_tail_in (decisions.behind reader read closer.end)) taken closer s) s new.expansion_left (option_map place new.label_close) found at after
         moved_on reader read place taken closer s found at after to m e h = record {
           asked = h.asked;
-          comes = subst (λ (d : Decision). ComesTo R d (target_outcome reader read place taken closer (with_left new.expansion (option_map place new.shut_close) h.asked s) found) at after) (sym e) h.comes;
+          comes = subst (λ (d : Decision). ComesTo R d (target_outcome reader read place taken closer (with_left new.expansion_left (option_map place new.label_close) h.asked s) found) at after) (sym e) h.comes;
         }
 
-        pub spent-decides : (at : F) → old.expansion ≡ 0 → new.expansion ≡ old.expansion → TargetDecides R options lookup references leaf text bracket close old new None at at
+        pub spent-decides : (at : F) → old.expansion_left ≡ 0 → new.expansion_left ≡ old.expansion_left → TargetDecides R options lookup references leaf text bracket close old new None at at
         spent-decides at spent kept = λ footnotes reader read place taken closer s r c p mem none.
             let i = is footnotes reader read place taken closer s r c p mem in
-            let label = label_kept place a old.shut_close new.shut_close s.label_close mem.label closes in (
+            let label = label_kept place a old.label_close new.label_close s.label_close mem.label closes in (
               moved_on reader read place taken closer s None at at (decisions.refers reader read (named place cell a) taken closer (with_label (label_behind place a s.label_close) s)) (label_behind place a s.label_close) i.0
-                  (refers-spent R reader read place taken closer (named place cell a) (with_label (label_behind place a s.label_close) s) new.expansion (option_map place new.shut_close) at at (mem.expansion ∙ spent) refl (kept ∙ sym mem.expansion) label),
+                  (refers-spent R reader read place taken closer (named place cell a) (with_label (label_behind place a s.label_close) s) new.expansion_left (option_map place new.label_close) at at (mem.expansion_left ∙ spent) refl (kept ∙ sym mem.expansion_left) label),
               tt,
             )
 
-        pub led-decides : (at after : F) (found : Option Target) → (old.expansion == 0) ≡ false
+        pub led-decides : (at after : F) (found : Option Target) → (old.expansion_left == 0) ≡ false
             → Refers R (definition references (fold (as_label cell a.label.now))) a.link_type (normal_form (as_label cell a.label.now)) (place_of leaf bracket.start) (place_of leaf (a.end - 1) + 1) at after found
-            → new.expansion ≡ left_behind old.expansion found → ((t : Target) → found ≡ Some t → (t.end ≡ a.end) × (t.past ≡ a.past))
+            → new.expansion_left ≡ left_behind old.expansion_left found → ((t : Target) → found ≡ Some t → (t.end ≡ a.end) × (t.resume ≡ a.resume))
             → TargetDecides R options lookup references leaf text bracket close old new found at after
         led-decides at after found some refers left ends = λ footnotes reader read place taken closer s r c p mem none.
             let i = is footnotes reader read place taken closer s r c p mem in
-            let label = label_kept place a old.shut_close new.shut_close s.label_close mem.label closes in
+            let label = label_kept place a old.label_close new.label_close s.label_close mem.label closes in
             let this : List ℕ = as_label cell a.label.now in
             let def = definition references (fold this) in (
               moved_on reader read place taken closer s found at after (decisions.refers reader read (named place cell a) taken closer (with_label (label_behind place a s.label_close) s)) (label_behind place a s.label_close) i.0
-                  (refers-led R reader read place taken closer (named place cell a) (with_label (label_behind place a s.label_close) s) a.link_type def new.expansion (option_map place new.shut_close) found at after
-                  r.callback (r.definitions (fold this)) (ap (λ n. n == 0) mem.expansion ∙ some) refl
+                  (refers-led R reader read place taken closer (named place cell a) (with_label (label_behind place a s.label_close) s) a.link_type def new.expansion_left (option_map place new.label_close) found at after
+                  r.callback (r.definitions (fold this)) (ap (λ n. n == 0) mem.expansion_left ∙ some) refl
                   (subst (λ n. Refers R def a.link_type (normal_form this) n (place a.end) at after found) i.1 (subst (λ n. Refers R def a.link_type (normal_form this) (place_of leaf bracket.start) n at after found) i.2 refers))
-                  (left ∙ ap (λ n. left_behind n found) (sym mem.expansion)) label (λ t e. (ap place (ends t e).0, ap place (ends t e).1))),
+                  (left ∙ ap (λ n. left_behind n found) (sym mem.expansion_left)) label (λ t e. (ap place (ends t e).0, ap place (ends t e).1))),
               led_ends place i.2 found (λ t e. (ends t e).0),
             )
           where

@@ -12,7 +12,7 @@ use Rattle.cmark_grammar.specs.Labels.{fold, normal_form}
 use Rattle.cmark_grammar.specs.LabelsOverLines.{as_in_cell}
 use Rattle.cmark_grammar.specs.LeafText.{Leaf}
 use Rattle.cmark_grammar.specs.Lines.{is_content}
-use Rattle.cmark_grammar.specs.LinkDefinitions.{Found}
+use Rattle.cmark_grammar.specs.LinkDefinitions.{Parsed}
 use Rattle.cmark_grammar.specs.LinkTails.{LinkTail, link_tail_in, reference_label_in, behind_collapsed, is_bracketed_label}
 use Rattle.cmark_grammar.specs.LinkType as link
 use Rattle.cmark_grammar.specs.OpenBrackets.{Taken, dropped}
@@ -28,10 +28,10 @@ use Rattle.cmark_inline_model.specs.TextPlaces.{ArePlaces}
 use Rattle.cmark_inline.specs.Decided.{IsCloser, EndsWithin, is_full, shown_parts, target_outcome}
 use Rattle.cmark_inline.specs.Footnoted.{labels, no_leaf, as_label, is_footnote_label, footnote_label, footnote_behind, unless_footnote, is_accepted, forms_footnote}
 use Rattle.cmark_inline.specs.Linked as linked
-use Rattle.cmark_inline.specs.Linked.{InlineLink, Reference, shown_target, shown_asked, reference_behind, full_or_own, collapsed_or_shortcut}
+use Rattle.cmark_inline.specs.Linked.{InlineLink, Reference, shown_target, shown_link_reference, reference_behind, full_or_own, collapsed_or_shortcut}
 use Rattle.cmark_inline.specs.BracketViews.{IsPlaced}
 use Rattle.cmark_inline.specs.declared.bracket.Bracket.{Bracket}
-use Rattle.cmark_inline.specs.declared.reference.Asked.{Asked}
+use Rattle.cmark_inline.specs.declared.reference.LinkReference.{LinkReference}
 use Rattle.cmark_inline.specs.declared.link.Target.{Target}
 use Rattle.cmark_inline.proofs.LabelEnds.{label-ends}
 
@@ -49,7 +49,7 @@ own_options reader leaf (b ∷ bs) =
 pub footnote-label-same : (reader : Reader) (leaf : Leaf) (options : Options) (bs : List ℕ) → reader.options ≡ options → decisions.is_footnote_label reader leaf bs ≡ is_footnote_label options bs
 footnote-label-same reader leaf options bs e = own_options reader leaf bs ∙ ap (λ o. is_footnote_label o bs) e
 
-pub unless-same : (reader : Reader) (leaf : Leaf) (options : Options) (found : Option Found) → reader.options ≡ options → decisions.unless_footnote reader leaf found ≡ unless_footnote options found
+pub unless-same : (reader : Reader) (leaf : Leaf) (options : Options) (found : Option Parsed) → reader.options ≡ options → decisions.unless_footnote reader leaf found ≡ unless_footnote options found
 unless-same reader leaf options None e = refl
 unless-same reader leaf options (Some found) e = ap (λ z. if z then None else Some found) (footnote-label-same reader leaf options found.bytes e)
 
@@ -86,7 +86,7 @@ module _ (reader : Reader) (leaf : Leaf) (text : List ℕ) (place : ℕ → ℕ)
       go false f false g = let a = ltb-false j k f in let b = ltb-false k j g in omega (arith, a, b)
 
   -- the closing bracket is that of a label
-  pub there-same : (close at : ℕ) (shut label : Option ℕ) → close ≤ length text → EndsWithin text shut → at ≡ place close → label ≡ option_map place shut → is_there at label ≡ is_there close shut
+  pub there-same : (close at : ℕ) (label_close label : Option ℕ) → close ≤ length text → EndsWithin text label_close → at ≡ place close → label ≡ option_map place label_close → is_there at label ≡ is_there close label_close
   there-same close at None label w i e h = ap (is_there at) h
   there-same close at (Some other) label w i e h = ap (is_there at) h ∙ ap (λ m. m == place other) e ∙ go (close == other) refl
     where
@@ -97,15 +97,15 @@ module _ (reader : Reader) (leaf : Leaf) (text : List ℕ) (place : ℕ → ℕ)
 -- ## The reference at a closing bracket
 
 -- a reference as the grammar names it
-abbrev pub named : (place : ℕ → ℕ) → (is_cell : Bool) → Asked → Named
-named place is_cell asked = record { label = as_label is_cell asked.label.now; link_type = shown_link_type asked.link_type; end = place asked.end; past = place asked.past }
+abbrev pub named : (place : ℕ → ℕ) → (is_cell : Bool) → LinkReference → Named
+named place is_cell link_reference = record { label = as_label is_cell link_reference.label.now; link_type = shown_link_type link_reference.link_type; end = place link_reference.end; resume = place link_reference.resume }
 
 -- the closing bracket of the label of a full reference
-abbrev pub label_behind : (place : ℕ → ℕ) → Asked → Option ℕ → Option ℕ
-label_behind place asked label = if is_full (shown_link_type asked.link_type) then Some (place (asked.end - 1)) else label
+abbrev pub label_behind : (place : ℕ → ℕ) → LinkReference → Option ℕ → Option ℕ
+label_behind place link_reference label = if is_full (shown_link_type link_reference.link_type) then Some (place (link_reference.end - 1)) else label
 
 abbrev pub with_label : Option ℕ → State → State
-with_label label s = record { at = s.at; expansion = s.expansion; label_close = label; asked = s.asked; openers = s.openers }
+with_label label s = record { at = s.at; expansion_left = s.expansion_left; label_close = label; asked = s.asked; openers = s.openers }
 
 module _ (options : Options) (is_cell : Bool) (reader : Reader) (leaf : Leaf) (text : List ℕ) (place : ℕ → ℕ) (p : ArePlaces reader leaf text place) (opts : reader.options ≡ options) (cell : leaf.is_cell ≡ is_cell)
     (close : ℕ) (closer : items.Bracket) (c : IsCloser text place close closer) (taken : Taken) (b : Bracket) (is : IsPlaced place taken.opener b) (before : b.inside ≤ close) where
@@ -128,29 +128,29 @@ module _ (options : Options) (is_cell : Bool) (reader : Reader) (leaf : Leaf) (t
   closer_place = closer-end reader leaf text place p close closer c
 
   same_named : (l m : List ℕ) (t u : link.LinkType) (e f g h : ℕ) (s : State) → l ≡ m → t ≡ u → e ≡ f → g ≡ h
-      → refers reader leaf (record { label = l; link_type = t; end = e; past = g }) taken closer s ≡ refers reader leaf (record { label = m; link_type = u; end = f; past = h }) taken closer s
+      → refers reader leaf (record { label = l; link_type = t; end = e; resume = g }) taken closer s ≡ refers reader leaf (record { label = m; link_type = u; end = f; resume = h }) taken closer s
   same_named l m t u e f g h s a i j k =
-      ap (λ z. refers reader leaf (record { label = z; link_type = t; end = e; past = g }) taken closer s) a
-      ∙ ap (λ z. refers reader leaf (record { label = m; link_type = z; end = e; past = g }) taken closer s) i
-      ∙ ap (λ z. refers reader leaf (record { label = m; link_type = u; end = z; past = g }) taken closer s) j
-      ∙ ap (λ z. refers reader leaf (record { label = m; link_type = u; end = f; past = z }) taken closer s) k
+      ap (λ z. refers reader leaf (record { label = z; link_type = t; end = e; resume = g }) taken closer s) a
+      ∙ ap (λ z. refers reader leaf (record { label = m; link_type = z; end = e; resume = g }) taken closer s) i
+      ∙ ap (λ z. refers reader leaf (record { label = m; link_type = u; end = z; resume = g }) taken closer s) j
+      ∙ ap (λ z. refers reader leaf (record { label = m; link_type = u; end = f; resume = z }) taken closer s) k
 
   -- the last byte of the reference is a closing bracket
-  pub record EndsSo (a : Asked) : Type 0 where
+  pub record EndsSo (a : LinkReference) : Type 0 where
     pub some : 0 < a.end
     pub byte : get_or text (a.end - 1) 0 ≡ 93
 
-  pub record IsNamed (found : Option Found) (s : State) (a : Asked) : Type 0 where
+  pub record IsNamed (found : Option Parsed) (s : State) (a : LinkReference) : Type 0 where
     pub same : reference_or reader leaf found taken closer s ≡ refers reader leaf (named place is_cell a) taken closer (with_label (label_behind place a s.label_close) s)
     pub ends : EndsSo a
 
-  full : (found : Found) (s : State) (a : Asked) → reference_label_in rest ≡ Some found → a.end ≤ length text → a.past ≤ length text
-      → shown_asked text a ≡ record { label = found.bytes; form = link.Reference; behind = found.behind; past = found.behind } → IsNamed (Some found) s a
-  full found s a e lend lpast shown =
+  full : (found : Parsed) (s : State) (a : LinkReference) → reference_label_in rest ≡ Some found → a.end ≤ length text → a.resume ≤ length text
+      → shown_link_reference text a ≡ record { label = found.bytes; form = link.Reference; behind = found.behind; resume = found.behind } → IsNamed (Some found) s a
+  full found s a e lend lresume shown =
       let bytes = ap (λ (x : Reference). x.label) shown in
       let form = ap (λ (x : Reference). x.form) shown in
       let ending = ap (λ (x : Reference). x.behind) shown in
-      let past = ap (λ (x : Reference). x.past) shown in
+      let resume = ap (λ (x : Reference). x.resume) shown in
       let closes = label-ends text (close + 1) a.end found e (sym ending) lend in
       let pos = closes.0 in
       let end = place_end a.end found.behind lend ending in
@@ -160,20 +160,20 @@ module _ (options : Options) (is_cell : Bool) (reader : Reader) (leaf : Leaf) (t
       let o : place a.end ≡ suc (place (a.end - 1)) = ap place (sym m) ∙ n in
       omega (arith, o)) in
       record {
-        same = same_named (decisions.as_label reader leaf found.bytes) (as_label is_cell a.label.now) link.Reference (shown_link_type a.link_type) (decisions.place reader leaf found.behind) (place a.end) (decisions.place reader leaf found.behind) (place a.past)
+        same = same_named (decisions.as_label reader leaf found.bytes) (as_label is_cell a.label.now) link.Reference (shown_link_type a.link_type) (decisions.place reader leaf found.behind) (place a.end) (decisions.place reader leaf found.behind) (place a.resume)
             (record s { label_close = Some (decisions.place reader leaf found.behind - 1) })
-            (label_is found.bytes ∙ ap (as_label is_cell) (sym bytes)) (sym form) end (place_end a.past found.behind lpast past)
+            (label_is found.bytes ∙ ap (as_label is_cell) (sym bytes)) (sym form) end (place_end a.resume found.behind lresume resume)
             ∙ ap (λ m. refers reader leaf (named place is_cell a) taken closer (with_label (Some (m - 1)) s)) end
             ∙ ap (λ m. refers reader leaf (named place is_cell a) taken closer (with_label (Some m) s)) last
             ∙ ap (λ z. refers reader leaf (named place is_cell a) taken closer (with_label (if is_full z then Some (place (a.end - 1)) else s.label_close) s)) (sym form);
         ends = record { some = pos; byte = closes.1 };
       }
 
-  own : (s : State) (a : Asked) (past : Option (List ℕ)) → a.end ≤ length text → a.past ≤ length text → shown_asked text a ≡ collapsed_or_shortcut label rest past
-      → (refers reader leaf (decisions.collapsed_or_shortcut reader leaf (decisions.as_label reader leaf label) closer.end past) taken closer s ≡ refers reader leaf (named place is_cell a) taken closer (with_label (label_behind place a s.label_close) s)) × EndsSo a
-  own s a past lend lpast shown = go past shown
+  own : (s : State) (a : LinkReference) (resume : Option (List ℕ)) → a.end ≤ length text → a.resume ≤ length text → shown_link_reference text a ≡ collapsed_or_shortcut label rest resume
+      → (refers reader leaf (decisions.collapsed_or_shortcut reader leaf (decisions.as_label reader leaf label) closer.end resume) taken closer s ≡ refers reader leaf (named place is_cell a) taken closer (with_label (label_behind place a s.label_close) s)) × EndsSo a
+  own s a resume lend lresume shown = go resume shown
     where
-      at : (f : link.LinkType) (behind : List ℕ) → a.end ≤ length text → shown_asked text a ≡ record { label = label; form = f; behind = rest; past = behind } → (place a.end ≡ closer.end) × EndsSo a
+      at : (f : link.LinkType) (behind : List ℕ) → a.end ≤ length text → shown_link_reference text a ≡ record { label = label; form = f; behind = rest; resume = behind } → (place a.end ≡ closer.end) × EndsSo a
       at f behind lend shown =
           let w = c.within in
           let ending = ap (λ (x : Reference). x.behind) shown in
@@ -183,22 +183,22 @@ module _ (options : Options) (is_cell : Bool) (reader : Reader) (leaf : Leaf) (t
           let n : a.end ≡ close + 1 = omega (arith, d1, d2, l, w, lend) in
           (ap place n ∙ sym closer_place, record { some = (let q : 0 < a.end = omega (arith, n) in q); byte = ap (λ k. get_or text k 0) (let q : a.end - 1 ≡ close = omega (arith, n) in q) ∙ c.byte })
 
-      go : (past : Option (List ℕ)) → shown_asked text a ≡ collapsed_or_shortcut label rest past
-          → (refers reader leaf (decisions.collapsed_or_shortcut reader leaf (decisions.as_label reader leaf label) closer.end past) taken closer s ≡ refers reader leaf (named place is_cell a) taken closer (with_label (label_behind place a s.label_close) s)) × EndsSo a
+      go : (resume : Option (List ℕ)) → shown_link_reference text a ≡ collapsed_or_shortcut label rest resume
+          → (refers reader leaf (decisions.collapsed_or_shortcut reader leaf (decisions.as_label reader leaf label) closer.end resume) taken closer s ≡ refers reader leaf (named place is_cell a) taken closer (with_label (label_behind place a s.label_close) s)) × EndsSo a
       go None shown =
           let h = at link.Shortcut rest lend shown in
           let form = ap (λ (x : Reference). x.form) shown in (
-            same_named (decisions.as_label reader leaf label) (as_label is_cell a.label.now) link.Shortcut (shown_link_type a.link_type) closer.end (place a.end) closer.end (place a.past) s
+            same_named (decisions.as_label reader leaf label) (as_label is_cell a.label.now) link.Shortcut (shown_link_type a.link_type) closer.end (place a.end) closer.end (place a.resume) s
                 (label_is label ∙ ap (λ (x : Reference). as_label is_cell x.label) (sym shown)) (sym form) (sym h.0)
-                (sym (sym (place_end a.past rest lpast (ap (λ (x : Reference). x.past) shown)) ∙ place_end (close + 1) rest (let w = c.within in let q : close + 1 ≤ length text = omega (arith, w) in q) refl ∙ sym closer_place))
+                (sym (sym (place_end a.resume rest lresume (ap (λ (x : Reference). x.resume) shown)) ∙ place_end (close + 1) rest (let w = c.within in let q : close + 1 ≤ length text = omega (arith, w) in q) refl ∙ sym closer_place))
                 ∙ ap (λ z. refers reader leaf (named place is_cell a) taken closer (with_label (if is_full z then Some (place (a.end - 1)) else s.label_close) s)) (sym form),
             h.1,
           )
       go (Some more) shown =
           let h = at link.Collapsed more lend shown in
           let form = ap (λ (x : Reference). x.form) shown in (
-            same_named (decisions.as_label reader leaf label) (as_label is_cell a.label.now) link.Collapsed (shown_link_type a.link_type) closer.end (place a.end) (decisions.place reader leaf more) (place a.past) s
-                (label_is label ∙ ap (λ (x : Reference). as_label is_cell x.label) (sym shown)) (sym form) (sym h.0) (place_end a.past more lpast (ap (λ (x : Reference). x.past) shown))
+            same_named (decisions.as_label reader leaf label) (as_label is_cell a.label.now) link.Collapsed (shown_link_type a.link_type) closer.end (place a.end) (decisions.place reader leaf more) (place a.resume) s
+                (label_is label ∙ ap (λ (x : Reference). as_label is_cell x.label) (sym shown)) (sym form) (sym h.0) (place_end a.resume more lresume (ap (λ (x : Reference). x.resume) shown))
                 ∙ ap (λ z. refers reader leaf (named place is_cell a) taken closer (with_label (if is_full z then Some (place (a.end - 1)) else s.label_close) s)) (sym form),
             h.1,
           )
@@ -216,9 +216,9 @@ module _ (options : Options) (is_cell : Bool) (reader : Reader) (leaf : Leaf) (t
   own_reference = linked.by_own_label options label rest
 
   -- by the bracket's own label
-  own_label : (s : State) (a : Asked) → a.end ≤ length text → a.past ≤ length text → Some (shown_asked text a) ≡ own_reference
+  own_label : (s : State) (a : LinkReference) → a.end ≤ length text → a.resume ≤ length text → Some (shown_link_reference text a) ≡ own_reference
       → (by_own_label reader leaf label taken closer s ≡ refers reader leaf (named place is_cell a) taken closer (with_label (label_behind place a s.label_close) s)) × EndsSo a
-  own_label s a lend lpast shown = go (is_footnote_label options label) refl (is_bracketed_label label) refl
+  own_label s a lend lresume shown = go (is_footnote_label options label) refl (is_bracketed_label label) refl
     where
       Goal : Bool → Bool → Type 0
       Goal x y = ((if x then footnote_reference reader leaf (decisions.as_label reader leaf (drop 1 label)) taken closer s
@@ -229,23 +229,23 @@ module _ (options : Options) (is_cell : Bool) (reader : Reader) (leaf : Leaf) (t
       here x y = if x then None else if y then Some (collapsed_or_shortcut label rest (behind_collapsed rest)) else None
 
       go : (x : Bool) → is_footnote_label options label ≡ x → (y : Bool) → is_bracketed_label label ≡ y → (by_own_label reader leaf label taken closer s ≡ refers reader leaf (named place is_cell a) taken closer (with_label (label_behind place a s.label_close) s)) × EndsSo a
-      go true e y f = absurd (nothing (shown_asked text a) (shown ∙ ap (λ x. here x (is_bracketed_label label)) e))
-      go false e false f = absurd (nothing (shown_asked text a) (shown ∙ ap (λ x. here x (is_bracketed_label label)) e ∙ ap (here false) f))
+      go true e y f = absurd (nothing (shown_link_reference text a) (shown ∙ ap (λ x. here x (is_bracketed_label label)) e))
+      go false e false f = absurd (nothing (shown_link_reference text a) (shown ∙ ap (λ x. here x (is_bracketed_label label)) e ∙ ap (here false) f))
       go false e true f =
-          let h = own s a (behind_collapsed rest) lend lpast (some_is (shown_asked text a) (collapsed_or_shortcut label rest (behind_collapsed rest)) (shown ∙ ap (λ x. here x (is_bracketed_label label)) e ∙ ap (here false) f)) in
+          let h = own s a (behind_collapsed rest) lend lresume (some_is (shown_link_reference text a) (collapsed_or_shortcut label rest (behind_collapsed rest)) (shown ∙ ap (λ x. here x (is_bracketed_label label)) e ∙ ap (here false) f)) in
           subst (λ x. Goal x (is_bracketed_label label)) (sym (footnote-label-same reader leaf options label opts ∙ e))
           (subst (Goal false) (sym f)
           (ap (λ l. refers reader leaf (decisions.collapsed_or_shortcut reader leaf (decisions.as_label reader leaf label) closer.end (behind_collapsed l)) taken closer s) (behind-is reader leaf text place p close closer c) ∙ h.0, h.1))
 
   -- which reference it is
-  pub asked-named : (s : State) (is_shut : Bool) (a : Asked) → a.end ≤ length text → a.past ≤ length text → is_there closer.start s.label_close ≡ is_shut
-      → Some (shown_asked text a) ≡ reference_behind options is_shut label rest
+  pub reference-named : (s : State) (closes_label : Bool) (a : LinkReference) → a.end ≤ length text → a.resume ≤ length text → is_there closer.start s.label_close ≡ closes_label
+      → Some (shown_link_reference text a) ≡ reference_behind options closes_label label rest
       → IsNamed (decisions.unless_footnote reader leaf (reference_label_in (decisions.behind reader leaf closer.end))) s a
-  asked-named s is_shut a lend lpast shut shown =
+  reference-named s closes_label a lend lresume closes_here shown =
       subst (λ f. IsNamed f s a) (sym (ap (λ l. decisions.unless_footnote reader leaf (reference_label_in l)) (behind-is reader leaf text place p close closer c) ∙ unless-same reader leaf options (reference_label_in rest) opts))
       (go (reference_label_in rest) refl shown)
     where
-      kept : (found : Option Found) (f : Found) → unless_footnote options found ≡ Some f → found ≡ Some f
+      kept : (found : Option Parsed) (f : Parsed) → unless_footnote options found ≡ Some f → found ≡ Some f
       kept None f e = absurd (nothing_too f e)
       kept (Some g) f e = either (is_footnote_label options g.bytes) e
         where
@@ -253,41 +253,41 @@ module _ (options : Options) (is_cell : Bool) (reader : Reader) (leaf : Leaf) (t
           either true q = absurd (nothing_too f q)
           either false q = q
 
-      by_shut : (z : Bool) → is_shut ≡ z → Some (shown_asked text a) ≡ (if z then None else own_reference) → IsNamed None s a
-      by_shut true e q = absurd (nothing (shown_asked text a) q)
-      by_shut false e q =
-          let h = own_label s a lend lpast q in
+      by_closes : (z : Bool) → closes_label ≡ z → Some (shown_link_reference text a) ≡ (if z then None else own_reference) → IsNamed None s a
+      by_closes true e q = absurd (nothing (shown_link_reference text a) q)
+      by_closes false e q =
+          let h = own_label s a lend lresume q in
           record {
-            same = ap (λ z. if z then Settled (stays reader leaf closer s) else by_own_label reader leaf (between reader leaf taken.opener.bracket.end closer.start) taken closer s) (shut ∙ e)
+            same = ap (λ z. if z then Settled (stays reader leaf closer s) else by_own_label reader leaf (between reader leaf taken.opener.bracket.end closer.start) taken closer s) (closes_here ∙ e)
                 ∙ ap (λ l. by_own_label reader leaf l taken closer s) own_text
                 ∙ h.0;
             ends = h.1;
           }
 
-      go : (found : Option Found) → reference_label_in rest ≡ found → Some (shown_asked text a) ≡ full_or_own options (unless_footnote options found) is_shut label rest → IsNamed (unless_footnote options found) s a
+      go : (found : Option Parsed) → reference_label_in rest ≡ found → Some (shown_link_reference text a) ≡ full_or_own options (unless_footnote options found) closes_label label rest → IsNamed (unless_footnote options found) s a
       go found e q = by (unless_footnote options found) refl q
         where
-          by : (u : Option Found) → unless_footnote options found ≡ u → Some (shown_asked text a) ≡ full_or_own options u is_shut label rest → IsNamed u s a
-          by None f q = by_shut is_shut refl q
-          by (Some g) f q = full g s a (e ∙ kept found g f) lend lpast (some_is (shown_asked text a) (record { label = g.bytes; form = link.Reference; behind = g.behind; past = g.behind }) q)
+          by : (u : Option Parsed) → unless_footnote options found ≡ u → Some (shown_link_reference text a) ≡ full_or_own options u closes_label label rest → IsNamed u s a
+          by None f q = by_closes closes_label refl q
+          by (Some g) f q = full g s a (e ∙ kept found g f) lend lresume (some_is (shown_link_reference text a) (record { label = g.bytes; form = link.Reference; behind = g.behind; resume = g.behind }) q)
 
   -- there is none, and the text between the brackets is no footnote reference either
-  pub asked-none : (footnotes : FootnoteDefs) (s : State) (is_shut : Bool) → is_there closer.start s.label_close ≡ is_shut → ((folded : List ℕ) → reader.has_footnote folded ≡ is_some (footnote footnotes folded))
-      → None ≡ reference_behind options is_shut label rest → link_tail_in rest ≡ None → forms_footnote options footnotes (option_map (as_label is_cell) (footnote_behind options is_shut label rest)) ≡ false
+  pub reference-none : (footnotes : FootnoteDefs) (s : State) (closes_label : Bool) → is_there closer.start s.label_close ≡ closes_label → ((folded : List ℕ) → reader.has_footnote folded ≡ is_some (footnote footnotes folded))
+      → None ≡ reference_behind options closes_label label rest → link_tail_in rest ≡ None → forms_footnote options footnotes (option_map (as_label is_cell) (footnote_behind options closes_label label rest)) ≡ false
       → reference_or reader leaf (decisions.unless_footnote reader leaf (reference_label_in (decisions.behind reader leaf closer.end))) taken closer s ≡ Settled (stays reader leaf closer s)
-  asked-none footnotes s is_shut shut notes shown no_tail none =
+  reference-none footnotes s closes_label closes_here notes shown no_tail none =
       ap (λ f. reference_or reader leaf f taken closer s) (ap (λ l. decisions.unless_footnote reader leaf (reference_label_in l)) (behind-is reader leaf text place p close closer c) ∙ unless-same reader leaf options (reference_label_in rest) opts)
       ∙ go (unless_footnote options (reference_label_in rest)) refl shown
     where
-      go : (u : Option Found) → unless_footnote options (reference_label_in rest) ≡ u → None ≡ full_or_own options u is_shut label rest → reference_or reader leaf u taken closer s ≡ Settled (stays reader leaf closer s)
-      go (Some g) e q = absurd (nothing_too (record { label = g.bytes; form = link.Reference; behind = g.behind; past = g.behind }) q)
+      go : (u : Option Parsed) → unless_footnote options (reference_label_in rest) ≡ u → None ≡ full_or_own options u closes_label label rest → reference_or reader leaf u taken closer s ≡ Settled (stays reader leaf closer s)
+      go (Some g) e q = absurd (nothing_too (record { label = g.bytes; form = link.Reference; behind = g.behind; resume = g.behind }) q)
       go None e q =
-          ap (λ z. if z then Settled (stays reader leaf closer s) else by_own_label reader leaf (between reader leaf taken.opener.bracket.end closer.start) taken closer s) shut
-          ∙ by_shut is_shut refl q
+          ap (λ z. if z then Settled (stays reader leaf closer s) else by_own_label reader leaf (between reader leaf taken.opener.bracket.end closer.start) taken closer s) closes_here
+          ∙ by_closes closes_label refl q
         where
-          by_shut : (z : Bool) → is_shut ≡ z → None ≡ (if z then None else own_reference) → (if z then Settled (stays reader leaf closer s) else by_own_label reader leaf (between reader leaf taken.opener.bracket.end closer.start) taken closer s) ≡ Settled (stays reader leaf closer s)
-          by_shut true f r = refl
-          by_shut false f r =
+          by_closes : (z : Bool) → closes_label ≡ z → None ≡ (if z then None else own_reference) → (if z then Settled (stays reader leaf closer s) else by_own_label reader leaf (between reader leaf taken.opener.bracket.end closer.start) taken closer s) ≡ Settled (stays reader leaf closer s)
+          by_closes true f r = refl
+          by_closes false f r =
               ap (λ l. by_own_label reader leaf l taken closer s) own_text
               ∙ ap (λ z. if z then footnote_reference reader leaf (decisions.as_label reader leaf (drop 1 label)) taken closer s
               else if is_bracketed_label label then refers reader leaf (decisions.collapsed_or_shortcut reader leaf (decisions.as_label reader leaf label) closer.end (behind_collapsed (decisions.behind reader leaf closer.end))) taken closer s
@@ -302,7 +302,7 @@ module _ (options : Options) (is_cell : Bool) (reader : Reader) (leaf : Leaf) (t
               by_note false h false k = ap (λ y. if y then refers reader leaf (decisions.collapsed_or_shortcut reader leaf (decisions.as_label reader leaf label) closer.end (behind_collapsed (decisions.behind reader leaf closer.end))) taken closer s else Settled (stays reader leaf closer s)) k
               by_note true h y k = no_note
                 where
-                  note : footnote_behind options is_shut label rest ≡ Some (drop 1 label)
+                  note : footnote_behind options closes_label label rest ≡ Some (drop 1 label)
                   note =
                       ap (λ z. if z || (is_some (link_tail_in rest) || is_some (unless_footnote options (reference_label_in rest))) then None else footnote_label options label) f
                       ∙ ap (λ t. if is_some t || is_some (unless_footnote options (reference_label_in rest)) then None else footnote_label options label) no_tail
@@ -328,18 +328,18 @@ module _ (options : Options) (is_cell : Bool) (reader : Reader) (leaf : Leaf) (t
                       both false false q = absurd (true≢false q)
 
   -- it is a footnote reference
-  pub footnote-named : (footnotes : FootnoteDefs) (s : State) (is_shut : Bool) (note : List ℕ) → is_there closer.start s.label_close ≡ is_shut → ((folded : List ℕ) → reader.has_footnote folded ≡ is_some (footnote footnotes folded))
-      → option_map (as_label is_cell) (footnote_behind options is_shut label rest) ≡ Some note → is_accepted options footnotes note ≡ true
+  pub footnote-named : (footnotes : FootnoteDefs) (s : State) (closes_label : Bool) (note : List ℕ) → is_there closer.start s.label_close ≡ closes_label → ((folded : List ℕ) → reader.has_footnote folded ≡ is_some (footnote footnotes folded))
+      → option_map (as_label is_cell) (footnote_behind options closes_label label rest) ≡ Some note → is_accepted options footnotes note ≡ true
       → link_or reader leaf (link_tail_in (decisions.behind reader leaf closer.end)) taken closer s ≡ Settled (forms reader leaf taken (Footnote (normal_form note) closer.end) closer.end (map dropped) s)
-  footnote-named footnotes s is_shut note shut notes found accepted = go is_shut refl (link_tail_in rest) refl (unless_footnote options (reference_label_in rest)) refl (is_footnote_label options label) refl
+  footnote-named footnotes s closes_label note closes_here notes found accepted = go closes_label refl (link_tail_in rest) refl (unless_footnote options (reference_label_in rest)) refl (is_footnote_label options label) refl
     where
-      found_by : Bool → Option LinkTail → Option Found → Bool → Option (List ℕ)
+      found_by : Bool → Option LinkTail → Option Parsed → Bool → Option (List ℕ)
       found_by z t u x = option_map (as_label is_cell) (if z || (is_some t || is_some u) then None else if x then Some (drop 1 label) else None)
 
       goal : Decision
       goal = Settled (forms reader leaf taken (Footnote (normal_form note) closer.end) closer.end (map dropped) s)
 
-      go : (z : Bool) → is_shut ≡ z → (t : Option LinkTail) → link_tail_in rest ≡ t → (u : Option Found) → unless_footnote options (reference_label_in rest) ≡ u → (x : Bool) → is_footnote_label options label ≡ x
+      go : (z : Bool) → closes_label ≡ z → (t : Option LinkTail) → link_tail_in rest ≡ t → (u : Option Parsed) → unless_footnote options (reference_label_in rest) ≡ u → (x : Bool) → is_footnote_label options label ≡ x
           → link_or reader leaf (link_tail_in (decisions.behind reader leaf closer.end)) taken closer s ≡ goal
       go true e t f u g x h = absurd (nothing_too note (sym (ap (λ z. found_by z (link_tail_in rest) (unless_footnote options (reference_label_in rest)) (is_footnote_label options label)) e) ∙ found))
       go false e (Some t) f u g x h = absurd (nothing_too note (sym (ap (λ z. found_by z (link_tail_in rest) (unless_footnote options (reference_label_in rest)) (is_footnote_label options label)) e ∙ ap (λ m. found_by false m (unless_footnote options (reference_label_in rest)) (is_footnote_label options label)) f) ∙ found))
@@ -349,7 +349,7 @@ module _ (options : Options) (is_cell : Bool) (reader : Reader) (leaf : Leaf) (t
           ap (λ l. link_or reader leaf (link_tail_in l) taken closer s) (behind-is reader leaf text place p close closer c)
           ∙ ap (λ t. link_or reader leaf t taken closer s) f
           ∙ ap (λ m. reference_or reader leaf m taken closer s) (ap (λ l. decisions.unless_footnote reader leaf (reference_label_in l)) (behind-is reader leaf text place p close closer c) ∙ unless-same reader leaf options (reference_label_in rest) opts ∙ g)
-          ∙ ap (λ z. if z then Settled (stays reader leaf closer s) else by_own_label reader leaf (between reader leaf taken.opener.bracket.end closer.start) taken closer s) (shut ∙ e)
+          ∙ ap (λ z. if z then Settled (stays reader leaf closer s) else by_own_label reader leaf (between reader leaf taken.opener.bracket.end closer.start) taken closer s) (closes_here ∙ e)
           ∙ ap (λ l. by_own_label reader leaf l taken closer s) own_text
           ∙ ap (λ z. if z then footnote_reference reader leaf (decisions.as_label reader leaf (drop 1 label)) taken closer s
           else if is_bracketed_label label then refers reader leaf (decisions.collapsed_or_shortcut reader leaf (decisions.as_label reader leaf label) closer.end (behind_collapsed (decisions.behind reader leaf closer.end))) taken closer s
@@ -372,10 +372,10 @@ module _ (options : Options) (is_cell : Bool) (reader : Reader) (leaf : Leaf) (t
 -- ## Inline links
 
 pub inline-named : (lookup : Lookup) (is_cell : Bool) (reader : Reader) (leaf : Leaf) (text : List ℕ) (place : ℕ → ℕ) → ArePlaces reader leaf text place → reader.lookup ≡ lookup → leaf.is_cell ≡ is_cell
-    → (close : ℕ) (closer : items.Bracket) → IsCloser text place close closer → (taken : Taken) (s : State) (t : Target) → t.end ≤ length text → t.past ≡ t.end
+    → (close : ℕ) (closer : items.Bracket) → IsCloser text place close closer → (taken : Taken) (s : State) (t : Target) → t.end ≤ length text → t.resume ≡ t.end
     → Some (shown_target text t) ≡ option_map (linked.inline_link lookup is_cell) (link_tail_in (drop (close + 1) text))
     → link_or reader leaf (link_tail_in (decisions.behind reader leaf closer.end)) taken closer s ≡ Settled (target_outcome reader leaf place taken closer s (Some t))
-inline-named lookup is_cell reader leaf text place p looks cell close closer c taken s t lend past shown =
+inline-named lookup is_cell reader leaf text place p looks cell close closer c taken s t lend resume shown =
     ap (λ l. link_or reader leaf (link_tail_in l) taken closer s) (behind-is reader leaf text place p close closer c) ∙ go (link_tail_in (drop (close + 1) text)) shown
   where
     go : (tail : Option LinkTail) → Some (shown_target text t) ≡ option_map (linked.inline_link lookup is_cell) tail → link_or reader leaf tail taken closer s ≡ Settled (target_outcome reader leaf place taken closer s (Some t))
@@ -399,7 +399,7 @@ inline-named lookup is_cell reader leaf text place p looks cell close closer c t
         ∙ ap (λ d. links reader leaf taken (record { link_type = link.Inline; destination = text_bytes t.parts.dest_url; title = text_bytes t.parts.title; id = d }) (decisions.place reader leaf tail.behind) (decisions.place reader leaf tail.behind) s) (sym id)
         ∙ ap (λ d. links reader leaf taken (record { link_type = d; destination = text_bytes t.parts.dest_url; title = text_bytes t.parts.title; id = text_bytes t.parts.id }) (decisions.place reader leaf tail.behind) (decisions.place reader leaf tail.behind) s) (sym form)
         ∙ ap (λ n. links reader leaf taken (shown_parts t.parts) n n s) end
-        ∙ ap (λ n. links reader leaf taken (shown_parts t.parts) (place t.end) (place n) s) (sym past)
+        ∙ ap (λ n. links reader leaf taken (shown_parts t.parts) (place t.end) (place n) s) (sym resume)
         )
       where
         one : Some (shown_target text t) ≡ Some (linked.inline_link lookup is_cell tail) → shown_target text t ≡ linked.inline_link lookup is_cell tail

@@ -120,16 +120,16 @@ hides-more from at old ss ts d0 h le lt e = record {
         ap (λ n. get_or (set ss at (hidden (get_or ss at d0))) n d) q ∙ get_or-set_same ss at (hidden (get_or ss at d0)) d lt ∙ ap hidden (same-there k d q)
 
 -- ## Brackets that are dropped
-pub free-take : (ss : List Slot) (bs cs : List Bracket) (n shut less : ℕ) → AreFree ss bs shut → cs ≡ take n bs → n ≤ length bs → (less < shut → n ≤ less) → AreFree ss cs less
-free-take ss bs cs n shut less h e le small = subst (λ (l : List Bracket). AreFree ss l less) (sym e) (λ i d low lt.
+pub free-take : (ss : List Slot) (bs cs : List Bracket) (n inactive_below less : ℕ) → AreFree ss bs inactive_below → cs ≡ take n bs → n ≤ length bs → (less < inactive_below → n ≤ less) → AreFree ss cs less
+free-take ss bs cs n inactive_below less h e le small = subst (λ (l : List Bracket). AreFree ss l less) (sym e) (λ i d low lt.
     let m = length-take-le n bs le in
     let high : i < n = omega (arith, lt, m) in
     subst (λ (b : Bracket). HoldNoLink ss b.slot) (sym (get_or-take n bs i d high))
-    (h i d (go i low high (nat_lt less shut) refl) (omega (arith, high, le))))
+    (h i d (go i low high (nat_lt less inactive_below) refl) (omega (arith, high, le))))
   where
-    go : (i : ℕ) → less ≤ i → i < n → (z : Bool) → nat_lt less shut ≡ z → shut ≤ i
-    go i low high true b = let s = small (ltb-true less shut b) in absurd (omega (arith, s, low, high))
-    go i low high false b = let g = ltb-false less shut b in omega (arith, g, low)
+    go : (i : ℕ) → less ≤ i → i < n → (z : Bool) → nat_lt less inactive_below ≡ z → inactive_below ≤ i
+    go i low high true b = let s = small (ltb-true less inactive_below b) in absurd (omega (arith, s, low, high))
+    go i low high false b = let g = ltb-false less inactive_below b in omega (arith, g, low)
 
 -- ## Places
 pub slice-edge : (source : List ℕ) (a b k : ℕ) → IsPart source a b → IsCharBoundary (slice source a b) k → IsCharBoundary source (a + k)

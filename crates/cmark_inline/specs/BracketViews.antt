@@ -6,15 +6,15 @@ use Rattle.cmark_inline.specs.declared.bracket.Bracket.{Bracket}
 use Rattle.cmark_inline.specs.declared.bracket.Brackets.{Brackets}
 
 -- the place behind an opening bracket: `[`, or `![` of an image
-abbrev pub past_opening : (is_image : Bool) → (start : ℕ) → ℕ
-past_opening true start = start + 2
-past_opening false start = start + 1
+abbrev pub behind_opening : (is_image : Bool) → (start : ℕ) → ℕ
+behind_opening true start = start + 2
+behind_opening false start = start + 1
 
 -- an opening bracket of the grammar is this one, where the bytes of the text have these places in the source
 pub record IsPlaced (place : ℕ → ℕ) (o : Opener) (b : Bracket) : Type 0 where
   pub bracket : o.bracket ≡ record { is_image = b.is_image; start = place b.start; end = place b.inside }
-  pub in_text : b.inside ≡ past_opening b.is_image b.start
-  pub in_source : place b.inside ≡ past_opening b.is_image (place b.start)
+  pub in_text : b.inside ≡ behind_opening b.is_image b.start
+  pub in_source : place b.inside ≡ behind_opening b.is_image (place b.start)
 
 -- these are those brackets, one before the other, the nearest first, and all end up to a place of the text
 abbrev pub ArePlaced : (place : ℕ → ℕ) → (at : ℕ) → List Opener → List Bracket → Type 0
@@ -45,43 +45,43 @@ pairs_of (o ∷ os) [] = []
 pairs_of (o ∷ os) (b ∷ bs) = pairs_behind o b.inside os bs
 
 -- of those that stand the first so many are inactive that open no image
-abbrev pub AreInactive : (shut : ℕ) → List Opener → List Bracket → Type 0
-AreInactive shut [] bs = Unit {0}
-AreInactive shut (o ∷ os) [] = Unit {0}
-AreInactive shut (o ∷ os) (b ∷ bs) = (o.stands ≡ true → o.is_inactive ≡ (not b.is_image && nat_lt (length (standing_of os bs)) shut)) × AreInactive shut os bs
+abbrev pub AreInactive : (inactive_below : ℕ) → List Opener → List Bracket → Type 0
+AreInactive inactive_below [] bs = Unit {0}
+AreInactive inactive_below (o ∷ os) [] = Unit {0}
+AreInactive inactive_below (o ∷ os) (b ∷ bs) = (o.stands ≡ true → o.is_inactive ≡ (not b.is_image && nat_lt (length (standing_of os bs)) inactive_below)) × AreInactive inactive_below os bs
 
 -- and of the doubled ones
-abbrev pub PairsInactive : (shut : ℕ) → (second : Opener) → (inside : ℕ) → List Opener → List Bracket → Type 0
-PairsInactive shut second inside [] bs = Unit {0}
-PairsInactive shut second inside (first ∷ os) [] = Unit {0}
-PairsInactive shut second inside (first ∷ os) (b ∷ bs) =
-    ((first.doubles && touches second first) ≡ true → first.is_inactive ≡ (not b.is_image && nat_lt (length (pairs_behind first b.inside os bs)) shut)) × PairsInactive shut first b.inside os bs
+abbrev pub PairsInactive : (inactive_below : ℕ) → (second : Opener) → (inside : ℕ) → List Opener → List Bracket → Type 0
+PairsInactive inactive_below second inside [] bs = Unit {0}
+PairsInactive inactive_below second inside (first ∷ os) [] = Unit {0}
+PairsInactive inactive_below second inside (first ∷ os) (b ∷ bs) =
+    ((first.doubles && touches second first) ≡ true → first.is_inactive ≡ (not b.is_image && nat_lt (length (pairs_behind first b.inside os bs)) inactive_below)) × PairsInactive inactive_below first b.inside os bs
 
-abbrev pub AreDoubledInactive : (shut : ℕ) → List Opener → List Bracket → Type 0
-AreDoubledInactive shut [] bs = Unit {0}
-AreDoubledInactive shut (o ∷ os) [] = Unit {0}
-AreDoubledInactive shut (o ∷ os) (b ∷ bs) = PairsInactive shut o b.inside os bs
+abbrev pub AreDoubledInactive : (inactive_below : ℕ) → List Opener → List Bracket → Type 0
+AreDoubledInactive inactive_below [] bs = Unit {0}
+AreDoubledInactive inactive_below (o ∷ os) [] = Unit {0}
+AreDoubledInactive inactive_below (o ∷ os) (b ∷ bs) = PairsInactive inactive_below o b.inside os bs
 
 -- where the nearest one ends at the place that is reached, nothing was formed with it or behind it: it stands, is none of the first so
 -- many, and was not tried
-abbrev pub IsFresh : (at shut : ℕ) → List Opener → List Bracket → Type 0
-IsFresh at shut [] bs = Unit {0}
-IsFresh at shut (o ∷ os) [] = Unit {0}
-IsFresh at shut (o ∷ os) (b ∷ bs) = b.inside ≡ at → (o.stands ≡ true) × (o.doubles ≡ true) × (shut ≤ length (standing_of os bs))
+abbrev pub IsFresh : (at inactive_below : ℕ) → List Opener → List Bracket → Type 0
+IsFresh at inactive_below [] bs = Unit {0}
+IsFresh at inactive_below (o ∷ os) [] = Unit {0}
+IsFresh at inactive_below (o ∷ os) (b ∷ bs) = b.inside ≡ at → (o.stands ≡ true) × (o.doubles ≡ true) × (inactive_below ≤ length (standing_of os bs))
 
 -- a stack holds these brackets, the nearest last, and so many of them, the first ones, are inactive that open no image
 pub record Holds (stack : Brackets) (bs : List Bracket) : Type 0 where
   pub are : stack.standing.items ≡ bs
-  pub few : stack.shut ≤ length bs
+  pub few : stack.inactive_below ≤ length bs
 
 -- the opening brackets of the grammar are these of the text, of which the standing ones and, where wikilinks are read, the doubled ones
 -- are on a stack
 pub record StandFor (wikilinks : Bool) (place : ℕ → ℕ) (at : ℕ) (os : List Opener) (bs : List Bracket) (standing doubled : Brackets) : Type 0 where
   pub placed : ArePlaced place at os bs
   pub standing_are : Holds standing (standing_of os bs)
-  pub inactive : AreInactive standing.shut os bs
+  pub inactive : AreInactive standing.inactive_below os bs
   pub doubled_are : wikilinks ≡ true → Holds doubled (pairs_of os bs)
-  pub doubled_inactive : wikilinks ≡ true → AreDoubledInactive doubled.shut os bs
+  pub doubled_inactive : wikilinks ≡ true → AreDoubledInactive doubled.inactive_below os bs
 
 -- the bracket that was taken is this one of the grammar: it forms nothing if it is inactive
 pub record IsTaken (place : ℕ → ℕ) (bs : List Bracket) (t : Taken) (taken : Option Bracket) : Type 0 where

@@ -16,7 +16,7 @@ use Rattle.cmark_leaf_text.specs.declared.leaf_text.LeafText.{LeafText}
 use Rattle.cmark_text.specs.Shown.{text_bytes}
 use Rattle.cmark_text.specs.declared.text.CowStr.{CowStr}
 use Rattle.cmark_inline_model.specs.BracketPass.{Pass, closed_by}
-use Rattle.cmark_inline.specs.BracketViews.{StandFor, IsFresh, past_opening, standing_of}
+use Rattle.cmark_inline.specs.BracketViews.{StandFor, IsFresh, behind_opening, standing_of}
 use Rattle.cmark_inline.specs.Decided.{ReadsSame, IsCloser, Remembers, ComesTo, EndsWithin, TargetDecides, shown_parts}
 use Rattle.cmark_inline.specs.Doubled.{DropsBehind}
 use Rattle.cmark_inline.specs.Reached.{HasRead, ReadsPlaces}
@@ -36,22 +36,22 @@ use Rattle.cmark_inline.specs.declared.step.Cursor.{Cursor}
 -- the last bracket is used up
 pub record UsesUp (old new : Brackets) : Type 0 where
   pub others : new.standing.items ≡ take (length old.standing.items - 1) old.standing.items
-  pub shut : old.shut ≤ length old.standing.items → new.shut ≡ min old.shut (length new.standing.items)
+  pub inactive_below : old.inactive_below ≤ length old.standing.items → new.inactive_below ≡ min old.inactive_below (length new.standing.items)
 
 -- so many last ones were dropped that end behind a place
 pub record Drops (place : ℕ) (old new : Brackets) : Type 0 where
   pub drops : DropsBehind place old.standing.items new.standing.items
-  pub shut : new.shut ≡ min old.shut (length new.standing.items)
+  pub inactive_below : new.inactive_below ≡ min old.inactive_below (length new.standing.items)
 
 -- all that stand are inactive that open no image
-pub record Shuts (old new : Brackets) : Type 0 where
+pub record Deactivates (old new : Brackets) : Type 0 where
   pub standing : new.standing ≡ old.standing
-  pub shut : new.shut ≡ length old.standing.items
+  pub inactive_below : new.inactive_below ≡ length old.standing.items
 
 -- none stands
 pub record IsNone (new : Brackets) : Type 0 where
   pub standing : new.standing.items ≡ []
-  pub shut : new.shut ≡ 0
+  pub inactive_below : new.inactive_below ≡ 0
 
 -- none of the first so many stands
 abbrev pub NoneStand : (n : ℕ) → List Opener → List Bracket → Type 0
@@ -65,7 +65,7 @@ TriesDoubled false old new = new ≡ old
 -- behind a wikilink, which begins at this place, no doubled bracket is tried, and no bracket forms a link
 pub record LeavesWikilink (start : ℕ) (old new : InlineState) : Type 0 where
   pub drops : DropsBehind start old.brackets.standing.items new.brackets.standing.items
-  pub shut : new.brackets.shut ≡ length new.brackets.standing.items
+  pub inactive_below : new.brackets.inactive_below ≡ length new.brackets.standing.items
   pub none : IsNone new.doubled
 
 -- behind a footnote reference no bracket stands
@@ -75,10 +75,10 @@ pub record LeavesFootnote (start : ℕ) (old new : InlineState) : Type 0 where
 
 -- behind a link no bracket forms another one
 pub record LeavesLink (start : ℕ) (old new : InlineState) : Type 0 where
-  pub shuts : Shuts old.brackets new.brackets
+  pub deactivates : Deactivates old.brackets new.brackets
   pub between : Brackets
   pub drops : Drops start old.doubled between
-  pub shuts_doubled : Shuts between new.doubled
+  pub deactivates_doubled : Deactivates between new.doubled
 
 pub record LeavesImage (start : ℕ) (old new : InlineState) : Type 0 where
   pub same : new.brackets ≡ old.brackets
@@ -92,12 +92,12 @@ LeavesElement false start old new = LeavesLink start old new
 
 -- the link or the image with this target is formed, and the text is read on behind it
 pub record FormsTarget (options : Options) (bracket : Bracket) (target : Target) (old new : InlineState) (next : Cursor) : Type 0 where
-  pub pending : next.pending ≡ target.past
-  pub at : next.at ≡ target.past
+  pub pending : next.pending ≡ target.resume
+  pub at : next.at ≡ target.resume
   pub leaves : LeavesElement bracket.is_image bracket.start old new
   pub links : new.links.items ≡ old.links.items ++ (target.parts ∷ [])
-  pub expansion : new.expansion ≡ old.expansion
-  pub label : new.shut_close ≡ old.shut_close
+  pub expansion_left : new.expansion_left ≡ old.expansion_left
+  pub label : new.label_close ≡ old.label_close
   pub writes : WritesElement options bracket target old new
 
 abbrev pub Formed : Options → Bracket → Option Target → (old new : InlineState) → Option Cursor → Type 0
@@ -112,7 +112,7 @@ pub record LinksBracket {F : Type 0} (R : F → BrokenLink → Option (CowStr ×
   pub between : InlineState
   pub decides : TargetDecides R options lookup references leaf text bracket close old between target before after
   pub same : SameSpans old between
-  pub label : EndsWithin text old.shut_close → EndsWithin text between.shut_close
+  pub label : EndsWithin text old.label_close → EndsWithin text between.label_close
   pub table : between.links ≡ old.links
   pub texts : between.texts ≡ old.texts
   pub quotes : between.quotes ≡ old.quotes
@@ -127,7 +127,7 @@ LinksTaken R options lookup references leaf text (Some bracket) close old new ne
 -- the grammar's state is this one, which has read the text up to a place: these are its opening brackets
 pub record ShowsState (wikilinks : Bool) (text : List ℕ) (place : ℕ → ℕ) (at : ℕ) (s : State) (bs : List Bracket) (state : InlineState) : Type 0 where
   pub openers : StandFor wikilinks place at s.openers bs state.brackets state.doubled
-  pub fresh : IsFresh at state.brackets.shut s.openers bs
+  pub fresh : IsFresh at state.brackets.inactive_below s.openers bs
   pub remembers : Remembers text place s state
 
 -- an opening bracket from this place of the text to that one is opened: it is the nearest
@@ -135,7 +135,7 @@ abbrev pub OpensAs : (wikilinks is_image : Bool) → (text : List ℕ) → (at i
 OpensAs wikilinks is_image text at inside old new =
     (place : ℕ → ℕ) (bracket : items.Bracket) (s : State) (bs : List Bracket)
     → ((k : ℕ) → k < at → place k < place at) → ShowsState wikilinks text place at s bs old → bracket ≡ record { is_image = is_image; start = place at; end = place inside }
-    → inside ≡ past_opening is_image at → place inside ≡ past_opening is_image (place at)
+    → inside ≡ behind_opening is_image at → place inside ≡ behind_opening is_image (place at)
     → (b : Bracket) × (new.brackets.standing.items ≡ old.brackets.standing.items ++ (b ∷ [])) × ShowsState wikilinks text place inside (opened bracket s) (b ∷ bs) new
 
 -- the opening brackets that are left

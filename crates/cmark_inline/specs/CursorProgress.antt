@@ -83,11 +83,11 @@ ComesOn {F} R options lookup references footnotes leaf cursor next old new now l
     (reader : Reader) (read : Leaf) (place : ℕ → ℕ) (before : Between) (initial : F) → ReadsSame options lookup references footnotes leaf reader read place → ReadsPlaces leaf reader read place
     → AreEnded leaf old.slots.items → HasCome R leaf reader read place before initial cursor old now → HasCome R leaf reader read place before initial next new later
 
--- so far it is read from its begin on, with so much left of the expansion limit there and nothing asked
-abbrev pub ComesTo : {F : Type 0} → (F → BrokenLink → Option (CowStr × CowStr) → F → Type 0) → Options → Lookup → RefDefs → FootnoteDefs → LeafText → (expansion : ℕ) → (initial : F) → Cursor → InlineState → (now : F) → Type 0
-ComesTo R options lookup references footnotes leaf expansion initial cursor state now =
+-- so far it is read from its begin on, with so much left of the reference expansion limit there and nothing asked
+abbrev pub ComesTo : {F : Type 0} → (F → BrokenLink → Option (CowStr × CowStr) → F → Type 0) → Options → Lookup → RefDefs → FootnoteDefs → LeafText → (expansion_left : ℕ) → (initial : F) → Cursor → InlineState → (now : F) → Type 0
+ComesTo R options lookup references footnotes leaf expansion_left initial cursor state now =
     (reader : Reader) (read : Leaf) (place : ℕ → ℕ) → ReadsSame options lookup references footnotes leaf reader read place → ReadsPlaces leaf reader read place
-    → HasCome R leaf reader read place (record { expansion = expansion; asked = [] }) initial cursor state now
+    → HasCome R leaf reader read place (record { expansion_left = expansion_left; asked = [] }) initial cursor state now
 
 -- ## The begin of a leaf
 
@@ -96,6 +96,6 @@ pub record IsCleared (state : InlineState) : Type 0 where
   pub slots : state.slots.items ≡ []
   pub runs : state.delimiters.placed.items ≡ []
   pub quotes : state.quotes.placed.items ≡ []
-  pub brackets : (state.brackets.standing.items ≡ []) × (state.brackets.shut ≡ 0)
-  pub doubled : (state.doubled.standing.items ≡ []) × (state.doubled.shut ≡ 0)
-  pub label : state.shut_close ≡ None
+  pub brackets : (state.brackets.standing.items ≡ []) × (state.brackets.inactive_below ≡ 0)
+  pub doubled : (state.doubled.standing.items ≡ []) × (state.doubled.inactive_below ≡ 0)
+  pub label : state.label_close ≡ None

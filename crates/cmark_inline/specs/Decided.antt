@@ -66,11 +66,11 @@ abbrev pub is_full : link.LinkType → Bool
 is_full link.Reference = true
 is_full _ = false
 
--- the state has the same left of the expansion limit, and the same closing bracket of a full reference's label
+-- the state has the same left of the reference expansion limit, and the same closing bracket of a full reference's label
 pub record Remembers (text : List ℕ) (place : ℕ → ℕ) (s : State) (state : InlineState) : Type 0 where
-  pub expansion : s.expansion ≡ state.expansion
-  pub label : s.label_close ≡ option_map place state.shut_close
-  pub within : EndsWithin text state.shut_close
+  pub expansion_left : s.expansion_left ≡ state.expansion_left
+  pub label : s.label_close ≡ option_map place state.label_close
+  pub within : EndsWithin text state.label_close
 
 -- ## What is asked
 
@@ -101,18 +101,18 @@ shown_parts parts = shown_linked parts.link_type parts.dest_url parts.title part
 -- a link or an image with this target; where there is none, the closing bracket is a text
 abbrev pub target_outcome : Reader → Leaf → (place : ℕ → ℕ) → Taken → (closer : items.Bracket) → State → Option Target → Outcome
 target_outcome reader leaf place taken closer s None = stays reader leaf closer s
-target_outcome reader leaf place taken closer s (Some target) = links reader leaf taken (shown_parts target.parts) (place target.end) (place target.past) s
+target_outcome reader leaf place taken closer s (Some target) = links reader leaf taken (shown_parts target.parts) (place target.end) (place target.resume) s
 
--- the state with what is left of the expansion limit, the closing bracket of a full reference's label, and the questions
-abbrev pub with_left : (expansion : ℕ) → (label_close : Option ℕ) → List Exchange → State → State
-with_left expansion label_close asked s = record { at = s.at; expansion = expansion; label_close = label_close; asked = asked; openers = s.openers }
+-- the state with what is left of the reference expansion limit, the closing bracket of a full reference's label, and the questions
+abbrev pub with_left : (expansion_left : ℕ) → (label_close : Option ℕ) → List Exchange → State → State
+with_left expansion_left label_close asked s = record { at = s.at; expansion_left = expansion_left; label_close = label_close; asked = asked; openers = s.openers }
 
--- a decision comes to a link or an image with this target, or to nothing, and leaves so much of the expansion limit, and the closing
--- bracket of a label
-pub record LeadsTo {F : Type 0} (R : F → BrokenLink → Option (CowStr × CowStr) → F → Type 0) (reader : Reader) (leaf : Leaf) (place : ℕ → ℕ) (taken : Taken) (closer : items.Bracket) (decision : Decision) (s : State) (expansion : ℕ)
+-- a decision comes to a link or an image with this target, or to nothing, and leaves so much of the reference expansion limit, and the
+-- closing bracket of a label
+pub record LeadsTo {F : Type 0} (R : F → BrokenLink → Option (CowStr × CowStr) → F → Type 0) (reader : Reader) (leaf : Leaf) (place : ℕ → ℕ) (taken : Taken) (closer : items.Bracket) (decision : Decision) (s : State) (expansion_left : ℕ)
     (label_close : Option ℕ) (found : Option Target) (before after : F) : Type 0 where
   pub asked : List Exchange
-  pub comes : ComesTo R decision (target_outcome reader leaf place taken closer (with_left expansion label_close asked s) found) before after
+  pub comes : ComesTo R decision (target_outcome reader leaf place taken closer (with_left expansion_left label_close asked s) found) before after
 
 -- a target ends behind its last byte, which ends no line
 abbrev pub EndsTogether : LeafText → (place : ℕ → ℕ) → Option Target → Type 0
@@ -125,6 +125,6 @@ abbrev pub TargetDecides : {F : Type 0} → (F → BrokenLink → Option (CowStr
 TargetDecides R options lookup references leaf text bracket close old new found before after =
     (footnotes : FootnoteDefs) (reader : Reader) (read : Leaf) (place : ℕ → ℕ) (taken : Taken) (closer : items.Bracket) (s : State)
     → ReadsSame options lookup references footnotes leaf reader read place → IsCloser text place close closer → IsPlaced place taken.opener bracket → Remembers text place s old
-    → forms_footnote options footnotes (footnote_of options (is_cell_of leaf) (is_there close old.shut_close) text close (Some bracket)) ≡ false
-    → LeadsTo R reader read place taken closer (link_or reader read (link_tail_in (behind reader read closer.end)) taken closer s) s new.expansion (option_map place new.shut_close) found before after
+    → forms_footnote options footnotes (footnote_of options (is_cell_of leaf) (is_there close old.label_close) text close (Some bracket)) ≡ false
+    → LeadsTo R reader read place taken closer (link_or reader read (link_tail_in (behind reader read closer.end)) taken closer s) s new.expansion_left (option_map place new.label_close) found before after
     × EndsTogether leaf place found

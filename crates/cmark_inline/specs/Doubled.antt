@@ -11,7 +11,7 @@ if_ends place (Some bracket) = if bracket.inside == place then Some bracket else
 
 abbrev pub touching : (place : ℕ) → Brackets → Option Bracket
 touching place brackets =
-    if nat_lt brackets.shut (length brackets.standing.items) then if_ends place (slice_get brackets.standing.items (length brackets.standing.items - 1)) else None
+    if nat_lt brackets.inactive_below (length brackets.standing.items) then if_ends place (slice_get brackets.standing.items (length brackets.standing.items - 1)) else None
 
 -- two brackets that touch are a doubled one: it begins with the first, and its inside is that of the second
 abbrev pub with_double : Option Bracket → (inside : ℕ) → (doubled : List Bracket) → List Bracket
@@ -37,4 +37,4 @@ nearest_of None is_active = None
 nearest_of (Some bracket) is_active = Some (bracket, if bracket.is_image then true else is_active)
 
 abbrev pub nearest : Brackets → Option (Bracket × Bool)
-nearest brackets = nearest_of (slice_get brackets.standing.items (length brackets.standing.items - 1)) (nat_lt brackets.shut (length brackets.standing.items))
+nearest brackets = nearest_of (slice_get brackets.standing.items (length brackets.standing.items - 1)) (nat_lt brackets.inactive_below (length brackets.standing.items))

@@ -3,7 +3,7 @@ use Rattle.std.specs.Prelude.{◌≡◌, ℕ, ◌+◌, nat_lt, Bool, false, not,
 use Rattle.cmark_grammar.specs.BracketDecisions as decisions
 use Rattle.cmark_grammar.specs.Labels.{fold, normal_form}
 use Rattle.cmark_grammar.specs.LeafText.{Leaf}
-use Rattle.cmark_grammar.specs.LinkDefinitions.{Found}
+use Rattle.cmark_grammar.specs.LinkDefinitions.{Parsed}
 use Rattle.cmark_grammar.specs.LinkTails.{is_bracketed_label, link_tail_in, reference_label_in}
 use Rattle.cmark_grammar.specs.Options.{Options, no_options}
 use Rattle.cmark_grammar.specs.Readers.{Reader}
@@ -48,20 +48,20 @@ abbrev pub footnote_label : Options → (between : List ℕ) → Option (List �
 footnote_label options between = if is_footnote_label options between then Some (drop 1 between) else None
 
 -- such a label is none of a link
-abbrev pub unless_footnote : Options → Option Found → Option Found
+abbrev pub unless_footnote : Options → Option Parsed → Option Parsed
 unless_footnote options found = decisions.unless_footnote (labels options) no_leaf found
 
 -- ## Which bracket forms a footnote reference
 
 -- the label between two brackets is that of a footnote reference, unless a destination in parentheses or the label of a link follows,
--- or the closing bracket is shut off for it
-abbrev pub footnote_behind : Options → (is_shut : Bool) → (between behind : List ℕ) → Option (List ℕ)
-footnote_behind options is_shut between behind =
-    if is_shut || (is_some (link_tail_in behind) || is_some (unless_footnote options (reference_label_in behind))) then None else footnote_label options between
+-- or the closing bracket is that of a full reference's label
+abbrev pub footnote_behind : Options → (closes_label : Bool) → (between behind : List ℕ) → Option (List ℕ)
+footnote_behind options closes_label between behind =
+    if closes_label || (is_some (link_tail_in behind) || is_some (unless_footnote options (reference_label_in behind))) then None else footnote_label options between
 
-abbrev pub footnote_of : Options → (is_cell is_shut : Bool) → (text : List ℕ) → (close : ℕ) → Option Bracket → Option (List ℕ)
-footnote_of options is_cell is_shut text close None = None
-footnote_of options is_cell is_shut text close (Some bracket) = option_map (as_label is_cell) (footnote_behind options is_shut (slice text bracket.inside close) (drop (close + 1) text))
+abbrev pub footnote_of : Options → (is_cell closes_label : Bool) → (text : List ℕ) → (close : ℕ) → Option Bracket → Option (List ℕ)
+footnote_of options is_cell closes_label text close None = None
+footnote_of options is_cell closes_label text close (Some bracket) = option_map (as_label is_cell) (footnote_behind options closes_label (slice text bracket.inside close) (drop (close + 1) text))
 
 -- it needs a footnote but for old footnotes
 abbrev pub is_accepted : Options → FootnoteDefs → (label : List ℕ) → Bool

@@ -1,6 +1,6 @@
 -- What a reference leads to: what its definition says, or what the callback answers.
 use Rattle.std.specs.Prelude.{◌≡◌, ◌+◌, ◌-◌, ℕ, length, List, [], drop, Option, Some, None, IfSome, Bool, false, if◌then◌else◌, option_map}
-use Rattle.cmark_grammar.specs.LinkDefinitions.{Found}
+use Rattle.cmark_grammar.specs.LinkDefinitions.{Parsed}
 use Rattle.cmark_grammar.specs.LinkTails.{LinkTail, behind_collapsed, is_bracketed_label, link_tail_in, reference_label_in}
 use Rattle.cmark_grammar.specs.LinkType as link
 use Rattle.cmark_text.specs.declared.kind.LinkType.{LinkType}
@@ -13,7 +13,7 @@ use Rattle.cmark_text.specs.Shown.{shown_link_type, text_bytes}
 use Rattle.cmark_text.specs.declared.text.CowStr.{CowStr}
 use Rattle.cmark_inline.specs.Footnoted.{is_footnote_label, unless_footnote}
 use Rattle.cmark_inline.specs.declared.callback.BrokenLink.{BrokenLink}
-use Rattle.cmark_inline.specs.declared.reference.Asked.{Asked}
+use Rattle.cmark_inline.specs.declared.reference.LinkReference.{LinkReference}
 use Rattle.cmark_inline.specs.declared.reference.Destination.{Destination}
 use Rattle.cmark_inline.specs.declared.link.LinkParts.{LinkParts}
 use Rattle.cmark_inline.specs.declared.link.Target.{Target}
@@ -43,15 +43,15 @@ pub record Reference : Type 0 where
   pub label : List ℕ
   pub form : link.LinkType
   pub behind : List ℕ
-  pub past : List ℕ
+  pub resume : List ℕ
 
-abbrev pub shown_asked : (text : List ℕ) → Asked → Reference
-shown_asked text asked = record { label = asked.label.now; form = shown_link_type asked.link_type; behind = drop asked.end text; past = drop asked.past text }
+abbrev pub shown_link_reference : (text : List ℕ) → LinkReference → Reference
+shown_link_reference text link_reference = record { label = link_reference.label.now; form = shown_link_type link_reference.link_type; behind = drop link_reference.end text; resume = drop link_reference.resume text }
 
 -- a collapsed reference where `[]` follows, and else a shortcut one
 abbrev pub collapsed_or_shortcut : (label behind : List ℕ) → Option (List ℕ) → Reference
-collapsed_or_shortcut label behind (Some past) = record { label = label; form = link.Collapsed; behind = behind; past = past }
-collapsed_or_shortcut label behind None = record { label = label; form = link.Shortcut; behind = behind; past = behind }
+collapsed_or_shortcut label behind (Some resume) = record { label = label; form = link.Collapsed; behind = behind; resume = resume }
+collapsed_or_shortcut label behind None = record { label = label; form = link.Shortcut; behind = behind; resume = behind }
 
 -- the reference by the bracket's own label, if that is one, and none of a footnote
 abbrev pub by_own_label : Options → (label behind : List ℕ) → Option Reference
@@ -61,13 +61,13 @@ by_own_label options label behind =
     else None
 
 -- the full reference where a label follows in brackets that is none of a footnote, and else that by the bracket's own label, unless
--- the bracket is shut off for it
-abbrev pub full_or_own : Options → Option Found → (is_shut : Bool) → (label behind : List ℕ) → Option Reference
-full_or_own options (Some found) is_shut label behind = Some (record { label = found.bytes; form = link.Reference; behind = found.behind; past = found.behind })
-full_or_own options None is_shut label behind = if is_shut then None else by_own_label options label behind
+-- the bracket is that of a full reference's label
+abbrev pub full_or_own : Options → Option Parsed → (closes_label : Bool) → (label behind : List ℕ) → Option Reference
+full_or_own options (Some found) closes_label label behind = Some (record { label = found.bytes; form = link.Reference; behind = found.behind; resume = found.behind })
+full_or_own options None closes_label label behind = if closes_label then None else by_own_label options label behind
 
-abbrev pub reference_behind : Options → (is_shut : Bool) → (label behind : List ℕ) → Option Reference
-reference_behind options is_shut label behind = full_or_own options (unless_footnote options (reference_label_in behind)) is_shut label behind
+abbrev pub reference_behind : Options → (closes_label : Bool) → (label behind : List ℕ) → Option Reference
+reference_behind options closes_label label behind = full_or_own options (unless_footnote options (reference_label_in behind)) closes_label label behind
 
 -- the question that a reference puts whose label has no definition: its bytes of the source, its form, and its label's normal
 -- form
@@ -102,7 +102,7 @@ abbrev pub Refers : {F : Type 0} → (F → BrokenLink → Option (CowStr × Cow
 Refers R (Some def) form label start end before after found = (after ≡ before) × IsDefined form label def found
 Refers R None form label start end before after found = (destination : Option Destination) × Answers R form label start end before after destination × IsAnswered form label destination found
 
--- how much expansion is left behind a reference: its destination and its title are taken off, if it forms a link
+-- how much of the reference expansion limit is left behind a reference: its destination and its title are taken off, if it forms a link
 abbrev pub left_behind : (left : ℕ) → Option Target → ℕ
 left_behind left None = left
 left_behind left (Some target) = (left - length (text_bytes target.parts.dest_url)) - length (text_bytes target.parts.title)
@@ -135,7 +135,7 @@ shown_target text target = record { form = shown_link_type target.parts.link_typ
 pub record FindsInline (lookup : Lookup) (is_cell : Bool) (text : List ℕ) (at : ℕ) (found : Option Target) : Type 0 where
   pub value : option_map (shown_target text) found ≡ option_map (inline_link lookup is_cell) (link_tail_in (drop at text))
   pub target : IfSome found (IsTarget text at)
-  pub past : IfSome found (λ (target : Target). target.past ≡ target.end)
+  pub resume : IfSome found (λ (target : Target). target.resume ≡ target.end)
 
 -- an autolink (CommonMark 6.5): its destination are the bytes between the angle brackets
 pub record IsAutolink (text : List ℕ) (at end : ℕ) (parts : LinkParts) : Type 0 where

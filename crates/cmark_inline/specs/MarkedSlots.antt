@@ -27,21 +27,21 @@ HaveTexts slots placed = All (λ (p : PlacedQuote). (p.slot < length slots) × (
 -- the places of the slots of their bytes
 abbrev pub places_of : List PlacedRun → List ℕ
 places_of [] = []
-places_of (p ∷ placed) = run_places p.slot p.run.size (places_of placed)
+places_of (p ∷ placed) = run_places p.slot p.run.run_length (places_of placed)
 
 -- the runs as siblings, their bytes counted from a place on
 abbrev pub siblings_from : (at : ℕ) → List PlacedRun → List Sibling
 siblings_from at [] = []
 siblings_from at (p ∷ placed) =
-    Delimiter (record { mark = p.run.mark; size = p.run.size; at = at; left = p.run.size; opens = p.run.opens; closes = p.run.closes })
-    ∷ siblings_from (at + p.run.size) placed
+    Delimiter (record { delimiter = p.run.delimiter; run_length = p.run.run_length; at = at; left = p.run.run_length; opens = p.run.opens; closes = p.run.closes })
+    ∷ siblings_from (at + p.run.run_length) placed
 
 -- each byte of each run is a text of its own, and the runs stand one behind the other, from this slot and from this place of the
 -- leaf's text on
 abbrev pub HaveBytes : List Slot → (from place : ℕ) → List PlacedRun → Type 0
 HaveBytes slots from place [] = Unit {0}
 HaveBytes slots from place (p ∷ placed) =
-    (at : ℕ) × (from ≤ p.slot) × (place ≤ at) × (take p.run.size (drop p.slot slots) ≡ byte_slots at p.run.size) × HaveBytes slots (p.slot + p.run.size) (at + p.run.size) placed
+    (at : ℕ) × (from ≤ p.slot) × (place ≤ at) × (take p.run.run_length (drop p.slot slots) ≡ byte_slots at p.run.run_length) × HaveBytes slots (p.slot + p.run.run_length) (at + p.run.run_length) placed
 
 -- ## Whole texts
 

@@ -22,15 +22,15 @@ Answered R [] before after = after ≡ before
 Answered {F} R (x ∷ xs) before after = (between : F) × AsksThis R x.question x.answer before between × Answered R xs between after
 
 -- the events that are still to come are those that the grammar's leaf is read as, for the answers that the callback gave, whatever is
--- asked behind this leaf; what is left of the expansion limit is what the grammar leaves
-pub record ResolvesAs {F : Type 0} (R : F → BrokenLink → Option (CowStr × CowStr) → F → Type 0) (leaf : LeafText) (reader : Reader) (read : Leaf) (expansion : ℕ) (new : InlineState) (before after : F) : Type 0 where
+-- asked behind this leaf; what is left of the reference expansion limit is what the grammar leaves
+pub record ResolvesAs {F : Type 0} (R : F → BrokenLink → Option (CowStr × CowStr) → F → Type 0) (leaf : LeafText) (reader : Reader) (read : Leaf) (expansion_left : ℕ) (new : InlineState) (before after : F) : Type 0 where
   pub asked : List Exchange
   pub answered : Answered R asked before after
   pub reads : (rest : List Exchange)
-      → ReadsLeaf reader (IsNext (asked ++ rest)) read (record { expansion = expansion; asked = [] }) (events_to_come leaf new) (record { expansion = new.expansion; asked = asked })
+      → ReadsLeaf reader (IsNext (asked ++ rest)) read (record { expansion_left = expansion_left; asked = [] }) (events_to_come leaf new) (record { expansion_left = new.expansion_left; asked = asked })
 
 -- so it is for each reading of the grammar of the same leaf, with the same options, entities, definitions and footnotes
-abbrev pub Resolves : {F : Type 0} → (F → BrokenLink → Option (CowStr × CowStr) → F → Type 0) → Options → Lookup → RefDefs → FootnoteDefs → LeafText → (expansion : ℕ) → (new : InlineState) → (before after : F) → Type 0
-Resolves R options lookup references footnotes leaf expansion new before after =
+abbrev pub Resolves : {F : Type 0} → (F → BrokenLink → Option (CowStr × CowStr) → F → Type 0) → Options → Lookup → RefDefs → FootnoteDefs → LeafText → (expansion_left : ℕ) → (new : InlineState) → (before after : F) → Type 0
+Resolves R options lookup references footnotes leaf expansion_left new before after =
     (reader : Reader) (read : Leaf) (place : ℕ → ℕ) → ReadsSame options lookup references footnotes leaf reader read place → ReadsPlaces leaf reader read place
-    → ResolvesAs R leaf reader read expansion new before after
+    → ResolvesAs R leaf reader read expansion_left new before after

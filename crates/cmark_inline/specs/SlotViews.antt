@@ -64,8 +64,8 @@ shown_element links (element.Image index) = tag.Image (linked_at links index)
 abbrev pub first_of : LeafText → Slot → ℕ
 first_of leaf slot = place_of leaf slot.start
 
-abbrev pub past_of : LeafText → Slot → ℕ
-past_of leaf slot = place_of leaf (slot.end - 1) + 1
+abbrev pub slot_end : LeafText → Slot → ℕ
+slot_end leaf slot = place_of leaf (slot.end - 1) + 1
 
 -- the bytes of the leaf's text between two places
 abbrev pub written : LeafText → (from to : ℕ) → List ℕ
@@ -77,22 +77,22 @@ item_slot kind start end = row.ItemSlot (item kind start end)
 -- what a slot of this kind stands for
 module _ (leaf : LeafText) (texts : List CowStr) (links : List LinkParts) (slot : Slot) where
   abbrev pub slot_as : SlotKind → row.Slot
-  slot_as kind.Text = item_slot (items.Written (written leaf slot.start slot.end)) (first_of leaf slot) (past_of leaf slot)
-  slot_as (kind.OwnedText index) = item_slot (items.Written (text_at texts index)) (first_of leaf slot) (past_of leaf slot)
-  slot_as (kind.Character character) = item_slot (items.Written (encode_utf8 character)) (first_of leaf slot) (past_of leaf slot)
-  slot_as (kind.Whole last) = item_slot items.Own (first_of leaf slot) (past_of leaf slot)
-  slot_as kind.SoftBreak = item_slot items.SoftBreak (first_of leaf slot) (past_of leaf slot)
-  slot_as kind.HardBreak = item_slot items.HardBreak (first_of leaf slot) (past_of leaf slot)
-  slot_as (kind.Code from to) = item_slot (items.Code (code_text (as_in (is_cell_of leaf) (written leaf from to)))) (first_of leaf slot) (past_of leaf slot)
-  slot_as (kind.InlineMath from to) = item_slot (items.InlineMath (as_in (is_cell_of leaf) (written leaf from to))) (first_of leaf slot) (past_of leaf slot)
-  slot_as (kind.DisplayMath from to) = item_slot (items.DisplayMath (as_in (is_cell_of leaf) (written leaf from to))) (first_of leaf slot) (past_of leaf slot)
-  slot_as kind.InlineHtml = item_slot (items.OwnedHtml (written leaf slot.start slot.end)) (first_of leaf slot) (past_of leaf slot)
+  slot_as kind.Text = item_slot (items.Written (written leaf slot.start slot.end)) (first_of leaf slot) (slot_end leaf slot)
+  slot_as (kind.OwnedText index) = item_slot (items.Written (text_at texts index)) (first_of leaf slot) (slot_end leaf slot)
+  slot_as (kind.Character character) = item_slot (items.Written (encode_utf8 character)) (first_of leaf slot) (slot_end leaf slot)
+  slot_as (kind.Whole last) = item_slot items.Own (first_of leaf slot) (slot_end leaf slot)
+  slot_as kind.SoftBreak = item_slot items.SoftBreak (first_of leaf slot) (slot_end leaf slot)
+  slot_as kind.HardBreak = item_slot items.HardBreak (first_of leaf slot) (slot_end leaf slot)
+  slot_as (kind.Code from to) = item_slot (items.Code (code_text (as_in (is_cell_of leaf) (written leaf from to)))) (first_of leaf slot) (slot_end leaf slot)
+  slot_as (kind.InlineMath from to) = item_slot (items.InlineMath (as_in (is_cell_of leaf) (written leaf from to))) (first_of leaf slot) (slot_end leaf slot)
+  slot_as (kind.DisplayMath from to) = item_slot (items.DisplayMath (as_in (is_cell_of leaf) (written leaf from to))) (first_of leaf slot) (slot_end leaf slot)
+  slot_as kind.InlineHtml = item_slot (items.OwnedHtml (written leaf slot.start slot.end)) (first_of leaf slot) (slot_end leaf slot)
   slot_as (kind.SourceHtml end) = item_slot items.Html (first_of leaf slot) end
-  slot_as (kind.CutHtml from) = item_slot (items.OwnedHtml (written leaf from slot.end)) (first_of leaf slot) (past_of leaf slot)
+  slot_as (kind.CutHtml from) = item_slot (items.OwnedHtml (written leaf from slot.end)) (first_of leaf slot) (slot_end leaf slot)
   slot_as (kind.SourceText end) = item_slot items.Own (first_of leaf slot) end
   slot_as kind.Empty = item_slot (items.Written []) (first_of leaf slot) (first_of leaf slot)
-  slot_as (kind.FootnoteReference index) = item_slot (items.FootnoteReference (text_at texts index)) (first_of leaf slot) (past_of leaf slot)
-  slot_as (kind.Begin element) = row.BeginSlot (shown_element links element) (first_of leaf slot) (past_of leaf slot)
+  slot_as (kind.FootnoteReference index) = item_slot (items.FootnoteReference (text_at texts index)) (first_of leaf slot) (slot_end leaf slot)
+  slot_as (kind.Begin element) = row.BeginSlot (shown_element links element) (first_of leaf slot) (slot_end leaf slot)
   slot_as kind.End = row.EndSlot
   slot_as kind.Nothing = row.NothingSlot
 
@@ -186,7 +186,7 @@ pub record KeepsOthers {X : Type 0} (taken : Option ℕ) (old new : List X) : Ty
 abbrev pub event_in : LeafText → List CowStr → Slot → SlotKind → event.Event
 event_in leaf texts slot (kind.OwnedText index) = event.Text (text_at texts index)
 event_in leaf texts slot (kind.Character character) = event.Text (encode_utf8 character)
-event_in leaf texts slot (kind.Whole last) = event.Text (slice (source_of leaf) (first_of leaf slot) (past_of leaf slot))
+event_in leaf texts slot (kind.Whole last) = event.Text (slice (source_of leaf) (first_of leaf slot) (slot_end leaf slot))
 event_in leaf texts slot (kind.FootnoteReference index) = event.FootnoteReference (text_at texts index)
 event_in leaf texts slot kind.SoftBreak = event.SoftBreak
 event_in leaf texts slot kind.HardBreak = event.HardBreak

@@ -55,10 +55,10 @@ NamesNoMore old new = (k : ℕ) (d : Slot) → k < length new → IsPlain (get_o
 
 -- no quote stands among the bytes of a run
 abbrev pub AreApart : List PlacedRun → List PlacedQuote → Type 0
-AreApart runs quotes = All (λ (q : PlacedQuote). All (λ (r : PlacedRun). (q.slot < r.slot) ⊎ (r.slot + r.run.size ≤ q.slot)) runs) quotes
+AreApart runs quotes = All (λ (q : PlacedQuote). All (λ (r : PlacedRun). (q.slot < r.slot) ⊎ (r.slot + r.run.run_length ≤ q.slot)) runs) quotes
 
 abbrev pub HaveSizes : List PlacedRun → Type 0
-HaveSizes runs = All (λ (r : PlacedRun). 0 < r.run.size) runs
+HaveSizes runs = All (λ (r : PlacedRun). 0 < r.run.run_length) runs
 
 -- each quote has a slot before that of the next one
 abbrev pub StandInOrder : List PlacedQuote → Type 0
@@ -69,7 +69,7 @@ pub record IsPlaced (slots : List Slot) (runs : List PlacedRun) (quotes : List P
   pub there : bracket.slot < length slots
   pub text : (d : Slot) → (get_or slots bracket.slot d).kind ≡ kind.Text
   pub runs_there : bracket.runs ≤ length runs
-  pub runs_before : (k : ℕ) (d : PlacedRun) → k < bracket.runs → (get_or runs k d).slot + (get_or runs k d).run.size ≤ bracket.slot
+  pub runs_before : (k : ℕ) (d : PlacedRun) → k < bracket.runs → (get_or runs k d).slot + (get_or runs k d).run.run_length ≤ bracket.slot
   pub runs_behind : (k : ℕ) (d : PlacedRun) → bracket.runs ≤ k → k < length runs → bracket.slot < (get_or runs k d).slot
   pub quotes_there : bracket.quotes ≤ length quotes
   pub quotes_before : (k : ℕ) (d : PlacedQuote) → k < bracket.quotes → (get_or quotes k d).slot < bracket.slot

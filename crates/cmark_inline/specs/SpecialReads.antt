@@ -7,7 +7,7 @@ use Rattle.cmark_grammar.specs.Lines.{is_content}
 use Rattle.cmark_grammar.specs.Options.{Options}
 use Rattle.cmark_leaf_text.specs.declared.leaf_text.LeafText.{LeafText}
 use Rattle.cmark_leaf_text.specs.Reads.{is_cell_of, text_of}
-use Rattle.cmark_inline.specs.BracketViews.{past_opening}
+use Rattle.cmark_inline.specs.BracketViews.{behind_opening}
 use Rattle.cmark_inline.specs.Closers.{OpensAs}
 use Rattle.cmark_inline.specs.MarkupInSource.{ReadsLess}
 use Rattle.cmark_inline.specs.Tokens.{Escapes, TakesEscaped, AppendsRun, AppendsQuote, PassesOver, EscapesPipe, PutsBracket, begins_at}
@@ -18,7 +18,7 @@ use Rattle.cmark_inline.specs.declared.step.Cursor.{Cursor}
 pub record OpensBracket (options : Options) (lookup : Lookup) (is_cell : Bool) (text : List ℕ) (here : Cursor) (old new : InlineState) (next : Cursor) : Type 0 where
   pub is_image : Bool
   pub token : begins_at options lookup is_cell text here.at ≡ Opens (bracket is_image here.at next.at)
-  pub inside : next.at ≡ past_opening is_image here.at
+  pub inside : next.at ≡ behind_opening is_image here.at
   pub bytes : (k : ℕ) → here.at ≤ k → k < next.at → is_content (slice_index text k) ≡ true
   pub pending : next.pending ≡ next.at
   pub puts : PutsBracket is_image here.pending here.at next.at old new

@@ -6,7 +6,7 @@ use Rattle.cmark_leaf_text.specs.Reads.{IsPart}
 use Rattle.cmark_inline.specs.declared.bracket.Bracket.{Bracket}
 use Rattle.cmark_inline.specs.declared.delimiter.PlacedRun.{PlacedRun}
 use Rattle.cmark_inline.specs.declared.event.Opened.{Opened}
-use Rattle.cmark_inline.specs.declared.reference.Asked.{Asked}
+use Rattle.cmark_inline.specs.declared.reference.LinkReference.{LinkReference}
 use Rattle.cmark_inline.specs.declared.link.Target.{Target}
 use Rattle.cmark_inline.specs.declared.slot.Element.{Element}
 use Rattle.cmark_inline.specs.declared.slot.Element.TheVariants as element
@@ -95,12 +95,12 @@ abbrev pub NoNewLink : (old new : List Slot) → Type 0
 NoNewLink old new = (from : ℕ) → HoldNoLink old from → HoldNoLink new from
 
 -- behind each bracket that may still form a link no link begins: a link holds no other (CommonMark 6.3)
-abbrev pub AreFree : List Slot → (brackets : List Bracket) → (shut : ℕ) → Type 0
-AreFree slots brackets shut = (i : ℕ) (d : Bracket) → shut ≤ i → i < length brackets → HoldNoLink slots (get_or brackets i d).slot
+abbrev pub AreFree : List Slot → (brackets : List Bracket) → (inactive_below : ℕ) → Type 0
+AreFree slots brackets inactive_below = (i : ℕ) (d : Bracket) → inactive_below ≤ i → i < length brackets → HoldNoLink slots (get_or brackets i d).slot
 
 -- how many bytes delimiter runs have
 abbrev pub bytes_of : List PlacedRun → ℕ
-bytes_of placed = sum_by (λ (p : PlacedRun). p.run.size) placed
+bytes_of placed = sum_by (λ (p : PlacedRun). p.run.run_length) placed
 
 -- all slots and brackets, the doubled ones too, stand before this place of the text, there are no more slots than bytes before it,
 -- no link begins behind a bracket that may form one, and there is a slot for each byte of the delimiter runs
@@ -108,9 +108,9 @@ pub record Stands (text : List ℕ) (at : ℕ) (state : InlineState) : Type 0 wh
   pub slots : AreSlots text at state.slots.items
   pub brackets : AreBrackets text at state.brackets.standing.items
   pub few : length state.slots.items ≤ at
-  pub free : AreFree state.slots.items state.brackets.standing.items state.brackets.shut
+  pub free : AreFree state.slots.items state.brackets.standing.items state.brackets.inactive_below
   pub doubled : AreBrackets text at state.doubled.standing.items
-  pub doubled_free : AreFree state.slots.items state.doubled.standing.items state.doubled.shut
+  pub doubled_free : AreFree state.slots.items state.doubled.standing.items state.doubled.inactive_below
   pub runs : bytes_of state.delimiters.placed.items ≤ length state.slots.items
 
 -- a place that is reached, and the one from which on the text stands in no slot, cut no character
@@ -149,9 +149,9 @@ pub record Flushes (start end : ℕ) (old : InlineState) : Type 0 where
 -- what forms a link ends behind its closing bracket, and so does what it uses up
 pub record IsTarget (text : List ℕ) (close : ℕ) (target : Target) : Type 0 where
   pub behind : close < target.end
-  pub ordered : target.end ≤ target.past
+  pub ordered : target.end ≤ target.resume
   pub ends : IsCharBoundary text target.end
-  pub past : IsCharBoundary text target.past
+  pub resume : IsCharBoundary text target.resume
 
 -- a call leaves the slots, the brackets and the runs as they were
 pub record SameSpans (old new : InlineState) : Type 0 where
@@ -161,11 +161,11 @@ pub record SameSpans (old new : InlineState) : Type 0 where
   pub delimiters : new.delimiters ≡ old.delimiters
 
 -- a reference ends behind its closing bracket, and so does what it uses up
-pub record IsAsked (text : List ℕ) (close : ℕ) (asked : Asked) : Type 0 where
-  pub behind : close < asked.end
-  pub ordered : asked.end ≤ asked.past
-  pub ends : IsCharBoundary text asked.end
-  pub past : IsCharBoundary text asked.past
+pub record IsLinkReference (text : List ℕ) (close : ℕ) (link_reference : LinkReference) : Type 0 where
+  pub behind : close < link_reference.end
+  pub ordered : link_reference.end ≤ link_reference.resume
+  pub ends : IsCharBoundary text link_reference.end
+  pub resume : IsCharBoundary text link_reference.resume
 
 -- the elements that began and have not ended have their ranges in the source
 abbrev pub AreOpened : (source : List ℕ) → List Opened → Type 0

@@ -11,7 +11,7 @@ use Rattle.cmark_grammar.specs.LabelsOverLines.{piped}
 use Rattle.cmark_grammar.specs.LeafText.{Leaf}
 use Rattle.cmark_grammar.specs.Letters.{first_is, starts}
 use Rattle.cmark_grammar.specs.Lines.{is_content}
-use Rattle.cmark_grammar.specs.LinkDefinitions.{Found}
+use Rattle.cmark_grammar.specs.LinkDefinitions.{Parsed}
 use Rattle.cmark_grammar.specs.Options.{Options, no_options}
 use Rattle.cmark_grammar.specs.Readers.{Reader}
 use Rattle.cmark_grammar.specs.Tokens.{is_punctuation, slice}
@@ -53,7 +53,7 @@ abbrev pub read_on : (text : List ℕ) → (at : ℕ) → ℕ
 read_on text at = tokens.read_on (reading no_options (λ name. None) text) (whole false text) at
 
 -- the URI of an autolink from its `<` to behind its `>`, and what is behind it
-abbrev pub shown_autolink : (text : List ℕ) → (at end : ℕ) → Found
+abbrev pub shown_autolink : (text : List ℕ) → (at end : ℕ) → Parsed
 shown_autolink text at end = record { bytes = slice text (at + 1) (end - 1); behind = drop end text }
 
 -- behind a `<` a comment, a declaration, a CDATA section or a processing instruction may open: these are sought in the source
@@ -81,9 +81,9 @@ pub record IsItem (is_cell : Bool) (text : List ℕ) (texts : List CowStr) (item
   pub says : Says is_cell text texts slot.start slot.end item.kind slot.kind
 
 -- a text up to a place, unless it is empty, and then a slot were appended
-pub record Puts (start stop : ℕ) (slot : Slot) (old new : List Slot) : Type 0 where
+pub record Puts (start text_end : ℕ) (slot : Slot) (old new : List Slot) : Type 0 where
   pub before : List Slot
-  pub text : PushesText start stop old before
+  pub text : PushesText start text_end old before
   pub slot_is : new ≡ before ++ (slot ∷ [])
 
 -- a text up to a place, unless it is empty, and then the link of this index around its text, which is all but the brackets
@@ -197,8 +197,8 @@ pub record AppendsQuote (options : Options) (lookup : Lookup) (is_cell : Bool) (
   pub placed : new.quotes.placed.items ≡ old.quotes.placed.items ++ (record { slot = length before; quote = quote } ∷ [])
   pub others : new ≡ record old { slots = new.slots; quotes = new.quotes }
 
-abbrev pub is_mark : ℕ → Bool
-is_mark b = (b == 42) || ((b == 95) || ((b == 126) || (b == 94)))
+abbrev pub is_run_delimiter : ℕ → Bool
+is_run_delimiter b = (b == 42) || ((b == 95) || ((b == 126) || (b == 94)))
 
 -- a slot for each of so many bytes from a place on
 abbrev pub byte_slots : (start size : ℕ) → List Slot
@@ -209,12 +209,12 @@ byte_slots start (suc size) = record { kind = kind.Text; start = start; end = st
 pub record AppendsRun (options : Options) (lookup : Lookup) (is_cell : Bool) (text : List ℕ) (here : Cursor) (old new : InlineState) (next : Cursor) : Type 0 where
   pub run : Run
   pub token : begins_at options lookup is_cell text here.at ≡ item_at (Delimiters (shown_run run)) here.at next.at
-  pub size : next.at ≡ here.at + run.size
+  pub size : next.at ≡ here.at + run.run_length
   pub bytes : (k : ℕ) → here.at ≤ k → k < next.at → is_content (slice_index text k) ≡ true
   pub pending : next.pending ≡ next.at
   pub before : List Slot
   pub text_is : PushesText here.pending here.at old.slots.items before
-  pub slots : new.slots.items ≡ before ++ byte_slots here.at run.size
+  pub slots : new.slots.items ≡ before ++ byte_slots here.at run.run_length
   pub placed : new.delimiters.placed.items ≡ old.delimiters.placed.items ++ (record { slot = length before; run = run } ∷ [])
   pub others : new ≡ record old { slots = new.slots; delimiters = new.delimiters }
 
@@ -230,5 +230,5 @@ pub record PutsBracket (is_image : Bool) (start at inside : ℕ) (old new : Inli
       new.brackets.standing.items
       ≡ old.brackets.standing.items
       ++ (record { slot = length before; runs = length old.delimiters.placed.items; quotes = length old.quotes.placed.items; start = at; inside = inside; is_image = is_image } ∷ [])
-  pub shut : new.brackets.shut ≡ old.brackets.shut
+  pub inactive_below : new.brackets.inactive_below ≡ old.brackets.inactive_below
   pub others : new ≡ record old { slots = new.slots; brackets = new.brackets; doubled = new.doubled }

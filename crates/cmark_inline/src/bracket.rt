@@ -43,28 +43,28 @@ pub struct Bracket {
 pub struct Brackets {
     standing: Vec<Bracket>,
     /// So many of them, the first ones, form no link any more, for they would hold one.
-    shut: usize,
+    inactive_below: usize,
 }
 
 impl Brackets {
     pub fn new(alloc: Global) -> Brackets {
         Brackets {
             standing: Vec::new(alloc),
-            shut: 0,
+            inactive_below: 0,
         }
     }
 
     pub fn clear(&mut self)
         ensures standing { self.new.standing.items ≡ [] }
-        ensures shut { self.new.shut ≡ 0 }
+        ensures inactive_below { self.new.inactive_below ≡ 0 }
     {
         self.standing.clear();
-        self.shut = 0;
+        self.inactive_below = 0;
     }
 
     pub fn push(&mut self, bracket: Bracket) -> Result<(), AllocError>
         ensures brackets { OnOk result (self.new.standing.items ≡ self.old.standing.items ++ (bracket ∷ [])) }
-        ensures shut { self.new.shut ≡ self.old.shut }
+        ensures inactive_below { self.new.inactive_below ≡ self.old.inactive_below }
     {
         self.standing.push(bracket)?;
         Ok(())
@@ -74,15 +74,15 @@ impl Brackets {
     pub fn take(&mut self) -> Option<(Bracket, bool)>
         ensures value { result ≡ nearest self.old }
         ensures others { self.new.standing.items ≡ take (length self.old.standing.items - 1) self.old.standing.items }
-        ensures shut { self.old.shut ≤ length self.old.standing.items → self.new.shut ≡ min self.old.shut (length self.new.standing.items) }
+        ensures inactive_below { self.old.inactive_below ≤ length self.old.standing.items → self.new.inactive_below ≡ min self.old.inactive_below (length self.new.standing.items) }
         ensures brackets { (text : List ℕ) (at : ℕ) → AreBrackets text at self.old.standing.items → AreBrackets text at self.new.standing.items }
-        ensures free { (slots : List Slot) → AreFree slots self.old.standing.items self.old.shut → AreFree slots self.new.standing.items self.new.shut }
-        ensures link { (slots : List Slot) → AreFree slots self.old.standing.items self.old.shut → IfSome result (λ taken. taken.1 ≡ true → taken.0.is_image ≡ false → HoldNoLink slots taken.0.slot) }
+        ensures free { (slots : List Slot) → AreFree slots self.old.standing.items self.old.inactive_below → AreFree slots self.new.standing.items self.new.inactive_below }
+        ensures link { (slots : List Slot) → AreFree slots self.old.standing.items self.old.inactive_below → IfSome result (λ taken. taken.1 ≡ true → taken.0.is_image ≡ false → HoldNoLink slots taken.0.slot) }
         ensures bracket { (text : List ℕ) (at : ℕ) → AreBrackets text at self.old.standing.items → IfSome result (λ taken. IsBracket text at taken.0) }
     {
         let bracket = self.standing.pop()?;
-        let forms = bracket.is_image || self.standing.len() >= self.shut;
-        self.shut = self.shut.min(self.standing.len());
+        let forms = bracket.is_image || self.standing.len() >= self.inactive_below;
+        self.inactive_below = self.inactive_below.min(self.standing.len());
         Some((bracket, forms))
     }
 
@@ -91,10 +91,10 @@ impl Brackets {
         ensures value { result ≡ touching place self.now }
         ensures ends { IfSome result (λ first. first.inside ≡ place) }
         ensures bracket { (text : List ℕ) (at : ℕ) → AreBrackets text at self.now.standing.items → IfSome result (IsBracket text at) }
-        ensures free { (slots : List Slot) → AreFree slots self.now.standing.items self.now.shut → IfSome result (λ first. HoldNoLink slots first.slot) }
+        ensures free { (slots : List Slot) → AreFree slots self.now.standing.items self.now.inactive_below → IfSome result (λ first. HoldNoLink slots first.slot) }
     {
         let count = self.standing.len();
-        if count <= self.shut {
+        if count <= self.inactive_below {
             return None;
         }
         let last = self.standing[count - 1];
@@ -113,10 +113,10 @@ impl Brackets {
         options: Options,
         second: Bracket,
     ) -> Result<(), AllocError>
-        ensures shut { self.new.shut ≡ self.old.shut }
+        ensures inactive_below { self.new.inactive_below ≡ self.old.inactive_below }
         ensures doubled { OnOk result (self.new.standing.items ≡ doubles (shown_options options) single.now second.is_image second.start second.inside self.old.standing.items) }
         ensures brackets { OnOk result ((text : List ℕ) (at : ℕ) → AreBrackets text at single.now.standing.items → AreBrackets text at self.old.standing.items → IsBracket text at second → AreBrackets text at self.new.standing.items) }
-        ensures free { OnOk result ((slots : List Slot) → AreFree slots single.now.standing.items single.now.shut → AreFree slots self.old.standing.items self.old.shut → AreFree slots self.new.standing.items self.new.shut) }
+        ensures free { OnOk result ((slots : List Slot) → AreFree slots single.now.standing.items single.now.inactive_below → AreFree slots self.old.standing.items self.old.inactive_below → AreFree slots self.new.standing.items self.new.inactive_below) }
     {
         if second.is_image || !options.contains(Options::ENABLE_WIKILINKS) {
             return Ok(());
@@ -133,25 +133,25 @@ impl Brackets {
     /// Drops the last brackets, as many as end behind a place.
     pub fn drop_behind(&mut self, place: usize)
         ensures drops { DropsBehind place self.old.standing.items self.new.standing.items }
-        ensures shut { self.new.shut ≡ min self.old.shut (length self.new.standing.items) }
+        ensures inactive_below { self.new.inactive_below ≡ min self.old.inactive_below (length self.new.standing.items) }
         ensures brackets { (text : List ℕ) (at : ℕ) → AreBrackets text at self.old.standing.items → AreBrackets text at self.new.standing.items }
-        ensures free { (slots : List Slot) → AreFree slots self.old.standing.items self.old.shut → AreFree slots self.new.standing.items self.new.shut }
+        ensures free { (slots : List Slot) → AreFree slots self.old.standing.items self.old.inactive_below → AreFree slots self.new.standing.items self.new.inactive_below }
     {
         let mut count = self.standing.len();
         while 0 < count && place < self.standing[count - 1].inside {
             count -= 1;
         }
         self.standing.truncate(count);
-        self.shut = self.shut.min(count);
+        self.inactive_below = self.inactive_below.min(count);
     }
 
     /// A link is formed: the brackets that stand form none any more.
-    pub fn shut_all(&mut self)
+    pub fn deactivate_all(&mut self)
         ensures standing { self.new.standing ≡ self.old.standing }
-        ensures shut { self.new.shut ≡ length self.old.standing.items }
-        ensures free { (slots : List Slot) → AreFree slots self.new.standing.items self.new.shut }
+        ensures inactive_below { self.new.inactive_below ≡ length self.old.standing.items }
+        ensures free { (slots : List Slot) → AreFree slots self.new.standing.items self.new.inactive_below }
     {
-        self.shut = self.standing.len();
+        self.inactive_below = self.standing.len();
     }
 }
 
@@ -165,7 +165,7 @@ impl<'a> InlineState<'a> {
         here: Cursor,
     ) -> Result<Cursor, AllocError>
         requires byte { IsAtByte text.now here self.old }
-        ensures expansion { self.new.expansion ≡ self.old.expansion }
+        ensures expansion_left { self.new.expansion_left ≡ self.old.expansion_left }
         ensures keeps { OnOk result (KeepsSound self.old self.new) }
         ensures moves { IfOk result (Moves text.now here.at self.new) }
         ensures token { (lookup : Lookup) (is_cell : Bool) → slice_index text.now here.at ≡ 33 → IfOk result (λ next. Passes (shown_options options) lookup is_cell text.now here self.old self.new next ⊎ OpensBracket (shown_options options) lookup is_cell text.now here self.old self.new next) }
@@ -192,7 +192,7 @@ impl<'a> InlineState<'a> {
         requires cursor { IsCursor text.now here }
         requires part { IsPart text.now here.at inside }
         requires mark { is_image ≡ true → IsCharBoundary text.now (here.at + 1) }
-        ensures expansion { self.new.expansion ≡ self.old.expansion }
+        ensures expansion_left { self.new.expansion_left ≡ self.old.expansion_left }
         ensures keeps { OnOk result (KeepsSound self.old self.new) }
         ensures moves { IfOk result (Moves text.now here.at self.new) }
         ensures at { IfOk result (λ next. (next.pending ≡ inside) × (next.at ≡ inside)) }

@@ -28,7 +28,7 @@ use crate::callback::BrokenLinkCallback;
 use crate::link::{Target, inline_target};
 use crate::place::behind;
 use crate::read::Reader;
-use crate::reference::asked_at;
+use crate::reference::link_reference_at;
 use crate::slot::{Element, Slot, SlotKind, begin, push_slot};
 use crate::state::InlineState;
 use crate::step::Cursor;
@@ -55,7 +55,7 @@ impl<'a> InlineState<'a> {
         ensures sound { OnOk result (IsSound self.new) }
         ensures ends { OnOk result (AreEnded leaf.now self.old.slots.items → AreEnded leaf.now self.new.slots.items) }
         ensures asks { AsksOnce F.answers callback.old callback.new }
-        ensures spent { self.old.expansion ≡ 0 → (callback.new ≡ callback.old) × (self.new.expansion ≡ 0) }
+        ensures spent { self.old.expansion_left ≡ 0 → (callback.new ≡ callback.old) × (self.new.expansion_left ≡ 0) }
         ensures moves { IfOk result (Moves text.now here.at self.new) }
         ensures footnotes { SameFootnotes footnotes.old footnotes.new }
         ensures flushes { OnOk result (Flushes here.pending here.at self.old) }
@@ -107,7 +107,7 @@ impl<'a> InlineState<'a> {
         ensures sound { OnOk result (IsSound self.new) }
         ensures ends { OnOk result ((leaf : LeafTexts) → AreEnded leaf self.old.slots.items → AreEnded leaf self.new.slots.items) }
         ensures asks { AsksOnce F.answers callback.old callback.new }
-        ensures spent { self.old.expansion ≡ 0 → (callback.new ≡ callback.old) × (self.new.expansion ≡ 0) }
+        ensures spent { self.old.expansion_left ≡ 0 → (callback.new ≡ callback.old) × (self.new.expansion_left ≡ 0) }
         ensures stands { IfOk result (λ next. next ≡ None → Stands text.now close self.new) }
         ensures moves { IfOk result (λ next. IfSome next (Moves text.now close self.new)) }
         ensures links { IfOk result (λ next. LinksTaken F.answers (shown_options reader.now.options) (E.replacement reader.now.entities.now) reader.now.references.now leaf.now text.now taken close self.old self.new next callback.old callback.new) }
@@ -118,11 +118,11 @@ impl<'a> InlineState<'a> {
         let Some(target) = self.target(leaf, reader, callback, text, bracket, close)? else {
             return Ok(None);
         };
-        let past = target.past;
+        let resume = target.resume;
         self.form(reader.options, text, bracket, close, target)?;
         Ok(Some(Cursor {
-            pending: past,
-            at: past,
+            pending: resume,
+            at: resume,
         }))
     }
 
@@ -133,7 +133,7 @@ impl<'a> InlineState<'a> {
         ensures sound { IsSound self.new }
         ensures taken { IfSome result (IsTakenFrom self.new) }
         ensures stands { Stands text.now at self.new }
-        ensures expansion { self.new.expansion ≡ self.old.expansion }
+        ensures expansion_left { self.new.expansion_left ≡ self.old.expansion_left }
         ensures bracket { IfSome result (IsBracket text.now at) }
         ensures link { IfSome result (λ bracket. bracket.is_image ≡ false → HoldNoLink self.new.slots.items bracket.slot) }
         ensures others { self.new ≡ record self.old { brackets = self.new.brackets } }
@@ -158,7 +158,7 @@ impl<'a> InlineState<'a> {
         requires read { IsRead leaf.now }
         requires same { text.now ≡ text_of leaf.now }
         ensures asks { AsksOnce F.answers callback.old callback.new }
-        ensures spent { self.old.expansion ≡ 0 → (callback.new ≡ callback.old) × (self.new.expansion ≡ 0) }
+        ensures spent { self.old.expansion_left ≡ 0 → (callback.new ≡ callback.old) × (self.new.expansion_left ≡ 0) }
         ensures same { SameSpans self.old self.new }
         ensures table { self.new.links ≡ self.old.links }
         ensures texts { self.new.texts ≡ self.old.texts }
@@ -166,20 +166,26 @@ impl<'a> InlineState<'a> {
         ensures stands { Stands text.now close self.new }
         ensures target { IfOk result (λ found. IfSome found (IsTarget text.now close)) }
         ensures decides { IfOk result (λ found. TargetDecides F.answers (shown_options reader.now.options) (E.replacement reader.now.entities.now) reader.now.references.now leaf.now text.now bracket close self.old self.new found callback.old callback.new) }
-        ensures label { OnOk result (EndsWithin text.now self.old.shut_close → EndsWithin text.now self.new.shut_close) }
+        ensures label { OnOk result (EndsWithin text.now self.old.label_close → EndsWithin text.now self.new.label_close) }
     {
         if let Some(target) = inline_target(self.alloc, leaf, text, close + 1, reader.entities)? {
             return Ok(Some(target));
         }
-        let is_shut = self.is_shut(close);
-        let Some(asked) = asked_at(reader.options, text, bracket, close, is_shut) else {
+        let closes_label = self.closes_label(close);
+        let Some(link_reference) = link_reference_at(
+            reader.options,
+            text,
+            bracket,
+            close,
+            closes_label,
+        ) else {
             return Ok(None);
         };
-        self.remember_label(asked);
-        if self.expansion == 0 {
+        self.remember_label(link_reference);
+        if self.expansion_left == 0 {
             return Ok(None);
         }
-        let found = self.reference(leaf, reader, callback, text, bracket.start, asked)?;
+        let found = self.reference(leaf, reader, callback, text, bracket.start, link_reference)?;
         Ok(found)
     }
 
@@ -199,14 +205,14 @@ impl<'a> InlineState<'a> {
         requires taken { IsTakenFrom self.old bracket }
         ensures sound { OnOk result (IsSound self.new) }
         ensures ends { OnOk result ((leaf : LeafTexts) → AreEnded leaf self.old.slots.items → AreEnded leaf self.new.slots.items) }
-        ensures expansion { self.new.expansion ≡ self.old.expansion }
-        ensures stands { OnOk result (Stands text.now target.entry.past self.new) }
+        ensures expansion_left { self.new.expansion_left ≡ self.old.expansion_left }
+        ensures stands { OnOk result (Stands text.now target.entry.resume self.new) }
         ensures parts { OnOk result (self.new.links.items ≡ self.old.links.items ++ (target.entry.parts ∷ [])) }
         ensures doubled { OnOk result (DropsBehind bracket.start self.old.doubled.standing.items self.new.doubled.standing.items) }
-        ensures inactive { OnOk result (bracket.is_image ≡ false → self.new.doubled.shut ≡ length self.new.doubled.standing.items) }
+        ensures inactive { OnOk result (bracket.is_image ≡ false → self.new.doubled.inactive_below ≡ length self.new.doubled.standing.items) }
         ensures link { OnOk result (bracket.is_image ≡ false → HoldNoLink self.new.slots.items (bracket.slot + 1)) }
         ensures leaves { OnOk result (LeavesElement bracket.is_image bracket.start self.old self.new) }
-        ensures label { self.new.shut_close ≡ self.old.shut_close }
+        ensures label { self.new.label_close ≡ self.old.label_close }
         ensures writes { OnOk result (WritesElement (shown_options options) bracket target.entry self.old self.new) }
     {
         let Target { parts, end, .. } = target;
@@ -220,8 +226,8 @@ impl<'a> InlineState<'a> {
         }
         begin(&mut self.slots, bracket.slot, Element::Link(index), end);
         self.finish(options, bracket, close, end)?;
-        self.brackets.shut_all();
-        self.doubled.shut_all();
+        self.brackets.deactivate_all();
+        self.doubled.deactivate_all();
         Ok(())
     }
 
@@ -243,8 +249,8 @@ impl<'a> InlineState<'a> {
         ensures settled { OnOk result (IsSettled (bracket.slot + 1) self.old.slots.items self.new.slots.items) }
         ensures placed { OnOk result (self.new.delimiters.placed.items ≡ take bracket.runs self.old.delimiters.placed.items) }
         ensures quotes { OnOk result (self.new.quotes.placed.items ≡ take bracket.quotes self.old.quotes.placed.items) }
-        ensures expansion { self.new.expansion ≡ self.old.expansion }
-        ensures label { self.new.shut_close ≡ self.old.shut_close }
+        ensures expansion_left { self.new.expansion_left ≡ self.old.expansion_left }
+        ensures label { self.new.label_close ≡ self.old.label_close }
         ensures brackets { self.new.brackets ≡ self.old.brackets }
         ensures doubled { self.new.doubled ≡ self.old.doubled }
         ensures slots { OnOk result ((text : List ℕ) (place : ℕ) → AreSlots text place self.old.slots.items → IsEnd text place close end → AreSlots text place self.new.slots.items) }

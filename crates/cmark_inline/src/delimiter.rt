@@ -68,7 +68,7 @@ impl Delimiters {
     }
 
     pub fn push(&mut self, slot: usize, run: Run) -> Result<(), AllocError>
-        ensures bytes { OnOk result (bytes_of self.new.placed.items ≡ bytes_of self.old.placed.items + run.size) }
+        ensures bytes { OnOk result (bytes_of self.new.placed.items ≡ bytes_of self.old.placed.items + run.run_length) }
         ensures placed { OnOk result (self.new.placed.items ≡ self.old.placed.items ++ (record { slot = slot; run = run } ∷ [])) }
     {
         self.placed.push(PlacedRun { slot, run })?;
@@ -169,10 +169,10 @@ fn gather(
         let run = next.run;
         runs.push(Run {
             at: count,
-            left: run.size,
+            left: run.run_length,
             ..run
         })?;
-        count += run.size;
+        count += run.run_length;
         rest = others;
     }
     Ok(count)
@@ -195,26 +195,26 @@ fn write_run<'m>(
     slots: &mut Vec<Slot>,
     begun: &mut Vec<usize>,
 ) -> Result<&'m [Mark], AllocError>
-    requires ready { (behind : List ℕ) × AreReady slots.old.items (reverse begun.old.items) (run_places placed.slot placed.run.size behind) marks.now }
-    requires marks { placed.run.size ≤ length marks.now }
-    ensures rest { IfOk result (λ rest. rest.now ≡ drop placed.run.size marks.entry.now) }
+    requires ready { (behind : List ℕ) × AreReady slots.old.items (reverse begun.old.items) (run_places placed.slot placed.run.run_length behind) marks.now }
+    requires marks { placed.run.run_length ≤ length marks.now }
+    ensures rest { IfOk result (λ rest. rest.now ≡ drop placed.run.run_length marks.entry.now) }
     ensures slots { IfOk result (λ rest. (text : List ℕ) (place : ℕ) → AreSlots text place slots.old.items → AreSlots text place slots.new.items) }
     ensures length { IfOk result (λ rest. length slots.new.items ≡ length slots.old.items) }
     ensures links { IfOk result (λ rest. NoNewLink slots.old.items slots.new.items) }
-    ensures ready { IfOk result (λ rest. (behind : List ℕ) → AreReady slots.old.items (reverse begun.old.items) (run_places placed.slot placed.run.size behind) marks.entry.now
+    ensures ready { IfOk result (λ rest. (behind : List ℕ) → AreReady slots.old.items (reverse begun.old.items) (run_places placed.slot placed.run.run_length behind) marks.entry.now
         → AreReady slots.new.items (reverse begun.new.items) behind rest.now) }
     ensures within { IfOk result (λ rest. EndWithin slots.old.items → EndWithin slots.new.items) }
     ensures names { IfOk result (λ rest. NamesNoMore slots.old.items slots.new.items) }
     ensures before { IfOk result (λ rest. (low : ℕ) → BeganFrom low (reverse begun.old.items) → low ≤ placed.slot → SameBefore low slots.old.items slots.new.items × BeganFrom low (reverse begun.new.items)) }
     ensures marks { IfOk result (λ rest. (leaf : LeafText) (texts : List CowStr) (links : List LinkParts) (behind : List ℕ)
-        → AreReady slots.old.items (reverse begun.old.items) (run_places placed.slot placed.run.size behind) marks.entry.now
-        → marked (shown_options options) (run_places placed.slot placed.run.size behind) (map shown_mark marks.entry.now) (shown_slots leaf texts links slots.old.items) (reverse begun.old.items)
+        → AreReady slots.old.items (reverse begun.old.items) (run_places placed.slot placed.run.run_length behind) marks.entry.now
+        → marked (shown_options options) (run_places placed.slot placed.run.run_length behind) (map shown_mark marks.entry.now) (shown_slots leaf texts links slots.old.items) (reverse begun.old.items)
         ≡ marked (shown_options options) behind (map shown_mark rest.now) (shown_slots leaf texts links slots.new.items) (reverse begun.new.items)) }
 {
-    for byte in 0..placed.run.size {
+    for byte in 0..placed.run.run_length {
         write_mark(marks[byte], placed.slot + byte, options, slots, begun)?;
     }
-    Ok(&marks[placed.run.size..])
+    Ok(&marks[placed.run.run_length..])
 }
 
 /// Writes what a mark says into a slot: elements begin and end, and the bytes between are nothing.

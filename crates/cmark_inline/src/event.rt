@@ -86,7 +86,7 @@ impl<'a> InlineState<'a> {
         ensures fewer { IfOk result (λ given. OnSome given (events_left self.new < events_left self.old)) }
         ensures most { OnOk result (events_left self.new ≤ events_left self.old) }
         ensures few { OnOk result (length self.new.slots.items < 18446744073709551616) }
-        ensures expansion { self.new.expansion ≡ self.old.expansion }
+        ensures expansion_left { self.new.expansion_left ≡ self.old.expansion_left }
         ensures events { IfOk result (λ given. IsFirst given (events_to_come leaf.now self.old) (events_to_come leaf.now self.new)) }
         ensures left { OnOk result (AreLeft leaf.now self.new) }
         ensures ends { OnErr result (BeginWithoutEnd (events_to_come leaf.now self.old)) }
@@ -111,7 +111,7 @@ impl<'a> InlineState<'a> {
         requires text { IsThere (length self.old.texts.items) (text_named slot.kind) }
         requires link { IsThere (length self.old.links.items) (link_named slot.kind) }
         ensures slots { self.new.slots ≡ self.old.slots }
-        ensures expansion { self.new.expansion ≡ self.old.expansion }
+        ensures expansion_left { self.new.expansion_left ≡ self.old.expansion_left }
         ensures place { self.new.walk.next ≡ self.old.walk.next }
         ensures opened { AreOpened (source_of leaf.now) self.new.walk.opened.items }
         ensures gives { IfOk result (λ given. Passes (source_of leaf.now) self.old.walk.opened.items given self.new.walk.opened.items) }
@@ -161,7 +161,7 @@ impl<'a> InlineState<'a> {
         requires opened { AreOpened (source_of leaf.now) self.old.walk.opened.items }
         requires link { IsThere (length self.old.links.items) (link_of element) }
         ensures slots { self.new.slots ≡ self.old.slots }
-        ensures expansion { self.new.expansion ≡ self.old.expansion }
+        ensures expansion_left { self.new.expansion_left ≡ self.old.expansion_left }
         ensures place { self.new.walk.next ≡ self.old.walk.next }
         ensures opened { AreOpened (source_of leaf.now) self.new.walk.opened.items }
         ensures gives { IfOk result (λ given. Follows (source_of leaf.now) self.old.walk.opened.items (shown_given given) self.new.walk.opened.items) }
@@ -187,7 +187,7 @@ impl<'a> InlineState<'a> {
     #[inline(always)]
     fn end_last(&mut self) -> Option<Given<'a>>
         ensures slots { self.new.slots ≡ self.old.slots }
-        ensures expansion { self.new.expansion ≡ self.old.expansion }
+        ensures expansion_left { self.new.expansion_left ≡ self.old.expansion_left }
         ensures place { self.new.walk.next ≡ self.old.walk.next }
         ensures opened { (source : List ℕ) → AreOpened source self.old.walk.opened.items → AreOpened source self.new.walk.opened.items }
         ensures gives { (source : List ℕ) → AreOpened source self.old.walk.opened.items → Gives source self.old.walk.opened.items result self.new.walk.opened.items }
@@ -210,7 +210,7 @@ impl<'a> InlineState<'a> {
         ensures span { IsSpan (shown_tag result) }
         ensures end { end_of (shown_tag result) ≡ element_end element }
         ensures slots { self.new.slots ≡ self.old.slots }
-        ensures expansion { self.new.expansion ≡ self.old.expansion }
+        ensures expansion_left { self.new.expansion_left ≡ self.old.expansion_left }
         ensures walk { self.new.walk ≡ self.old.walk }
         ensures value { shown_tag result ≡ shown_element self.old.links.items element }
         ensures links { KeepsOthers (link_of element) self.old.links.items self.new.links.items }
@@ -230,7 +230,7 @@ impl<'a> InlineState<'a> {
     fn take_link(&mut self, index: usize) -> LinkParts<'a>
         requires { index < length self.old.links.items }
         ensures slots { self.new.slots ≡ self.old.slots }
-        ensures expansion { self.new.expansion ≡ self.old.expansion }
+        ensures expansion_left { self.new.expansion_left ≡ self.old.expansion_left }
         ensures walk { self.new.walk ≡ self.old.walk }
         ensures value { shown_parts result ≡ linked_at self.old.links.items index }
         ensures links { KeepsOthers (Some index) self.old.links.items self.new.links.items }
@@ -242,7 +242,7 @@ impl<'a> InlineState<'a> {
     fn take_text(&mut self, index: usize) -> CowStr<'a>
         requires { index < length self.old.texts.items }
         ensures slots { self.new.slots ≡ self.old.slots }
-        ensures expansion { self.new.expansion ≡ self.old.expansion }
+        ensures expansion_left { self.new.expansion_left ≡ self.old.expansion_left }
         ensures walk { self.new.walk ≡ self.old.walk }
         ensures value { text_bytes result ≡ text_at self.old.texts.items index }
         ensures texts { KeepsOthers (Some index) self.old.texts.items self.new.texts.items }
@@ -257,7 +257,7 @@ impl<'a> InlineState<'a> {
         requires slot { IsSlot (text_of leaf.now) (length (text_of leaf.now)) slot }
         requires text { IsThere (length self.old.texts.items) (text_named slot.kind) }
         ensures slots { self.new.slots ≡ self.old.slots }
-        ensures expansion { self.new.expansion ≡ self.old.expansion }
+        ensures expansion_left { self.new.expansion_left ≡ self.old.expansion_left }
         ensures walk { self.new.walk ≡ self.old.walk }
         ensures inline { IfOk result (λ event. IsInline (shown event)) }
         ensures lent { IfOk result (λ event. IsZeroCopy (source_of leaf.now) event (place_of leaf.now slot.start) (place_of leaf.now (slot.end - 1) + 1)) }

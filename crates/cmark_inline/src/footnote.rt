@@ -74,20 +74,20 @@ pub fn full_label(options: Options, text: &str, at: usize) -> Option<Label<'_>>
 }
 
 /// The label of the footnote reference whose bracket closes at `close`. `None` where a destination in parentheses or the label of a
-/// link follows, and where the bracket is shut off for its own label.
+/// link follows, and where the bracket closes the label of a full reference.
 fn footnote_at<'t>(
     options: Options,
     text: &'t str,
     bracket: Bracket,
     close: usize,
-    is_shut: bool,
+    closes_label: bool,
 ) -> Option<&'t str>
     requires bracket { IsBracket text.now close bracket }
     requires close { IsPart text.now close (close + 1) }
-    ensures value { option_copied result ≡ footnote_behind (shown_options options) is_shut (slice text.entry.now bracket.inside close) (drop (close + 1) text.entry.now) }
+    ensures value { option_copied result ≡ footnote_behind (shown_options options) closes_label (slice text.entry.now bracket.inside close) (drop (close + 1) text.entry.now) }
 {
     let label = footnote_label(options, &text[bracket.inside..close])?;
-    if is_shut
+    if closes_label
         || link_tail(text, close + 1).is_some()
         || full_label(options, text, close + 1).is_some()
     {
@@ -176,18 +176,18 @@ impl<'a> InlineState<'a> {
         requires taken { IfSome taken (IsTakenFrom self.old) }
         ensures sound { OnOk result (IsSound self.new) }
         ensures ends { OnOk result ((leaf : LeafTexts) → AreEnded leaf self.old.slots.items → AreEnded leaf self.new.slots.items) }
-        ensures forms { IfOk result (λ next. is_some next ≡ forms_footnote (shown_options options) footnotes.old (footnote_of (shown_options options) (is_cell_of leaf.now) (is_there close self.old.shut_close) text.now close taken)) }
+        ensures forms { IfOk result (λ next. is_some next ≡ forms_footnote (shown_options options) footnotes.old (footnote_of (shown_options options) (is_cell_of leaf.now) (is_there close self.old.label_close) text.now close taken)) }
         ensures next { IfOk result (λ next. IfSome next (λ next. (next.pending ≡ close + 1) × (next.at ≡ close + 1))) }
         ensures moves { IfOk result (λ next. IfSome next (Moves text.now close self.new)) }
         ensures others { IfOk result (λ next. next ≡ None → self.new ≡ self.old) }
         ensures off { (shown_options options).footnotes ≡ false → (self.new ≡ self.old) × (footnotes.new ≡ footnotes.old) }
-        ensures counts { OnOk result (CountsOf (footnote_of (shown_options options) (is_cell_of leaf.now) (is_there close self.old.shut_close) text.now close taken) footnotes.old footnotes.new) }
+        ensures counts { OnOk result (CountsOf (footnote_of (shown_options options) (is_cell_of leaf.now) (is_there close self.old.label_close) text.now close taken) footnotes.old footnotes.new) }
         ensures same { SameFootnotes footnotes.old footnotes.new }
         ensures leaves { IfOk result (λ next. IfSome next (λ next. IfSome taken (λ bracket. LeavesFootnote bracket.start self.old self.new))) }
-        ensures shut { self.new.shut_close ≡ self.old.shut_close }
-        ensures expansion { self.new.expansion ≡ self.old.expansion }
-        ensures label { IfOk result (λ next. IfSome next (λ next. IfSome (footnote_of (shown_options options) (is_cell_of leaf.now) (is_there close self.old.shut_close) text.now close taken) (λ label. KeepsLabel label self.old.texts.items self.new.texts.items))) }
-        ensures writes { IfOk result (λ next. IfSome next (λ next. IfSome taken (λ bracket. IfSome (footnote_of (shown_options options) (is_cell_of leaf.now) (is_there close self.old.shut_close) text.now close taken) (λ label. WritesReference bracket (normal_form label) (close + 1) self.old self.new)))) }
+        ensures label_close { self.new.label_close ≡ self.old.label_close }
+        ensures expansion_left { self.new.expansion_left ≡ self.old.expansion_left }
+        ensures label { IfOk result (λ next. IfSome next (λ next. IfSome (footnote_of (shown_options options) (is_cell_of leaf.now) (is_there close self.old.label_close) text.now close taken) (λ label. KeepsLabel label self.old.texts.items self.new.texts.items))) }
+        ensures writes { IfOk result (λ next. IfSome next (λ next. IfSome taken (λ bracket. IfSome (footnote_of (shown_options options) (is_cell_of leaf.now) (is_there close self.old.label_close) text.now close taken) (λ label. WritesReference bracket (normal_form label) (close + 1) self.old self.new)))) }
     {
         if !options.contains(Options::ENABLE_FOOTNOTES) {
             return Ok(None);
@@ -195,8 +195,8 @@ impl<'a> InlineState<'a> {
         let Some(bracket) = taken else {
             return Ok(None);
         };
-        let is_shut = self.is_shut(close);
-        let Some(written) = footnote_at(options, text, bracket, close, is_shut) else {
+        let closes_label = self.closes_label(close);
+        let Some(written) = footnote_at(options, text, bracket, close, closes_label) else {
             return Ok(None);
         };
         let label = label_text(self.alloc, leaf.is_cell(), written)?;
@@ -211,11 +211,11 @@ impl<'a> InlineState<'a> {
         }))
     }
 
-    // Whether a closing bracket is that of a full reference's label, and so shut off for its own.
-    pub(crate) fn is_shut(&self, close: usize) -> bool
-        ensures { result ≡ is_there close self.now.shut_close }
+    // Whether a closing bracket is that of a full reference's label, and so forms no reference by its own.
+    pub(crate) fn closes_label(&self, close: usize) -> bool
+        ensures { result ≡ is_there close self.now.label_close }
     {
-        match self.shut_close {
+        match self.label_close {
             Some(other) => other == close,
             None => false,
         }
@@ -237,9 +237,9 @@ impl<'a> InlineState<'a> {
         requires taken { IsTakenFrom self.old bracket }
         ensures sound { OnOk result (IsSound self.new) }
         ensures ends { OnOk result ((leaf : LeafTexts) → AreEnded leaf self.old.slots.items → AreEnded leaf self.new.slots.items) }
-        ensures expansion { self.new.expansion ≡ self.old.expansion }
+        ensures expansion_left { self.new.expansion_left ≡ self.old.expansion_left }
         ensures leaves { OnOk result (LeavesFootnote bracket.start self.old self.new) }
-        ensures shut { self.new.shut_close ≡ self.old.shut_close }
+        ensures label_close { self.new.label_close ≡ self.old.label_close }
         ensures stands { OnOk result (Stands text.now (close + 1) self.new) }
         ensures texts { OnOk result (self.new.texts.items ≡ self.old.texts.items ++ (name.entry ∷ [])) }
         ensures slots { OnOk result (PutsReference bracket (reference_as bracket (length self.old.texts.items) (close + 1)) self.old.slots.items self.new.slots.items) }

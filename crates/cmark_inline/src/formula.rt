@@ -30,7 +30,7 @@ impl<'a> InlineState<'a> {
         requires here { here.at < length text.now }
         requires dollar { slice_index text.now here.at ≡ 36 }
         ensures dollars { AreDollarsOf text.now dollars.new }
-        ensures expansion { self.new.expansion ≡ self.old.expansion }
+        ensures expansion_left { self.new.expansion_left ≡ self.old.expansion_left }
         ensures keeps { OnOk result (KeepsSound self.old self.new) }
         ensures moves { IfOk result (Moves text.now here.at self.new) }
         ensures token { (options : Options) (lookup : Lookup) (is_cell : Bool) → options.math ≡ true → IfOk result (Appends options lookup is_cell text.now here self.old self.new) }

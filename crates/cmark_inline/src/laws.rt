@@ -44,8 +44,8 @@ pub fn a_leaf_begins_and_ends_with_its_bytes()
 /// the same bytes.
 pub fn a_slot_is_like_its_item_in_the_source()
     ensures { (leaf : LeafText) (reader : Reader) (read : Leaf) (place : ℕ → ℕ) → ReadsPlaces leaf reader read place
-        → (texts : List CowStr) (links : List LinkParts) (slot : Slot) (item : Item) (at past : ℕ)
-        → begins_at reader.options reader.lookup (is_cell_of leaf) (text_of leaf) at ≡ Stands item past → may_open_markup (drop at (text_of leaf)) ≡ false
+        → (texts : List CowStr) (links : List LinkParts) (slot : Slot) (item : Item) (at resume : ℕ)
+        → begins_at reader.options reader.lookup (is_cell_of leaf) (text_of leaf) at ≡ Stands item resume → may_open_markup (drop at (text_of leaf)) ≡ false
         → IsItem (is_cell_of leaf) (text_of leaf) texts item slot → item.start < item.end → item.end ≤ length (text_of leaf)
         → IsLike reader.source (shown_slot leaf texts links slot) (ItemSlot (placed_item place item)) }
 {}

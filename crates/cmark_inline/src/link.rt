@@ -43,8 +43,8 @@ pub struct Target<'a> {
     pub parts: LinkParts<'a>,
     /// The place behind the link.
     pub end: usize,
-    /// The place behind all that it uses up.
-    pub past: usize,
+    /// The place behind all that it uses up, where the text is read on.
+    pub resume: usize,
 }
 
 /// An inline link behind its closing bracket, whose texts stand in the text `text`, perhaps that of a cell of a table.
@@ -71,7 +71,7 @@ fn inline_in<'t, E: EntityLookup>(
             id: CowStr::Borrowed(""),
         },
         end: tail.end,
-        past: tail.end,
+        resume: tail.end,
     }))
 }
 
@@ -93,9 +93,9 @@ fn resolved_title<'t, E: EntityLookup>(
 /// The same in a value that borrows nothing.
 fn own_target(alloc: Global, target: Target<'_>) -> Result<Target<'static>, AllocError>
     ensures value { IfOk result (λ made. (text : List ℕ) → shown_target text made ≡ shown_target text target.entry) }
-    ensures ends { IfOk result (λ made. (made.end ≡ target.entry.end) × (made.past ≡ target.entry.past)) }
+    ensures ends { IfOk result (λ made. (made.end ≡ target.entry.end) × (made.resume ≡ target.entry.resume)) }
 {
-    let Target { parts, end, past } = target;
+    let Target { parts, end, resume } = target;
     let LinkParts {
         link_type,
         dest_url,
@@ -113,7 +113,7 @@ fn own_target(alloc: Global, target: Target<'_>) -> Result<Target<'static>, Allo
             id,
         },
         end,
-        past,
+        resume,
     })
 }
 

@@ -40,22 +40,22 @@ ghost use Rattle.cmark_inline.specs.declared.state.InlineState.{InlineState};
 pub fn a_step_more_is_read()
     ensures own { (leaf : LeafText) (reader : Reader) (read : Leaf) (place : ℕ → ℕ) (before : Between) (p : Pass) (bs : List Bracket) (old new : InlineState) → HasRead leaf reader read place before p bs old
         → shown_slots leaf new.texts.items new.links.items old.slots.items ≡ shown_slots leaf old.texts.items old.links.items old.slots.items
-        → (kind : ItemKind) (start end past : ℕ) (slot : Slot) → token reader read p.state.at ≡ Stands (item kind start end) past → has_own_slot kind ≡ true
+        → (kind : ItemKind) (start end resume : ℕ) (slot : Slot) → token reader read p.state.at ≡ Stands (item kind start end) resume → has_own_slot kind ≡ true
         → IsLike reader.source (shown_slot leaf new.texts.items new.links.items slot) (ItemSlot (item kind start end))
         → new.slots.items ≡ old.slots.items ++ (slot ∷ []) → new.delimiters.placed.items ≡ old.delimiters.placed.items → new.quotes.placed.items ≡ old.quotes.placed.items
-        → HasRead leaf reader read place before (pass (moved past p.state) (join p.here (Single (item kind start end) Nil))) bs new }
+        → HasRead leaf reader read place before (pass (moved resume p.state) (join p.here (Single (item kind start end) Nil))) bs new }
     ensures run { (leaf : LeafText) (reader : Reader) (read : Leaf) (place : ℕ → ℕ) (before : Between) (p : Pass) (bs : List Bracket) (old new : InlineState) → HasRead leaf reader read place before p bs old
         → shown_slots leaf new.texts.items new.links.items old.slots.items ≡ shown_slots leaf old.texts.items old.links.items old.slots.items
-        → (run : PlacedRun) (start end past : ℕ) (more : List Slot) → token reader read p.state.at ≡ Stands (item (Delimiters (shown_run run.run)) start end) past
-        → AreLike reader.source (shown_slots leaf new.texts.items new.links.items more) (run_slots start run.run.size []) → run.slot ≡ length old.slots.items
+        → (run : PlacedRun) (start end resume : ℕ) (more : List Slot) → token reader read p.state.at ≡ Stands (item (Delimiters (shown_run run.run)) start end) resume
+        → AreLike reader.source (shown_slots leaf new.texts.items new.links.items more) (run_slots start run.run.run_length []) → run.slot ≡ length old.slots.items
         → new.slots.items ≡ old.slots.items ++ more → new.delimiters.placed.items ≡ old.delimiters.placed.items ++ (run ∷ []) → new.quotes.placed.items ≡ old.quotes.placed.items
-        → HasRead leaf reader read place before (pass (moved past p.state) (join p.here (Single (item (Delimiters (shown_run run.run)) start end) Nil))) bs new }
+        → HasRead leaf reader read place before (pass (moved resume p.state) (join p.here (Single (item (Delimiters (shown_run run.run)) start end) Nil))) bs new }
     ensures quote { (leaf : LeafText) (reader : Reader) (read : Leaf) (place : ℕ → ℕ) (before : Between) (p : Pass) (bs : List Bracket) (old new : InlineState) → HasRead leaf reader read place before p bs old
         → shown_slots leaf new.texts.items new.links.items old.slots.items ≡ shown_slots leaf old.texts.items old.links.items old.slots.items
-        → (quote : PlacedQuote) (start end past : ℕ) (slot : Slot) → token reader read p.state.at ≡ Stands (item (Quoted (shown_quote quote.quote)) start end) past
+        → (quote : PlacedQuote) (start end resume : ℕ) (slot : Slot) → token reader read p.state.at ≡ Stands (item (Quoted (shown_quote quote.quote)) start end) resume
         → IsLike reader.source (shown_slot leaf new.texts.items new.links.items slot) (ItemSlot (item (Quoted (shown_quote quote.quote)) start end)) → quote.slot ≡ length old.slots.items
         → new.slots.items ≡ old.slots.items ++ (slot ∷ []) → new.delimiters.placed.items ≡ old.delimiters.placed.items → new.quotes.placed.items ≡ old.quotes.placed.items ++ (quote ∷ [])
-        → HasRead leaf reader read place before (pass (moved past p.state) (join p.here (Single (item (Quoted (shown_quote quote.quote)) start end) Nil))) bs new }
+        → HasRead leaf reader read place before (pass (moved resume p.state) (join p.here (Single (item (Quoted (shown_quote quote.quote)) start end) Nil))) bs new }
     ensures opening { (leaf : LeafText) (reader : Reader) (read : Leaf) (place : ℕ → ℕ) (before : Between) (p : Pass) (bs : List Bracket) (old new : InlineState) → HasRead leaf reader read place before p bs old
         → shown_slots leaf new.texts.items new.links.items old.slots.items ≡ shown_slots leaf old.texts.items old.links.items old.slots.items
         → (b : Bracket) (opener : Opener) (slot : Slot) → token reader read p.state.at ≡ Opens opener → IsLike reader.source (shown_slot leaf new.texts.items new.links.items slot) (text_slot opener)

@@ -29,9 +29,9 @@ pub(crate) fn run_end(text: &str, at: usize) -> usize
     ensures ascii { (k : ℕ) → at ≤ k → k < result → slice_index text.now k < 128 }
 {
     let bytes = text.as_bytes();
-    let mark = bytes[at];
+    let byte = bytes[at];
     let mut end = at + 1;
-    while end < bytes.len() && bytes[end] == mark {
+    while end < bytes.len() && bytes[end] == byte {
         end += 1;
     }
     end
@@ -47,11 +47,11 @@ pub(crate) fn before_blanks(text: &str, here: Cursor) -> usize
     ensures boundary { IsCharBoundary text.now result }
 {
     let bytes = text.as_bytes();
-    let mut stop = here.at;
-    while stop > here.pending && (bytes[stop - 1] == b' ' || bytes[stop - 1] == b'\t') {
-        stop -= 1;
+    let mut text_end = here.at;
+    while text_end > here.pending && (bytes[text_end - 1] == b' ' || bytes[text_end - 1] == b'\t') {
+        text_end -= 1;
     }
-    stop
+    text_end
 }
 
 // The place behind the blanks that stand at this place.

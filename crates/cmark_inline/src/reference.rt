@@ -5,12 +5,12 @@ ghost use Rattle.cmark_leaf_text.specs.Reads.{IsRead, IsPart, is_cell_of, place_
 ghost use Rattle.cmark_grammar.specs.Labels.{fold, normal_form};
 ghost use Rattle.cmark_items.specs.Definitions.{definition};
 ghost use Rattle.cmark_text.specs.Labelled.{link_text, link_key};
-ghost use Rattle.cmark_inline.specs.Linked.{Answers, Refers, left_behind, reference_behind, shown_asked, by_own_label, said_by, shown_destination};
+ghost use Rattle.cmark_inline.specs.Linked.{Answers, Refers, left_behind, reference_behind, shown_link_reference, by_own_label, said_by, shown_destination};
 ghost use Rattle.cmark_text.specs.Shown.{shown_link_type, shown_options, text_bytes};
 ghost use Rattle.cmark_inline.specs.Asking.{AsksOnce};
 ghost use Rattle.cmark_inline.specs.Decided.{is_full};
 ghost use Rattle.cmark_inline.specs.Footnoted.{as_label};
-ghost use Rattle.cmark_inline.specs.Stands.{SameSpans, IsAsked, IsBracket};
+ghost use Rattle.cmark_inline.specs.Stands.{SameSpans, IsLinkReference, IsBracket};
 ghost use Rattle.cmark_grammar.specs.Tokens.{slice};
 
 use crate::bracket::Bracket;
@@ -26,40 +26,40 @@ use cmark_scan_parts::with_literal_pipes;
 use cmark_text::{CowStr, EntityLookup, LinkLabel, LinkType, Options};
 use std::alloc::{AllocError, Global};
 
-/// A reference as it is written.
+/// A link reference as it is written (CommonMark 6.3).
 #[derive(Clone, Copy)]
-pub struct Asked<'t> {
+pub struct LinkReference<'t> {
     pub label: &'t str,
     pub link_type: LinkType,
     /// The place behind the reference, without a following `[]`.
     pub end: usize,
-    /// The place behind all that it uses up.
-    pub past: usize,
+    /// The place behind all that it uses up, where the text is read on.
+    pub resume: usize,
 }
 
-/// The reference whose bracket closes at `close`: a full one, or, unless that bracket is shut off for it, by its own label. A label of
+/// The reference whose bracket closes at `close`: a full one, or, unless that bracket closes the label of one, by its own label. A label of
 /// a footnote is none of a link.
-pub fn asked_at<'t>(
+pub fn link_reference_at<'t>(
     options: Options,
     text: &'t str,
     bracket: Bracket,
     close: usize,
-    is_shut: bool,
-) -> Option<Asked<'t>>
+    closes_label: bool,
+) -> Option<LinkReference<'t>>
     requires bracket { IsBracket text.now close bracket }
     requires close { IsPart text.now close (close + 1) }
-    ensures value { option_map (shown_asked text.entry.now) result ≡ reference_behind (shown_options options) is_shut (slice text.entry.now bracket.inside close) (drop (close + 1) text.entry.now) }
-    ensures ends { IfSome result (IsAsked text.entry.now close) }
+    ensures value { option_map (shown_link_reference text.entry.now) result ≡ reference_behind (shown_options options) closes_label (slice text.entry.now bracket.inside close) (drop (close + 1) text.entry.now) }
+    ensures ends { IfSome result (IsLinkReference text.entry.now close) }
 {
     if let Some(label) = full_label(options, text, close + 1) {
-        return Some(Asked {
+        return Some(LinkReference {
             label: label.label,
             link_type: LinkType::Reference,
             end: label.end,
-            past: label.end,
+            resume: label.end,
         });
     }
-    if is_shut {
+    if closes_label {
         return None;
     }
     own_label_at(options, text, bracket, close)
@@ -71,30 +71,30 @@ fn own_label_at<'t>(
     text: &'t str,
     bracket: Bracket,
     close: usize,
-) -> Option<Asked<'t>>
+) -> Option<LinkReference<'t>>
     requires bracket { IsBracket text.now close bracket }
     requires close { IsPart text.now close (close + 1) }
-    ensures value { option_map (shown_asked text.entry.now) result ≡ by_own_label (shown_options options) (slice text.entry.now bracket.inside close) (drop (close + 1) text.entry.now) }
-    ensures ends { IfSome result (IsAsked text.entry.now close) }
+    ensures value { option_map (shown_link_reference text.entry.now) result ≡ by_own_label (shown_options options) (slice text.entry.now bracket.inside close) (drop (close + 1) text.entry.now) }
+    ensures ends { IfSome result (IsLinkReference text.entry.now close) }
 {
     let label = &text[bracket.inside..close];
     if is_footnote_label(options, label) || !is_bracketed_label(label) {
         return None;
     }
     let end = close + 1;
-    if let Some(past) = collapsed_end(text, end) {
-        return Some(Asked {
+    if let Some(resume) = collapsed_end(text, end) {
+        return Some(LinkReference {
             label,
             link_type: LinkType::Collapsed,
             end,
-            past,
+            resume,
         });
     }
-    Some(Asked {
+    Some(LinkReference {
         label,
         link_type: LinkType::Shortcut,
         end,
-        past: end,
+        resume: end,
     })
 }
 
@@ -141,17 +141,17 @@ pub fn defined<'a>(
 
 impl<'a> InlineState<'a> {
     // The bracket that closes the label of a full reference closes no other reference.
-    pub(crate) fn remember_label(&mut self, asked: Asked<'_>)
-        requires { 0 < asked.end }
-        ensures label { self.new.shut_close ≡ (if is_full (shown_link_type asked.entry.link_type) then Some (asked.entry.end - 1) else self.old.shut_close) }
-        ensures others { self.new ≡ record self.old { shut_close = self.new.shut_close } }
+    pub(crate) fn remember_label(&mut self, link_reference: LinkReference<'_>)
+        requires { 0 < link_reference.end }
+        ensures label { self.new.label_close ≡ (if is_full (shown_link_type link_reference.entry.link_type) then Some (link_reference.entry.end - 1) else self.old.label_close) }
+        ensures others { self.new ≡ record self.old { label_close = self.new.label_close } }
     {
-        if asked.link_type == LinkType::Reference {
-            self.shut_close = Some(asked.end - 1);
+        if link_reference.link_type == LinkType::Reference {
+            self.label_close = Some(link_reference.end - 1);
         }
     }
 
-    // What a reference leads to, and what it takes off the expansion.
+    // What a reference leads to, and what it takes off what is left of the reference expansion limit.
     pub(crate) fn reference<E: EntityLookup, F: BrokenLinkCallback<'a>>(
         &mut self,
         leaf: &LeafText<'a>,
@@ -159,56 +159,61 @@ impl<'a> InlineState<'a> {
         callback: &mut F,
         text: &str,
         start: usize,
-        asked: Asked<'_>,
+        link_reference: LinkReference<'_>,
     ) -> Result<Option<Target<'a>>, AllocError>
-        requires part { IsPart text.now start asked.end }
+        requires part { IsPart text.now start link_reference.end }
         requires read { IsRead leaf.now }
         requires same { text.now ≡ text_of leaf.now }
         ensures asks { AsksOnce F.answers callback.old callback.new }
-        ensures refers { IfOk result (λ found. Refers F.answers (definition reader.now.references.now (fold (as_label (is_cell_of leaf.now) asked.entry.label.now))) asked.entry.link_type (normal_form (as_label (is_cell_of leaf.now) asked.entry.label.now))
-            (place_of leaf.now start) (place_of leaf.now (asked.entry.end - 1) + 1) callback.old callback.new found) }
-        ensures expansion { IfOk result (λ found. self.new.expansion ≡ left_behind self.old.expansion found) }
-        ensures label { self.new.shut_close ≡ self.old.shut_close }
+        ensures refers { IfOk result (λ found. Refers F.answers (definition reader.now.references.now (fold (as_label (is_cell_of leaf.now) link_reference.entry.label.now))) link_reference.entry.link_type (normal_form (as_label (is_cell_of leaf.now) link_reference.entry.label.now))
+            (place_of leaf.now start) (place_of leaf.now (link_reference.entry.end - 1) + 1) callback.old callback.new found) }
+        ensures expansion_left { IfOk result (λ found. self.new.expansion_left ≡ left_behind self.old.expansion_left found) }
+        ensures label { self.new.label_close ≡ self.old.label_close }
         ensures table { self.new.links ≡ self.old.links }
         ensures texts { self.new.texts ≡ self.old.texts }
         ensures quotes { self.new.quotes ≡ self.old.quotes }
         ensures same { SameSpans self.old self.new }
-        ensures target { IfOk result (λ found. IfSome found (λ target. (target.end ≡ asked.entry.end) × (target.past ≡ asked.entry.past))) }
+        ensures target { IfOk result (λ found. IfSome found (λ target. (target.end ≡ link_reference.entry.end) × (target.resume ≡ link_reference.entry.resume))) }
     {
-        let written = label_text(self.alloc, leaf.is_cell(), asked.label)?;
+        let written = label_text(self.alloc, leaf.is_cell(), link_reference.label)?;
         let label = LinkLabel::new(self.alloc, written.as_str())?;
         if let Some(found) = defined(self.alloc, reader.references, &label)? {
             let id = CowStr::Borrowed(label.as_str()).into_static(self.alloc)?;
-            return Ok(Some(self.resolved(found, asked.link_type, id, asked)));
+            return Ok(Some(self.resolved(found, link_reference.link_type, id, link_reference)));
         }
-        let Some(found) = ask(self.alloc, leaf, callback, start, asked, &label)? else {
+        let Some(found) = ask(self.alloc, leaf, callback, start, link_reference, &label)? else {
             return Ok(None);
         };
         let id = CowStr::Borrowed(label.as_str()).into_static(self.alloc)?;
-        Ok(Some(self.resolved(found, asked.link_type.to_unknown(), id, asked)))
+        Ok(Some(self.resolved(
+            found,
+            link_reference.link_type.to_unknown(),
+            id,
+            link_reference,
+        )))
     }
 
-    // The target that a reference leads to; its destination and its title are taken off the expansion.
+    // The target that a reference leads to; its destination and its title are taken off what is left of the reference expansion limit.
     fn resolved(
         &mut self,
         found: Destination<'a>,
         link_type: LinkType,
         id: CowStr<'a>,
-        asked: Asked<'_>,
+        link_reference: LinkReference<'_>,
     ) -> Target<'a>
         ensures parts { result.parts ≡ record { link_type = link_type; dest_url = found.entry.dest_url; title = found.entry.title; id = id.entry } }
-        ensures end { result.end ≡ asked.entry.end }
-        ensures past { result.past ≡ asked.entry.past }
-        ensures expansion { self.new.expansion ≡ left_behind self.old.expansion (Some result) }
-        ensures label { self.new.shut_close ≡ self.old.shut_close }
+        ensures end { result.end ≡ link_reference.entry.end }
+        ensures resume { result.resume ≡ link_reference.entry.resume }
+        ensures expansion_left { self.new.expansion_left ≡ left_behind self.old.expansion_left (Some result) }
+        ensures label { self.new.label_close ≡ self.old.label_close }
         ensures table { self.new.links ≡ self.old.links }
         ensures texts { self.new.texts ≡ self.old.texts }
         ensures quotes { self.new.quotes ≡ self.old.quotes }
         ensures same { SameSpans self.old self.new }
     {
         let Destination { dest_url, title } = found;
-        self.expansion = self.expansion.saturating_sub(dest_url.as_str().len());
-        self.expansion = self.expansion.saturating_sub(title.as_str().len());
+        self.expansion_left = self.expansion_left.saturating_sub(dest_url.as_str().len());
+        self.expansion_left = self.expansion_left.saturating_sub(title.as_str().len());
         Target {
             parts: LinkParts {
                 link_type,
@@ -216,8 +221,8 @@ impl<'a> InlineState<'a> {
                 title,
                 id,
             },
-            end: asked.end,
-            past: asked.past,
+            end: link_reference.end,
+            resume: link_reference.resume,
         }
     }
 }
@@ -228,18 +233,18 @@ fn ask<'a, F: BrokenLinkCallback<'a>>(
     leaf: &LeafText<'a>,
     callback: &mut F,
     start: usize,
-    asked: Asked<'_>,
+    link_reference: LinkReference<'_>,
     label: &LinkLabel,
 ) -> Result<Option<Destination<'a>>, AllocError>
     requires read { IsRead leaf.now }
-    requires part { IsPart (text_of leaf.now) start asked.end }
+    requires part { IsPart (text_of leaf.now) start link_reference.end }
     ensures asks { AsksOnce F.answers callback.old callback.new }
-    ensures answers { IfOk result (λ found. Answers F.answers asked.entry.link_type (link_text label.now) (place_of leaf.now start) (place_of leaf.now (asked.entry.end - 1) + 1) callback.old callback.new found) }
+    ensures answers { IfOk result (λ found. Answers F.answers link_reference.entry.link_type (link_text label.now) (place_of leaf.now start) (place_of leaf.now (link_reference.entry.end - 1) + 1) callback.old callback.new found) }
 {
     let reference = CowStr::Borrowed(label.as_str()).into_static(alloc)?;
     let link = BrokenLink {
-        span: leaf.range(start, asked.end),
-        link_type: asked.link_type,
+        span: leaf.range(start, link_reference.end),
+        link_type: link_reference.link_type,
         reference,
     };
     match callback.handle_broken_link(link) {

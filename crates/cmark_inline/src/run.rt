@@ -5,7 +5,7 @@ ghost use Rattle.cmark_grammar.specs.Answers.{Lookup};
 ghost use Rattle.cmark_text.specs.Shown.{shown_options};
 ghost use Rattle.cmark_leaf_text.specs.Reads.{IsPart};
 ghost use Rattle.cmark_inline.specs.Stands.{IsAtByte, AreSlots, Moves, NoNewLink, Stands};
-ghost use Rattle.cmark_inline.specs.Tokens.{AppendsRun, Passes, PassesOver, byte_slots, is_mark, is_other};
+ghost use Rattle.cmark_inline.specs.Tokens.{AppendsRun, Passes, PassesOver, byte_slots, is_run_delimiter, is_other};
 ghost use Rattle.cmark_inline.specs.Sound.{KeepsSound};
 
 use crate::place::{character_at, character_before, run_end};
@@ -21,21 +21,21 @@ impl<'a> InlineState<'a> {
         &mut self,
         text: &str,
         options: Options,
-        mark: u8,
+        delimiter: u8,
         here: Cursor,
     ) -> Result<Cursor, AllocError>
         requires byte { IsAtByte text.now here self.old }
-        ensures expansion { self.new.expansion ≡ self.old.expansion }
+        ensures expansion_left { self.new.expansion_left ≡ self.old.expansion_left }
         ensures keeps { OnOk result (KeepsSound self.old self.new) }
         ensures moves { IfOk result (Moves text.now here.at self.new) }
-        ensures token { (lookup : Lookup) (is_cell : Bool) → slice_index text.now here.at ≡ mark → is_mark mark ≡ true → IfOk result (λ next. Passes (shown_options options) lookup is_cell text.now here self.old self.new next ⊎ AppendsRun (shown_options options) lookup is_cell text.now here self.old self.new next) }
-        ensures others { (lookup : Lookup) (is_cell : Bool) → slice_index text.now here.at ≡ mark → is_other mark ≡ true → IfOk result (PassesOver (shown_options options) lookup is_cell text.now here self.old self.new) }
+        ensures token { (lookup : Lookup) (is_cell : Bool) → slice_index text.now here.at ≡ delimiter → is_run_delimiter delimiter ≡ true → IfOk result (λ next. Passes (shown_options options) lookup is_cell text.now here self.old self.new next ⊎ AppendsRun (shown_options options) lookup is_cell text.now here self.old self.new next) }
+        ensures others { (lookup : Lookup) (is_cell : Bool) → slice_index text.now here.at ≡ delimiter → is_other delimiter ≡ true → IfOk result (PassesOver (shown_options options) lookup is_cell text.now here self.old self.new) }
     {
         let end = run_end(text, here.at);
         let before = character_before(text, here.at);
         let after = character_at(text, end);
-        let size = end - here.at;
-        let flanking = flanking_of(options, mark, size, before, after);
+        let run_length = end - here.at;
+        let flanking = flanking_of(options, delimiter, run_length, before, after);
         if !flanking.opens && !flanking.closes {
             return Ok(Cursor {
                 pending: here.pending,
@@ -46,10 +46,10 @@ impl<'a> InlineState<'a> {
         let first = self.slots.len();
         self.push_bytes(text, here.at, end)?;
         let run = Run {
-            mark,
-            size,
+            delimiter,
+            run_length,
             at: 0,
-            left: size,
+            left: run_length,
             opens: flanking.opens,
             closes: flanking.closes,
         };
@@ -65,7 +65,7 @@ impl<'a> InlineState<'a> {
         requires stands { Stands text.now start self.old }
         requires part { IsPart text.now start end }
         requires ascii { (k : ℕ) → start ≤ k → k < end → slice_index text.now k < 128 }
-        ensures expansion { self.new.expansion ≡ self.old.expansion }
+        ensures expansion_left { self.new.expansion_left ≡ self.old.expansion_left }
         ensures slots { OnOk result (AreSlots text.now end self.new.slots.items) }
         ensures brackets { OnOk result (self.new.brackets ≡ self.old.brackets) }
         ensures delimiters { OnOk result (self.new.delimiters ≡ self.old.delimiters) }

@@ -42,7 +42,7 @@ impl<'a> InlineState<'a> {
         requires slots { AreSlots (text_of leaf.now) (length (text_of leaf.now)) self.old.slots.items }
         requires opened { AreOpened (source_of leaf.now) self.old.walk.opened.items }
         ensures slots { self.new.slots ≡ self.old.slots }
-        ensures expansion { self.new.expansion ≡ self.old.expansion }
+        ensures expansion_left { self.new.expansion_left ≡ self.old.expansion_left }
         ensures left { AreLeft leaf.now self.old → OnOk result (AreLeft leaf.now self.new) }
         ensures opened { AreOpened (source_of leaf.now) self.new.walk.opened.items }
         ensures stands { IfOk result (λ next. IfShort next (λ short. (d : Slots) → StandsFor leaf.now (get_or self.old.slots.items (self.new.walk.next - 1) d) short)) }
@@ -74,7 +74,7 @@ impl<'a> InlineState<'a> {
         requires slot { IsSlot (text_of leaf.now) (length (text_of leaf.now)) slot }
         requires opened { AreOpened (source_of leaf.now) self.old.walk.opened.items }
         ensures slots { self.new.slots ≡ self.old.slots }
-        ensures expansion { self.new.expansion ≡ self.old.expansion }
+        ensures expansion_left { self.new.expansion_left ≡ self.old.expansion_left }
         ensures texts { self.new.texts ≡ self.old.texts }
         ensures links { self.new.links ≡ self.old.links }
         ensures place { self.new.walk.next ≡ self.old.walk.next }
@@ -110,7 +110,7 @@ impl<'a> InlineState<'a> {
     #[inline(always)]
     fn end_short(&mut self) -> Next<'a>
         ensures slots { self.new.slots ≡ self.old.slots }
-        ensures expansion { self.new.expansion ≡ self.old.expansion }
+        ensures expansion_left { self.new.expansion_left ≡ self.old.expansion_left }
         ensures texts { self.new.texts ≡ self.old.texts }
         ensures links { self.new.links ≡ self.old.links }
         ensures place { self.new.walk.next ≡ self.old.walk.next }

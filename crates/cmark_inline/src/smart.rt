@@ -20,7 +20,7 @@ impl<'a> InlineState<'a> {
     // A dot: three of them are an ellipsis.
     pub(crate) fn dots(&mut self, text: &str, here: Cursor) -> Result<Cursor, AllocError>
         requires byte { IsAtByte text.now here self.old }
-        ensures expansion { self.new.expansion ≡ self.old.expansion }
+        ensures expansion_left { self.new.expansion_left ≡ self.old.expansion_left }
         ensures keeps { OnOk result (KeepsSound self.old self.new) }
         ensures moves { IfOk result (Moves text.now here.at self.new) }
         ensures token { (options : Options) (lookup : Lookup) (is_cell : Bool) → options.smart_punctuation ≡ true → slice_index text.now here.at ≡ 46 → IfOk result (λ next. Passes options lookup is_cell text.now here self.old self.new next ⊎ Appends options lookup is_cell text.now here self.old self.new next) }
@@ -40,7 +40,7 @@ impl<'a> InlineState<'a> {
     // A run of hyphens: two and more are dashes.
     pub(crate) fn hyphens(&mut self, text: &str, here: Cursor) -> Result<Cursor, AllocError>
         requires byte { IsAtByte text.now here self.old }
-        ensures expansion { self.new.expansion ≡ self.old.expansion }
+        ensures expansion_left { self.new.expansion_left ≡ self.old.expansion_left }
         ensures keeps { OnOk result (KeepsSound self.old self.new) }
         ensures moves { IfOk result (Moves text.now here.at self.new) }
         ensures token { (options : Options) (lookup : Lookup) (is_cell : Bool) → options.smart_punctuation ≡ true → slice_index text.now here.at ≡ 45 → IfOk result (λ next. Passes options lookup is_cell text.now here self.old self.new next ⊎ Appends options lookup is_cell text.now here self.old self.new next) }
@@ -65,7 +65,7 @@ impl<'a> InlineState<'a> {
     #[tactic(auto, using(std::proofs::lemmas::Str::lead_after_ascii))]
     pub(crate) fn quote(&mut self, text: &str, here: Cursor) -> Result<Cursor, AllocError>
         requires byte { IsAtByte text.now here self.old }
-        ensures expansion { self.new.expansion ≡ self.old.expansion }
+        ensures expansion_left { self.new.expansion_left ≡ self.old.expansion_left }
         ensures moves { IfOk result (Moves text.now here.at self.new) }
         ensures token { (options : Options) (lookup : Lookup) (is_cell : Bool) → options.smart_punctuation ≡ true → (slice_index text.now here.at ≡ 34) ⊎ (slice_index text.now here.at ≡ 39) → IfOk result (AppendsQuote options lookup is_cell text.now here self.old self.new) }
     {

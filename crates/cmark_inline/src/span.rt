@@ -35,7 +35,7 @@ impl<'a> InlineState<'a> {
         requires runs { AreRunsOf text.now runs.old }
         requires byte { IsAtByte text.now here self.old }
         ensures runs { AreRunsOf text.now runs.new }
-        ensures expansion { self.new.expansion ≡ self.old.expansion }
+        ensures expansion_left { self.new.expansion_left ≡ self.old.expansion_left }
         ensures keeps { OnOk result (KeepsSound self.old self.new) }
         ensures moves { IfOk result (Moves text.now here.at self.new) }
         ensures token { (options : Options) (lookup : Lookup) (is_cell : Bool) → slice_index text.now here.at ≡ 96 → IfOk result (λ next. Appends options lookup is_cell text.now here self.old self.new next ⊎ TakesEscaped options lookup is_cell text.now here self.old self.new next) }
@@ -72,7 +72,7 @@ impl<'a> InlineState<'a> {
         requires read { IsRead leaf.now }
         requires same { text.now ≡ text_of leaf.now }
         requires kept { AreUnclosed leaf.now here.at unclosed.old }
-        ensures expansion { self.new.expansion ≡ self.old.expansion }
+        ensures expansion_left { self.new.expansion_left ≡ self.old.expansion_left }
         ensures sound { IsSound self.old → OnOk result (IsSound self.new) }
         ensures ends { OnOk result (AreEnded leaf.now self.old.slots.items → AreEnded leaf.now self.new.slots.items) }
         ensures moves { IfOk result (Moves text.now here.at self.new) }
@@ -122,7 +122,7 @@ impl<'a> InlineState<'a> {
         ensures slots { OnOk result (PutsAutolink (length self.old.links.items) here.pending here.at end self.old.slots.items self.new.slots.items) }
         ensures others { OnOk result (self.new ≡ record self.old { slots = self.new.slots; links = self.new.links }) }
         ensures link { IfOk result (λ next. (parts : Parts) × IsAutolink text.now here.at end parts × (self.new.links.items ≡ self.old.links.items ++ (parts ∷ []))) }
-        ensures expansion { self.new.expansion ≡ self.old.expansion }
+        ensures expansion_left { self.new.expansion_left ≡ self.old.expansion_left }
         ensures moves { IfOk result (Moves text.now here.at self.new) }
     {
         let dest_url = text_between(self.alloc, leaf, here.at + 1, end - 1)?;

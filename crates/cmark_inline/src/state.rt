@@ -14,8 +14,8 @@ use crate::slot::Slot;
 use cmark_text::CowStr;
 use std::alloc::Global;
 
-/// The least expansion that references have at the beginning.
-const LEAST_EXPANSION: usize = 100_000;
+/// The least reference expansion limit, for short sources.
+const LEAST_REFERENCE_EXPANSION_LIMIT: usize = 100_000;
 
 /// The spans of one leaf after the other. Its memory is used again.
 #[derive(Drop)]
@@ -29,15 +29,15 @@ pub struct InlineState<'a> {
     pub(crate) quotes: Quotes,
     pub(crate) texts: Vec<CowStr<'a>>,
     pub(crate) links: Vec<LinkParts<'a>>,
-    pub(crate) expansion: usize,
-    pub(crate) shut_close: Option<usize>,
+    pub(crate) expansion_left: usize,
+    pub(crate) label_close: Option<usize>,
     pub(crate) walk: Walk,
 }
 
 impl<'a> InlineState<'a> {
     /// A state for the leaves of a source of so many bytes.
     pub fn new(alloc: Global, source_len: usize) -> InlineState<'a>
-        ensures expansion { result.expansion ≡ max source_len 100000 }
+        ensures expansion_left { result.expansion_left ≡ max source_len 100000 }
         ensures slots { result.slots.items ≡ [] }
     {
         InlineState {
@@ -49,8 +49,8 @@ impl<'a> InlineState<'a> {
             quotes: Quotes::new(alloc),
             texts: Vec::new(alloc),
             links: Vec::new(alloc),
-            expansion: source_len.max(LEAST_EXPANSION),
-            shut_close: None,
+            expansion_left: source_len.max(LEAST_REFERENCE_EXPANSION_LIMIT),
+            label_close: None,
             walk: Walk::new(alloc),
         }
     }
@@ -60,7 +60,7 @@ impl<'a> InlineState<'a> {
         ensures sound { IsSound self.new }
         ensures slots { self.new.slots.items ≡ [] }
         ensures cleared { IsCleared self.new }
-        ensures expansion { self.new.expansion ≡ self.old.expansion }
+        ensures expansion_left { self.new.expansion_left ≡ self.old.expansion_left }
     {
         self.slots.clear();
         self.brackets.clear();
@@ -69,7 +69,7 @@ impl<'a> InlineState<'a> {
         self.quotes.clear();
         self.texts.clear();
         self.links.clear();
-        self.shut_close = None;
+        self.label_close = None;
         self.walk.clear();
     }
 }

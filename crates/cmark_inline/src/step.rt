@@ -64,7 +64,7 @@ impl<'a> InlineState<'a> {
     ) -> Result<(), AllocError>
         requires { IsRead leaf.now }
         ensures asks { AsksUpTo F.answers (closing_brackets (text_of leaf.now)) callback.old callback.new }
-        ensures spent { self.old.expansion ≡ 0 → callback.new ≡ callback.old }
+        ensures spent { self.old.expansion_left ≡ 0 → callback.new ≡ callback.old }
         ensures few { OnOk result (length self.new.slots.items ≤ length (text_of leaf.now)) }
         ensures slots { OnOk result (AreSlots (text_of leaf.now) (length (text_of leaf.now)) self.new.slots.items) }
         ensures opened { OnOk result (self.new.walk.opened.items ≡ []) }
@@ -73,7 +73,7 @@ impl<'a> InlineState<'a> {
         ensures first { OnOk result (self.new.walk.next ≡ 0) }
         ensures footnotes { SameFootnotes footnotes.old footnotes.new }
         ensures succeeds { text_of leaf.now ≡ [] → IsOk result }
-        ensures reads { IsSetOf (shown_options reader.now.options) reader.now.special.now → OnOk result (Resolves F.answers (shown_options reader.now.options) (E.replacement reader.now.entities.now) reader.now.references.now footnotes.old leaf.now self.old.expansion self.new callback.old callback.new) }
+        ensures reads { IsSetOf (shown_options reader.now.options) reader.now.special.now → OnOk result (Resolves F.answers (shown_options reader.now.options) (E.replacement reader.now.entities.now) reader.now.references.now footnotes.old leaf.now self.old.expansion_left self.new callback.old callback.new) }
     {
         self.clear();
         let text = leaf.as_str();
@@ -122,7 +122,7 @@ impl<'a> InlineState<'a> {
         ensures kept { IfOk result (λ next. AreUnclosed leaf.now next.at sought.new.unclosed) }
         ensures asks { AsksBetween F.answers text.now cursor.at (length text.now) callback.old callback.new }
         ensures asks_here { IfOk result (λ next. AsksBetween F.answers text.now cursor.at next.at callback.old callback.new) }
-        ensures spent { self.old.expansion ≡ 0 → (callback.new ≡ callback.old) × (self.new.expansion ≡ 0) }
+        ensures spent { self.old.expansion_left ≡ 0 → (callback.new ≡ callback.old) × (self.new.expansion_left ≡ 0) }
         ensures moves { IfOk result (Moves text.now cursor.at self.new) }
         ensures footnotes { SameFootnotes footnotes.old footnotes.new }
         ensures come { IsSetOf (shown_options reader.now.options) reader.now.special.now → IfOk result (λ next. ComesOn F.answers (shown_options reader.now.options) (E.replacement reader.now.entities.now) reader.now.references.now footnotes.old leaf.now cursor next self.old self.new callback.old callback.new) }
@@ -165,14 +165,14 @@ impl<'a> InlineState<'a> {
         ensures runs { AreRunsOf text.now sought.new.runs }
         ensures dollars { AreDollarsOf text.now sought.new.dollars }
         ensures kept { AreUnclosed leaf.now here.at sought.new.unclosed }
-        ensures expansion { self.new.expansion ≡ self.old.expansion }
+        ensures expansion_left { self.new.expansion_left ≡ self.old.expansion_left }
         ensures sound { IsSound self.old → OnOk result (IsSound self.new) }
         ensures ends { OnOk result (AreEnded leaf.now self.old.slots.items → AreEnded leaf.now self.new.slots.items) }
         ensures moves { IfOk result (Moves text.now here.at self.new) }
         ensures token { is_special (shown_options reader.now.options) (slice_index text.now here.at) ≡ true → (slice_index text.now here.at == 93) ≡ false → IfOk result (ReadsSpecial (shown_options reader.now.options) (E.replacement reader.now.entities.now) leaf.now here self.old self.new) }
     {
         match text.as_bytes()[here.at] {
-            b'\n' | b'\r' => self.line_end(text, here),
+            b'\n' | b'\r' => self.line_ending(text, here),
             b'\\' => self.backslash(leaf.is_cell(), text, here),
             b'&' => self.entity(text, reader.entities, here),
             b'`' => self.backticks(&mut sought.runs, text, here),
@@ -187,7 +187,7 @@ impl<'a> InlineState<'a> {
             b'.' => self.dots(text, here),
             b'-' => self.hyphens(text, here),
             b'"' | b'\'' => self.quote(text, here),
-            mark => self.run(text, reader.options, mark, here),
+            delimiter => self.run(text, reader.options, delimiter, here),
         }
     }
 
@@ -197,7 +197,7 @@ impl<'a> InlineState<'a> {
         requires slot { IsSlot text.now place slot }
         requires room { length self.old.slots.items < place }
         requires kind { begins_link slot.kind ≡ false }
-        ensures expansion { self.new.expansion ≡ self.old.expansion }
+        ensures expansion_left { self.new.expansion_left ≡ self.old.expansion_left }
         ensures table { self.new.links ≡ self.old.links }
         ensures stands { OnOk result (Stands text.now place self.new) }
         ensures length { OnOk result (length self.new.slots.items ≡ length self.old.slots.items + 1) }
@@ -209,19 +209,24 @@ impl<'a> InlineState<'a> {
     }
 
     // Appends the text that is pending up to a place.
-    pub(crate) fn flush(&mut self, text: &str, here: Cursor, stop: usize) -> Result<(), AllocError>
+    pub(crate) fn flush(
+        &mut self,
+        text: &str,
+        here: Cursor,
+        text_end: usize,
+    ) -> Result<(), AllocError>
         requires stands { Stands text.now here.pending self.old }
         requires starts { IsCharBoundary text.now here.pending }
-        requires stops { IsCharBoundary text.now stop }
-        requires ordered { here.pending ≤ stop }
+        requires stops { IsCharBoundary text.now text_end }
+        requires ordered { here.pending ≤ text_end }
         ensures table { self.new.links ≡ self.old.links }
-        ensures expansion { self.new.expansion ≡ self.old.expansion }
-        ensures stands { OnOk result (Stands text.now stop self.new) }
-        ensures slots { OnOk result (PushesText here.pending stop self.old.slots.items self.new.slots.items) }
-        ensures succeeds { stop ≤ here.pending → IsOk result }
+        ensures expansion_left { self.new.expansion_left ≡ self.old.expansion_left }
+        ensures stands { OnOk result (Stands text.now text_end self.new) }
+        ensures slots { OnOk result (PushesText here.pending text_end self.old.slots.items self.new.slots.items) }
+        ensures succeeds { text_end ≤ here.pending → IsOk result }
         ensures others { self.new ≡ record self.old { slots = self.new.slots } }
     {
-        push_text(&mut self.slots, here.pending, stop)?;
+        push_text(&mut self.slots, here.pending, text_end)?;
         Ok(())
     }
 
@@ -230,27 +235,27 @@ impl<'a> InlineState<'a> {
         &mut self,
         text: &str,
         here: Cursor,
-        stop: usize,
+        text_end: usize,
         slot: Slot,
     ) -> Result<Cursor, AllocError>
         requires stands { Stands text.now here.pending self.old }
         requires starts { IsCharBoundary text.now here.pending }
-        requires stops { IsCharBoundary text.now stop }
-        requires behind { here.pending ≤ stop }
-        requires ordered { stop < slot.end }
+        requires stops { IsCharBoundary text.now text_end }
+        requires behind { here.pending ≤ text_end }
+        requires ordered { text_end < slot.end }
         requires slot { IsSlot text.now slot.end slot }
         requires further { here.at < slot.end }
         requires kind { begins_link slot.kind ≡ false }
-        ensures expansion { self.new.expansion ≡ self.old.expansion }
+        ensures expansion_left { self.new.expansion_left ≡ self.old.expansion_left }
         ensures table { self.new.links ≡ self.old.links }
-        ensures length { IfOk result (λ next. length self.new.slots.items ≤ stop + 1) }
+        ensures length { IfOk result (λ next. length self.new.slots.items ≤ text_end + 1) }
         ensures moves { IfOk result (Moves text.now here.at self.new) }
         ensures end { IfOk result (λ next. next.pending ≡ slot.end) }
         ensures at { IfOk result (λ next. next.at ≡ slot.end) }
-        ensures slots { OnOk result (Puts here.pending stop slot self.old.slots.items self.new.slots.items) }
+        ensures slots { OnOk result (Puts here.pending text_end slot self.old.slots.items self.new.slots.items) }
         ensures others { self.new ≡ record self.old { slots = self.new.slots } }
     {
-        self.flush(text, here, stop)?;
+        self.flush(text, here, text_end)?;
         self.add(text, slot.end, slot)?;
         Ok(Cursor {
             pending: slot.end,

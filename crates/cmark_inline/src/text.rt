@@ -24,20 +24,20 @@ use std::alloc::AllocError;
 impl<'a> InlineState<'a> {
     // A line ends: a soft break, or a hard one where two spaces stand before it (CommonMark 6.7 and 6.8). The blanks in front of
     // the next line go with it.
-    pub(crate) fn line_end(&mut self, text: &str, here: Cursor) -> Result<Cursor, AllocError>
+    pub(crate) fn line_ending(&mut self, text: &str, here: Cursor) -> Result<Cursor, AllocError>
         requires byte { IsAtByte text.now here self.old }
-        ensures expansion { self.new.expansion ≡ self.old.expansion }
+        ensures expansion_left { self.new.expansion_left ≡ self.old.expansion_left }
         ensures keeps { OnOk result (KeepsSound self.old self.new) }
         ensures moves { IfOk result (Moves text.now here.at self.new) }
         ensures token { (options : Options) (lookup : Lookup) (is_cell : Bool) → (slice_index text.now here.at ≡ 10) ⊎ (slice_index text.now here.at ≡ 13) → IfOk result (Appends options lookup is_cell text.now here self.old self.new) }
     {
-        let stop = before_blanks(text, here);
+        let text_end = before_blanks(text, here);
         let Some(found) = line_break(text, here.at) else {
             return Ok(pass(text, here));
         };
-        let is_hard = ends_with_two_spaces(&text.as_bytes()[stop..here.at]);
-        let slot = break_slot(is_hard, stop, here.at, found.end);
-        let next = self.put(text, here, stop, slot)?;
+        let is_hard = ends_with_two_spaces(&text.as_bytes()[text_end..here.at]);
+        let slot = break_slot(is_hard, text_end, here.at, found.end);
+        let next = self.put(text, here, text_end, slot)?;
         Ok(onto_words(text, next))
     }
 
@@ -51,7 +51,7 @@ impl<'a> InlineState<'a> {
         here: Cursor,
     ) -> Result<Cursor, AllocError>
         requires byte { IsAtByte text.now here self.old }
-        ensures expansion { self.new.expansion ≡ self.old.expansion }
+        ensures expansion_left { self.new.expansion_left ≡ self.old.expansion_left }
         ensures keeps { OnOk result (KeepsSound self.old self.new) }
         ensures moves { IfOk result (Moves text.now here.at self.new) }
         ensures token { (options : Options) (lookup : Lookup) → slice_index text.now here.at ≡ 92 → IfOk result (λ next. Passes options lookup is_cell text.now here self.old self.new next ⊎ (Appends options lookup is_cell text.now here self.old self.new next ⊎ (Escapes options lookup is_cell text.now here self.old self.new next ⊎ EscapesPipe options lookup is_cell text.now here self.old self.new next))) }
@@ -100,7 +100,7 @@ impl<'a> InlineState<'a> {
         here: Cursor,
     ) -> Result<Cursor, AllocError>
         requires byte { IsAtByte text.now here self.old }
-        ensures expansion { self.new.expansion ≡ self.old.expansion }
+        ensures expansion_left { self.new.expansion_left ≡ self.old.expansion_left }
         ensures keeps { OnOk result (KeepsSound self.old self.new) }
         ensures moves { IfOk result (Moves text.now here.at self.new) }
         ensures token { (options : Options) (is_cell : Bool) → slice_index text.now here.at ≡ 38 → IfOk result (λ next. Passes options (E.replacement entities.now) is_cell text.now here self.old self.new next ⊎ Appends options (E.replacement entities.now) is_cell text.now here self.old self.new next) }
@@ -130,14 +130,14 @@ fn ends_with_two_spaces(bytes: &[u8]) -> bool
     bytes.ends_with(b"  ")
 }
 
-/// The break of a line whose last blanks begin at `stop`, and whose ending begins at `at`: a hard one begins with the blanks.
-fn break_slot(is_hard: bool, stop: usize, at: usize, end: usize) -> Slot
-    ensures { result ≡ record { kind = if is_hard then slot_kind.HardBreak else slot_kind.SoftBreak; start = if is_hard then stop else at; end = end } }
+/// The break of a line whose last blanks begin at `text_end`, and whose ending begins at `at`: a hard one begins with the blanks.
+fn break_slot(is_hard: bool, text_end: usize, at: usize, end: usize) -> Slot
+    ensures { result ≡ record { kind = if is_hard then slot_kind.HardBreak else slot_kind.SoftBreak; start = if is_hard then text_end else at; end = end } }
 {
     if is_hard {
         Slot {
             kind: SlotKind::HardBreak,
-            start: stop,
+            start: text_end,
             end,
         }
     } else {

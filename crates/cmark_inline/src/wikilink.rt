@@ -135,10 +135,10 @@ impl<'a> InlineState<'a> {
         ensures stands { IfOk result (λ next. next ≡ None → Stands text.now close self.new) }
         ensures others { IfOk result (λ next. next ≡ None → self.new ≡ record self.old { doubled = self.new.doubled }) }
         ensures off { (shown_options options).wikilinks ≡ false → self.new ≡ self.old }
-        ensures expansion { self.new.expansion ≡ self.old.expansion }
+        ensures expansion_left { self.new.expansion_left ≡ self.old.expansion_left }
         ensures tries { IfOk result (λ next. next ≡ None → TriesDoubled ((shown_options options).wikilinks && first_is (λ b. b == 93) (drop (close + 1) text.now)) self.old.doubled self.new.doubled) }
         ensures leaves { IfOk result (λ next. IfSome next (λ next. IfSome (nearest self.old.doubled) (λ tried. LeavesWikilink tried.0.start self.old self.new))) }
-        ensures shut { self.new.shut_close ≡ self.old.shut_close }
+        ensures label_close { self.new.label_close ≡ self.old.label_close }
         ensures writes { IfOk result (λ next. IfSome next (λ next. IfSome (nearest self.old.doubled) (λ tried. WritesWikilink (shown_options options) leaf.now text.now tried.0 close self.old self.new))) }
     {
         if !options.contains(Options::ENABLE_WIKILINKS) || !is_followed_by(text, close, b']') {
@@ -180,17 +180,17 @@ impl<'a> InlineState<'a> {
         requires taken { IsPairFrom self.old doubled }
         ensures sound { OnOk result (IsSound self.new) }
         ensures ends { OnOk result ((leaf : LeafTexts) → AreEnded leaf self.old.slots.items → EndsIn leaf close (Some wikilink.entry.source_end) → AreEnded leaf self.new.slots.items) }
-        ensures expansion { self.new.expansion ≡ self.old.expansion }
+        ensures expansion_left { self.new.expansion_left ≡ self.old.expansion_left }
         ensures stands { OnOk result (Stands text.now (close + 2) self.new) }
         ensures parts { OnOk result ((parts : Parts) × IsNamed wikilink.entry parts × (self.new.links.items ≡ self.old.links.items ++ (parts ∷ []))) }
         ensures link { OnOk result (doubled.is_image ≡ false → HoldNoLink self.new.slots.items (doubled.slot + 1)) }
         ensures runs { OnOk result (length self.new.delimiters.placed.items ≤ doubled.runs) }
         ensures quotes { OnOk result (length self.new.quotes.placed.items ≤ doubled.quotes) }
         ensures brackets { OnOk result (DropsBehind doubled.start self.old.brackets.standing.items self.new.brackets.standing.items) }
-        ensures inactive { OnOk result (self.new.brackets.shut ≡ length self.new.brackets.standing.items) }
+        ensures inactive { OnOk result (self.new.brackets.inactive_below ≡ length self.new.brackets.standing.items) }
         ensures tried { OnOk result (self.new.doubled.standing.items ≡ []) }
         ensures leaves { OnOk result (LeavesWikilink doubled.start self.old self.new) }
-        ensures shut { self.new.shut_close ≡ self.old.shut_close }
+        ensures label_close { self.new.label_close ≡ self.old.label_close }
         ensures writes { OnOk result (WritesShown (shown_options options) text.now doubled close wikilink.entry self.old self.new) }
     {
         let end = close + 2;
@@ -203,7 +203,7 @@ impl<'a> InlineState<'a> {
         self.quotes.truncate(doubled.quotes);
         self.delimiters.truncate(doubled.runs);
         self.brackets.drop_behind(doubled.start);
-        self.brackets.shut_all();
+        self.brackets.deactivate_all();
         self.doubled.clear();
         Ok(())
     }

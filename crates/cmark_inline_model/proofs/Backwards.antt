@@ -13,7 +13,7 @@ use Rattle.cmark_inline_model.proofs.BracketsShifted.{reads-behind}
 use Rattle.cmark_inline_model.proofs.LeafLaws.{leaf-next}
 
 abbrev pub between_behind : List Exchange → Between → Between
-between_behind h b = record { expansion = b.expansion; asked = h ++ b.asked }
+between_behind h b = record { expansion_left = b.expansion_left; asked = h ++ b.asked }
 
 module _ (reader : Reader) (shifted : (leaf : Leaf) → IsShifted (decide reader leaf)) (h all : List Exchange) where
   pub leaf-behind : (leaf : Leaf) (before after : Between) (events : List Ranged) → ReadsLeaf reader (IsNext all) leaf before events after → ReadsLeaf reader (IsNext (h ++ all)) leaf (between_behind h before) events (between_behind h after)
@@ -34,18 +34,18 @@ module _ (reader : Reader) (shifted : (leaf : Leaf) → IsShifted (decide reader
   all-behind (Content leaf ∷ others) before after events k = (k.0, k.1, between_behind h k.2, leaf-behind leaf before k.2 k.0 k.3, all-behind others k.2 after k.1 k.4, k.5)
 
 -- an event of the blocks in front
-pub left-given : (reader : Reader) (r : Ranged) (others : List Segment) (expansion : ℕ) (exchanges : List Exchange) (events : List Ranged) → Left reader others expansion exchanges events
-    → Left reader (Given r ∷ others) expansion exchanges (r ∷ events)
-left-given reader r others expansion exchanges events k = record { after = k.after; reads = (events, k.reads, refl); asked = k.asked }
+pub left-given : (reader : Reader) (r : Ranged) (others : List Segment) (expansion_left : ℕ) (exchanges : List Exchange) (events : List Ranged) → Left reader others expansion_left exchanges events
+    → Left reader (Given r ∷ others) expansion_left exchanges (r ∷ events)
+left-given reader r others expansion_left exchanges events k = record { after = k.after; reads = (events, k.reads, refl); asked = k.asked }
 
 -- a leaf in front, with the questions that were put in it
 pub left-leaf : (reader : Reader) → ((leaf : Leaf) → IsRecorded (decide reader leaf)) → ((leaf : Leaf) → IsShifted (decide reader leaf))
-    → (leaf : Leaf) (others : List Segment) (expansion : ℕ) (taken rest : List Exchange) (spans later : List Ranged) (between : Between)
-    → ReadsLeaf reader (IsNext taken) leaf (record { expansion = expansion; asked = [] }) spans between → between.asked ≡ taken
-    → Left reader others between.expansion rest later → Left reader (Content leaf ∷ others) expansion (taken ++ rest) (spans ++ later)
-left-leaf reader recorded shifted leaf others expansion taken rest spans later between h e k =
-    let start : Between = record { expansion = expansion; asked = [] } in
-    let same : between_behind taken (record { expansion = between.expansion; asked = [] }) ≡ between = ap (λ l. record { expansion = between.expansion; asked = l }) (append-nil taken ∙ sym e) in
+    → (leaf : Leaf) (others : List Segment) (expansion_left : ℕ) (taken rest : List Exchange) (spans later : List Ranged) (between : Between)
+    → ReadsLeaf reader (IsNext taken) leaf (record { expansion_left = expansion_left; asked = [] }) spans between → between.asked ≡ taken
+    → Left reader others between.expansion_left rest later → Left reader (Content leaf ∷ others) expansion_left (taken ++ rest) (spans ++ later)
+left-leaf reader recorded shifted leaf others expansion_left taken rest spans later between h e k =
+    let start : Between = record { expansion_left = expansion_left; asked = [] } in
+    let same : between_behind taken (record { expansion_left = between.expansion_left; asked = [] }) ≡ between = ap (λ l. record { expansion_left = between.expansion_left; asked = l }) (append-nil taken ∙ sym e) in
     record {
       after = between_behind taken k.after;
       reads = (
@@ -54,7 +54,7 @@ left-leaf reader recorded shifted leaf others expansion taken rest spans later b
         between,
         leaf-next reader leaf (recorded leaf) (IsNext taken) start between spans (taken ++ rest) rest (ap (λ l. l ++ rest) (sym e)) h,
         subst (λ b. ReadsAll reader (IsNext (taken ++ rest)) others b later (between_behind taken k.after)) same
-            (all-behind reader shifted taken rest others (record { expansion = between.expansion; asked = [] }) k.after later k.reads),
+            (all-behind reader shifted taken rest others (record { expansion_left = between.expansion_left; asked = [] }) k.after later k.reads),
         refl,
       );
       asked = ap (λ l. taken ++ l) k.asked;

@@ -76,7 +76,7 @@ module _ (token : ℕ → Token) (decide : State → (closer : Bracket) → Deci
     step_goes p h = go (token p.state.at) refl
       where
         go : (t : Token) → token p.state.at ≡ t → Goes p (stepped token decide plan t p)
-        go (Stands item past) e = (inr (forward.stands p.state.at past item e), let k = openings-join p.here (Single item Nil) in omega arith)
+        go (Stands item resume) e = (inr (forward.stands p.state.at resume item e), let k = openings-join p.here (Single item Nil) in omega arith)
         go (Opens opener) e = (inr (forward.opens p.state.at opener e), let k = openings-join p.here (Opening opener Nil) in omega arith)
         go (Closes closer) e =
             let o : Outcome = outcome_by plan p.state.asked (decide p.state closer) in

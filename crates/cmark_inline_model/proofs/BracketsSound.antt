@@ -80,7 +80,7 @@ module _ (token : ℕ → Token) (decide : State → (closer : Bracket) → Deci
     step_holds start p h = go (token p.state.at) refl
       where
         go : (t : Token) → token p.state.at ≡ t → Holds start (stepped token decide plan t p)
-        go (Stands item past) e = joined start p.here p.state (Single item Nil) (moved past p.state) h (past, e, refl)
+        go (Stands item resume) e = joined start p.here p.state (Single item Nil) (moved resume p.state) h (resume, e, refl)
         go (Opens opener) e = joined start p.here p.state (Opening opener Nil) (opened opener p.state) h (e, refl)
         go (Closes closer) e =
             let o : Outcome = outcome_by plan p.state.asked (decide p.state closer) in

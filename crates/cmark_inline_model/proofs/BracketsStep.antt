@@ -14,8 +14,8 @@ module _ (token : ℕ → Token) (decide : State → (closer : Bracket) → Deci
   steps-hold start p q h k = go (token p.state.at) refl k
     where
       go : (t : Token) → token p.state.at ≡ t → StepsBy token decide Says t p q → Reads token decide Says start q.here q.state
-      go (Stands item past) e s =
-          subst (λ (x : Pass). Reads token decide Says start x.here x.state) (sym s) (joined token decide Says start p.here p.state (Single item Nil) (moved past p.state) h (past, e, refl))
+      go (Stands item resume) e s =
+          subst (λ (x : Pass). Reads token decide Says start x.here x.state) (sym s) (joined token decide Says start p.here p.state (Single item Nil) (moved resume p.state) h (resume, e, refl))
       go (Opens opener) e s =
           subst (λ (x : Pass). Reads token decide Says start x.here x.state) (sym s) (joined token decide Says start p.here p.state (Opening opener Nil) (opened opener p.state) h (e, refl))
       go (Closes closer) e s =

@@ -2,7 +2,7 @@
 use Rattle.std.specs.Prelude.{◌-◌, sum}
 use Rattle.std.proofs.Common.{◌≡◌, ℕ, ◌+◌, ◌<◌, ◌≤◌, List, [], ◌∷◌, ◌++◌, refl, arith, subst}
 use Rattle.std.proofs.lemmas.List.Sums.{sum_by-cons}
-use Rattle.cmark_inline_model.specs.Expansion.{Spends}
+use Rattle.cmark_inline_model.specs.ReferenceExpansion.{Spends}
 
 abbrev pub total : List ℕ → ℕ
 total [] = 0

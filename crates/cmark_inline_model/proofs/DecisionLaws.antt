@@ -1,4 +1,4 @@
--- The grammar's decisions take brackets that are there, record their questions, keep links apart and keep the expansion limit.
+-- The grammar's decisions take brackets that are there, record their questions, keep links apart and keep the reference expansion limit.
 use Rattle.std.specs.Prelude.{suc, zero, ◌-◌, ◌==◌, not, drop, map}
 use Rattle.std.proofs.Common.{◌≡◌, ◌<◌, ◌+◌, ℕ, Bool, true, false, List, [], ◌∷◌, ◌++◌, length, refl, sym, ap, subst, arith, ◌∙◌}
 use Rattle.std.proofs.lemmas.List.{length-map}
@@ -12,7 +12,7 @@ use Rattle.cmark_grammar.specs.OpenBrackets.{Taken, undoubled, inactive, behind_
 use Rattle.cmark_grammar.specs.Parts.{Formed, Footnote}
 use Rattle.cmark_grammar.specs.Questions.{Exchange}
 use Rattle.cmark_grammar.specs.Readers.{Reader}
-use Rattle.cmark_inline_model.specs.Expansion.{cost_as, Spends, Pays, KeepsLimit}
+use Rattle.cmark_inline_model.specs.ReferenceExpansion.{cost_as, Spends, Pays, KeepsLimit}
 use Rattle.cmark_inline_model.specs.NestedLinks.{is_link, Persist, OpenNoLink, FormsApart, KeepsApart, KeepsLinksApart}
 use Rattle.cmark_inline_model.specs.Progress.{Always, Fits, Keeps, IsRecorded}
 use Rattle.cmark_inline_model.proofs.DecisionShape.{exchange, IsNamed, Leads, Defined, Answered, Takes, Shape, Stays, ToInline, ToReference, ToFootnote, ToWiki, DecisionShape, decide-shape}
@@ -119,7 +119,7 @@ module _ (reader : Reader) (leaf : Leaf) where
   pub decide-apart : KeepsLinksApart (decide reader leaf)
   decide-apart = record { keeps = λ s closer. always-by s closer (KeepsApart s.openers) (shape_apart s closer) }
 
-  -- ## The expansion limit
+  -- ## The reference expansion limit
 
   minus_twice : (n a b : ℕ) → n - a - b ≡ n - (a + b)
   minus_twice n a b = omega arith
@@ -133,16 +133,16 @@ module _ (reader : Reader) (leaf : Leaf) where
   lead_costs s named link_type found closer n asked (Defined definition d e f) = ap (λ t. cost_as t (length found.url + length found.title)) e ∙ (n.costs (length found.url + length found.title)).0
   lead_costs s named link_type found closer n asked (Answered d e earlier q put f g) = ap (λ t. cost_as t (length found.url + length found.title)) e ∙ (n.costs (length found.url + length found.title)).1
 
-  shape_pays : (s : State) (closer : Bracket) (asked : List Exchange) (o : Outcome) → Shape reader leaf s closer asked o → Pays s.expansion o
-  shape_pays s closer asked o (Stays label os h e) = subst (Pays s.expansion) (sym e) refl
-  shape_pays s closer asked o (ToInline label os taken tail h t found e) = subst (Pays s.expansion) (sym e) refl
+  shape_pays : (s : State) (closer : Bracket) (asked : List Exchange) (o : Outcome) → Shape reader leaf s closer asked o → Pays s.expansion_left o
+  shape_pays s closer asked o (Stays label os h e) = subst (Pays s.expansion_left) (sym e) refl
+  shape_pays s closer asked o (ToInline label os taken tail h t found e) = subst (Pays s.expansion_left) (sym e) refl
   shape_pays s closer asked o (ToReference label os taken named link_type found h t n some l e) =
       let size = length found.url + length found.title in
-      subst (Pays s.expansion) (sym e)
-      (subst (λ c. Spends s.expansion c (s.expansion - length found.url - length found.title)) (sym (lead_costs s named link_type found closer n asked l))
-      (some_left s.expansion some, minus_twice s.expansion (length found.url) (length found.title)))
-  shape_pays s closer asked o (ToFootnote label os taken name h t on e) = subst (Pays s.expansion) (sym e) refl
-  shape_pays s closer asked o (ToWiki label os first far h t on next e) = subst (Pays s.expansion) (sym e) refl
+      subst (Pays s.expansion_left) (sym e)
+      (subst (λ c. Spends s.expansion_left c (s.expansion_left - length found.url - length found.title)) (sym (lead_costs s named link_type found closer n asked l))
+      (some_left s.expansion_left some, minus_twice s.expansion_left (length found.url) (length found.title)))
+  shape_pays s closer asked o (ToFootnote label os taken name h t on e) = subst (Pays s.expansion_left) (sym e) refl
+  shape_pays s closer asked o (ToWiki label os first far h t on next e) = subst (Pays s.expansion_left) (sym e) refl
 
   pub decide-pays : KeepsLimit (decide reader leaf)
-  decide-pays = record { pays = λ s closer. always-by s closer (Pays s.expansion) (shape_pays s closer) }
+  decide-pays = record { pays = λ s closer. always-by s closer (Pays s.expansion_left) (shape_pays s closer) }

@@ -9,21 +9,21 @@ use Rattle.cmark_grammar.specs.Items.{Bracket}
 use Rattle.cmark_grammar.specs.Labels.{fold, normal_form}
 use Rattle.cmark_grammar.specs.LeafText.{Leaf}
 use Rattle.cmark_grammar.specs.Letters.{first_is}
-use Rattle.cmark_grammar.specs.LinkDefinitions.{Found}
+use Rattle.cmark_grammar.specs.LinkDefinitions.{Parsed}
 use Rattle.cmark_grammar.specs.LinkTails.{LinkTail, link_tail_in, behind_collapsed, is_bracketed_label, reference_label_in}
 use Rattle.cmark_grammar.specs.LinkType.{LinkType, Reference, to_unknown}
 use Rattle.cmark_grammar.specs.OpenBrackets.{Taken, nearest, used_up, doubled, tried, dropped}
 use Rattle.cmark_grammar.specs.Parts.{Footnote}
 use Rattle.cmark_grammar.specs.Questions.{Question, Exchange}
 use Rattle.cmark_grammar.specs.Readers.{Reader}
-use Rattle.cmark_grammar.proofs.ShorterRests.{LeavesBelow, FoundBelow, reference_label-shorter, collapsed-shorter}
-use Rattle.cmark_inline_model.specs.Expansion.{cost_as}
+use Rattle.cmark_grammar.proofs.ShorterRests.{LeavesBelow, ParsedBelow, reference_label-shorter, collapsed-shorter}
+use Rattle.cmark_inline_model.specs.ReferenceExpansion.{cost_as}
 use Rattle.cmark_inline_model.specs.LinkRules.{IsReferenceForm, IsQuestion}
 use Rattle.cmark_inline_model.proofs.Openers.{Alike, alike-then, used-alike, tried-alike, IsTaken, AreTaken, taken-alike, nearest-taken, doubled-taken, IsFar, doubled-far}
 
 -- the same state but for its label, its questions and its opening brackets
 abbrev pub with_all : State → Option ℕ → List Exchange → List Opener → State
-with_all s label asked os = record { at = s.at; expansion = s.expansion; label_close = label; asked = asked; openers = os }
+with_all s label asked os = record { at = s.at; expansion_left = s.expansion_left; label_close = label; asked = asked; openers = os }
 
 -- the question that an asked one is in
 abbrev pub exchange : Question → Option Destination → Exchange
@@ -37,8 +37,8 @@ module _ (reader : Reader) (leaf : Leaf) where
   -- a reference that may stand behind this closing bracket
   pub record IsNamed (closer : Bracket) (named : Named) : Type 0 where
     pub ends : IsPlace closer named.end
-    pub passes : IsPlace closer named.past
-    pub order : (named.end ≡ named.past) ⊎ (named.end ≡ closer.end)
+    pub passes : IsPlace closer named.resume
+    pub order : (named.end ≡ named.resume) ⊎ (named.end ≡ closer.end)
     pub form : IsReferenceForm named.link_type
     pub costs : (size : ℕ) → (cost_as named.link_type size ≡ size ∷ []) × (cost_as (to_unknown named.link_type) size ≡ size ∷ [])
 
@@ -55,20 +55,21 @@ module _ (reader : Reader) (leaf : Leaf) where
     pub is_taken : IsTaken os taken
     pub active : taken.opener.is_inactive ≡ false
 
-  -- a question about the text from the taken bracket to a place behind the closing one, where something of the expansion limit is left
+  -- a question about the text from the taken bracket to a place behind the closing one, where something of the reference expansion limit is
+  -- left
   pub record IsPut (s : State) (closer : Bracket) (q : Question) : Type 0 where
     pub taken : Taken
     pub takes : Takes s.openers taken
     pub start : q.start ≡ taken.opener.bracket.start
     pub ends : IsPlace closer q.end
-    pub some : (s.expansion == 0) ≡ false
+    pub some : (s.expansion_left == 0) ≡ false
 
   pub data Shape (s : State) (closer : Bracket) (asked : List Exchange) (o : Outcome) : Type 0 where
     Stays : (label : Option ℕ) (os : List Opener) → Alike s.openers os → o ≡ stays reader leaf closer (with_all s label asked os) → Shape s closer asked o
     ToInline : (label : Option ℕ) (os : List Opener) (taken : Taken) (tail : LinkTail) → Alike s.openers os → Takes s.openers taken
         → link_tail_in (behind reader leaf closer.end) ≡ Some tail → o ≡ inline_link reader leaf tail taken (with_all s label asked os) → Shape s closer asked o
     ToReference : (label : Option ℕ) (os : List Opener) (taken : Taken) (named : Named) (link_type : LinkType) (found : Destination) → Alike s.openers os → Takes s.openers taken
-        → IsNamed closer named → (s.expansion == 0) ≡ false → Leads named link_type found asked → o ≡ leads reader leaf named link_type found taken (with_all s label asked os) → Shape s closer asked o
+        → IsNamed closer named → (s.expansion_left == 0) ≡ false → Leads named link_type found asked → o ≡ leads reader leaf named link_type found taken (with_all s label asked os) → Shape s closer asked o
     ToFootnote : (label : Option ℕ) (os : List Opener) (taken : Taken) (name : List ℕ) → Alike s.openers os → Takes s.openers taken → reader.options.footnotes ≡ true
         → o ≡ forms reader leaf taken (Footnote name closer.end) closer.end (map dropped) (with_all s label asked os) → Shape s closer asked o
     ToWiki : (label : Option ℕ) (os : List Opener) (first : Taken) → 1 ≤ first.nearer → Alike s.openers os → Takes s.openers first → reader.options.wikilinks ≡ true
@@ -87,7 +88,7 @@ module _ (reader : Reader) (leaf : Leaf) where
     stay_shape label os h = Stays label os h refl
 
     module _ (taken : Taken) (takes : Takes s.openers taken) where
-      ask_shape : (label : Option ℕ) (os : List Opener) (named : Named) → Alike s.openers os → IsNamed closer named → (s.expansion == 0) ≡ false → reader.definition (fold named.label) ≡ None
+      ask_shape : (label : Option ℕ) (os : List Opener) (named : Named) → Alike s.openers os → IsNamed closer named → (s.expansion_left == 0) ≡ false → reader.definition (fold named.label) ≡ None
           → DecisionShape s closer (ask reader leaf named taken closer (with_all s label s.asked os))
       ask_shape label os named h named_is some none =
           let q = question reader leaf named taken.opener.bracket in
@@ -103,7 +104,7 @@ module _ (reader : Reader) (leaf : Leaf) where
               ToReference label os taken named (to_unknown named.link_type) found h takes named_is some
               (Answered none refl s.asked (question reader leaf named taken.opener.bracket) refl refl refl) refl
 
-      defined_shape : (found : Option block.Reference) (label : Option ℕ) (os : List Opener) (named : Named) → reader.definition (fold named.label) ≡ found → Alike s.openers os → IsNamed closer named → (s.expansion == 0) ≡ false
+      defined_shape : (found : Option block.Reference) (label : Option ℕ) (os : List Opener) (named : Named) → reader.definition (fold named.label) ≡ found → Alike s.openers os → IsNamed closer named → (s.expansion_left == 0) ≡ false
           → DecisionShape s closer (defined_or_asked reader leaf found named taken closer (with_all s label s.asked os))
       defined_shape (Some found) label os named e h named_is some =
           ToReference label os taken named named.link_type (record { url = found.destination; title = or_empty found.title }) h takes named_is some (Defined found e refl refl) refl
@@ -112,7 +113,7 @@ module _ (reader : Reader) (leaf : Leaf) where
       refers_shape : (label : Option ℕ) (os : List Opener) (named : Named) → Alike s.openers os → IsNamed closer named → DecisionShape s closer (refers reader leaf named taken closer (with_all s label s.asked os))
       refers_shape label os named h named_is =
           let t = with_all s label s.asked os in
-          either s closer (s.expansion == 0) (Settled (stays reader leaf closer t)) (defined_or_asked reader leaf (reader.definition (fold named.label)) named taken closer t)
+          either s closer (s.expansion_left == 0) (Settled (stays reader leaf closer t)) (defined_or_asked reader leaf (reader.definition (fold named.label)) named taken closer t)
           (λ e. stay_shape label os h) (λ e. defined_shape (reader.definition (fold named.label)) label os named refl h named_is e)
 
       own_named : (label : List ℕ) (o : Option (List ℕ)) → LeavesBelow (suc (length (behind reader leaf closer.end))) o → IsNamed closer (collapsed_or_shortcut reader leaf label closer.end o)
@@ -145,22 +146,22 @@ module _ (reader : Reader) (leaf : Leaf) where
           (λ f. refers_shape label os named h (own_named (as_label reader leaf bytes) (behind_collapsed (behind reader leaf closer.end)) (collapsed-shorter (behind reader leaf closer.end))))
           (λ f. stay_shape label os h))
 
-      reference_shape : (found : Option Found) (label : Option ℕ) (os : List Opener) → FoundBelow (length (behind reader leaf closer.end)) found → Alike s.openers os
+      reference_shape : (found : Option Parsed) (label : Option ℕ) (os : List Opener) → ParsedBelow (length (behind reader leaf closer.end)) found → Alike s.openers os
           → DecisionShape s closer (reference_or reader leaf found taken closer (with_all s label s.asked os))
       reference_shape (Some found) label os f h =
           let end = place reader leaf found.behind in
-          refers_shape (Some (end - 1)) os (record { label = as_label reader leaf found.bytes; link_type = Reference; end = end; past = end }) h
+          refers_shape (Some (end - 1)) os (record { label = as_label reader leaf found.bytes; link_type = Reference; end = end; resume = end }) h
           (record { ends = inr (found.behind, omega arith, refl); passes = inr (found.behind, omega arith, refl); order = inl refl; form = tt; costs = λ size. (refl, refl) })
       reference_shape None label os f h =
           let t = with_all s label s.asked os in
           let bytes = between reader leaf taken.opener.bracket.end closer.start in
           either s closer (is_there closer.start label) (Settled (stays reader leaf closer t)) (by_own_label reader leaf bytes taken closer t) (λ e. stay_shape label os h) (λ e. own_shape bytes label os h)
 
-      unless_below : (n : ℕ) (found : Option Found) → FoundBelow n found → FoundBelow n (unless_footnote reader leaf found)
+      unless_below : (n : ℕ) (found : Option Parsed) → ParsedBelow n found → ParsedBelow n (unless_footnote reader leaf found)
       unless_below n None h = tt
       unless_below n (Some found) h = by (is_footnote_label reader leaf found.bytes)
         where
-          by : (b : Bool) → FoundBelow n (if b then None else Some found)
+          by : (b : Bool) → ParsedBelow n (if b then None else Some found)
           by true = tt
           by false = h
 

@@ -10,7 +10,7 @@ use Rattle.cmark_grammar.specs.Items.{Bracket}
 use Rattle.cmark_grammar.specs.Labels.{fold, normal_form}
 use Rattle.cmark_grammar.specs.LeafText.{Leaf}
 use Rattle.cmark_grammar.specs.Letters.{first_is}
-use Rattle.cmark_grammar.specs.LinkDefinitions.{Found}
+use Rattle.cmark_grammar.specs.LinkDefinitions.{Parsed}
 use Rattle.cmark_grammar.specs.LinkTails.{LinkTail, link_tail_in, behind_collapsed, is_bracketed_label, reference_label_in}
 use Rattle.cmark_grammar.specs.LinkType.{Reference}
 use Rattle.cmark_grammar.specs.OpenBrackets.{Taken, nearest, used_up, doubled, tried, dropped}
@@ -39,10 +39,10 @@ module _ (h : List Exchange) where
     answered_behind : (named : Named) (taken : Taken) (closer : Bracket) (t : State) (q : Question) (answer : Option Destination)
         → outcome_behind h (answered reader leaf named taken closer (with_answer reader leaf q answer t) answer) ≡ answered reader leaf named taken closer (with_answer reader leaf q answer (asked_behind h t)) answer
     answered_behind named taken closer t q None =
-        ap (λ l. stays reader leaf closer (record { at = t.at; expansion = t.expansion; label_close = t.label_close; asked = l; openers = t.openers })) (sym (append_assoc h t.asked (record { question = q; answer = None } ∷ [])))
+        ap (λ l. stays reader leaf closer (record { at = t.at; expansion_left = t.expansion_left; label_close = t.label_close; asked = l; openers = t.openers })) (sym (append_assoc h t.asked (record { question = q; answer = None } ∷ [])))
     answered_behind named taken closer t q (Some found) =
         let u : Outcome = answered reader leaf named taken closer (with_answer reader leaf q (Some found) t) (Some found) in
-        ap (λ l. record { result = u.result; after = record { at = u.after.at; expansion = u.after.expansion; label_close = u.after.label_close; asked = l; openers = u.after.openers } })
+        ap (λ l. record { result = u.result; after = record { at = u.after.at; expansion_left = u.after.expansion_left; label_close = u.after.label_close; asked = l; openers = u.after.openers } })
         (sym (append_assoc h t.asked (record { question = q; answer = Some found } ∷ [])))
 
     ask_behind : (named : Named) (taken : Taken) (closer : Bracket) (t : State) → Follows t (ask reader leaf named taken closer t) (ask reader leaf named taken closer (asked_behind h t))
@@ -62,7 +62,7 @@ module _ (h : List Exchange) where
     refers_behind : (named : Named) (taken : Taken) (closer : Bracket) (t : State) → Follows t (refers reader leaf named taken closer t) (refers reader leaf named taken closer (asked_behind h t))
     refers_behind named taken closer t =
         let found = reader.definition (fold named.label) in
-        by_bool t (t.expansion == 0) (Settled (stays reader leaf closer t)) (defined_or_asked reader leaf found named taken closer t)
+        by_bool t (t.expansion_left == 0) (Settled (stays reader leaf closer t)) (defined_or_asked reader leaf found named taken closer t)
         (Settled (stays reader leaf closer (asked_behind h t))) (defined_or_asked reader leaf found named taken closer (asked_behind h t))
         (settled t (stays reader leaf closer t) (stays reader leaf closer (asked_behind h t)) refl) (defined_behind found named taken closer t)
 
@@ -86,11 +86,11 @@ module _ (h : List Exchange) where
         (by_bool t is_label (refers reader leaf named taken closer t) (Settled (stays reader leaf closer t)) (refers reader leaf named taken closer u) (Settled (stays reader leaf closer u))
         (refers_behind named taken closer t) (settled t (stays reader leaf closer t) (stays reader leaf closer u) refl))
 
-    reference_behind : (found : Option Found) (taken : Taken) (closer : Bracket) (t : State) → Follows t (reference_or reader leaf found taken closer t) (reference_or reader leaf found taken closer (asked_behind h t))
+    reference_behind : (found : Option Parsed) (taken : Taken) (closer : Bracket) (t : State) → Follows t (reference_or reader leaf found taken closer t) (reference_or reader leaf found taken closer (asked_behind h t))
     reference_behind (Some found) taken closer t =
         let end = place reader leaf found.behind in
-        refers_behind (record { label = as_label reader leaf found.bytes; link_type = Reference; end = end; past = end }) taken closer
-        (record { at = t.at; expansion = t.expansion; label_close = Some (end - 1); asked = t.asked; openers = t.openers })
+        refers_behind (record { label = as_label reader leaf found.bytes; link_type = Reference; end = end; resume = end }) taken closer
+        (record { at = t.at; expansion_left = t.expansion_left; label_close = Some (end - 1); asked = t.asked; openers = t.openers })
     reference_behind None taken closer t =
         let u = asked_behind h t in
         let bytes = between reader leaf taken.opener.bracket.end closer.start in
@@ -115,7 +115,7 @@ module _ (h : List Exchange) where
     wikilink_behind (Some first) taken closer t =
         let u = asked_behind h t in
         let refused = first.opener.is_inactive || (length (name_in (wiki_text reader leaf first closer)) == 0) in
-        let v : State = record { at = t.at; expansion = t.expansion; label_close = t.label_close; asked = t.asked; openers = tried first.nearer t.openers } in
+        let v : State = record { at = t.at; expansion_left = t.expansion_left; label_close = t.label_close; asked = t.asked; openers = tried first.nearer t.openers } in
         by_bool t refused (with_taken reader leaf taken closer v) (Settled (wikilink reader leaf first closer t))
         (with_taken reader leaf taken closer (asked_behind h v)) (Settled (wikilink reader leaf first closer u))
         (taken_behind taken closer v) (settled t (wikilink reader leaf first closer t) (wikilink reader leaf first closer u) refl)
@@ -131,7 +131,7 @@ module _ (h : List Exchange) where
     decide_behind : (s : State) (closer : Bracket) → Follows s (decide reader leaf s closer) (decide reader leaf (asked_behind h s) closer)
     unfolding decide
     decide_behind s closer =
-        taking_behind (nearest s.openers) closer (record { at = s.at; expansion = s.expansion; label_close = s.label_close; asked = s.asked; openers = used_up s.openers })
+        taking_behind (nearest s.openers) closer (record { at = s.at; expansion_left = s.expansion_left; label_close = s.label_close; asked = s.asked; openers = used_up s.openers })
 
 pub decide-shifted : (reader : Reader) (leaf : Leaf) → IsShifted (decide reader leaf)
 decide-shifted reader leaf = record { comes = λ h all s closer o k. decide_behind h reader leaf s closer all o k }

@@ -48,8 +48,8 @@ use Rattle.cmark_inline_model.proofs.WikiGaps.{decide-far, reading-gaps}
 
 -- ## Runs have their bytes
 
-run-some : (options : Options) (mark size : ℕ) → is_delimiter_run options mark size ≡ true → 0 < size
-run-some options mark zero e = absurd (stars ((mark == 42) || (mark == 95)) (mark == 126) (options.strikethrough || options.subscript) (mark == 94) options.superscript e)
+run-some : (options : Options) (delimiter size : ℕ) → is_delimiter_run options delimiter size ≡ true → 0 < size
+run-some options delimiter zero e = absurd (stars ((delimiter == 42) || (delimiter == 95)) (delimiter == 126) (options.strikethrough || options.subscript) (delimiter == 94) options.superscript e)
   where
     stars : (a b c d f : Bool) → ((a && false) || ((b && (c && false)) || (d && (f && false)))) ≡ true → ⊥
     stars true true true true true e = cc
@@ -70,7 +70,7 @@ run-some options mark zero e = absurd (stars ((mark == 42) || (mark == 95)) (mar
     stars false false c true true e = cc
     stars false false c true false e = cc
     stars false false c false f e = cc
-run-some options mark (suc size) e = omega arith
+run-some options delimiter (suc size) e = omega arith
 
 abbrev ExactItem : Item → Type 0
 ExactItem x = ExactBy x.kind x.start x.end
@@ -89,13 +89,13 @@ module _ (reader : Reader) (leaf : Leaf) where
     quoted = λ on quote start end. tt;
     inline_math = λ on text start end. tt;
     display_math = λ on text start end. tt;
-    run = λ run start is_run. (refl, run-some reader.options run.mark run.size is_run);
+    run = λ run start is_run. (refl, run-some reader.options run.delimiter run.run_length is_run);
     autolink = λ at b bs found here e. tt;
   }
 
   parts_exact : (s : State) (parts : Parts) (t : State) → Reads (token reader leaf) (decide reader leaf) AnyAnswer s parts t → OfItems ExactItem parts
   parts_exact s parts t h =
-      items-hold (token reader leaf) (decide reader leaf) AnyAnswer ExactItem (λ at past item e. subst (HoldsOf reader leaf ExactBy) e (token-holds reader leaf ExactBy items_exact at)) s parts t h
+      items-hold (token reader leaf) (decide reader leaf) AnyAnswer ExactItem (λ at resume item e. subst (HoldsOf reader leaf ExactBy) e (token-holds reader leaf ExactBy items_exact at)) s parts t h
 
 item_exact : (x : Item) (after : Inline) → ExactItem x → AreExact after → AreExact (item_then x.kind x after)
 item_exact x after u k = go x.kind (kind-view x.kind)
@@ -122,7 +122,7 @@ siblings_exact options (Opening opener after) u = (tt, siblings_exact options af
 
 abbrev Sizes : List Run → Type 0
 Sizes [] = Unit {0}
-Sizes (run ∷ runs) = (0 < run.size) × Sizes runs
+Sizes (run ∷ runs) = (0 < run.run_length) × Sizes runs
 
 size_first : (kind : ItemKind) (start end : ℕ) (runs : List Run) → ExactBy kind start end → Sizes runs → Sizes (run_before kind runs)
 size_first (Delimiters run) start end runs u k = (u.1, k)
@@ -163,13 +163,13 @@ runs_left (r ∷ fr) lr [] lb at c s nf nl hf hl before behind = absurd (let z =
 runs_left (r ∷ fr) lr (b ∷ fb) lb at zero s nf nl hf hl before behind = absurd (let z : at ≤ b = behind (omega arith) in let y = hf.0 in omega arith)
 runs_left (r ∷ fr) lr (b ∷ fb) lb at (suc c) s nf nl hf hl before behind =
     let all = b ∷ fb in
-    let fits : r.size ≤ length all = omega arith in
-    let n = length-drop r.size all in
-    let rest = drop r.size all in
-    let i = runs_left fr lr rest lb at c s.1 (omega arith) nl (below_drop r.size at all hf) hl
-    (λ k a e. subst (λ x. x < at) (get_skip r.size all lb (bytes_in (take k (fr ++ lr))) fits) (before (suc k) (omega arith) (omega arith)))
-    (λ e. subst (λ x. at ≤ x) (get_skip r.size all lb (bytes_in (take c (fr ++ lr))) fits) (behind (omega arith))) in
-    (i.0, drop_skip r.size all lb (bytes_in (take c (fr ++ lr))) fits ∙ i.1)
+    let fits : r.run_length ≤ length all = omega arith in
+    let n = length-drop r.run_length all in
+    let rest = drop r.run_length all in
+    let i = runs_left fr lr rest lb at c s.1 (omega arith) nl (below_drop r.run_length at all hf) hl
+    (λ k a e. subst (λ x. x < at) (get_skip r.run_length all lb (bytes_in (take k (fr ++ lr))) fits) (before (suc k) (omega arith) (omega arith)))
+    (λ e. subst (λ x. at ≤ x) (get_skip r.run_length all lb (bytes_in (take c (fr ++ lr))) fits) (behind (omega arith))) in
+    (i.0, drop_skip r.run_length all lb (bytes_in (take c (fr ++ lr))) fits ∙ i.1)
 
 quotes_left : (fq lq : List ℕ) (fx lx : List Quote) (at c : ℕ) → length fq ≡ length fx → length lq ≡ length lx → Below at fq → From at lq
     → ((k : ℕ) → k < c → k < length (fq ++ lq) → get_or (fq ++ lq) k 0 < at) → (c < length (fq ++ lq) → at ≤ get_or (fq ++ lq) c 0)

@@ -97,8 +97,8 @@ StandFrom x = (at : ℕ) (s : List Slot) (b q : List ℕ) → LaysOut at x s b q
 
 item-from : (kind : ItemKind) (x : Item) (after : Inline) → StandFrom after → (at : ℕ) (s : List Slot) (b q : List ℕ) → LaysItem kind x (λ i j k l. LaysOut i after j k l) at s b q → From at b × From at q
 item-from (Delimiters run) x after ih at s b q h =
-    let i = ih (at + run.size) h.0 h.1 q h.4 in
-    (subst (From at) (sym h.3) (places-from at at run.size h.1 (omega arith) (from-less at (at + run.size) h.1 (omega arith) i.0)), from-less at (at + run.size) q (omega arith) i.1)
+    let i = ih (at + run.run_length) h.0 h.1 q h.4 in
+    (subst (From at) (sym h.3) (places-from at at run.run_length h.1 (omega arith) (from-less at (at + run.run_length) h.1 (omega arith) i.0)), from-less at (at + run.run_length) q (omega arith) i.1)
 item-from (Quoted quote) x after ih at s b q h =
     let i = ih (suc at) h.0 b h.1 h.4 in
     (from-less at (suc at) b (omega arith) i.0, subst (From at) (sym h.3) (omega arith, from-less at (suc at) h.1 (omega arith) i.1))
@@ -120,7 +120,7 @@ lays-from (Around tag start end inside after) at s b q h =
 
 -- a run has as many bytes as its range, and some
 abbrev pub ExactBy : ItemKind → (start end : ℕ) → Type 0
-ExactBy (Delimiters run) start end = (end ≡ start + run.size) × (0 < run.size)
+ExactBy (Delimiters run) start end = (end ≡ start + run.run_length) × (0 < run.run_length)
 ExactBy _ start end = Unit {0}
 
 abbrev pub AreExact : Inline → Type 0
@@ -270,20 +270,20 @@ quote-front kind quotes = refl
 hidden-item : (kind : ItemKind) (x : Item) (place : ℕ) (After : ℕ → List Slot → List ℕ → List ℕ → Type 0) → nat_le x.end place ≡ true → ExactBy kind x.start x.end → (at : ℕ) (s : List Slot) (b q : List ℕ)
     → LaysItem kind x After at s b q → Hidden place at s b q (run_of kind) (quote_of kind) After
 hidden-item (Delimiters run) x place After le ex at s b q h =
-    let n = length-run-slots x.start run.size [] in
-    let m = length-run-places at run.size [] in
+    let n = length-run-slots x.start run.run_length [] in
+    let m = length-run-places at run.run_length [] in
     let l : x.end ≤ place = grind (arith) in
     let e = ex.0 in
-    let size : length (run_slots x.start run.size []) ≡ run.size = omega arith in
+    let size : length (run_slots x.start run.run_length []) ≡ run.run_length = omega arith in
     record {
-      front = run_slots x.start run.size [];
+      front = run_slots x.start run.run_length [];
       more = h.0;
-      row_is = h.2 ∙ sym (run-slots-grow x.start run.size [] h.0);
-      ends = run-ends place x.start run.size (omega arith);
-      front_bytes = run_places at run.size [];
+      row_is = h.2 ∙ sym (run-slots-grow x.start run.run_length [] h.0);
+      ends = run-ends place x.start run.run_length (omega arith);
+      front_bytes = run_places at run.run_length [];
       more_bytes = h.1;
-      bytes_are = h.3 ∙ sym (run-places-grow at run.size [] h.1);
-      bytes_before = subst (λ k. Below (at + k) (run_places at run.size [])) (sym size) (places-below at run.size);
+      bytes_are = h.3 ∙ sym (run-places-grow at run.run_length [] h.1);
+      bytes_before = subst (λ k. Below (at + k) (run_places at run.run_length [])) (sym size) (places-below at run.run_length);
       front_quotes = [];
       more_quotes = q;
       quotes_are = refl;
@@ -351,9 +351,9 @@ from_there place x = item x.kind (max x.start place) x.end
 abbrev KeptItem : (kind : ItemKind) (x : Item) (place : ℕ) (After : ℕ → List Slot → List ℕ → List ℕ → Type 0) (at : ℕ) (s : List Slot) (b q : List ℕ) → Type 0
 KeptItem kind x place After at s b q = LaysItem kind (from_there place x) After at (shown_from place s) b q × (hidden_by place s ≡ 0)
 
-kept-run : (run : Run) (x : Item) (place : ℕ) (After : ℕ → List Slot → List ℕ → List ℕ → Type 0) → place ≤ x.start → 0 < run.size → (at : ℕ) (s : List Slot) (b q : List ℕ) → LaysItem (Delimiters run) x After at s b q
+kept-run : (run : Run) (x : Item) (place : ℕ) (After : ℕ → List Slot → List ℕ → List ℕ → Type 0) → place ≤ x.start → 0 < run.run_length → (at : ℕ) (s : List Slot) (b q : List ℕ) → LaysItem (Delimiters run) x After at s b q
     → KeptItem (Delimiters run) x place After at s b q
-kept-run run x place After le some at s b q h = go run.size refl
+kept-run run x place After le some at s b q h = go run.run_length refl
   where
     same : max x.start place ≡ x.start
     same = omega arith
@@ -361,7 +361,7 @@ kept-run run x place After le some at s b q h = go run.size refl
     late : nat_le (suc x.start) place ≡ false
     late = grind (arith)
 
-    go : (n : ℕ) → run.size ≡ n → KeptItem (Delimiters run) x place After at s b q
+    go : (n : ℕ) → run.run_length ≡ n → KeptItem (Delimiters run) x place After at s b q
     go zero e = absurd (omega arith)
     go (suc n) e =
         let is : s ≡ ItemSlot (item Own x.start (suc x.start)) ∷ run_slots (suc x.start) n h.0 = h.2 ∙ ap (λ m. run_slots x.start m h.0) e in
@@ -369,7 +369,7 @@ kept-run run x place After le some at s b q h = go run.size refl
           (
             h.0,
             h.1,
-            ap (shown_from place) is ∙ k.0 ∙ ap (λ m. ItemSlot (item Own m (suc x.start)) ∷ run_slots (suc x.start) n h.0) same ∙ ap (λ m. run_slots x.start m h.0) (sym e) ∙ ap (λ m. run_slots m run.size h.0) (sym same),
+            ap (shown_from place) is ∙ k.0 ∙ ap (λ m. ItemSlot (item Own m (suc x.start)) ∷ run_slots (suc x.start) n h.0) same ∙ ap (λ m. run_slots x.start m h.0) (sym e) ∙ ap (λ m. run_slots m run.run_length h.0) (sym same),
             h.3,
             h.4,
           ),
@@ -514,13 +514,13 @@ module _ (Pipe : ℕ → Type 0) where
 
     first-item : (kind : ItemKind) (x : Item) (place : ℕ) (After : ℕ → List Slot → List ℕ → List ℕ → Type 0) → nat_le x.end place ≡ false → FreeBy kind place x.start x.end → ExactBy kind x.start x.end → IsKnown place x
         → (at : ℕ) (s : List Slot) (b q : List ℕ) → LaysItem kind x After at s b q → IsFirst place s
-    first-item (Delimiters run) x place After e free ex known at s b q h = go run.size refl
+    first-item (Delimiters run) x place After e free ex known at s b q h = go run.run_length refl
       where
         early : (c : Bool) → nat_le place x.start ≡ c → place ≤ x.start
         early true f = grind (arith)
         early false f = let l : place < x.end = grind (arith) in absurd (free (let r : x.start < place = grind (arith) in r) (omega arith))
 
-        go : (n : ℕ) → run.size ≡ n → IsFirst place s
+        go : (n : ℕ) → run.run_length ≡ n → IsFirst place s
         go zero f = absurd (let z = ex.1 in omega arith)
         go (suc n) f =
             let k = kept-run run x place After (early (nat_le place x.start) refl) ex.1 at s b q h in

@@ -9,8 +9,8 @@ use Rattle.cmark_grammar.specs.Columns.{is_blank_byte}
 use Rattle.cmark_grammar.specs.Formulas.{is_dollar, is_ink, Braces, context_of, behind_byte, closes_formula, formula_to, inline_in, display_in}
 use Rattle.cmark_grammar.specs.Letters.{is_letter, first_is, behind_all, behind_if, and_then}
 use Rattle.cmark_grammar.specs.Lines.{is_content}
-use Rattle.cmark_grammar.specs.LinkDefinitions.{Found, put, escapes_next}
-use Rattle.cmark_grammar.specs.Tags.{is_name_byte, is_attribute_start, is_attribute_byte, is_value_byte, is_space_byte, behind_line_feed, behind_ending, behind_tag_name, behind_attribute_name, behind_bare_value, behind_greater, behind_open_end, behind_closing_tag, without_prefix, on_next_line, behind_space, prefix_behind, behind_quote, behind_value, behind_assigned, behind_attribute, behind_attributes, behind_open_tag, behind_tag_start, behind_tag, no_prefix}
+use Rattle.cmark_grammar.specs.LinkDefinitions.{Parsed, put, escapes_next}
+use Rattle.cmark_grammar.specs.Tags.{is_name_byte, is_attribute_start, is_attribute_byte, is_value_byte, is_space_byte, behind_line_feed, behind_ending, behind_tag_name, behind_attribute_name, behind_bare_value, behind_greater, behind_open_end, behind_closing_tag, without_prefix, on_next_line, behind_space, prefix_behind, behind_quotation_mark, behind_value, behind_assigned, behind_attribute, behind_attributes, behind_open_tag, behind_tag_start, behind_tag, no_prefix}
 use Rattle.cmark_grammar.proofs.RowEdges.{Front}
 use Rattle.cmark_inline_model.proofs.WordBytes.{and-left, and-right, Leads, prefix-leads}
 
@@ -91,18 +91,18 @@ module _ (prefix : List ℕ → ℕ) where
       let blanks : List ℕ = behind_all is_blank_byte bs in
       onward bs blanks _ (all-rest is_blank_byte bs) (line-rest blanks (behind_ending blanks) (ending-rest blanks))
 
-  quote-rest : (quote skip : ℕ) (bs r : List ℕ) → behind_quote prefix quote skip bs ≡ Some r → IsRest bs r
+  quote-rest : (quote skip : ℕ) (bs r : List ℕ) → behind_quotation_mark prefix quote skip bs ≡ Some r → IsRest bs r
   quote-rest quote skip [] r e = cc
   quote-rest quote (suc skip) (b ∷ bs) r e = onward (b ∷ bs) bs r (1, refl) (quote-rest quote skip bs r e)
   quote-rest quote zero (b ∷ bs) r e =
       ⊎_elim (λ s. (1, same bs r s.1)) (λ f. onward (b ∷ bs) bs r (1, refl) (quote-rest quote (prefix_behind prefix b bs) bs r f))
-      (branch (b == quote) (Some bs) (behind_quote prefix quote (prefix_behind prefix b bs) bs) r e)
+      (branch (b == quote) (Some bs) (behind_quotation_mark prefix quote (prefix_behind prefix b bs) bs) r e)
 
   value-rest : (bs r : List ℕ) → behind_value prefix bs ≡ Some r → IsRest bs r
   value-rest [] r e = cc
   value-rest (b ∷ bs) r e =
       ⊎_elim (λ f. onward (b ∷ bs) bs r (1, refl) (quote-rest b 0 bs r f.1)) (λ f. then-all is_value_byte is_value_byte (b ∷ bs) r f)
-      (branch ((b == 34) || (b == 39)) (behind_quote prefix b 0 bs) (behind_bare_value (b ∷ bs)) r e)
+      (branch ((b == 34) || (b == 39)) (behind_quotation_mark prefix b 0 bs) (behind_bare_value (b ∷ bs)) r e)
 
   assigned-rest : (name bs r : List ℕ) → IsRest name bs → behind_assigned prefix name bs ≡ Some r → IsRest name r
   assigned-rest name [] r h e = (0, same name r e)
@@ -163,11 +163,11 @@ tag-behind bs r e =
 
 -- ## Code spans
 
-abbrev pub FoundBehind : List ℕ → Option Found → Type 0
-FoundBehind bs None = Unit {0}
-FoundBehind bs (Some found) = IsBehind bs found.behind
+abbrev pub ParsedBehind : List ℕ → Option Parsed → Type 0
+ParsedBehind bs None = Unit {0}
+ParsedBehind bs (Some found) = IsBehind bs found.behind
 
-abbrev RunRest : (size : ℕ) → List ℕ → Option Found → Type 0
+abbrev RunRest : (size : ℕ) → List ℕ → Option Parsed → Type 0
 RunRest size bs None = Unit {0}
 RunRest size bs (Some found) = IsRest bs found.behind × (backticks found.behind ≡ size)
 
@@ -175,15 +175,15 @@ when : {A : Type 0} (P : A → Type 0) (b : Bool) (x y : A) → (b ≡ true → 
 when P true x y h k = h refl
 when P false x y h k = k refl
 
-put_run : (size b : ℕ) (bs : List ℕ) (o : Option Found) → RunRest size bs o → RunRest size (b ∷ bs) (put b o)
+put_run : (size b : ℕ) (bs : List ℕ) (o : Option Parsed) → RunRest size bs o → RunRest size (b ∷ bs) (put b o)
 put_run size b bs None h = tt
 put_run size b bs (Some found) h = (onward (b ∷ bs) bs found.behind (1, refl) h.0, h.1)
 
 run_rest : (size : ℕ) (goes_on : Bool) (bs : List ℕ) → RunRest size bs (up_to_run size goes_on bs)
 run_rest size goes_on [] = tt
 run_rest size goes_on (b ∷ bs) =
-    let after_it : Option Found = up_to_run size (is_backtick b) bs in
-    let here : Option Found = Some (record { bytes = []; behind = b ∷ bs }) in
+    let after_it : Option Parsed = up_to_run size (is_backtick b) bs in
+    let here : Option Parsed = Some (record { bytes = []; behind = b ∷ bs }) in
     when (RunRest size (b ∷ bs)) (is_backtick b && (not goes_on && (backticks (b ∷ bs) == size))) here (put b after_it)
     (λ e. ((0, refl), eqb-true (backticks (b ∷ bs)) size (and-right (not goes_on) (backticks (b ∷ bs) == size) (and-right (is_backtick b) (not goes_on && (backticks (b ∷ bs) == size)) e))))
     (λ e. put_run size b bs after_it (run_rest size (is_backtick b) bs))
@@ -208,10 +208,10 @@ run_behind : (bs l : List ℕ) (n : ℕ) → 0 < n → IsRest bs l → backticks
 run_behind bs l n some h e =
     behind-rest bs l (drop n l) h (leads_behind n l some (subst (λ k. Leads Content k l) e (prefix-leads is_backtick Content backtick_content l)))
 
-pub code-behind : (bs : List ℕ) → FoundBehind bs (code_in bs)
+pub code-behind : (bs : List ℕ) → ParsedBehind bs (code_in bs)
 code-behind bs = go (backticks bs == 0) refl
   where
-    found : (o : Option Found) → 0 < backticks bs → RunRest (backticks bs) (behind_all is_backtick bs) o → FoundBehind bs (option_map (behind_run (backticks bs)) o)
+    found : (o : Option Parsed) → 0 < backticks bs → RunRest (backticks bs) (behind_all is_backtick bs) o → ParsedBehind bs (option_map (behind_run (backticks bs)) o)
     found None lt h = tt
     found (Some f) lt h = run_behind bs f.behind (backticks bs) lt (onward bs (behind_all is_backtick bs) f.behind (all-rest is_backtick bs) h.0) h.1
 
@@ -219,13 +219,13 @@ code-behind bs = go (backticks bs == 0) refl
     some zero e = cc
     some (suc n) e = omega arith
 
-    go : (z : Bool) → (backticks bs == 0) ≡ z → FoundBehind bs (if z then None else option_map (behind_run (backticks bs)) (up_to_run (backticks bs) false (behind_all is_backtick bs)))
+    go : (z : Bool) → (backticks bs == 0) ≡ z → ParsedBehind bs (if z then None else option_map (behind_run (backticks bs)) (up_to_run (backticks bs) false (behind_all is_backtick bs)))
     go true e = tt
     go false e = found (up_to_run (backticks bs) false (behind_all is_backtick bs)) (some (backticks bs) e) (run_rest (backticks bs) false (behind_all is_backtick bs))
 
 -- ## Formulas
 
-put_behind : (b : ℕ) (bs : List ℕ) (o : Option Found) → FoundBehind bs o → FoundBehind (b ∷ bs) (put b o)
+put_behind : (b : ℕ) (bs : List ℕ) (o : Option Parsed) → ParsedBehind bs o → ParsedBehind (b ∷ bs) (put b o)
 put_behind b bs None h = tt
 put_behind b bs (Some found) h = behind-rest (b ∷ bs) bs found.behind (1, refl) h
 
@@ -240,22 +240,22 @@ closed_formula : (is_display : Bool) (last b : ℕ) (bs : List ℕ) → is_dolla
 closed_formula true last b bs e f = behind-rest (b ∷ bs) bs (drop 1 bs) (1, refl) (first_behind bs f)
 closed_formula false last b bs e f = dollar_behind b bs e
 
-formula_behind : (is_display : Bool) (context : ℕ) (escaped : Bool) (last : ℕ) (braces : Braces) (bs : List ℕ) → FoundBehind bs (formula_to is_display context escaped last braces bs)
+formula_behind : (is_display : Bool) (context : ℕ) (escaped : Bool) (last : ℕ) (braces : Braces) (bs : List ℕ) → ParsedBehind bs (formula_to is_display context escaped last braces bs)
 formula_behind is_display context escaped last braces [] = tt
 formula_behind is_display context escaped last braces (b ∷ bs) =
-    let here : Option Found = Some (record { bytes = []; behind = drop (if is_display then 1 else 0) bs }) in
-    let closed : Option Found = if closes_formula is_display last bs then here else None in
-    let later : Option Found = formula_to is_display context (escapes_next escaped b) b (behind_byte escaped b braces) bs in
-    when (FoundBehind (b ∷ bs)) (not escaped && (is_dollar b && (context_of braces == context))) closed (put b later)
-    (λ e. when (FoundBehind (b ∷ bs)) (closes_formula is_display last bs) here None
+    let here : Option Parsed = Some (record { bytes = []; behind = drop (if is_display then 1 else 0) bs }) in
+    let closed : Option Parsed = if closes_formula is_display last bs then here else None in
+    let later : Option Parsed = formula_to is_display context (escapes_next escaped b) b (behind_byte escaped b braces) bs in
+    when (ParsedBehind (b ∷ bs)) (not escaped && (is_dollar b && (context_of braces == context))) closed (put b later)
+    (λ e. when (ParsedBehind (b ∷ bs)) (closes_formula is_display last bs) here None
     (λ f. closed_formula is_display last b bs (and-left (is_dollar b) (context_of braces == context) (and-right (not escaped) (is_dollar b && (context_of braces == context)) e)) f) (λ f. tt))
     (λ e. put_behind b bs later (formula_behind is_display context (escapes_next escaped b) b (behind_byte escaped b braces) bs))
 
-pub inline-behind : (braces : Braces) (bs : List ℕ) → FoundBehind bs (inline_in braces bs)
+pub inline-behind : (braces : Braces) (bs : List ℕ) → ParsedBehind bs (inline_in braces bs)
 inline-behind braces bs =
-    when (FoundBehind bs) (first_is is_ink bs) (formula_to false (context_of braces) false 36 braces bs) None (λ e. formula_behind false (context_of braces) false 36 braces bs) (λ e. tt)
+    when (ParsedBehind bs) (first_is is_ink bs) (formula_to false (context_of braces) false 36 braces bs) None (λ e. formula_behind false (context_of braces) false 36 braces bs) (λ e. tt)
 
-pub display-behind : (braces : Braces) (bs : List ℕ) → FoundBehind bs (display_in braces bs)
+pub display-behind : (braces : Braces) (bs : List ℕ) → ParsedBehind bs (display_in braces bs)
 display-behind braces bs = formula_behind true (context_of braces) false 36 braces bs
 
 -- ## Autolinks
@@ -264,10 +264,10 @@ first_here : (l : List ℕ) → first_is (λ b. b == 62) l ≡ true → IsBehind
 first_here [] e = cc
 first_here (b ∷ l) e = byte_behind b 62 l refl e
 
-closed_behind : (size : ℕ) (bs : List ℕ) → FoundBehind bs (closed_by 62 size bs)
+closed_behind : (size : ℕ) (bs : List ℕ) → ParsedBehind bs (closed_by 62 size bs)
 closed_behind size bs =
-    when (FoundBehind bs) (first_is (λ b. b == 62) (drop size bs)) (Some (record { bytes = _; behind = drop (suc size) bs })) None
+    when (ParsedBehind bs) (first_is (λ b. b == 62) (drop size bs)) (Some (record { bytes = _; behind = drop (suc size) bs })) None
     (λ e. subst (IsBehind bs) (drop-drop 1 size bs ∙ ap (λ n. drop n bs) (let q : size + 1 ≡ suc size = omega arith in q)) (behind-rest bs (drop size bs) (drop 1 (drop size bs)) (size, refl) (first_here (drop size bs) e))) (λ e. tt)
 
-pub autolink-behind : (bs : List ℕ) → FoundBehind bs (autolink_in bs)
-autolink-behind bs = when (FoundBehind bs) (has_scheme bs) (closed_by 62 (prefix_len is_uri_byte bs) bs) None (λ e. closed_behind (prefix_len is_uri_byte bs) bs) (λ e. tt)
+pub autolink-behind : (bs : List ℕ) → ParsedBehind bs (autolink_in bs)
+autolink-behind bs = when (ParsedBehind bs) (has_scheme bs) (closed_by 62 (prefix_len is_uri_byte bs) bs) None (λ e. closed_behind (prefix_len is_uri_byte bs) bs) (λ e. tt)

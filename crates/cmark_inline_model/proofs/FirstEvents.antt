@@ -37,7 +37,7 @@ use Rattle.cmark_inline_model.proofs.TokenSome.{ends-behind-bytes, no-end-at-a-b
 -- ## A delimiter run has a byte
 
 abbrev HasSize : ItemKind → Type 0
-HasSize (Delimiters run) = 0 < run.size
+HasSize (Delimiters run) = 0 < run.run_length
 HasSize _ = Unit {0}
 
 and_none : (a b : Bool) → b ≡ false → (a && b) ≡ false
@@ -47,17 +47,17 @@ and_none false b e = refl
 or_none : (a b c : Bool) → a ≡ false → b ≡ false → c ≡ false → (a || (b || c)) ≡ false
 or_none a b c e f g = ap (λ x. x || (b || c)) e ∙ ap (λ x. x || c) f ∙ g
 
-run_size : (options : Options) (mark size : ℕ) → is_delimiter_run options mark size ≡ true → 0 < size
-run_size options mark (suc size) e = omega arith
-run_size options mark zero e = absurd (true≢false (sym e ∙ none))
+run_size : (options : Options) (delimiter size : ℕ) → is_delimiter_run options delimiter size ≡ true → 0 < size
+run_size options delimiter (suc size) e = omega arith
+run_size options delimiter zero e = absurd (true≢false (sym e ∙ none))
   where
-    none : is_delimiter_run options mark 0 ≡ false
+    none : is_delimiter_run options delimiter 0 ≡ false
     none =
-        or_none _ _ _ (and_none ((mark == 42) || (mark == 95)) false refl) (and_none (mark == 126) _ (and_none (options.strikethrough || options.subscript) false refl))
-        (and_none (mark == 94) _ (and_none options.superscript false refl))
+        or_none _ _ _ (and_none ((delimiter == 42) || (delimiter == 95)) false refl) (and_none (delimiter == 126) _ (and_none (options.strikethrough || options.subscript) false refl))
+        (and_none (delimiter == 94) _ (and_none options.superscript false refl))
 
 read_size : (options : Options) (kind : ItemKind) → IsRead options kind → HasSize kind
-read_size options (Delimiters run) h = run_size options run.mark run.size h
+read_size options (Delimiters run) h = run_size options run.delimiter run.run_length h
 read_size options _ h = tt
 
 -- ## Some parts become some siblings

@@ -44,11 +44,11 @@ module _ (reader : Reader) (leaf : Leaf) (size : ℕ) (turn : InTurn 0 leaf.stre
       subst (Reaches closer.end end) (sym e) (record { behind = (x, omega arith); within = y })
   shape_reaches s closer w asked o (ToReference label os taken named link_type found h t n some l e) =
       let a = is-place closer named.end w n.ends in
-      let b = is-place closer named.past w n.passes in
+      let b = is-place closer named.resume w n.passes in
       let x = a.0 in let y = b.0 in let z = b.1 in
       subst (Reaches closer.end end) (sym e) (record { behind = (x, order n.order y); within = z })
     where
-      order : (named.end ≡ named.past) ⊎ (named.end ≡ closer.end) → closer.end ≤ named.past → named.end ≤ named.past
+      order : (named.end ≡ named.resume) ⊎ (named.end ≡ closer.end) → closer.end ≤ named.resume → named.end ≤ named.resume
       order (inl q) y = omega arith
       order (inr q) y = omega arith
   shape_reaches s closer w asked o (ToFootnote label os taken name h t on e) = subst (Reaches closer.end end) (sym e) (record { behind = (omega arith, omega arith); within = w })
@@ -80,7 +80,7 @@ module _ (reader : Reader) (leaf : Leaf) (size : ℕ) (turn : InTurn 0 leaf.stre
   pub leaf-forward : IsForward (token reader leaf) (decide reader leaf) end
   leaf-forward = record {
     ends = token-ends reader leaf size turn;
-    stands = λ at past item e. (let h = subst (Onward reader leaf size turn at) e (token-onward reader leaf size turn at) in h.1);
+    stands = λ at resume item e. (let h = subst (Onward reader leaf size turn at) e (token-onward reader leaf size turn at) in h.1);
     opens = λ at opener e. (let h = subst (Onward reader leaf size turn at) e (token-onward reader leaf size turn at) in h.1);
     comes = comes_behind;
     fits = decide-fits reader leaf;
@@ -88,7 +88,7 @@ module _ (reader : Reader) (leaf : Leaf) (size : ℕ) (turn : InTurn 0 leaf.stre
 
   pub leaf-ranges : KeepsRanges (token reader leaf) (decide reader leaf) end
   leaf-ranges = record {
-    stands = λ at past item e. (let h = subst (Onward reader leaf size turn at) e (token-onward reader leaf size turn at) in (h.0, h.2));
+    stands = λ at resume item e. (let h = subst (Onward reader leaf size turn at) e (token-onward reader leaf size turn at) in (h.0, h.2));
     opens = λ at opener e. (let h = subst (Onward reader leaf size turn at) e (token-onward reader leaf size turn at) in h.0);
     closes = λ at closer e. (let h = closer-is at closer e in let x = h.0 in let y = h.1 in let z = h.2 in (record { begins = omega arith; ordered = omega arith; ends = omega arith }, omega arith));
     comes = reaches;

@@ -83,17 +83,17 @@ begins_so text from (c ∷ cs) to h k e = go (c.part == 0) refl h.0 (begins_so t
 -- ## Rows
 
 abbrev IsRow : (text : List ℕ) → Row → Type 0
-IsRow text r = Runs (begin_of r) r.columns r.stop × AreColumns text r.columns
+IsRow text r = Runs (begin_of r) r.columns r.content_end × AreColumns text r.columns
 
 abbrev AreRows : (text : List ℕ) → List Row → Type 0
 AreRows text [] = Unit {0}
 AreRows text (r ∷ rs) = IsRow text r × AreRows text rs
 
 row_begins : (text : List ℕ) (r : Row) → IsRow text r → is_blank_line r ≡ false → is_content (get_or text (begin_of r) 0) ≡ true
-row_begins text r h e = begins_so text (begin_of r) r.columns r.stop h.0 h.1 e
+row_begins text r h e = begins_so text (begin_of r) r.columns r.content_end h.0 h.1 e
 
 behind_prefix_is : (text : List ℕ) (n : ℕ) (held : Bool) (r : Row) → IsRow text r → IsRow text (behind_prefix n held r)
-behind_prefix_is text n held r h = ((drop-Runs n (begin_of r) r.columns r.stop h.0).0, columns_behind text n r.columns h.1)
+behind_prefix_is text n held r h = ((drop-Runs n (begin_of r) r.columns r.content_end h.0).0, columns_behind text n r.columns h.1)
 
 strip_is : (text : List ℕ) (k : Container) (bare : Bool) (r : Row) → IsRow text r → IsRow text (strip k bare r)
 strip_is text k bare r h = go (keeps k bare r) refl
@@ -172,21 +172,21 @@ AreWords text (r ∷ rs) = (is_content (get_or text (begin_of r) 0) ≡ true) ×
 
 stretches_begin : (text : List ℕ) (begin : ℕ) (r : Row) (more : List Row) → is_content (get_or text begin 0) ≡ true → AreWords text more → BeginWithText text (stretches_of (stretches text begin r more))
 stretches_begin text begin r [] c h = stretch_begins text begin (words_end r) Nil c tt
-stretches_begin text begin r (s ∷ more) c h = go (begin_of s == r.past) (stretches_begin text begin s more c h.1) (stretches_begin text (begin_of s) s more h.0 h.1)
+stretches_begin text begin r (s ∷ more) c h = go (begin_of s == r.line_end) (stretches_begin text begin s more c h.1) (stretches_begin text (begin_of s) s more h.0 h.1)
   where
     go : (z : Bool) → BeginWithText text (stretches_of (stretches text begin s more)) → BeginWithText text (stretches_of (stretches text (begin_of s) s more))
-        → BeginWithText text (stretches_of (if z then stretches text begin s more else stretch_then text begin r.past (stretches text (begin_of s) s more)))
+        → BeginWithText text (stretches_of (if z then stretches text begin s more else stretch_then text begin r.line_end (stretches text (begin_of s) s more)))
     go true p q = p
-    go false p q = stretch_begins text begin r.past (stretches text (begin_of s) s more) c q
+    go false p q = stretch_begins text begin r.line_end (stretches text (begin_of s) s more) c q
 
 stretches_go_on : (text : List ℕ) (begin : ℕ) (r : Row) (more : List Row) → AreWords text more → GoOnWithText text (stretches_of (stretches text begin r more))
 stretches_go_on text begin r [] h = stretch_goes_on text begin (words_end r) Nil tt
-stretches_go_on text begin r (s ∷ more) h = go (begin_of s == r.past) (stretches_go_on text begin s more h.1) (stretches_begin text (begin_of s) s more h.0 h.1)
+stretches_go_on text begin r (s ∷ more) h = go (begin_of s == r.line_end) (stretches_go_on text begin s more h.1) (stretches_begin text (begin_of s) s more h.0 h.1)
   where
     go : (z : Bool) → GoOnWithText text (stretches_of (stretches text begin s more)) → BeginWithText text (stretches_of (stretches text (begin_of s) s more))
-        → GoOnWithText text (stretches_of (if z then stretches text begin s more else stretch_then text begin r.past (stretches text (begin_of s) s more)))
+        → GoOnWithText text (stretches_of (if z then stretches text begin s more else stretch_then text begin r.line_end (stretches text (begin_of s) s more)))
     go true p q = p
-    go false p q = stretch_goes_on text begin r.past (stretches text (begin_of s) s more) q
+    go false p q = stretch_goes_on text begin r.line_end (stretches text (begin_of s) s more) q
 
 -- texts before a place begin as they did
 before_begin : (text : List ℕ) (at : ℕ) (d : BlockDocument) → BeginWithText text (stretches_of d) → BeginWithText text (stretches_of (texts_before text at d))

@@ -12,7 +12,7 @@ use Rattle.cmark_grammar.specs.SetextAttributes.{texts_before}
 use Rattle.cmark_grammar.specs.SpanDocuments.{Segment, Given, Content, stretches_of, segments}
 use Rattle.cmark_grammar.specs.Tokens.{slice, texts_then, stretch_then, stretches, words_end}
 use Rattle.cmark_grammar.proofs.BoundaryLaws.{joined}
-use Rattle.cmark_grammar.proofs.RowPlaces.{strip-past}
+use Rattle.cmark_grammar.proofs.RowPlaces.{strip-line_end}
 use Rattle.cmark_inline_model.specs.LeafModel.{EndsLine, HaveLineEnds, AreLeavesOfLines}
 use Rattle.cmark_inline_model.proofs.LeafStretches.{AllLeaves, KeepsStretches, derived-leaves}
 
@@ -61,7 +61,7 @@ lines_are (b ∷ bs) = go (ends_line b bs) refl (lines_are bs)
 -- each row but the last ends with a line ending
 abbrev RowsEnd : List ℕ → List Row → Type 0
 RowsEnd text [] = Unit {0}
-RowsEnd text (r ∷ rs) = ((rs ≡ []) ⊎ EndsLine text r.past) × RowsEnd text rs
+RowsEnd text (r ∷ rs) = ((rs ≡ []) ⊎ EndsLine text r.line_end) × RowsEnd text rs
 
 rows_split : (text : List ℕ) (a b : List Row) → RowsEnd text (a ++ b) → RowsEnd text a × RowsEnd text b
 rows_split text [] b h = (tt, h)
@@ -72,7 +72,7 @@ rows_strip : (text : List ℕ) (k : Container) (bare : Bool) (rs : List Row) →
 rows_strip text k bare [] h = tt
 rows_strip text k bare (r ∷ []) h = (inl refl, tt)
 rows_strip text k bare (r ∷ (s ∷ rs)) h =
-    (⊎_elim (λ e. absurd (let d : ⊥ = cc in d)) (λ e. inr (subst (EndsLine text) (sym (strip-past k bare r)) e)) h.0, rows_strip text k false (s ∷ rs) h.1)
+    (⊎_elim (λ e. absurd (let d : ⊥ = cc in d)) (λ e. inr (subst (EndsLine text) (sym (strip-line_end k bare r)) e)) h.0, rows_strip text k false (s ∷ rs) h.1)
 
 rows_inside : (text : List ℕ) (k : Container) (first : Row) (more : List Row) → RowsEnd text (first ∷ more) → RowsEnd text (insides k first more)
 unfolding enter
@@ -81,11 +81,11 @@ rows_inside text k first more h = go (is_alert k) (begins more h)
     others : RowsEnd text (strips k (is_bare_start k first) more)
     others = rows_strip text k (is_bare_start k first) more h.1
 
-    begins : (more : List Row) → RowsEnd text (first ∷ more) → (strips k (is_bare_start k first) more ≡ []) ⊎ EndsLine text (enter k first).past
+    begins : (more : List Row) → RowsEnd text (first ∷ more) → (strips k (is_bare_start k first) more ≡ []) ⊎ EndsLine text (enter k first).line_end
     begins [] h = inl refl
     begins (r ∷ more) h = ⊎_elim (λ e. absurd (let d : ⊥ = cc in d)) inr h.0
 
-    go : (is_tag : Bool) → (strips k (is_bare_start k first) more ≡ []) ⊎ EndsLine text (enter k first).past → RowsEnd text (unless_tag is_tag (enter k first) (strips k (is_bare_start k first) more))
+    go : (is_tag : Bool) → (strips k (is_bare_start k first) more ≡ []) ⊎ EndsLine text (enter k first).line_end → RowsEnd text (unless_tag is_tag (enter k first) (strips k (is_bare_start k first) more))
     go true e = others
     go false e = (e, others)
 
@@ -123,12 +123,12 @@ stretch_ends text start end after e h = go (nat_lt start end) refl
 
 stretches_end : (text : List ℕ) (begin : ℕ) (r : Row) (more : List Row) → RowsEnd text (r ∷ more) → HaveLineEnds text (stretches_of (stretches text begin r more))
 stretches_end text begin r [] h = stretch_ends text begin (words_end r) Nil (inl refl) tt
-stretches_end text begin r (s ∷ more) h = go (begin_of s == r.past) (stretches_end text begin s more h.1) (stretches_end text (begin_of s) s more h.1)
+stretches_end text begin r (s ∷ more) h = go (begin_of s == r.line_end) (stretches_end text begin s more h.1) (stretches_end text (begin_of s) s more h.1)
   where
     go : (z : Bool) → HaveLineEnds text (stretches_of (stretches text begin s more)) → HaveLineEnds text (stretches_of (stretches text (begin_of s) s more))
-        → HaveLineEnds text (stretches_of (if z then stretches text begin s more else stretch_then text begin r.past (stretches text (begin_of s) s more)))
+        → HaveLineEnds text (stretches_of (if z then stretches text begin s more else stretch_then text begin r.line_end (stretches text (begin_of s) s more)))
     go true p q = p
-    go false p q = stretch_ends text begin r.past (stretches text (begin_of s) s more) (⊎_elim (λ n. absurd (let d : ⊥ = cc in d)) inr h.0) q
+    go false p q = stretch_ends text begin r.line_end (stretches text (begin_of s) s more) (⊎_elim (λ n. absurd (let d : ⊥ = cc in d)) inr h.0) q
 
 -- texts before a place end as they did, but for the last
 before_ends : (text : List ℕ) (at : ℕ) (d : BlockDocument) → HaveLineEnds text (stretches_of d) → HaveLineEnds text (stretches_of (texts_before text at d))

@@ -8,7 +8,7 @@ use Rattle.cmark_grammar.specs.LeafText.{Leaf, end_of, InTurn}
 use Rattle.cmark_grammar.specs.Parts.{Parts}
 use Rattle.cmark_grammar.specs.Questions.{AnyAnswer}
 use Rattle.cmark_grammar.specs.Readers.{Reader}
-use Rattle.cmark_inline_model.specs.Expansion.{costs, Spends}
+use Rattle.cmark_inline_model.specs.ReferenceExpansion.{costs, Spends}
 use Rattle.cmark_inline_model.specs.FormedParts.{AllFormed, closings}
 use Rattle.cmark_inline_model.specs.LinkRules.{IsFormedRightly}
 use Rattle.cmark_inline_model.specs.NestedLinks.{HasLinksApart}
@@ -26,7 +26,7 @@ module _ (reader : Reader) (leaf : Leaf) (s : State) (parts : Parts) (t : State)
   pub leaf-few : length t.asked ≤ closings parts + length s.asked
   leaf-few = questions-few (token reader leaf) (decide reader leaf) AnyAnswer (decide-recorded reader leaf) s parts t h
 
-  pub leaf-spends : Spends s.expansion (costs parts) t.expansion
+  pub leaf-spends : Spends s.expansion_left (costs parts) t.expansion_left
   leaf-spends = reading-spends (token reader leaf) (decide reader leaf) AnyAnswer (decide-pays reader leaf) s parts t h
 
   pub leaf-led : AllFormed (IsFormedRightly reader t.asked) parts

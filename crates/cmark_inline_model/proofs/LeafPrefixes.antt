@@ -5,7 +5,7 @@ use Rattle.std.proofs.lemmas.Bool.{ltb-true, ltb-false}
 use Rattle.cmark_grammar.specs.Answers.{Lookup}
 use Rattle.cmark_grammar.specs.BlockDocument.{BlockDocument, Nil, Node}
 use Rattle.cmark_grammar.specs.Columns.{Column, tab, expand, tab_columns, to_tab_stop, is_blank, is_blank_byte, indent, without_indent, bytes_of}
-use Rattle.cmark_grammar.specs.Containers.{Container, Quote, Item, Footnote, ListDefinition, begins_with, is_quote, one_blank, quote_width, is_alert, unless_tag, enter, width_of, keep_as, keeps, strip_as, strip, strips, is_bare_start, insides}
+use Rattle.cmark_grammar.specs.Containers.{Container, BlockQuote, Item, Footnote, ListDefinition, begins_with, is_block_quote, one_blank, block_quote_width, is_alert, unless_tag, enter, width_of, keep_as, keeps, strip_as, strip, strips, is_bare_start, insides}
 use Rattle.cmark_grammar.specs.Derivation.{Derives}
 use Rattle.cmark_grammar.specs.LeafText.{Stretch}
 use Rattle.cmark_grammar.specs.Lines.{lines, content}
@@ -16,7 +16,7 @@ use Rattle.cmark_grammar.specs.SpanDocuments.{stretches_of, segments}
 use Rattle.cmark_grammar.specs.Tokens.{slice, texts_then, stretch_then, stretches, words_end}
 use Rattle.cmark_grammar.proofs.BoundaryLaws.{joined, lines-ended, content-cut}
 use Rattle.cmark_grammar.proofs.RowEdges.{Front, front-add, front-less, prefix-front}
-use Rattle.cmark_grammar.proofs.RowPlaces.{Runs, drop-Runs, expand-Runs, first_place-Runs, behind_prefix, strip-past}
+use Rattle.cmark_grammar.proofs.RowPlaces.{Runs, drop-Runs, expand-Runs, first_place-Runs, behind_prefix, strip-line_end}
 use Rattle.cmark_inline_model.specs.LeafGaps.{is_prefix_byte}
 use Rattle.cmark_inline_model.proofs.LeafStretches.{AllLeaves, KeepsStretches, derived-leaves}
 
@@ -131,12 +131,12 @@ one_blank_front (c ∷ cs) = go (is_blank c) refl
     go true e = (blank_prefix c.byte e, front_zero cs)
     go false e = tt
 
-quote_front : (text : List ℕ) (r : Row) → AreBytes text r.columns → is_quote r ≡ true → Front IsPrefixColumn (quote_width r) r.columns
+quote_front : (text : List ℕ) (r : Row) → AreBytes text r.columns → is_block_quote r ≡ true → Front IsPrefixColumn (block_quote_width r) r.columns
 quote_front text r a e =
     let marked : Front IsPrefixColumn 1 (without_indent r.columns) = mark_front text (without_indent r.columns) (bytes_behind text (indent r.columns) r.columns a) (both (nat_le (indent_of r) 3) _ e) in
     let front : Front IsPrefixColumn (indent r.columns + 1) r.columns = front-add IsPrefixColumn (indent r.columns) 1 r.columns (indent_front r.columns) marked in
     let s : indent r.columns + 1 ≡ suc (indent r.columns) = omega arith in
-    let t : suc (indent r.columns) + one_blank (drop (suc (indent r.columns)) r.columns) ≡ quote_width r = omega arith in
+    let t : suc (indent r.columns) + one_blank (drop (suc (indent r.columns)) r.columns) ≡ block_quote_width r = omega arith in
     subst (λ k. Front IsPrefixColumn k r.columns) t
     (front-add IsPrefixColumn (suc (indent r.columns)) (one_blank (drop (suc (indent r.columns)) r.columns)) r.columns (subst (λ k. Front IsPrefixColumn k r.columns) s front) (one_blank_front (drop (suc (indent r.columns)) r.columns)))
 
@@ -159,10 +159,10 @@ wide_kept width r s e = go (is_blank_line r) (nat_le width (indent_of r)) refl r
     go false false ex ey f = absurd (let p : None ≡ Some s = f in cc)
 
 kept_as : (text : List ℕ) (k : Container) (r s : Row) → AreBytes text r.columns → keep_as k r ≡ Some s → IsKept r s
-kept_as text (Quote alert) r s a e = go (is_quote r) refl e
+kept_as text (BlockQuote alert) r s a e = go (is_block_quote r) refl e
   where
-    go : (z : Bool) → is_quote r ≡ z → (if z then Some (without (quote_width r) r) else None) ≡ Some s → IsKept r s
-    go true q f = let p : without (quote_width r) r ≡ s = cc in (quote_width r, (r.held, (p, quote_front text r a q)))
+    go : (z : Bool) → is_block_quote r ≡ z → (if z then Some (without (block_quote_width r) r) else None) ≡ Some s → IsKept r s
+    go true q f = let p : without (block_quote_width r) r ≡ s = cc in (block_quote_width r, (r.held, (p, quote_front text r a q)))
     go false q f = absurd (let p : None ≡ Some s = f in cc)
 kept_as text (Footnote label true size) r s a e = go (is_blank_line r) e
   where
@@ -170,7 +170,7 @@ kept_as text (Footnote label true size) r s a e = go (is_blank_line r) e
     go true f = absurd (let p : None ≡ Some s = f in cc)
     go false f = let p : hold r ≡ s = cc in (0, (true, (p, front_zero r.columns)))
 kept_as text (Footnote label false size) r s a e = wide_kept 4 r s e
-kept_as text (Item mark number width task) r s a e = wide_kept width r s e
+kept_as text (Item delimiter number width task) r s a e = wide_kept width r s e
 kept_as text (ListDefinition width) r s a e = wide_kept width r s e
 
 kept : (text : List ℕ) (k : Container) (bare : Bool) (r s : Row) → AreBytes text r.columns → keeps k bare r ≡ Some s → IsKept r s
@@ -184,19 +184,19 @@ kept text k bare r s a e = go _ e
 -- ## Rows
 
 abbrev IsRow : (text : List ℕ) → Row → Type 0
-IsRow text r = Runs (begin_of r) r.columns r.stop × AreBytes text r.columns
+IsRow text r = Runs (begin_of r) r.columns r.content_end × AreBytes text r.columns
 
 -- between two lines stand only prefixes
-abbrev HasFront : (text : List ℕ) → (past : ℕ) → List Row → Type 0
-HasFront text past [] = Unit {0}
-HasFront text past (r ∷ rs) = ArePrefixes text past (begin_of r)
+abbrev HasFront : (text : List ℕ) → (line_end : ℕ) → List Row → Type 0
+HasFront text line_end [] = Unit {0}
+HasFront text line_end (r ∷ rs) = ArePrefixes text line_end (begin_of r)
 
 abbrev AreRows : (text : List ℕ) → List Row → Type 0
 AreRows text [] = Unit {0}
-AreRows text (r ∷ rs) = IsRow text r × HasFront text r.past rs × AreRows text rs
+AreRows text (r ∷ rs) = IsRow text r × HasFront text r.line_end rs × AreRows text rs
 
 behind_prefix_is : (text : List ℕ) (n : ℕ) (held : Bool) (r : Row) → IsRow text r → IsRow text (behind_prefix n held r)
-behind_prefix_is text n held r h = ((drop-Runs n (begin_of r) r.columns r.stop h.0).0, bytes_behind text n r.columns h.1)
+behind_prefix_is text n held r h = ((drop-Runs n (begin_of r) r.columns r.content_end h.0).0, bytes_behind text n r.columns h.1)
 
 strip_is : (text : List ℕ) (k : Container) (bare : Bool) (r : Row) → IsRow text r → IsRow text (strip k bare r) × ArePrefixes text (begin_of r) (begin_of (strip k bare r))
 strip_is text k bare r h = go (keeps k bare r) refl
@@ -207,17 +207,17 @@ strip_is text k bare r h = go (keeps k bare r) refl
         let w = kept text k bare r s h.1 e in
         let n : ℕ = w.0 in
         let held : Bool = w.1.0 in
-        subst (λ t. IsRow text t × ArePrefixes text (begin_of r) (begin_of t)) w.1.1.0 (behind_prefix_is text n held r h, taken text n (begin_of r) r.columns r.stop h.0 h.1 w.1.1.1)
+        subst (λ t. IsRow text t × ArePrefixes text (begin_of r) (begin_of t)) w.1.1.0 (behind_prefix_is text n held r h, taken text n (begin_of r) r.columns r.content_end h.0 h.1 w.1.1.1)
 
-strips_front : (text : List ℕ) (k : Container) (bare : Bool) (past : ℕ) (rs : List Row) → AreRows text rs → HasFront text past rs → HasFront text past (strips k bare rs)
-strips_front text k bare past [] h f = tt
-strips_front text k bare past (r ∷ rs) h f = both_parts text past (begin_of r) (begin_of r) (begin_of (strip k bare r)) (omega arith) f (strip_is text k bare r h.0).1
+strips_front : (text : List ℕ) (k : Container) (bare : Bool) (line_end : ℕ) (rs : List Row) → AreRows text rs → HasFront text line_end rs → HasFront text line_end (strips k bare rs)
+strips_front text k bare line_end [] h f = tt
+strips_front text k bare line_end (r ∷ rs) h f = both_parts text line_end (begin_of r) (begin_of r) (begin_of (strip k bare r)) (omega arith) f (strip_is text k bare r h.0).1
 
 strips_are : (text : List ℕ) (k : Container) (bare : Bool) (rs : List Row) → AreRows text rs → AreRows text (strips k bare rs)
 strips_are text k bare [] h = tt
 strips_are text k bare (r ∷ rs) h = (
   (strip_is text k bare r h.0).0,
-  subst (λ p. HasFront text p (strips k false rs)) (sym (strip-past k bare r)) (strips_front text k false r.past rs h.2 h.1),
+  subst (λ p. HasFront text p (strips k false rs)) (sym (strip-line_end k bare r)) (strips_front text k false r.line_end rs h.2 h.1),
   strips_are text k false rs h.2,
 )
 
@@ -235,7 +235,7 @@ rows_inside text k first more h = go (is_alert k)
 
     go : (is_tag : Bool) → AreRows text (unless_tag is_tag (enter k first) (strips k (is_bare_start k first) more))
     go true = others
-    go false = (behind_prefix_is text (width_of k first) first.held first h.0, strips_front text k (is_bare_start k first) first.past more h.2 h.1, others)
+    go false = (behind_prefix_is text (width_of k first) first.held first h.0, strips_front text k (is_bare_start k first) first.line_end more h.2 h.1, others)
 
 row_runs : (at : ℕ) (line : List ℕ) → Runs at (expand 0 at (content line)) (at + length (content line))
 row_runs at line = expand-Runs 0 at (content line)
@@ -263,48 +263,48 @@ rows_are text = rows_of_lines text [] (lines text) 0 (sym (lines-ended text).1) 
 -- ## Stretches
 
 -- between a place and these stretches, and between them, stand only prefixes
-abbrev pub HaveGapsFrom : (text : List ℕ) → (past : ℕ) → List Stretch → Type 0
-HaveGapsFrom text past [] = Unit {0}
-HaveGapsFrom text past (s ∷ more) = ArePrefixes text past s.start × HaveGapsFrom text s.end more
+abbrev pub HaveGapsFrom : (text : List ℕ) → (line_end : ℕ) → List Stretch → Type 0
+HaveGapsFrom text line_end [] = Unit {0}
+HaveGapsFrom text line_end (s ∷ more) = ArePrefixes text line_end s.start × HaveGapsFrom text s.end more
 
 abbrev pub HaveGaps : (text : List ℕ) → List Stretch → Type 0
 HaveGaps text [] = Unit {0}
 HaveGaps text (s ∷ more) = HaveGapsFrom text s.end more
 
-gaps_between : (text : List ℕ) (past : ℕ) (st : List Stretch) → HaveGapsFrom text past st → HaveGaps text st
-gaps_between text past [] h = tt
-gaps_between text past (s ∷ more) h = h.1
+gaps_between : (text : List ℕ) (line_end : ℕ) (st : List Stretch) → HaveGapsFrom text line_end st → HaveGaps text st
+gaps_between text line_end [] h = tt
+gaps_between text line_end (s ∷ more) h = h.1
 
-stretch_gaps : (text : List ℕ) (past start end : ℕ) (after : BlockDocument) → ArePrefixes text past start → (end ≤ start → HaveGapsFrom text past (stretches_of after)) → HaveGapsFrom text end (stretches_of after)
-    → HaveGapsFrom text past (stretches_of (stretch_then text start end after))
-stretch_gaps text past start end after p none h = go (nat_lt start end) refl
+stretch_gaps : (text : List ℕ) (line_end start end : ℕ) (after : BlockDocument) → ArePrefixes text line_end start → (end ≤ start → HaveGapsFrom text line_end (stretches_of after)) → HaveGapsFrom text end (stretches_of after)
+    → HaveGapsFrom text line_end (stretches_of (stretch_then text start end after))
+stretch_gaps text line_end start end after p none h = go (nat_lt start end) refl
   where
-    go : (z : Bool) → nat_lt start end ≡ z → HaveGapsFrom text past (stretches_of (texts_then (if z then record { owned = false; bytes = slice text start end; start = start; end = end } ∷ [] else []) after))
+    go : (z : Bool) → nat_lt start end ≡ z → HaveGapsFrom text line_end (stretches_of (texts_then (if z then record { owned = false; bytes = slice text start end; start = start; end = end } ∷ [] else []) after))
     go true e = (p, h)
     go false e = none (ltb-false start end e)
 
-further : (text : List ℕ) (past begin middle : ℕ) (st : List Stretch) → begin ≤ middle → ArePrefixes text past middle → HaveGapsFrom text begin st → HaveGapsFrom text past st
-further text past begin middle [] le p h = tt
-further text past begin middle (s ∷ more) le p h = (both_parts text past middle begin s.start le p h.0, h.1)
+further : (text : List ℕ) (line_end begin middle : ℕ) (st : List Stretch) → begin ≤ middle → ArePrefixes text line_end middle → HaveGapsFrom text begin st → HaveGapsFrom text line_end st
+further text line_end begin middle [] le p h = tt
+further text line_end begin middle (s ∷ more) le p h = (both_parts text line_end middle begin s.start le p h.0, h.1)
 
-stretches_gaps : (text : List ℕ) (past begin : ℕ) (r : Row) (more : List Row) → ArePrefixes text past begin → AreRows text (r ∷ more) → HaveGapsFrom text past (stretches_of (stretches text begin r more))
-stretches_gaps text past begin r [] p h = stretch_gaps text past begin (words_end r) Nil p (λ le. tt) tt
-stretches_gaps text past begin r (s ∷ more) p h = go (begin_of s == r.past) (stretches_gaps text past begin s more p h.2) (stretches_gaps text r.past (begin_of s) s more h.1 h.2)
+stretches_gaps : (text : List ℕ) (line_end begin : ℕ) (r : Row) (more : List Row) → ArePrefixes text line_end begin → AreRows text (r ∷ more) → HaveGapsFrom text line_end (stretches_of (stretches text begin r more))
+stretches_gaps text line_end begin r [] p h = stretch_gaps text line_end begin (words_end r) Nil p (λ le. tt) tt
+stretches_gaps text line_end begin r (s ∷ more) p h = go (begin_of s == r.line_end) (stretches_gaps text line_end begin s more p h.2) (stretches_gaps text r.line_end (begin_of s) s more h.1 h.2)
   where
-    go : (z : Bool) → HaveGapsFrom text past (stretches_of (stretches text begin s more)) → HaveGapsFrom text r.past (stretches_of (stretches text (begin_of s) s more))
-        → HaveGapsFrom text past (stretches_of (if z then stretches text begin s more else stretch_then text begin r.past (stretches text (begin_of s) s more)))
+    go : (z : Bool) → HaveGapsFrom text line_end (stretches_of (stretches text begin s more)) → HaveGapsFrom text r.line_end (stretches_of (stretches text (begin_of s) s more))
+        → HaveGapsFrom text line_end (stretches_of (if z then stretches text begin s more else stretch_then text begin r.line_end (stretches text (begin_of s) s more)))
     go true p q = p
     go false i q =
-        stretch_gaps text past begin r.past (stretches text (begin_of s) s more) p (λ le. further text past r.past begin (stretches_of (stretches text (begin_of s) s more)) le p q) q
+        stretch_gaps text line_end begin r.line_end (stretches text (begin_of s) s more) p (λ le. further text line_end r.line_end begin (stretches_of (stretches text (begin_of s) s more)) le p q) q
 
 -- texts before a place begin as they did
-before_from : (text : List ℕ) (past at : ℕ) (d : BlockDocument) → HaveGapsFrom text past (stretches_of d) → HaveGapsFrom text past (stretches_of (texts_before text at d))
-before_from text past at Nil h = tt
-before_from text past at (Node n inside after) h = go (nat_lt n.end at) (before_from text n.end at after h.1)
+before_from : (text : List ℕ) (line_end at : ℕ) (d : BlockDocument) → HaveGapsFrom text line_end (stretches_of d) → HaveGapsFrom text line_end (stretches_of (texts_before text at d))
+before_from text line_end at Nil h = tt
+before_from text line_end at (Node n inside after) h = go (nat_lt n.end at) (before_from text n.end at after h.1)
   where
-    go : (z : Bool) → HaveGapsFrom text n.end (stretches_of (texts_before text at after)) → HaveGapsFrom text past (stretches_of (if z then Node n inside (texts_before text at after) else stretch_then text n.start at Nil))
+    go : (z : Bool) → HaveGapsFrom text n.end (stretches_of (texts_before text at after)) → HaveGapsFrom text line_end (stretches_of (if z then Node n inside (texts_before text at after) else stretch_then text n.start at Nil))
     go true i = (h.0, i)
-    go false i = stretch_gaps text past n.start at Nil h.0 (λ le. tt) tt
+    go false i = stretch_gaps text line_end n.start at Nil h.0 (λ le. tt) tt
 
 before_gaps : (text : List ℕ) (at : ℕ) (d : BlockDocument) → HaveGaps text (stretches_of d) → HaveGaps text (stretches_of (texts_before text at d))
 before_gaps text at Nil h = tt

@@ -7,16 +7,16 @@ use Rattle.cmark_grammar.specs.BlockDocument.{BlockKind, ListItem, Text, OwnedTe
 use Rattle.cmark_grammar.specs.BlockReading.{Reads, Around, Inside, Alone, First, Silent, starts_before, over, first_event, read_as}
 use Rattle.cmark_grammar.specs.Blocks.{Blocks, Nil as NoBlocks, BlankLine, Paragraph as ParagraphBlock, SetextHeading, LeafBlock, ContainerBlock, AreText, Body, behind_leaf, place_in}
 use Rattle.cmark_grammar.specs.Columns.{Column, is_blank_byte, drop_end}
-use Rattle.cmark_grammar.specs.Containers.{Container, Quote, Item, Footnote, ListDefinition, insides}
+use Rattle.cmark_grammar.specs.Containers.{Container, BlockQuote, Item, Footnote, ListDefinition, insides}
 use Rattle.cmark_grammar.specs.Derivation.{leaf_then, item_then, task_then, document_of, Derives, list_kind, paragraph_kind}
 use Rattle.cmark_grammar.specs.Event.{Ranged}
 use Rattle.cmark_grammar.specs.LeafText.{Stretch}
-use Rattle.cmark_grammar.specs.Lists.{ListBefore, tight_behind, goes_on, definition_mark, is_title, title_tight_behind}
+use Rattle.cmark_grammar.specs.Lists.{ListBefore, tight_behind, goes_on, definition_delimiter, is_title, title_tight_behind}
 use Rattle.cmark_grammar.specs.Metadata.{ends_metadata}
 use Rattle.cmark_grammar.specs.Openings.{Leaf, ThematicBreak as ThematicBreakLeaf, AtxHeading as AtxHeadingLeaf, IndentedCode as IndentedCodeLeaf, FencedCode as FencedCodeLeaf, HtmlBlock as HtmlBlockLeaf, LinkDefinition as LinkDefinitionLeaf, MetadataBlock as MetadataBlockLeaf, Table as TableLeaf}
 use Rattle.cmark_grammar.specs.Options.{Options}
 use Rattle.cmark_grammar.specs.Places.{Place, Apart, BehindTitle, over_blank}
-use Rattle.cmark_grammar.specs.Rows.{Row, rows, without, first_place, begin_of, start_of, past_of, words_of}
+use Rattle.cmark_grammar.specs.Rows.{Row, rows, without, first_place, begin_of, start_of, last_line_end, words_of}
 use Rattle.cmark_grammar.specs.SetextAttributes.{content_of, ends_in_braces, attributes_place, texts_before, texts_if, without_braces, setext_tokens}
 use Rattle.cmark_grammar.specs.SpanDocuments.{Segment, Given, Content, stretches_of, leaf_of, is_leaf, inside_of, node_segments, first_of_segments, with_first_segment, segments}
 use Rattle.cmark_grammar.specs.TableRows.{cells_start, cells_of}
@@ -52,8 +52,8 @@ html_are_texts : (ps : List Piece) (after : BlockDocument) → AreTexts after �
 html_are_texts [] after h = h
 html_are_texts (p ∷ ps) after h = (html_kind p, refl, html_are_texts ps after h)
 
-list_no_leaf : (mark : ℕ) (number : Option ℕ) (tight : Bool) → is_leaf (list_kind mark number tight) ≡ false
-list_no_leaf mark number tight = go (mark == definition_mark)
+list_no_leaf : (delimiter : ℕ) (number : Option ℕ) (tight : Bool) → is_leaf (list_kind delimiter number tight) ≡ false
+list_no_leaf delimiter number tight = go (delimiter == definition_delimiter)
   where
     go : (z : Bool) → is_leaf (if z then DefinitionList tight else BlockList number tight) ≡ false
     go true = refl
@@ -62,12 +62,12 @@ list_no_leaf mark number tight = go (mark == definition_mark)
 module _ (text : List ℕ) where
   stretches_are_texts : (begin : ℕ) (r : Row) (more : List Row) → AreTexts (stretches text begin r more)
   stretches_are_texts begin r [] = pieces_are_texts (piece_if text begin (words_end r) []) Nil tt
-  stretches_are_texts begin r (s ∷ more) = go (begin_of s == r.past) (stretches_are_texts begin s more) (stretches_are_texts (begin_of s) s more)
+  stretches_are_texts begin r (s ∷ more) = go (begin_of s == r.line_end) (stretches_are_texts begin s more) (stretches_are_texts (begin_of s) s more)
     where
       go : (z : Bool) → AreTexts (stretches text begin s more) → AreTexts (stretches text (begin_of s) s more)
-          → AreTexts (if z then stretches text begin s more else stretch_then text begin r.past (stretches text (begin_of s) s more))
+          → AreTexts (if z then stretches text begin s more else stretch_then text begin r.line_end (stretches text (begin_of s) s more))
       go true p q = p
-      go false p q = pieces_are_texts (piece_if text begin r.past []) (stretches text (begin_of s) s more) q
+      go false p q = pieces_are_texts (piece_if text begin r.line_end []) (stretches text (begin_of s) s more) q
 
   before_are_texts : (at : ℕ) (d : BlockDocument) → AreTexts d → AreTexts (texts_before text at d)
   before_are_texts at Nil h = tt
@@ -87,7 +87,7 @@ module _ (text : List ℕ) where
 
   heading_are_texts : (attributes : Bool) (level : ℕ) (r : Row) → AreTexts (heading_tokens text attributes level r)
   heading_are_texts attributes level r =
-      let start = first_place r.stop (behind_hashes level r) in pieces_are_texts (piece_if text start (end_place start (heading_columns attributes level r)) []) Nil tt
+      let start = first_place r.content_end (behind_hashes level r) in pieces_are_texts (piece_if text start (end_place start (heading_columns attributes level r)) []) Nil tt
 
   html_tokens_are_texts : (rows : List Row) → AreTexts (html_tokens text rows)
   html_tokens_are_texts [] = tt
@@ -142,19 +142,19 @@ module _ (text : List ℕ) (options : Options) (Holds : List Stretch → Type 0)
       go true = keeps.cut (attributes_place cs) d h
       go false = h
 
-  cells_held : (columns at past : ℕ) (cells : List (List ℕ)) → AreHeld (cells_then text columns at past cells)
-  cells_held zero at past cells = tt
-  cells_held (suc columns) at past [] = ((λ e. keeps.none), tt, cells_held columns at past [])
-  cells_held (suc columns) at past (cell ∷ cells) =
+  cells_held : (columns at line_end : ℕ) (cells : List (List ℕ)) → AreHeld (cells_then text columns at line_end cells)
+  cells_held zero at line_end cells = tt
+  cells_held (suc columns) at line_end [] = ((λ e. keeps.none), tt, cells_held columns at line_end [])
+  cells_held (suc columns) at line_end (cell ∷ cells) =
       let start = at + length (take_while is_blank_byte cell) in
       let end = at + length (drop_end is_blank_byte cell) in (
         (λ e. stretch_held start end),
         texts_held (cell_tokens text at cell) (pieces_are_texts (piece_if text start end []) Nil tt),
-        cells_held columns (suc (at + length cell)) past cells,
+        cells_held columns (suc (at + length cell)) line_end cells,
       )
 
   row_held : (columns : ℕ) (r : Row) → AreHeld (row_cells text columns r)
-  row_held columns r = cells_held columns (cells_start r) r.past (cells_of (words_of r))
+  row_held columns r = cells_held columns (cells_start r) r.line_end (cells_of (words_of r))
 
   rows_held : (columns : ℕ) (rs : List Row) → AreHeld (row_tokens text columns rs)
   rows_held columns [] = tt
@@ -164,7 +164,7 @@ module _ (text : List ℕ) (options : Options) (Holds : List Stretch → Type 0)
   leaf_held lookup ThematicBreakLeaf first more after a = (no_leaf Nil, tt, a)
   leaf_held lookup (AtxHeadingLeaf level) first more after a =
       let attributes = options.heading_attributes in
-      let start = first_place first.stop (behind_hashes level first) in
+      let start = first_place first.content_end (behind_hashes level first) in
       ((λ e. stretch_held start (end_place start (heading_columns attributes level first))), texts_held (heading_tokens text attributes level first) (heading_are_texts text attributes level first), a)
   leaf_held lookup IndentedCodeLeaf first more after a =
       let inside = code_tokens text 4 (first ∷ more) in (no_leaf inside, texts_held inside (pieces_are_texts _ Nil tt), a)
@@ -203,10 +203,10 @@ module _ (text : List ℕ) (options : Options) (Holds : List Stretch → Type 0)
       let c : AreRows (first ∷ (more ++ body.rest)) = subst AreRows body.cut g in
       let s = rows_behind (first ∷ more) body.rest c in
       let tight = title_tight_behind before after in
-      title_held (is_title after) tight (paragraph_kind direct) (start_of first) (past_of first more) (paragraph_tokens text first more)
-      (document_of text options lookup direct (Some (record { mark = definition_mark; tight = tight })) after) (document_of text options lookup direct None after)
+      title_held (is_title after) tight (paragraph_kind direct) (start_of first) (last_line_end first more) (paragraph_tokens text first more)
+      (document_of text options lookup direct (Some (record { delimiter = definition_delimiter; tight = tight })) after) (document_of text options lookup direct None after)
       (keeps.paragraph first more body.rest c body.others) (texts_held (paragraph_tokens text first more) (stretches_are_texts text (start_of first) first more))
-      (document_held lookup direct (Some (record { mark = definition_mark; tight = tight })) BehindTitle body.rest after body.after s)
+      (document_held lookup direct (Some (record { delimiter = definition_delimiter; tight = tight })) BehindTitle body.rest after body.after s)
       (document_held lookup direct None BehindTitle body.rest after body.after s)
   document_held lookup direct before behind all (SetextHeading level first more underline after) body g =
       let c : AreRows (first ∷ (more ++ (underline ∷ body.rest))) = subst AreRows body.cut g in
@@ -219,11 +219,11 @@ module _ (text : List ℕ) (options : Options) (Holds : List Stretch → Type 0)
       let c : AreRows (first ∷ (more ++ body.rest)) = subst AreRows body.cut g in
       let s = rows_behind (first ∷ more) body.rest c in
       leaf_held lookup leaf first more (document_of text options lookup direct None after) (document_held lookup direct None (behind_leaf leaf) body.rest after body.after s)
-  document_held lookup direct before behind all (ContainerBlock (Quote alert) first more inside after) body g =
+  document_held lookup direct before behind all (ContainerBlock (BlockQuote alert) first more inside after) body g =
       let c : AreRows (first ∷ (more ++ body.rest)) = subst AreRows body.cut g in
       let s = rows_behind (first ∷ more) body.rest c in (
         no_leaf (document_of text options lookup false None inside),
-        document_held lookup false None (place_in (Quote alert)) (insides (Quote alert) first more) inside body.contents (keeps.inside (Quote alert) first more body.rest c),
+        document_held lookup false None (place_in (BlockQuote alert)) (insides (BlockQuote alert) first more) inside body.contents (keeps.inside (BlockQuote alert) first more body.rest c),
         document_held lookup direct None Apart body.rest after body.after s,
       )
   document_held lookup direct before behind all (ContainerBlock (Footnote label old size) first more inside after) body g =
@@ -233,24 +233,24 @@ module _ (text : List ℕ) (options : Options) (Holds : List Stretch → Type 0)
         document_held lookup false None (place_in (Footnote label old size)) (insides (Footnote label old size) first more) inside body.contents (keeps.inside (Footnote label old size) first more body.rest c),
         document_held lookup direct None Apart body.rest after body.after s,
       )
-  document_held lookup direct before behind all (ContainerBlock (Item mark number width task) first more inside after) body g =
+  document_held lookup direct before behind all (ContainerBlock (Item delimiter number width task) first more inside after) body g =
       let c : AreRows (first ∷ (more ++ body.rest)) = subst AreRows body.cut g in
       let s = rows_behind (first ∷ more) body.rest c in
-      let tight = tight_behind before mark inside after in
-      item_held (goes_on mark after) (list_kind mark number tight) (node ListItem (begin_of first) (past_of first more))
+      let tight = tight_behind before delimiter inside after in
+      item_held (goes_on delimiter after) (list_kind delimiter number tight) (node ListItem (begin_of first) (last_line_end first more))
       (task_then task (begin_of (without width first)) (begin_of (without (behind_box task width) first)) (document_of text options lookup tight None inside))
-      (document_of text options lookup direct (Some (record { mark = mark; tight = tight })) after) (list_no_leaf mark number tight) (λ f. absurd (true≢false (sym f)))
+      (document_of text options lookup direct (Some (record { delimiter = delimiter; tight = tight })) after) (list_no_leaf delimiter number tight) (λ f. absurd (true≢false (sym f)))
       (task_held task (begin_of (without width first)) (begin_of (without (behind_box task width) first)) (document_of text options lookup tight None inside)
-      (document_held lookup tight None (place_in (Item mark number width task)) (insides (Item mark number width task) first more) inside body.contents (keeps.inside (Item mark number width task) first more body.rest c)))
-      (document_held lookup direct (Some (record { mark = mark; tight = tight })) Apart body.rest after body.after s)
+      (document_held lookup tight None (place_in (Item delimiter number width task)) (insides (Item delimiter number width task) first more) inside body.contents (keeps.inside (Item delimiter number width task) first more body.rest c)))
+      (document_held lookup direct (Some (record { delimiter = delimiter; tight = tight })) Apart body.rest after body.after s)
   document_held lookup direct before behind all (ContainerBlock (ListDefinition width) first more inside after) body g =
       let c : AreRows (first ∷ (more ++ body.rest)) = subst AreRows body.cut g in
       let s = rows_behind (first ∷ more) body.rest c in
-      let tight = tight_behind before definition_mark inside after in
-      item_held (goes_on definition_mark after) (DefinitionList tight) (node DefinitionListDefinition (begin_of first) (past_of first more)) (document_of text options lookup tight None inside)
-      (document_of text options lookup direct (Some (record { mark = definition_mark; tight = tight })) after) refl (λ f. absurd (true≢false (sym f)))
+      let tight = tight_behind before definition_delimiter inside after in
+      item_held (goes_on definition_delimiter after) (DefinitionList tight) (node DefinitionListDefinition (begin_of first) (last_line_end first more)) (document_of text options lookup tight None inside)
+      (document_of text options lookup direct (Some (record { delimiter = definition_delimiter; tight = tight })) after) refl (λ f. absurd (true≢false (sym f)))
       (document_held lookup tight None (place_in (ListDefinition width)) (insides (ListDefinition width) first more) inside body.contents (keeps.inside (ListDefinition width) first more body.rest c))
-      (document_held lookup direct (Some (record { mark = definition_mark; tight = tight })) BehindTitle body.rest after body.after s)
+      (document_held lookup direct (Some (record { delimiter = definition_delimiter; tight = tight })) BehindTitle body.rest after body.after s)
 
   -- ## Leaves
 

@@ -1,5 +1,5 @@
-pub mod AskedBelow
-pub mod AskedTurn
+pub mod QuestionsBelow
+pub mod QuestionsInTurn
 pub mod Backwards
 pub mod BracketQuestions
 pub mod BracketsEnd

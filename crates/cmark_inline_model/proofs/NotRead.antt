@@ -6,7 +6,7 @@ use lib.Utf8.{encode}
 use Rattle.caseless.proofs.Computing.{caseless}
 use Rattle.ucd_category.proofs.Computing.{ucd_category}
 use Rattle.cmark_grammar.specs.BracketDecisions.{decide}
-use Rattle.cmark_grammar.specs.Emphasis.{agrees, pair_of, rest_of_opener, rest_of_closer, kinds_of, shuts}
+use Rattle.cmark_grammar.specs.Emphasis.{agrees, pair_of, rest_of_opener, rest_of_closer, kinds_of, deactivates}
 use Rattle.cmark_grammar.specs.EmphasisModel.{closed}
 use Rattle.cmark_grammar.specs.Event.{Ranged}
 use Rattle.cmark_grammar.specs.Flanking.{is_unicode_white_space, is_unicode_punctuation}
@@ -58,92 +58,92 @@ strikethrough = record no_options { strikethrough = true }
 
 -- a link in a link
 pub link_in_link : Refused (plain_reader no_options (codes "[a [b](c) d](e)")) (whole (codes "[a [b](c) d](e)")) (codes "<a href=\"e\">a <a href=\"c\">b</a> d</a>")
-unfolding caseless encode chars token decide ucd_category is_unicode_white_space is_unicode_punctuation agrees pair_of rest_of_opener rest_of_closer kinds_of shuts closed
+unfolding caseless encode chars token decide ucd_category is_unicode_white_space is_unicode_punctuation agrees pair_of rest_of_opener rest_of_closer kinds_of deactivates closed
 link_in_link = refused (plain_reader no_options (codes "[a [b](c) d](e)")) (whole (codes "[a [b](c) d](e)")) (codes "<a href=\"e\">a <a href=\"c\">b</a> d</a>") (λ all. refl) (λ all. refl) refl
 
 -- emphasis over the end of a link
 pub emphasis_over_link_end : Refused (plain_reader no_options (codes "*a [b*](c)")) (whole (codes "*a [b*](c)")) (codes "<em>a <a href=\"c\">b</em></a>")
-unfolding caseless encode chars token decide ucd_category is_unicode_white_space is_unicode_punctuation agrees pair_of rest_of_opener rest_of_closer kinds_of shuts closed
+unfolding caseless encode chars token decide ucd_category is_unicode_white_space is_unicode_punctuation agrees pair_of rest_of_opener rest_of_closer kinds_of deactivates closed
 emphasis_over_link_end = refused (plain_reader no_options (codes "*a [b*](c)")) (whole (codes "*a [b*](c)")) (codes "<em>a <a href=\"c\">b</em></a>") (λ all. refl) (λ all. refl) refl
 
 -- a code span that begins in an autolink
 pub code_in_autolink : Refused (plain_reader no_options (codes "<http://a`b>c`")) (whole (codes "<http://a`b>c`")) (codes "&lt;http://a<code>b&gt;c</code>")
-unfolding caseless encode chars token decide ucd_category is_unicode_white_space is_unicode_punctuation agrees pair_of rest_of_opener rest_of_closer kinds_of shuts closed
+unfolding caseless encode chars token decide ucd_category is_unicode_white_space is_unicode_punctuation agrees pair_of rest_of_opener rest_of_closer kinds_of deactivates closed
 code_in_autolink = refused (plain_reader no_options (codes "<http://a`b>c`")) (whole (codes "<http://a`b>c`")) (codes "&lt;http://a<code>b&gt;c</code>") (λ all. refl) (λ all. refl) refl
 
 -- a shortcut reference where the label of a full one has no definition
 pub shortcut_behind_full : Refused (defining_reader no_options (codes "[x][y]")) (whole (codes "[x][y]")) (codes "<a href=\"/u\">x</a>[y]")
-unfolding caseless encode chars token decide ucd_category is_unicode_white_space is_unicode_punctuation agrees pair_of rest_of_opener rest_of_closer kinds_of shuts closed
+unfolding caseless encode chars token decide ucd_category is_unicode_white_space is_unicode_punctuation agrees pair_of rest_of_opener rest_of_closer kinds_of deactivates closed
 shortcut_behind_full = refused (defining_reader no_options (codes "[x][y]")) (whole (codes "[x][y]")) (codes "<a href=\"/u\">x</a>[y]") (λ all. refl) (λ all. refl) refl
 
 -- a closing run that takes the farther opening one
 pub farther_opener : Refused (plain_reader no_options (codes "*a *b*")) (whole (codes "*a *b*")) (codes "<em>a *b</em>")
-unfolding caseless encode chars token decide ucd_category is_unicode_white_space is_unicode_punctuation agrees pair_of rest_of_opener rest_of_closer kinds_of shuts closed
+unfolding caseless encode chars token decide ucd_category is_unicode_white_space is_unicode_punctuation agrees pair_of rest_of_opener rest_of_closer kinds_of deactivates closed
 farther_opener = refused (plain_reader no_options (codes "*a *b*")) (whole (codes "*a *b*")) (codes "<em>a *b</em>") (λ all. refl) (λ all. refl) refl
 
 -- runs that the rule of three keeps apart
 pub without_rule_of_three : Refused (plain_reader no_options (codes "*a**b*")) (whole (codes "*a**b*")) (codes "<em>a</em><em>b</em>")
-unfolding caseless encode chars token decide ucd_category is_unicode_white_space is_unicode_punctuation agrees pair_of rest_of_opener rest_of_closer kinds_of shuts closed
+unfolding caseless encode chars token decide ucd_category is_unicode_white_space is_unicode_punctuation agrees pair_of rest_of_opener rest_of_closer kinds_of deactivates closed
 without_rule_of_three = refused (plain_reader no_options (codes "*a**b*")) (whole (codes "*a**b*")) (codes "<em>a</em><em>b</em>") (λ all. refl) (λ all. refl) refl
 
 -- a wikilink one of whose brackets became a link
 pub wikilink_over_link : Refused (plain_reader wikilinks (codes "![[a](b)c]]")) (whole (codes "![[a](b)c]]")) (codes "<img src=\"a%5D(b)c\" alt=\"a](b)c\" />")
-unfolding caseless encode chars token decide ucd_category is_unicode_white_space is_unicode_punctuation agrees pair_of rest_of_opener rest_of_closer kinds_of shuts closed
+unfolding caseless encode chars token decide ucd_category is_unicode_white_space is_unicode_punctuation agrees pair_of rest_of_opener rest_of_closer kinds_of deactivates closed
 wikilink_over_link = refused (plain_reader wikilinks (codes "![[a](b)c]]")) (whole (codes "![[a](b)c]]")) (codes "<img src=\"a%5D(b)c\" alt=\"a](b)c\" />") (λ all. refl) (λ all. refl) refl
 
 -- a formula of an empty text
 pub empty_formula : Refused (plain_reader math (codes "$$")) (whole (codes "$$")) (codes "<span class=\"math math-inline\"></span>")
-unfolding caseless encode chars token decide ucd_category is_unicode_white_space is_unicode_punctuation agrees pair_of rest_of_opener rest_of_closer kinds_of shuts closed
+unfolding caseless encode chars token decide ucd_category is_unicode_white_space is_unicode_punctuation agrees pair_of rest_of_opener rest_of_closer kinds_of deactivates closed
 empty_formula = refused (plain_reader math (codes "$$")) (whole (codes "$$")) (codes "<span class=\"math math-inline\"></span>") (λ all. refl) (λ all. refl) refl
 
 -- an escape in a code span
 pub escape_in_code : Refused (plain_reader no_options (codes "`a\\`b`")) (whole (codes "`a\\`b`")) (codes "<code>a`b</code>")
-unfolding caseless encode chars token decide ucd_category is_unicode_white_space is_unicode_punctuation agrees pair_of rest_of_opener rest_of_closer kinds_of shuts closed
+unfolding caseless encode chars token decide ucd_category is_unicode_white_space is_unicode_punctuation agrees pair_of rest_of_opener rest_of_closer kinds_of deactivates closed
 escape_in_code = refused (plain_reader no_options (codes "`a\\`b`")) (whole (codes "`a\\`b`")) (codes "<code>a`b</code>") (λ all. refl) (λ all. refl) refl
 
 -- code without the blanks in front of its lines
 pub blanks_lost_in_code : Refused (plain_reader no_options (codes "`a\n   b`")) (whole (codes "`a\n   b`")) (codes "<code>a b</code>")
-unfolding caseless encode chars token decide ucd_category is_unicode_white_space is_unicode_punctuation agrees pair_of rest_of_opener rest_of_closer kinds_of shuts closed
+unfolding caseless encode chars token decide ucd_category is_unicode_white_space is_unicode_punctuation agrees pair_of rest_of_opener rest_of_closer kinds_of deactivates closed
 blanks_lost_in_code = refused (plain_reader no_options (codes "`a\n   b`")) (whole (codes "`a\n   b`")) (codes "<code>a b</code>") (λ all. refl) (λ all. refl) refl
 
 -- a comment without the prefixes of its lines
 pub comment_without_prefix : Refused (plain_reader no_options (codes "> x <!-- a\n> b -->")) (paragraph (stretch 2 11 ∷ stretch 13 18 ∷ [])) (codes "x <!-- a\nb -->")
-unfolding caseless encode chars token decide ucd_category is_unicode_white_space is_unicode_punctuation agrees pair_of rest_of_opener rest_of_closer kinds_of shuts closed
+unfolding caseless encode chars token decide ucd_category is_unicode_white_space is_unicode_punctuation agrees pair_of rest_of_opener rest_of_closer kinds_of deactivates closed
 comment_without_prefix = refused (plain_reader no_options (codes "> x <!-- a\n> b -->")) (paragraph (stretch 2 11 ∷ stretch 13 18 ∷ [])) (codes "x <!-- a\nb -->") (λ all. refl) (λ all. refl) refl
 
 -- a tag with the prefixes of its lines
 pub tag_with_prefix : Refused (plain_reader no_options (codes "> <foo\n> bar>")) (paragraph (stretch 2 7 ∷ stretch 9 13 ∷ [])) (codes "<foo\n> bar>")
-unfolding caseless encode chars token decide ucd_category is_unicode_white_space is_unicode_punctuation agrees pair_of rest_of_opener rest_of_closer kinds_of shuts closed
+unfolding caseless encode chars token decide ucd_category is_unicode_white_space is_unicode_punctuation agrees pair_of rest_of_opener rest_of_closer kinds_of deactivates closed
 tag_with_prefix = refused (plain_reader no_options (codes "> <foo\n> bar>")) (paragraph (stretch 2 7 ∷ stretch 9 13 ∷ [])) (codes "<foo\n> bar>") (λ all. refl) (λ all. refl) refl
 
 -- a declaration that does not see the marker of a block quote
 pub declaration_over_marker : Refused (plain_reader no_options (codes "> x <!A\n> b>")) (paragraph (stretch 2 8 ∷ stretch 10 12 ∷ [])) (codes "x <!A\nb>")
-unfolding caseless encode chars token decide ucd_category is_unicode_white_space is_unicode_punctuation agrees pair_of rest_of_opener rest_of_closer kinds_of shuts closed
+unfolding caseless encode chars token decide ucd_category is_unicode_white_space is_unicode_punctuation agrees pair_of rest_of_opener rest_of_closer kinds_of deactivates closed
 declaration_over_marker = refused (plain_reader no_options (codes "> x <!A\n> b>")) (paragraph (stretch 2 8 ∷ stretch 10 12 ∷ [])) (codes "x <!A\nb>") (λ all. refl) (λ all. refl) refl
 
 -- a link around a footnote reference
 pub link_around_footnote : Refused (defining_reader footnotes (codes "a [b [^1] c](u)")) (whole (codes "a [b [^1] c](u)")) (codes "a <a href=\"u\">b {^1} c</a>")
-unfolding caseless encode chars token decide ucd_category is_unicode_white_space is_unicode_punctuation agrees pair_of rest_of_opener rest_of_closer kinds_of shuts closed
+unfolding caseless encode chars token decide ucd_category is_unicode_white_space is_unicode_punctuation agrees pair_of rest_of_opener rest_of_closer kinds_of deactivates closed
 link_around_footnote = refused (defining_reader footnotes (codes "a [b [^1] c](u)")) (whole (codes "a [b [^1] c](u)")) (codes "a <a href=\"u\">b {^1} c</a>") (λ all. refl) (λ all. refl) refl
 
 -- a tag that wins over a code span in front of it
 pub tag_before_code : Refused (plain_reader no_options (codes "`<a href=\"`\">`")) (whole (codes "`<a href=\"`\">`")) (codes "`<a href=\"`\">`")
-unfolding caseless encode chars token decide ucd_category is_unicode_white_space is_unicode_punctuation agrees pair_of rest_of_opener rest_of_closer kinds_of shuts closed
+unfolding caseless encode chars token decide ucd_category is_unicode_white_space is_unicode_punctuation agrees pair_of rest_of_opener rest_of_closer kinds_of deactivates closed
 tag_before_code = refused (plain_reader no_options (codes "`<a href=\"`\">`")) (whole (codes "`<a href=\"`\">`")) (codes "`<a href=\"`\">`") (λ all. refl) (λ all. refl) refl
 
 -- blanks beside a line break
 pub blanks_around_break : Refused (plain_reader no_options (codes "a \n b")) (whole (codes "a \n b")) (codes "a \n b")
-unfolding caseless encode chars token decide ucd_category is_unicode_white_space is_unicode_punctuation agrees pair_of rest_of_opener rest_of_closer kinds_of shuts closed
+unfolding caseless encode chars token decide ucd_category is_unicode_white_space is_unicode_punctuation agrees pair_of rest_of_opener rest_of_closer kinds_of deactivates closed
 blanks_around_break = refused (plain_reader no_options (codes "a \n b")) (whole (codes "a \n b")) (codes "a \n b") (λ all. refl) (λ all. refl) refl
 
 -- a tilde that pairs with two
 pub tildes_of_two_lengths : Refused (plain_reader strikethrough (codes "a ~b~~ c")) (whole (codes "a ~b~~ c")) (codes "a <del>b</del>~ c")
-unfolding caseless encode chars token decide ucd_category is_unicode_white_space is_unicode_punctuation agrees pair_of rest_of_opener rest_of_closer kinds_of shuts closed
+unfolding caseless encode chars token decide ucd_category is_unicode_white_space is_unicode_punctuation agrees pair_of rest_of_opener rest_of_closer kinds_of deactivates closed
 tildes_of_two_lengths = refused (plain_reader strikethrough (codes "a ~b~~ c")) (whole (codes "a ~b~~ c")) (codes "a <del>b</del>~ c") (λ all. refl) (λ all. refl) refl
 
 -- a code span that a shorter run closes
 pub short_closing_run : Refused (plain_reader no_options (codes "``a`b``")) (whole (codes "``a`b``")) (codes "<code>a</code>b``")
-unfolding caseless encode chars token decide ucd_category is_unicode_white_space is_unicode_punctuation agrees pair_of rest_of_opener rest_of_closer kinds_of shuts closed
+unfolding caseless encode chars token decide ucd_category is_unicode_white_space is_unicode_punctuation agrees pair_of rest_of_opener rest_of_closer kinds_of deactivates closed
 short_closing_run = refused (plain_reader no_options (codes "``a`b``")) (whole (codes "``a`b``")) (codes "<code>a</code>b``") (λ all. refl) (λ all. refl) refl
 
 -- ## Questions
@@ -168,42 +168,42 @@ abbrev asking_defined : List ℕ → Reader
 asking_defined text = record (defining_reader no_options text) { has_callback = true }
 
 abbrev spent : Between
-spent = record { expansion = 0; asked = [] }
+spent = record { expansion_left = 0; asked = [] }
 
 abbrev unanswered : (start end : ℕ) → LinkType → List ℕ → Exchange
 unanswered start end link_type reference = record { question = record { start = start; end = end; link_type = link_type; reference = reference }; answer = None }
 
 -- a question about a label that has a definition
 pub question_with_definition : NeverAsked (asking_defined (codes "[x]")) start (unanswered 0 3 Shortcut (codes "x") ∷ [])
-unfolding caseless encode chars token decide ucd_category is_unicode_white_space is_unicode_punctuation agrees pair_of rest_of_opener rest_of_closer kinds_of shuts closed
+unfolding caseless encode chars token decide ucd_category is_unicode_white_space is_unicode_punctuation agrees pair_of rest_of_opener rest_of_closer kinds_of deactivates closed
 question_with_definition = never_asked (asking_defined (codes "[x]")) start (unanswered 0 3 Shortcut (codes "x") ∷ []) refl refl refl
 
 -- a question that is put twice
 pub question_twice : NeverAsked (asking no_options (codes "[a][]")) start (unanswered 0 3 Collapsed (codes "a") ∷ unanswered 0 3 Collapsed (codes "a") ∷ [])
-unfolding caseless encode chars token decide ucd_category is_unicode_white_space is_unicode_punctuation agrees pair_of rest_of_opener rest_of_closer kinds_of shuts closed
+unfolding caseless encode chars token decide ucd_category is_unicode_white_space is_unicode_punctuation agrees pair_of rest_of_opener rest_of_closer kinds_of deactivates closed
 question_twice = never_asked (asking no_options (codes "[a][]")) start (unanswered 0 3 Collapsed (codes "a") ∷ unanswered 0 3 Collapsed (codes "a") ∷ []) refl refl refl
 
 -- questions in another order than that of their closing brackets
 pub questions_out_of_order : NeverAsked (asking no_options (codes "[a [b] c]")) start (unanswered 0 9 Shortcut (codes "a [b] c") ∷ unanswered 3 6 Shortcut (codes "b") ∷ [])
-unfolding caseless encode chars token decide ucd_category is_unicode_white_space is_unicode_punctuation agrees pair_of rest_of_opener rest_of_closer kinds_of shuts closed
+unfolding caseless encode chars token decide ucd_category is_unicode_white_space is_unicode_punctuation agrees pair_of rest_of_opener rest_of_closer kinds_of deactivates closed
 questions_out_of_order = never_asked (asking no_options (codes "[a [b] c]")) start (unanswered 0 9 Shortcut (codes "a [b] c") ∷ unanswered 3 6 Shortcut (codes "b") ∷ []) refl refl refl
 
 -- questions in another order than that of the text
 pub second_before_first : NeverAsked (asking no_options (codes "[b] [c]")) start (unanswered 4 7 Shortcut (codes "c") ∷ unanswered 0 3 Shortcut (codes "b") ∷ [])
-unfolding caseless encode chars token decide ucd_category is_unicode_white_space is_unicode_punctuation agrees pair_of rest_of_opener rest_of_closer kinds_of shuts closed
+unfolding caseless encode chars token decide ucd_category is_unicode_white_space is_unicode_punctuation agrees pair_of rest_of_opener rest_of_closer kinds_of deactivates closed
 second_before_first = never_asked (asking no_options (codes "[b] [c]")) start (unanswered 4 7 Shortcut (codes "c") ∷ unanswered 0 3 Shortcut (codes "b") ∷ []) refl refl refl
 
 -- a question about the label of a full reference by itself
 pub label_asked_again : NeverAsked (asking no_options (codes "[a][b]")) start (unanswered 0 6 Reference (codes "b") ∷ unanswered 3 6 Shortcut (codes "b") ∷ [])
-unfolding caseless encode chars token decide ucd_category is_unicode_white_space is_unicode_punctuation agrees pair_of rest_of_opener rest_of_closer kinds_of shuts closed
+unfolding caseless encode chars token decide ucd_category is_unicode_white_space is_unicode_punctuation agrees pair_of rest_of_opener rest_of_closer kinds_of deactivates closed
 label_asked_again = never_asked (asking no_options (codes "[a][b]")) start (unanswered 0 6 Reference (codes "b") ∷ unanswered 3 6 Shortcut (codes "b") ∷ []) refl refl refl
 
--- a question where nothing is left of the expansion limit
+-- a question where nothing is left of the reference expansion limit
 pub question_at_limit : NeverAsked (asking no_options (codes "[a]")) spent (unanswered 0 3 Shortcut (codes "a") ∷ [])
-unfolding caseless encode chars token decide ucd_category is_unicode_white_space is_unicode_punctuation agrees pair_of rest_of_opener rest_of_closer kinds_of shuts closed
+unfolding caseless encode chars token decide ucd_category is_unicode_white_space is_unicode_punctuation agrees pair_of rest_of_opener rest_of_closer kinds_of deactivates closed
 question_at_limit = never_asked (asking no_options (codes "[a]")) spent (unanswered 0 3 Shortcut (codes "a") ∷ []) refl refl refl
 
 -- a question that reaches over the brackets of a collapsed reference
 pub question_over_brackets : NeverAsked (asking no_options (codes "[a][]")) start (unanswered 0 5 Collapsed (codes "a") ∷ [])
-unfolding caseless encode chars token decide ucd_category is_unicode_white_space is_unicode_punctuation agrees pair_of rest_of_opener rest_of_closer kinds_of shuts closed
+unfolding caseless encode chars token decide ucd_category is_unicode_white_space is_unicode_punctuation agrees pair_of rest_of_opener rest_of_closer kinds_of deactivates closed
 question_over_brackets = never_asked (asking no_options (codes "[a][]")) start (unanswered 0 5 Collapsed (codes "a") ∷ []) refl refl refl

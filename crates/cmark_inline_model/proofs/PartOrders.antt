@@ -10,7 +10,7 @@ use Rattle.cmark_grammar.specs.InlineTokens.{from, place_of, token}
 use Rattle.cmark_grammar.specs.Items.{ItemKind, Plain, Own, Written, Quoted, Delimiters, Code, InlineMath, DisplayMath, Autolink, Html, OwnedHtml, FootnoteReference, SoftBreak, HardBreak, Item}
 use Rattle.cmark_grammar.specs.LeafText.{Leaf, InTurn}
 use Rattle.cmark_grammar.specs.Letters.{first_is}
-use Rattle.cmark_grammar.specs.LinkDefinitions.{Found}
+use Rattle.cmark_grammar.specs.LinkDefinitions.{Parsed}
 use Rattle.cmark_grammar.specs.Parts.{Parts, Nil as NoParts, Single as SinglePart, Form, Closing, Opening, Linking, Footnote, Wiki}
 use Rattle.cmark_grammar.specs.Questions.{Saying}
 use Rattle.cmark_grammar.specs.Readers.{Reader}
@@ -30,7 +30,7 @@ use Rattle.cmark_inline_model.proofs.WikiGaps.{HaveGaps}
 
 -- ## Items fill their bytes
 
-autolink_behind : (bs : List ℕ) (found : Found) → autolink_in bs ≡ Some found → length found.behind < length bs
+autolink_behind : (bs : List ℕ) (found : Parsed) → autolink_in bs ≡ Some found → length found.behind < length bs
 autolink_behind [] found e = cc
 autolink_behind (b ∷ bs) found e = scheme (has_scheme (b ∷ bs)) e
   where
@@ -50,7 +50,7 @@ abbrev pub FillsItem : Item → Type 0
 FillsItem x = Fills x.kind x.start x.end
 
 module _ (reader : Reader) (leaf : Leaf) (size : ℕ) (turn : InTurn 0 leaf.stretches size) where
-  autolink_fills : (at b : ℕ) (bs : List ℕ) (found : Found) → from reader leaf at ≡ b ∷ bs → autolink_in bs ≡ Some found → at + 2 ≤ place_of reader leaf found.behind
+  autolink_fills : (at b : ℕ) (bs : List ℕ) (found : Parsed) → from reader leaf at ≡ b ∷ bs → autolink_in bs ≡ Some found → at + 2 ≤ place_of reader leaf found.behind
   autolink_fills at b bs found here e =
       let l = ap length here in
       let n = next-size reader.source leaf.stretches size turn at in
@@ -71,13 +71,13 @@ module _ (reader : Reader) (leaf : Leaf) (size : ℕ) (turn : InTurn 0 leaf.stre
     quoted = λ on quote start end. tt;
     inline_math = λ on text start end. tt;
     display_math = λ on text start end. tt;
-    run = λ run start is_run. (let e : start + run.size ≤ start + run.size = omega arith in e);
+    run = λ run start is_run. (let e : start + run.run_length ≤ start + run.run_length = omega arith in e);
     autolink = autolink_fills;
   }
 
   pub parts-fill : (Says : Saying) (s : State) (parts : Parts) (t : State) → Reads (token reader leaf) (decide reader leaf) Says s parts t → OfItems FillsItem parts
   parts-fill Says s parts t h =
-      items-hold (token reader leaf) (decide reader leaf) Says FillsItem (λ at past item e. subst (HoldsOf reader leaf Fills) e (token-holds reader leaf Fills items_fill at)) s parts t h
+      items-hold (token reader leaf) (decide reader leaf) Says FillsItem (λ at resume item e. subst (HoldsOf reader leaf Fills) e (token-holds reader leaf Fills items_fill at)) s parts t h
 
 -- ## Parts
 
@@ -105,7 +105,7 @@ IsFree place (Around tag start end inside after) = IsFree place after
 fills_later : (kind : ItemKind) (place start end : ℕ) → place < end → FreeBy kind place start end → Fills kind start end → Fills kind (max start place) end
 fills_later (Delimiters run) place start end h f k = go (nat_le place start) refl
   where
-    go : (x : Bool) → nat_le place start ≡ x → max start place + run.size ≤ end
+    go : (x : Bool) → nat_le place start ≡ x → max start place + run.run_length ≤ end
     go true e = let l : place ≤ start = grind (arith) in omega arith
     go false e = absurd (f (let l : start < place = grind (arith) in omega arith) (omega arith))
 fills_later (Autolink uri) place start end h f k = absurd f

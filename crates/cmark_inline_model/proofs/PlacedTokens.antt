@@ -20,7 +20,7 @@ use Rattle.cmark_grammar.specs.LeafText.{Leaf, end_of}
 use Rattle.cmark_grammar.specs.Letters.{first_is, starts, behind_first}
 use Rattle.cmark_grammar.specs.LineBreaks.{LineBreak, backslash_break_in, blank_break_in}
 use Rattle.cmark_grammar.specs.Lines.{is_content}
-use Rattle.cmark_grammar.specs.LinkDefinitions.{Found, behind_blanks}
+use Rattle.cmark_grammar.specs.LinkDefinitions.{Parsed, behind_blanks}
 use Rattle.cmark_grammar.specs.Quotes.{quote_beside}
 use Rattle.cmark_grammar.specs.Readers.{Reader}
 use Rattle.cmark_grammar.specs.Tags.{behind_tag, no_prefix}
@@ -28,7 +28,7 @@ use Rattle.cmark_grammar.specs.Tokens.{Entity, entity_in, is_punctuation, slice}
 use Rattle.cmark_grammar.proofs.RowEdges.{Front, front-less}
 use Rattle.cmark_inline_model.specs.PlacedTokens.{IsParted, AreLeafPlaces, one_stretch, text_reader, placed, may_open_markup}
 use Rattle.cmark_inline_model.proofs.BreakRests.{BreakTaken, blank-taken, backslash-taken}
-use Rattle.cmark_inline_model.proofs.FindRests.{IsBehind, FoundBehind, behind-rest, code-behind, inline-behind, display-behind, autolink-behind, tag-behind}
+use Rattle.cmark_inline_model.proofs.FindRests.{IsBehind, ParsedBehind, behind-rest, code-behind, inline-behind, display-behind, autolink-behind, tag-behind}
 use Rattle.cmark_inline_model.proofs.WordBytes.{IsWord, and-right, word-is, punctuation-word, front-map, Leads, prefix-leads, starts-leads, first-leads, leads-cons, EntityLeads, entity-leads}
 
 abbrev pub Content : ℕ → Type 0
@@ -155,9 +155,9 @@ module _ (reader : Reader) (leaf : Leaf) (text : List ℕ) (place : ℕ → ℕ)
       item_is kind (place k) (place_of reader leaf rest) (place_of reader leaf rest) k (suc j) (suc j) refl (end ∙ h.places.next j lt byte ∙ ap (λ i. suc (place i)) (let q : j ≡ suc j - 1 = omega arith in q)) end
       ∙ ap (λ i. placed place (item_at kind k i)) (sym own)
 
-  found_is : (kind : List ℕ → ItemKind) (k : ℕ) (l : List ℕ) (found : Option Found) → drop k text ≡ l → FoundBehind l found → (f : Found) → found ≡ Some f
+  found_is : (kind : List ℕ → ItemKind) (k : ℕ) (l : List ℕ) (found : Option Parsed) → drop k text ≡ l → ParsedBehind l found → (f : Parsed) → found ≡ Some f
       → item_at (kind f.bytes) (place k) (place_of reader leaf f.behind) ≡ placed place (item_at (kind f.bytes) k (place_of one alone f.behind))
-  found_is kind k l found d b f e = rest_is (kind f.bytes) k l f.behind d (subst (FoundBehind l) e b)
+  found_is kind k l found d b f e = rest_is (kind f.bytes) k l f.behind d (subst (ParsedBehind l) e b)
 
   -- one of two, by the condition
   either : (b : Bool) (x y x0 y0 : Token) → (b ≡ true → x ≡ placed place x0) → (b ≡ false → y ≡ placed place y0) → (if b then x else y) ≡ placed place (if b then x0 else y0)
@@ -321,7 +321,7 @@ module _ (reader : Reader) (leaf : Leaf) (text : List ℕ) (place : ℕ → ℕ)
             let v = ap place q in
             omega arith)) t.ending
 
-    code_is : (found : Option Found) → FoundBehind (b ∷ bs) found → Leads Content (backticks (b ∷ bs)) (b ∷ bs) → 0 < backticks (b ∷ bs)
+    code_is : (found : Option Parsed) → ParsedBehind (b ∷ bs) found → Leads Content (backticks (b ∷ bs)) (b ∷ bs) → 0 < backticks (b ∷ bs)
         → code_or reader leaf (place k) (backticks (b ∷ bs)) found ≡ placed place (code_or one alone k (backticks (b ∷ bs)) found)
     code_is (Some found) f w some = rest_is (Code (code_text (as_in leaf.is_cell found.bytes))) k (b ∷ bs) found.behind here f
     code_is None f w some = bytes_are Own (backticks (b ∷ bs)) w some
@@ -336,7 +336,7 @@ module _ (reader : Reader) (leaf : Leaf) (text : List ℕ) (place : ℕ → ℕ)
     next_here : drop (suc k) text ≡ bs
     next_here = (inside k b bs here).2
 
-    escaped_is : Content b → (found : Option Found) → first_is is_backtick bs ≡ true
+    escaped_is : Content b → (found : Option Parsed) → first_is is_backtick bs ≡ true
         → escaped_backtick reader leaf (suc (place k)) (backticks bs) found ≡ placed place (escaped_backtick one alone (suc k) (backticks bs) found)
     escaped_is c (Some found) e =
         let f = first-leads IsWord is_backtick bs (λ d q. word-is d 96 refl (omega arith) q) e in
@@ -407,7 +407,7 @@ module _ (reader : Reader) (leaf : Leaf) (text : List ℕ) (place : ℕ → ℕ)
           ∙ rest_is (tag_kind reader leaf (take (length (b ∷ bs) - length rest) (b ∷ bs))) k (b ∷ bs) rest here (tag-behind (b ∷ bs) rest e)
           ∙ ap (λ l. placed place (item_at (tag_kind one alone (take (length l - length rest) l)) k (place_of one alone rest))) (sym from_own)
 
-      autolink_is : (found : Option Found) (other other0 : Token) → FoundBehind bs found → (found ≡ None → other ≡ placed place other0)
+      autolink_is : (found : Option Parsed) (other other0 : Token) → ParsedBehind bs found → (found ≡ None → other ≡ placed place other0)
           → autolink_or reader leaf (place k) found other ≡ placed place (autolink_or one alone k found other0)
       autolink_is None other other0 f p = p refl
       autolink_is (Some found) other other0 f p = rest_is (Autolink found.bytes) k (b ∷ bs) found.behind here (behind-rest (b ∷ bs) bs found.behind (1, refl) f)
@@ -437,7 +437,7 @@ module _ (reader : Reader) (leaf : Leaf) (text : List ℕ) (place : ℕ → ℕ)
 
       run_or_is : (n : ℕ) (beside : Flanking) → Leads Content n (b ∷ bs) → 0 < n → run_or reader leaf (place k) b n beside ≡ placed place (run_or one alone k b n beside)
       run_or_is n beside f some =
-          let kind = Delimiters (record { mark = b; size = n; at = 0; left = n; opens = beside.opens; closes = beside.closes }) in
+          let kind = Delimiters (record { delimiter = b; run_length = n; at = 0; left = n; opens = beside.opens; closes = beside.closes }) in
           either (beside.opens || beside.closes) (item_at kind (place k) (place k + n)) (item_at Plain (place k) (place k + n)) (item_at kind k (k + n)) (item_at Plain k (k + n))
           (λ e. bytes_are kind n f some) (λ e. bytes_are Plain n f some)
 
@@ -455,11 +455,11 @@ module _ (reader : Reader) (leaf : Leaf) (text : List ℕ) (place : ℕ → ℕ)
           some : 0 < prefix_len (λ c. c == b) (b ∷ bs)
           some = subst (λ z. 0 < (if z then 1 + prefix_len (λ c. c == b) bs else 0)) (sym (eq-eqb b b refl)) (omega arith)
 
-      formula_is : Content b → (kind : List ℕ → ItemKind) (found : Option Found) → FoundBehind (b ∷ bs) found → formula_or reader leaf kind (place k) found ≡ placed place (formula_or one alone kind k found)
+      formula_is : Content b → (kind : List ℕ → ItemKind) (found : Option Parsed) → ParsedBehind (b ∷ bs) found → formula_or reader leaf kind (place k) found ≡ placed place (formula_or one alone kind k found)
       formula_is c kind None f = byte_is Own c
       formula_is c kind (Some found) f = rest_is (kind (as_in leaf.is_cell found.bytes)) k (b ∷ bs) found.behind here f
 
-      more_behind : (n : ℕ) (l : List ℕ) (found : Option Found) → FoundBehind (drop n l) found → FoundBehind l found
+      more_behind : (n : ℕ) (l : List ℕ) (found : Option Parsed) → ParsedBehind (drop n l) found → ParsedBehind l found
       more_behind n l None f = tt
       more_behind n l (Some found) f = behind-rest l (drop n l) found.behind (n, refl) f
 

@@ -71,7 +71,7 @@ nothing (b ∷ l) e = absurd (omega arith)
 -- ## One item
 
 abbrev is_text : Token → Bool
-is_text (Stands x past) = is_plain x.kind
+is_text (Stands x resume) = is_plain x.kind
 is_text _ = false
 
 module _ (reader : Reader) (leaf : Leaf) (text : List ℕ) (place : ℕ → ℕ) (h : AreLeafPlaces reader leaf text place) (stand : StandWhole reader.options reader.lookup leaf.is_cell text) (some : 0 < length text) where
@@ -97,7 +97,7 @@ module _ (reader : Reader) (leaf : Leaf) (text : List ℕ) (place : ℕ → ℕ)
       go None n r = true≢false (sym (no-break b bs breaks n) ∙ e)
       go (Some found) n r = by found.is_hard r
         where
-          by : (hard : Bool) {start stop past : ℕ} → Stands (record { kind = if hard then HardBreak else SoftBreak; start = start; end = stop }) past ≡ item_at Plain k end → ⊥
+          by : (hard : Bool) {start item_end resume : ℕ} → Stands (record { kind = if hard then HardBreak else SoftBreak; start = start; end = item_end }) resume ≡ item_at Plain k end → ⊥
           by true r = true≢false (sym (ap is_text r))
           by false r = true≢false (sym (ap is_text r))
 

@@ -17,7 +17,7 @@ use Rattle.cmark_grammar.specs.LeafText.{Leaf, InTurn}
 use Rattle.cmark_grammar.specs.Letters.{first_is, starts}
 use Rattle.cmark_grammar.specs.LineBreaks.{LineBreak, backslash_break_in, blank_break_in}
 use Rattle.cmark_grammar.specs.Lines.{is_content}
-use Rattle.cmark_grammar.specs.LinkDefinitions.{Found}
+use Rattle.cmark_grammar.specs.LinkDefinitions.{Parsed}
 use Rattle.cmark_grammar.specs.Readers.{Reader}
 use Rattle.cmark_grammar.specs.Tags.{behind_tag, no_prefix}
 use Rattle.cmark_grammar.specs.Tokens.{Entity, entity_in, is_punctuation}
@@ -36,7 +36,7 @@ le_or a b = go (nat_lt b a) refl
 module _ (reader : Reader) (leaf : Leaf) where
   -- ## Behind bytes that stand for themselves the text is read on where they end
   abbrev pub Shaped : Token → Type 0
-  Shaped (Stands x past) = is_plain x.kind ≡ true → x.end ≡ past
+  Shaped (Stands x resume) = is_plain x.kind ≡ true → x.end ≡ resume
   Shaped (Opens b) = Unit {0}
   Shaped (Closes b) = Unit {0}
   Shaped Ends = Unit {0}
@@ -56,11 +56,11 @@ module _ (reader : Reader) (leaf : Leaf) where
       by true e = absurd (true≢false (sym e))
       by false e = absurd (true≢false (sym e))
 
-  code_shaped : (at size : ℕ) (found : Option Found) → Shaped (code_or reader leaf at size found)
+  code_shaped : (at size : ℕ) (found : Option Parsed) → Shaped (code_or reader leaf at size found)
   code_shaped at size None = λ e. refl
   code_shaped at size (Some found) = λ e. refl
 
-  escaped_shaped : (at size : ℕ) (found : Option Found) → Shaped (escaped_backtick reader leaf at size found)
+  escaped_shaped : (at size : ℕ) (found : Option Parsed) → Shaped (escaped_backtick reader leaf at size found)
   escaped_shaped at size None = λ e. refl
   escaped_shaped at size (Some found) = λ e. refl
 
@@ -68,7 +68,7 @@ module _ (reader : Reader) (leaf : Leaf) where
   entity_shaped at None = λ e. refl
   entity_shaped at (Some found) = λ e. refl
 
-  autolink_shaped : (at : ℕ) (found : Option Found) (other : Token) → Shaped other → Shaped (autolink_or reader leaf at found other)
+  autolink_shaped : (at : ℕ) (found : Option Parsed) (other : Token) → Shaped other → Shaped (autolink_or reader leaf at found other)
   autolink_shaped at None other h = h
   autolink_shaped at (Some found) other h = λ e. refl
 
@@ -80,7 +80,7 @@ module _ (reader : Reader) (leaf : Leaf) where
   tag_shaped at None = λ e. refl
   tag_shaped at (Some rest) = λ e. refl
 
-  formula_shaped : (kind : List ℕ → ItemKind) (at : ℕ) (found : Option Found) → Shaped (formula_or reader leaf kind at found)
+  formula_shaped : (kind : List ℕ → ItemKind) (at : ℕ) (found : Option Parsed) → Shaped (formula_or reader leaf kind at found)
   formula_shaped kind at None = λ e. refl
   formula_shaped kind at (Some found) = λ e. refl
 
@@ -99,9 +99,9 @@ module _ (reader : Reader) (leaf : Leaf) where
       when (first_is (λ c. c == 92) bs) (item_at Plain at (suc at)) (autolink_or reader leaf at (autolink_in bs) others) (λ e. refl)
       (autolink_shaped at (autolink_in bs) others (markup_shaped at (behind_markup (source_from reader leaf at)) tag (tag_shaped at (behind_tag no_prefix (from reader leaf at)))))
 
-  run_shaped : (at mark size : ℕ) (beside : Flanking) → Shaped (run_or reader leaf at mark size beside)
-  run_shaped at mark size beside =
-      when (beside.opens || beside.closes) (item_at (Delimiters (record { mark = mark; size = size; at = 0; left = size; opens = beside.opens; closes = beside.closes })) at (at + size)) (item_at Plain at (at + size)) (λ e. refl) (λ e. refl)
+  run_shaped : (at delimiter size : ℕ) (beside : Flanking) → Shaped (run_or reader leaf at delimiter size beside)
+  run_shaped at delimiter size beside =
+      when (beside.opens || beside.closes) (item_at (Delimiters (record { delimiter = delimiter; run_length = size; at = 0; left = size; opens = beside.opens; closes = beside.closes })) at (at + size)) (item_at Plain at (at + size)) (λ e. refl) (λ e. refl)
 
   dollar_shaped : (at : ℕ) (bs : List ℕ) (braces : Braces) → Shaped (dollar reader leaf at bs braces)
   dollar_shaped at bs braces =
@@ -148,7 +148,7 @@ module _ (reader : Reader) (leaf : Leaf) where
 
   -- ## Where markup may open, no text does
   abbrev pub NotPlain : Token → Type 0
-  NotPlain (Stands x past) = is_plain x.kind ≡ false
+  NotPlain (Stands x resume) = is_plain x.kind ≡ false
   NotPlain (Opens b) = Unit {0}
   NotPlain (Closes b) = Unit {0}
   NotPlain Ends = Unit {0}
@@ -180,7 +180,7 @@ module _ (reader : Reader) (leaf : Leaf) where
       markup None = tag (behind_tag no_prefix (from reader leaf at))
       markup (Some rest) = refl
 
-      link : (found : Option Found) → NotPlain (autolink_or reader leaf at found others)
+      link : (found : Option Parsed) → NotPlain (autolink_or reader leaf at found others)
       link None = markup (behind_markup (source_from reader leaf at))
       link (Some found) = refl
 
@@ -190,11 +190,11 @@ module _ (reader : Reader) (leaf : Leaf) where
       let second = first_is (λ c. (c == 33) || (c == 63)) bs in
       subst (λ c. NotPlain (begins reader leaf at (c ∷ bs))) (sym (eqb-true b 60 (and-left (b == 60) second e))) (less_than_not at bs (and-right (b == 60) second e))
 
-  pub goes-stop : (t : Token) (stop : ℕ) (more : ℕ → ℕ) → NotPlain t → goes_on reader leaf t stop more ≡ stop
-  goes-stop (Stands item past) stop more h = ap (λ z. if z && (item.start == stop) then more past else stop) h
-  goes-stop (Opens b) stop more h = refl
-  goes-stop (Closes b) stop more h = refl
-  goes-stop Ends stop more h = refl
+  pub goes-stop : (t : Token) (item_end : ℕ) (more : ℕ → ℕ) → NotPlain t → goes_on reader leaf t item_end more ≡ item_end
+  goes-stop (Stands item resume) item_end more h = ap (λ z. if z && (item.start == item_end) then more resume else item_end) h
+  goes-stop (Opens b) item_end more h = refl
+  goes-stop (Closes b) item_end more h = refl
+  goes-stop Ends item_end more h = refl
 
 -- ## One text in the places of the source
 module _ (reader : Reader) (leaf : Leaf) (text : List ℕ) (place : ℕ → ℕ) (h : AreLeafPlaces reader leaf text place) where
@@ -235,25 +235,25 @@ module _ (reader : Reader) (leaf : Leaf) (text : List ℕ) (place : ℕ → ℕ)
   if_place false x y x0 y0 p q = q
 
   placed_goes : (t0 : Token) (k : ℕ) → k ≤ length text → Onward one alone (length text) turn k t0 → Shaped one alone t0 → Shaped reader leaf (placed place t0) → GoesOn (placed place t0) t0 k
-  placed_goes (Stands x past) k le o s p = by (is_plain x.kind) refl
+  placed_goes (Stands x resume) k le o s p = by (is_plain x.kind) refl
     where
-      within : past ≤ length text
+      within : resume ≤ length text
       within = let w = o.2 in omega arith
 
       start_in : x.start ≤ length text
       start_in = let w = within in let a = o.0.ordered in let b = o.0.ends in omega arith
 
-      by : (b : Bool) → is_plain x.kind ≡ b → GoesOn (placed place (Stands x past)) (Stands x past) k
+      by : (b : Bool) → is_plain x.kind ≡ b → GoesOn (placed place (Stands x resume)) (Stands x resume) k
       by false e = record {
-        same = λ more more0 g. goes-stop reader leaf (placed place (Stands x past)) (place k) more e ∙ ap place (sym (goes-stop one alone (Stands x past) k more0 e));
-        ends = λ more0 f g. subst Ended (sym (goes-stop one alone (Stands x past) k more0 e)) f;
+        same = λ more more0 g. goes-stop reader leaf (placed place (Stands x resume)) (place k) more e ∙ ap place (sym (goes-stop one alone (Stands x resume) k more0 e));
+        ends = λ more0 f g. subst Ended (sym (goes-stop one alone (Stands x resume) k more0 e)) f;
       }
       by true e =
-          let ended : Ended past = sym (p e) ∙ ap (λ i. suc (place (i - 1))) (s e) in record {
+          let ended : Ended resume = sym (p e) ∙ ap (λ i. suc (place (i - 1))) (s e) in record {
             same = λ more more0 g.
-                (ap (λ z. if is_plain x.kind && z then more (place past) else place k) (same_place x.start k start_in le)
-                ∙ if_place (is_plain x.kind && (x.start == k)) (more (place past)) (place k) (more0 past) k (g past within ended) refl);
-            ends = λ more0 f g. pick (is_plain x.kind && (x.start == k)) (more0 past) k (g past within ended) f;
+                (ap (λ z. if is_plain x.kind && z then more (place resume) else place k) (same_place x.start k start_in le)
+                ∙ if_place (is_plain x.kind && (x.start == k)) (more (place resume)) (place k) (more0 resume) k (g resume within ended) refl);
+            ends = λ more0 f g. pick (is_plain x.kind && (x.start == k)) (more0 resume) k (g resume within ended) f;
           }
         where
           pick : (b : Bool) (i j : ℕ) → Ended i → Ended j → Ended (if b then i else j)
@@ -285,23 +285,23 @@ module _ (reader : Reader) (leaf : Leaf) (text : List ℕ) (place : ℕ → ℕ)
       (g.same (plain_end reader leaf n) (plain_end one alone n) (λ x a b. (plain_end_is n x a b).0), g.ends (plain_end one alone n) e (λ x a b. (plain_end_is n x a b).1))
 
   longest_is : (t0 : Token) (k : ℕ) → Onward one alone (length text) turn k t0 → Shaped one alone t0 → Shaped reader leaf (placed place t0) → longest reader leaf (placed place t0) ≡ placed place (longest one alone t0)
-  longest_is (Stands x past) k o s p = by (is_plain x.kind) refl
+  longest_is (Stands x resume) k o s p = by (is_plain x.kind) refl
     where
-      by : (b : Bool) → is_plain x.kind ≡ b → longest reader leaf (placed place (Stands x past)) ≡ placed place (longest one alone (Stands x past))
+      by : (b : Bool) → is_plain x.kind ≡ b → longest reader leaf (placed place (Stands x resume)) ≡ placed place (longest one alone (Stands x resume))
       by false e =
-          ap (λ z. if z then item_at Plain (place x.start) (plain_end reader leaf (length (from reader leaf (place past))) (place past)) else placed place (Stands x past)) e
-          ∙ sym (ap (λ z. placed place (if z then item_at Plain x.start (plain_end one alone (length (from one alone past)) past) else Stands x past)) e)
+          ap (λ z. if z then item_at Plain (place x.start) (plain_end reader leaf (length (from reader leaf (place resume))) (place resume)) else placed place (Stands x resume)) e
+          ∙ sym (ap (λ z. placed place (if z then item_at Plain x.start (plain_end one alone (length (from one alone resume)) resume) else Stands x resume)) e)
       by true e =
           let w = o.2 in
-          let ended : Ended past = sym (p e) ∙ ap (λ i. suc (place (i - 1))) (s e) in
-          let bytes : from reader leaf (place past) ≡ from one alone past = from-place reader leaf text place h past (omega arith) ∙ sym (from-text reader leaf text place h past) in
-          let stop = plain_end one alone (length (from one alone past)) past in
-          let r = plain_end_is (length (from one alone past)) past (omega arith) ended in
-          ap (λ z. if z then item_at Plain (place x.start) (plain_end reader leaf (length (from reader leaf (place past))) (place past)) else placed place (Stands x past)) e
-          ∙ ap (λ l. item_at Plain (place x.start) (plain_end reader leaf (length l) (place past))) bytes
+          let ended : Ended resume = sym (p e) ∙ ap (λ i. suc (place (i - 1))) (s e) in
+          let bytes : from reader leaf (place resume) ≡ from one alone resume = from-place reader leaf text place h resume (omega arith) ∙ sym (from-text reader leaf text place h resume) in
+          let item_end = plain_end one alone (length (from one alone resume)) resume in
+          let r = plain_end_is (length (from one alone resume)) resume (omega arith) ended in
+          ap (λ z. if z then item_at Plain (place x.start) (plain_end reader leaf (length (from reader leaf (place resume))) (place resume)) else placed place (Stands x resume)) e
+          ∙ ap (λ l. item_at Plain (place x.start) (plain_end reader leaf (length l) (place resume))) bytes
           ∙ ap (item_at Plain (place x.start)) r.0
-          ∙ ap (λ i. Stands (record { kind = Plain; start = place x.start; end = i }) (place stop)) r.1
-          ∙ sym (ap (λ z. placed place (if z then item_at Plain x.start stop else Stands x past)) e)
+          ∙ ap (λ i. Stands (record { kind = Plain; start = place x.start; end = i }) (place item_end)) r.1
+          ∙ sym (ap (λ z. placed place (if z then item_at Plain x.start item_end else Stands x resume)) e)
   longest_is (Opens b) k o s p = refl
   longest_is (Closes b) k o s p = refl
   longest_is Ends k o s p = refl

@@ -52,10 +52,10 @@ module _ (plan : Plan) where
     all-planned (Content leaf ∷ others) before after events k h = all-planned others k.2 after k.1 k.4 (leaf-planned leaf before k.2 k.0 k.3 h)
 
 -- with the plan's answers some events are left
-pub left-planned : (reader : Reader) (segments : List Segment) (expansion : ℕ) (plan : Plan) → AreLeavesInTurn (length reader.source) segments
-    → (exchanges : List Exchange) × (events : List Ranged) × AreByPlan plan [] exchanges × Left reader segments expansion exchanges events
-left-planned reader segments expansion plan turn =
-    let before : Between = record { expansion = expansion; asked = [] } in
+pub left-planned : (reader : Reader) (segments : List Segment) (expansion_left : ℕ) (plan : Plan) → AreLeavesInTurn (length reader.source) segments
+    → (exchanges : List Exchange) × (events : List Ranged) × AreByPlan plan [] exchanges × Left reader segments expansion_left exchanges events
+left-planned reader segments expansion_left plan turn =
+    let before : Between = record { expansion_left = expansion_left; asked = [] } in
     let after = all_after reader plan segments before in
     let events = all_events reader plan segments before in
     let read = all-read reader (length reader.source) (λ leaf t. leaf-forward reader leaf (length reader.source) t) plan segments before turn in (

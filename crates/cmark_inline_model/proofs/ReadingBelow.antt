@@ -13,12 +13,12 @@ use Rattle.cmark_grammar.specs.Readers.{Reader}
 use Rattle.cmark_grammar.specs.SiblingsModel.{spans_in}
 use Rattle.cmark_grammar.specs.SpanDocuments.{Segment, Given, Content, segments, ReadsAll, Profile, reader_of, at_start, IsReading}
 use Rattle.cmark_grammar.proofs.RangeLaws.{derived-order}
-use Rattle.cmark_inline_model.specs.Expansion.{costs}
+use Rattle.cmark_inline_model.specs.ReferenceExpansion.{costs}
 use Rattle.cmark_inline_model.specs.LinkRules.{IsQuestion}
 use Rattle.cmark_inline_model.specs.ReadingLinks.{LinkEvent, spent_by, spent_before}
-use Rattle.cmark_inline_model.specs.ReadingQuestions.{HasCloser, IsCloser, AskedInTurn}
-use Rattle.cmark_inline_model.proofs.AskedBelow.{reading-below}
-use Rattle.cmark_inline_model.proofs.AskedTurn.{turn-wide, turn-both, turn-within}
+use Rattle.cmark_inline_model.specs.ReadingQuestions.{HasCloser, IsCloser, PutInTurn}
+use Rattle.cmark_inline_model.proofs.QuestionsBelow.{reading-below}
+use Rattle.cmark_inline_model.proofs.QuestionsInTurn.{turn-wide, turn-both, turn-within}
 use Rattle.cmark_inline_model.proofs.CostLists.{total, spends-within}
 use Rattle.cmark_inline_model.proofs.DecisionLaws.{decide-pays}
 use Rattle.cmark_inline_model.proofs.ForwardLaws.{leaf-ranges}
@@ -96,9 +96,9 @@ module _ (reader : Reader) (Says : Saying) where
   record Adds (others : List Segment) (limit spent : ℕ) (events : List Ranged) (from to : ℕ) (before after : Between) : Type 0 where
     pub more : List Exchange
     pub added : after.asked ≡ before.asked ++ more
-    pub below : AskedInTurn (IsBelow others limit spent events) from more to
+    pub below : PutInTurn (IsBelow others limit spent events) from more to
 
-  all_below : (limit spent : ℕ) (others : List Segment) (from to : ℕ) (before after : Between) (events : List Ranged) → before.expansion ≡ limit - spent → LeavesRise from others to → AreNeither others
+  all_below : (limit spent : ℕ) (others : List Segment) (from to : ℕ) (before after : Between) (events : List Ranged) → before.expansion_left ≡ limit - spent → LeavesRise from others to → AreNeither others
       → ReadsAll reader Says others before events after → Adds others limit spent events from to before after
   all_below limit spent [] from to before after events e r n h =
       record { more = []; added = ap (λ (b : Between). b.asked) h.1 ∙ sym (append-nil before.asked); below = r }
@@ -117,11 +117,11 @@ module _ (reader : Reader) (Says : Saying) where
       (leaf-up leaf.stretches r.0 turn) h.3.reads.reads in
       let stands = reading-stands (token reader leaf) (decide reader leaf) Says (end_of leaf.stretches) (leaf-ranges reader leaf r.0 turn) start h.3.parts h.3.last start.at (omega arith)
       (leaf-up leaf.stretches r.0 turn) h.3.reads.reads in
-      let own : ℕ → Type 0 = λ place. HasCloser reader leaf place × (spent_to place h.3.parts < before.expansion) in
+      let own : ℕ → Type 0 = λ place. HasCloser reader leaf place × (spent_to place h.3.parts < before.expansion_left) in
       let wide = widen reader Says own leaf.stretches from r.0 h.3.last.at k.turns.more r.1 stands.1 k.below in
-      let s = spends-within limit spent (costs h.3.parts) before.expansion h.3.last.expansion e
+      let s = spends-within limit spent (costs h.3.parts) before.expansion_left h.3.last.expansion_left e
       (reading-spends (token reader leaf) (decide reader leaf) Says (decide-pays reader leaf) start h.3.parts h.3.last h.3.reads.reads) in
-      let left : h.2.expansion ≡ limit - (spent + total (costs h.3.parts)) = ap (λ (b : Between). b.expansion) h.3.after_is ∙ s.left in
+      let left : h.2.expansion_left ≡ limit - (spent + total (costs h.3.parts)) = ap (λ (b : Between). b.expansion_left) h.3.after_is ∙ s.left in
       let i = all_below limit (spent + total (costs h.3.parts)) others r.0 to h.2 after h.1 left r.2 n h.4 in
       let Whole : ℕ → Type 0 = IsBelow (Content leaf ∷ others) limit spent events in
       let first = turn-within own Whole from k.turns.more r.0
@@ -139,11 +139,11 @@ module _ (reader : Reader) (Says : Saying) where
       }
 
 pub reading-asked-below : (text : List ℕ) (profile : Profile) (exchanges : List Exchange) (events : List Ranged) (h : IsReading text profile exchanges events)
-    → AskedInTurn (λ place. IsCloser (reader_of text profile h.document) (segments h.document) place × (spent_before place events < profile.expansion_limit)) 0 exchanges (length text)
+    → PutInTurn (λ place. IsCloser (reader_of text profile h.document) (segments h.document) place × (spent_before place events < profile.reference_expansion_limit)) 0 exchanges (length text)
 reading-asked-below text profile exchanges events h =
     let reader = reader_of text profile h.document in
-    let Closer : ℕ → Type 0 = λ place. IsCloser reader (segments h.document) place × (spent_before place events < profile.expansion_limit) in
-    let a = all_below reader (IsNext exchanges) profile.expansion_limit 0 (segments h.document) 0 (length text) (at_start profile) h.after events (omega arith)
+    let Closer : ℕ → Type 0 = λ place. IsCloser reader (segments h.document) place × (spent_before place events < profile.reference_expansion_limit) in
+    let a = all_below reader (IsNext exchanges) profile.reference_expansion_limit 0 (segments h.document) 0 (length text) (at_start profile) h.after events (omega arith)
     (segments-rise 0 h.document (length text) (derived-order text profile.options profile.lookup h.document h.derives)) (segments-neither h.document) h.reads in
-    subst (λ l. AskedInTurn Closer 0 l (length text)) (sym a.added ∙ h.asked)
-    (turn-wide (λ place. IsCloser reader (segments h.document) place × (0 + spent_before place events < profile.expansion_limit)) Closer (λ place q. (q.0, (let x = q.1 in omega arith))) 0 0 a.more (length text) (length text) (omega arith) (omega arith) a.below)
+    subst (λ l. PutInTurn Closer 0 l (length text)) (sym a.added ∙ h.asked)
+    (turn-wide (λ place. IsCloser reader (segments h.document) place × (0 + spent_before place events < profile.reference_expansion_limit)) Closer (λ place q. (q.0, (let x = q.1 in omega arith))) 0 0 a.more (length text) (length text) (omega arith) (omega arith) a.below)

@@ -1,4 +1,5 @@
--- What decisions keep, readings keep: what is formed, how much expansion it costs, where it stands and how many questions it puts.
+-- What decisions keep, readings keep: what is formed, what it takes off the reference expansion limit, where it stands and how many
+-- questions it puts.
 use Rattle.std.specs.Prelude.{◌-◌, sum}
 use Rattle.std.proofs.Common.{◌≡◌, ℕ, suc, ◌+◌, ◌<◌, ◌≤◌, List, [], ◌∷◌, ◌++◌, length, sym, ap, subst, arith, ◌∙◌}
 use Rattle.std.proofs.lemmas.List.{length-append}
@@ -8,7 +9,7 @@ use Rattle.cmark_grammar.specs.BracketStates.{State, moved, opened, StaysText, F
 use Rattle.cmark_grammar.specs.Items.{Bracket, Token}
 use Rattle.cmark_grammar.specs.Parts.{Formed, Parts, Nil, Single, Form, Closing, Opening, openings}
 use Rattle.cmark_grammar.specs.Questions.{Exchange, Saying}
-use Rattle.cmark_inline_model.specs.Expansion.{cost, costs, Spends, Pays, KeepsLimit}
+use Rattle.cmark_inline_model.specs.ReferenceExpansion.{cost, costs, Spends, Pays, KeepsLimit}
 use Rattle.cmark_inline_model.specs.FormedParts.{AllFormed, ResultHolds, FormsOnly, closings}
 use Rattle.cmark_inline_model.specs.PartRanges.{end_of, StandBetween, Reaches, KeepsRanges}
 use Rattle.cmark_inline_model.specs.Progress.{Keeps, IsRecorded}
@@ -43,20 +44,20 @@ module _ (token : ℕ → Token) (decide : State → (closer : Bracket) → Deci
   spends-then [] b before between after h k = subst (λ n. Spends n b after) h k
   spends-then (c ∷ a) b before between after h k = (h.0, spends-then a b (before - c) between after h.1 k)
 
-  pub reading-spends : KeepsLimit decide → (s : State) (parts : Parts) (t : State) → Reads token decide Says s parts t → Spends s.expansion (costs parts) t.expansion
-  reading-spends keeps s Nil t h = ap (λ (x : State). x.expansion) h
+  pub reading-spends : KeepsLimit decide → (s : State) (parts : Parts) (t : State) → Reads token decide Says s parts t → Spends s.expansion_left (costs parts) t.expansion_left
+  reading-spends keeps s Nil t h = ap (λ (x : State). x.expansion_left) h
   reading-spends keeps s (Single item after) t h = reading-spends keeps (moved h.0 s) after t h.2
   reading-spends keeps s (Form opener inside closer formed after) t h =
       let o : Outcome = record { result = Forms (openings inside) formed; after = h.next } in
-      spends-then (costs inside) (cost formed ++ costs after) s.expansion h.until.expansion t.expansion
+      spends-then (costs inside) (cost formed ++ costs after) s.expansion_left h.until.expansion_left t.expansion_left
       (reading-spends keeps (opened opener s) inside h.until h.inside)
-      (spends-then (cost formed) (costs after) h.until.expansion h.next.expansion t.expansion
-      (always-comes (Pays h.until.expansion) Says h.until.asked (decide h.until closer) o (keeps.pays h.until closer) h.comes)
+      (spends-then (cost formed) (costs after) h.until.expansion_left h.next.expansion_left t.expansion_left
+      (always-comes (Pays h.until.expansion_left) Says h.until.asked (decide h.until closer) o (keeps.pays h.until closer) h.comes)
       (reading-spends keeps h.next after t h.after))
   reading-spends keeps s (Closing closer after) t h =
       let o : Outcome = record { result = StaysText; after = h.next } in
-      let e : h.next.expansion ≡ s.expansion = always-comes (Pays s.expansion) Says s.asked (decide s closer) o (keeps.pays s closer) h.comes in
-      subst (λ n. Spends n (costs after) t.expansion) e (reading-spends keeps h.next after t h.after)
+      let e : h.next.expansion_left ≡ s.expansion_left = always-comes (Pays s.expansion_left) Says s.asked (decide s closer) o (keeps.pays s closer) h.comes in
+      subst (λ n. Spends n (costs after) t.expansion_left) e (reading-spends keeps h.next after t h.after)
   reading-spends keeps s (Opening opener after) t h = reading-spends keeps (opened opener s) after t h.1
 
   -- ## Ranges

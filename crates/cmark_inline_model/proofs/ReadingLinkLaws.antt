@@ -11,7 +11,7 @@ use Rattle.cmark_grammar.specs.Questions.{Exchange, Saying, IsNext}
 use Rattle.cmark_grammar.specs.Readers.{Reader}
 use Rattle.cmark_grammar.specs.SiblingsModel.{spans_in}
 use Rattle.cmark_grammar.specs.SpanDocuments.{Segment, Given, Content, segments, ReadsAll, Profile, reader_of, at_start, IsReading}
-use Rattle.cmark_inline_model.specs.Expansion.{costs}
+use Rattle.cmark_inline_model.specs.ReferenceExpansion.{costs}
 use Rattle.cmark_inline_model.specs.LinkRules.{IsFormedRightly}
 use Rattle.cmark_inline_model.specs.OptionRules.{IsGiven, AreGiven}
 use Rattle.cmark_inline_model.specs.ReadingLinks.{LinkEvent, ApartBy, LinksApart, LedBy, AreLed, costs_by, reference_costs}
@@ -84,7 +84,7 @@ module _ (reader : Reader) (Says : Saying) where
 
   -- ## What they cost
 
-  pub all-within : (limit spent : ℕ) (others : List Segment) (before after : Between) (events : List Ranged) → before.expansion ≡ limit - spent → AreNeither others
+  pub all-within : (limit spent : ℕ) (others : List Segment) (before after : Between) (events : List Ranged) → before.expansion_left ≡ limit - spent → AreNeither others
       → ReadsAll reader Says others before events after → Within limit spent (reference_costs [] events)
   all-within limit spent [] before after events e n h = subst (λ es. Within limit spent (reference_costs [] es)) (sym h.0) tt
   all-within limit spent (Given r ∷ others) before after events e n h =
@@ -94,11 +94,11 @@ module _ (reader : Reader) (Says : Saying) where
       let parts = h.3.parts in
       let spans = spans_in reader.options parts in
       let f : events ≡ inline_events reader.source spans ++ h.1 = h.5 ∙ ap (λ l. l ++ h.1) (leaf_events leaf before h.2 h.0 h.3) in
-      let s = spends-within limit spent (costs parts) before.expansion h.3.last.expansion e
+      let s = spends-within limit spent (costs parts) before.expansion_left h.3.last.expansion_left e
       (reading-spends (token reader leaf) (decide reader leaf) Says (decide-pays reader leaf) (entering leaf before) parts h.3.last h.3.reads.reads) in
       let fewer = spans-costs reader.options parts in
       let less = fewer.less in
-      let left : h.2.expansion ≡ limit - (spent + total (costs parts)) = ap (λ (b : Between). b.expansion) h.3.after_is ∙ s.left in
+      let left : h.2.expansion_left ≡ limit - (spent + total (costs parts)) = ap (λ (b : Between). b.expansion_left) h.3.after_is ∙ s.left in
       let more = all-within limit (spent + total (costs parts)) others h.2 after h.1 left n h.4 in
       subst (λ es. Within limit spent (reference_costs [] es)) (sym f)
       (subst (Within limit spent) (sym (events-costs reader.source spans [] h.1))
@@ -121,9 +121,9 @@ module _ (text : List ℕ) (profile : Profile) (exchanges : List Exchange) (even
   pub reading-given : AreGiven profile.options events
   reading-given = all-given reader (IsNext exchanges) (segments h.document) (at_start profile) h.after events (segments-optionless profile.options h.document) h.reads
 
-  pub reading-within : (front behind : List ℕ) (own : ℕ) → reference_costs [] events ≡ front ++ (own ∷ behind) → sum front < profile.expansion_limit
+  pub reading-within : (front behind : List ℕ) (own : ℕ) → reference_costs [] events ≡ front ++ (own ∷ behind) → sum front < profile.reference_expansion_limit
   reading-within front behind own e =
-      let w = all-within reader (IsNext exchanges) profile.expansion_limit 0 (segments h.document) (at_start profile) h.after events (omega arith) (segments-neither h.document) h.reads in
-      let all = subst (Within profile.expansion_limit 0) (e ∙ sym (append_assoc front (own ∷ []) behind)) w in
-      let k = within-last profile.expansion_limit 0 front own (within-front profile.expansion_limit 0 (front ++ (own ∷ [])) behind all) in
+      let w = all-within reader (IsNext exchanges) profile.reference_expansion_limit 0 (segments h.document) (at_start profile) h.after events (omega arith) (segments-neither h.document) h.reads in
+      let all = subst (Within profile.reference_expansion_limit 0) (e ∙ sym (append_assoc front (own ∷ []) behind)) w in
+      let k = within-last profile.reference_expansion_limit 0 front own (within-front profile.reference_expansion_limit 0 (front ++ (own ∷ [])) behind all) in
       omega (arith, k)

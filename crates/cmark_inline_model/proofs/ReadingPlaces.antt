@@ -132,7 +132,7 @@ module _ (reader : Reader) (leaf : Leaf) (size : ℕ) (turn : InTurn 0 leaf.stre
   shape_place s closer w asked o (ToInline label os taken tail h t found e) =
       let b = below (length (behind reader leaf closer.end)) (link_tail_in (behind reader leaf closer.end)) tail (link_tail-shorter (behind reader leaf closer.end)) found in
       subst (λ (x : Outcome). Place x.after.at) (sym e) (rest-place reader leaf size turn within lines closer.end tail.behind w (omega arith))
-  shape_place s closer w asked o (ToReference label os taken named link_type found h t n some l e) = subst (λ (x : Outcome). Place x.after.at) (sym e) (behind_place closer named.past w n.passes)
+  shape_place s closer w asked o (ToReference label os taken named link_type found h t n some l e) = subst (λ (x : Outcome). Place x.after.at) (sym e) (behind_place closer named.resume w n.passes)
   shape_place s closer w asked o (ToFootnote label os taken name h t on e) = subst (λ (x : Outcome). Place x.after.at) (sym e) w
   shape_place s closer w asked o (ToWiki label os first far h t on next e) = subst (λ (x : Outcome). Place x.after.at) (sym e) (second closer w next)
 

@@ -1,4 +1,4 @@
--- The questions of each reading of a text: in turn, about labels without a definition, and none at an expansion limit of nothing.
+-- The questions of each reading of a text: in turn, about labels without a definition, and none at an reference expansion limit of nothing.
 use Rattle.std.proofs.Common.{◌≡◌, inl, inr, ℕ, ◌≤◌, List, [], ◌∷◌, ◌++◌, length, refl, sym, ap, subst, arith, ◌∙◌, append-nil, append_assoc}
 use Rattle.cmark_grammar.specs.BracketDecisions.{decide}
 use Rattle.cmark_grammar.specs.BracketStates.{State, Decision, Settled, Asks}
@@ -12,8 +12,8 @@ use Rattle.cmark_grammar.specs.Readers.{Reader}
 use Rattle.cmark_grammar.specs.SpanDocuments.{Segment, Given, Content, segments, ReadsAll, Profile, reader_of, at_start, IsReading}
 use Rattle.cmark_grammar.proofs.RangeLaws.{derived-order}
 use Rattle.cmark_inline_model.specs.LinkRules.{IsQuestion}
-use Rattle.cmark_inline_model.specs.ReadingQuestions.{HasCloser, IsCloser, AskedInTurn, AllAsked}
-use Rattle.cmark_inline_model.proofs.AskedTurn.{turn-wide, turn-both, turn-none, asked-both, BeginUpTo, begin-drop, IsAbout, AsksAbout, KeepsTurn, reading-turns}
+use Rattle.cmark_inline_model.specs.ReadingQuestions.{HasCloser, IsCloser, PutInTurn, AllQuestions}
+use Rattle.cmark_inline_model.proofs.QuestionsInTurn.{turn-wide, turn-both, turn-none, asked-both, BeginUpTo, begin-drop, IsAbout, AsksAbout, KeepsTurn, reading-turns}
 use Rattle.cmark_inline_model.proofs.DecisionLaws.{decide-recorded, decide-apart, decide-pays}
 use Rattle.cmark_inline_model.proofs.DecisionShape.{IsPut, DecisionShape, decide-shape}
 use Rattle.cmark_inline_model.proofs.ForwardLaws.{is-place, closer-is, leaf-forward, leaf-ranges}
@@ -56,17 +56,17 @@ module _ (reader : Reader) where
   pub record Adds (Closer : ℕ → Type 0) (from to : ℕ) (before after : Between) : Type 0 where
     pub more : List Exchange
     pub added : after.asked ≡ before.asked ++ more
-    pub turn : AskedInTurn Closer from more to
-    pub right : AllAsked (IsQuestion reader) more
-    pub less : after.expansion ≤ before.expansion
-    pub none : before.expansion ≡ 0 → more ≡ []
+    pub turn : PutInTurn Closer from more to
+    pub right : AllQuestions (IsQuestion reader) more
+    pub less : after.expansion_left ≤ before.expansion_left
+    pub none : before.expansion_left ≡ 0 → more ≡ []
 
   module _ (Says : Saying) where
     pub widen : (Closer : ℕ → Type 0) (stretches : List Stretch) (from mid at : ℕ) (asked : List Exchange) → InTurn from stretches mid → at ≤ end_of stretches
-        → AskedInTurn Closer (begin_of stretches) asked at → AskedInTurn Closer from asked mid
+        → PutInTurn Closer (begin_of stretches) asked at → PutInTurn Closer from asked mid
     widen Closer [] from mid at asked h w k =
         let none : asked ≡ [] = turn-none Closer 0 asked (turn-wide Closer Closer (λ place c. c) 0 0 asked at 0 (omega arith) (omega (arith, w)) k) in
-        subst (λ l. AskedInTurn Closer from l mid) (sym none) h
+        subst (λ l. PutInTurn Closer from l mid) (sym none) h
     widen Closer (s ∷ more) from mid at asked h w k =
         let x = h.0 in
         let e = end-within (s ∷ more) mid (lower from 0 (s ∷ more) mid (omega arith) h) in
@@ -85,7 +85,7 @@ module _ (reader : Reader) where
           added = ap (λ (b : Between). b.asked) k.after_is ∙ t.added;
           turn = widen (HasCloser reader leaf) leaf.stretches from mid k.last.at t.more h stands.1 t.turn;
           right = t.right;
-          less = (let e : after.expansion ≡ k.last.expansion = ap (λ (b : Between). b.expansion) k.after_is in let l = t.less in omega arith);
+          less = (let e : after.expansion_left ≡ k.last.expansion_left = ap (λ (b : Between). b.expansion_left) k.after_is in let l = t.less in omega arith);
           none = t.none;
         }
 
@@ -96,7 +96,7 @@ module _ (reader : Reader) where
       added = ap (λ (b : Between). b.asked) k.1 ∙ sym (append-nil before.asked);
       turn = h;
       right = tt;
-      less = (let e : after.expansion ≡ before.expansion = ap (λ (b : Between). b.expansion) k.1 in omega arith);
+      less = (let e : after.expansion_left ≡ before.expansion_left = ap (λ (b : Between). b.expansion_left) k.1 in omega arith);
       none = λ e. refl;
     }
     all-add (Given r ∷ others) from to before after events h k =
@@ -128,11 +128,11 @@ module _ (text : List ℕ) (profile : Profile) (exchanges : List Exchange) (even
       all-add reader (IsNext exchanges) (segments h.document) 0 (length text) (at_start profile) h.after events
       (segments-rise 0 h.document (length text) (derived-order text profile.options profile.lookup h.document h.derives)) h.reads
 
-  pub reading-turn : AskedInTurn (IsCloser reader (segments h.document)) 0 exchanges (length text)
-  reading-turn = subst (λ l. AskedInTurn (IsCloser reader (segments h.document)) 0 l (length text)) (sym adds.added ∙ h.asked) adds.turn
+  pub reading-turn : PutInTurn (IsCloser reader (segments h.document)) 0 exchanges (length text)
+  reading-turn = subst (λ l. PutInTurn (IsCloser reader (segments h.document)) 0 l (length text)) (sym adds.added ∙ h.asked) adds.turn
 
-  pub reading-asked : AllAsked (IsQuestion reader) exchanges
-  reading-asked = subst (AllAsked (IsQuestion reader)) (sym adds.added ∙ h.asked) adds.right
+  pub reading-asked : AllQuestions (IsQuestion reader) exchanges
+  reading-asked = subst (AllQuestions (IsQuestion reader)) (sym adds.added ∙ h.asked) adds.right
 
-  pub reading-silent-at-none : profile.expansion_limit ≡ 0 → exchanges ≡ []
+  pub reading-silent-at-none : profile.reference_expansion_limit ≡ 0 → exchanges ≡ []
   reading-silent-at-none e = sym h.asked ∙ adds.added ∙ adds.none e

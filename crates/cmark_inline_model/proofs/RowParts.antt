@@ -49,12 +49,12 @@ item-grows : (kind : ItemKind) (x : Item) (after y : Inline) → Grows after y �
     → LaysItem kind x (λ i j k l. LaysOut i after j k l) at s b q → LaysOut (at + length s) y t c r
     → LaysItem kind x (λ i j k l. LaysOut i (append after y) j k l) at (s ++ t) (b ++ c) (q ++ r)
 item-grows (Delimiters run) x after y ih at s t b c q r h k =
-    let n = ap length h.2 ∙ length-run-slots x.start run.size h.0 in (
+    let n = ap length h.2 ∙ length-run-slots x.start run.run_length h.0 in (
       h.0 ++ t,
       h.1 ++ c,
-      ap (λ l. l ++ t) h.2 ∙ run-slots-grow x.start run.size h.0 t,
-      ap (λ l. l ++ c) h.3 ∙ run-places-grow at run.size h.1 c,
-      ih (at + run.size) h.0 t h.1 c q r h.4 (subst (λ i. LaysOut i y t c r) (let e : at + length s ≡ (at + run.size) + length h.0 = omega arith in e) k),
+      ap (λ l. l ++ t) h.2 ∙ run-slots-grow x.start run.run_length h.0 t,
+      ap (λ l. l ++ c) h.3 ∙ run-places-grow at run.run_length h.1 c,
+      ih (at + run.run_length) h.0 t h.1 c q r h.4 (subst (λ i. LaysOut i y t c r) (let e : at + length s ≡ (at + run.run_length) + length h.0 = omega arith in e) k),
     )
 item-grows (Quoted quote) x after y ih at s t b c q r h k =
     let n = ap length h.2 in (
@@ -116,7 +116,7 @@ quotes-append (Single x after) b = ap (quote_then x.kind) (quotes-append after b
 quotes-append (Around tag start end inside after) b = quotes-append after b
 
 run-counted : (kind : ItemKind) (n : ℕ) (after : Inline) → ((m : ℕ) → runs_from after m ≡ counted m (runs_in after)) → run_then n kind (runs_from after) ≡ counted n (run_before kind (runs_in after))
-run-counted (Delimiters run) n after ih = ap (λ l. Delimiter (record { mark = run.mark; size = run.size; at = n; left = run.size; opens = run.opens; closes = run.closes }) ∷ l) (ih (n + run.size))
+run-counted (Delimiters run) n after ih = ap (λ l. Delimiter (record { delimiter = run.delimiter; run_length = run.run_length; at = n; left = run.run_length; opens = run.opens; closes = run.closes }) ∷ l) (ih (n + run.run_length))
 run-counted kind n after ih = ih n
 
 pub runs-counted : (x : Inline) (n : ℕ) → runs_from x n ≡ counted n (runs_in x)
@@ -145,7 +145,7 @@ Counts x = (at : ℕ) (s : List Slot) (b q : List ℕ) → LaysOut at x s b q �
 
 item-counts : (kind : ItemKind) (x : Item) (after : Inline) → Counts after → (at : ℕ) (s : List Slot) (b q : List ℕ) → LaysItem kind x (λ i j k l. LaysOut i after j k l) at s b q
     → (length b ≡ bytes_in (run_before kind (runs_in after))) × (length q ≡ length (quote_then kind (quotes_of after)))
-item-counts (Delimiters run) x after ih at s b q h = let i = ih (at + run.size) h.0 h.1 q h.4 in let n = ap length h.3 ∙ length-run-places at run.size h.1 in let j = i.0 in (omega arith, i.1)
+item-counts (Delimiters run) x after ih at s b q h = let i = ih (at + run.run_length) h.0 h.1 q h.4 in let n = ap length h.3 ∙ length-run-places at run.run_length h.1 in let j = i.0 in (omega arith, i.1)
 item-counts (Quoted quote) x after ih at s b q h = let i = ih (suc at) h.0 b h.1 h.4 in (i.0, ap length h.3 ∙ ap suc i.1)
 item-counts (FootnoteReference label) x after ih at s b q h = ih (at + (length h.0 + 1)) h.1 b q h.4
 item-counts kind x after ih at s b q h = ih (suc at) h.0 b q h.2

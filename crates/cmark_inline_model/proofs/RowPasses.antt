@@ -81,12 +81,12 @@ module _ (reader : Reader) (leaf : Leaf) (before : Between) where
       like = like-both reader.source slots h.row more s.row h.like s.like;
     }
 
-    pub reached-item : (x : Item) (past : ℕ) (more : List Slot) (more_bytes more_quotes : List ℕ) → token reader leaf p.state.at ≡ Stands x past → StandsFor reader (length slots) (Single x Nil) more more_bytes more_quotes
-        → IsReached reader leaf before (pass (moved past p.state) (join p.here (Single x Nil))) bs (slots ++ more) (bytes ++ more_bytes) (quotes ++ more_quotes) (runs ++ runs_in (siblings_of reader.options (Single x Nil)))
+    pub reached-item : (x : Item) (resume : ℕ) (more : List Slot) (more_bytes more_quotes : List ℕ) → token reader leaf p.state.at ≡ Stands x resume → StandsFor reader (length slots) (Single x Nil) more more_bytes more_quotes
+        → IsReached reader leaf before (pass (moved resume p.state) (join p.here (Single x Nil))) bs (slots ++ more) (bytes ++ more_bytes) (quotes ++ more_quotes) (runs ++ runs_in (siblings_of reader.options (Single x Nil)))
         (quoted_are ++ quotes_of (siblings_of reader.options (Single x Nil)))
-    reached-item x past more more_bytes more_quotes t s =
-        reached-more (moved past p.state) (Single x Nil) more more_bytes more_quotes refl
-        (joined (token reader leaf) (decide reader leaf) AnyAnswer (entering leaf before) p.here p.state (Single x Nil) (moved past p.state) h.reads (past, t, refl)) s
+    reached-item x resume more more_bytes more_quotes t s =
+        reached-more (moved resume p.state) (Single x Nil) more more_bytes more_quotes refl
+        (joined (token reader leaf) (decide reader leaf) AnyAnswer (entering leaf before) p.here p.state (Single x Nil) (moved resume p.state) h.reads (resume, t, refl)) s
 
     -- an item with one slot
     own_laid : (kind : ItemKind) (start end at : ℕ) → has_own_slot kind ≡ true → LaysOut at (siblings_of reader.options (Single (item kind start end) Nil)) (ItemSlot (item kind start end) ∷ []) [] []
@@ -104,11 +104,11 @@ module _ (reader : Reader) (leaf : Leaf) (before : Between) where
     no_quote (Quoted quote) start end e = absurd (true≢false (sym e))
     no_quote kind start end e = refl
 
-    pub reached-own : (kind : ItemKind) (start end past : ℕ) (slot : Slot) → token reader leaf p.state.at ≡ Stands (item kind start end) past → has_own_slot kind ≡ true → IsLike reader.source slot (ItemSlot (item kind start end))
-        → IsReached reader leaf before (pass (moved past p.state) (join p.here (Single (item kind start end) Nil))) bs (slots ++ (slot ∷ [])) bytes quotes runs quoted_are
-    reached-own kind start end past slot t own s =
-        let r = reached-item (item kind start end) past (slot ∷ []) [] [] t (record { row = ItemSlot (item kind start end) ∷ []; laid = own_laid kind start end (length slots) own; like = (s, refl) }) in
-        let q = pass (moved past p.state) (join p.here (Single (item kind start end) Nil)) in
+    pub reached-own : (kind : ItemKind) (start end resume : ℕ) (slot : Slot) → token reader leaf p.state.at ≡ Stands (item kind start end) resume → has_own_slot kind ≡ true → IsLike reader.source slot (ItemSlot (item kind start end))
+        → IsReached reader leaf before (pass (moved resume p.state) (join p.here (Single (item kind start end) Nil))) bs (slots ++ (slot ∷ [])) bytes quotes runs quoted_are
+    reached-own kind start end resume slot t own s =
+        let r = reached-item (item kind start end) resume (slot ∷ []) [] [] t (record { row = ItemSlot (item kind start end) ∷ []; laid = own_laid kind start end (length slots) own; like = (s, refl) }) in
+        let q = pass (moved resume p.state) (join p.here (Single (item kind start end) Nil)) in
         let l = slots ++ (slot ∷ []) in
         let rs = runs_in (siblings_of reader.options (Single (item kind start end) Nil)) in
         let qs = quotes_of (siblings_of reader.options (Single (item kind start end) Nil)) in
@@ -118,35 +118,35 @@ module _ (reader : Reader) (leaf : Leaf) (before : Between) where
         (subst (λ x. IsReached reader leaf before q bs l (bytes ++ []) (quotes ++ []) (runs ++ rs) x) (ap (λ y. quoted_are ++ y) (no_quote kind start end own) ∙ append-nil quoted_are) r)))
 
     -- a delimiter run, with a slot for each byte
-    pub reached-run : (run : Run) (start end past : ℕ) (more : List Slot) → token reader leaf p.state.at ≡ Stands (item (Delimiters run) start end) past → AreLike reader.source more (run_slots start run.size [])
-        → IsReached reader leaf before (pass (moved past p.state) (join p.here (Single (item (Delimiters run) start end) Nil))) bs (slots ++ more) (bytes ++ run_places (length slots) run.size []) quotes (runs ++ (run ∷ [])) quoted_are
-    reached-run run start end past more t s =
+    pub reached-run : (run : Run) (start end resume : ℕ) (more : List Slot) → token reader leaf p.state.at ≡ Stands (item (Delimiters run) start end) resume → AreLike reader.source more (run_slots start run.run_length [])
+        → IsReached reader leaf before (pass (moved resume p.state) (join p.here (Single (item (Delimiters run) start end) Nil))) bs (slots ++ more) (bytes ++ run_places (length slots) run.run_length []) quotes (runs ++ (run ∷ [])) quoted_are
+    reached-run run start end resume more t s =
         let x = item (Delimiters run) start end in
-        let r = reached-item x past more (run_places (length slots) run.size []) [] t (record { row = run_slots start run.size []; laid = ([], [], refl, refl, (refl, refl, refl)); like = s }) in
-        let q = pass (moved past p.state) (join p.here (Single x Nil)) in
-        subst (λ y. IsReached reader leaf before q bs (slots ++ more) (bytes ++ run_places (length slots) run.size []) y (runs ++ (run ∷ [])) quoted_are) (append-nil quotes)
-        (subst (λ y. IsReached reader leaf before q bs (slots ++ more) (bytes ++ run_places (length slots) run.size []) (quotes ++ []) (runs ++ (run ∷ [])) y) (append-nil quoted_are) r)
+        let r = reached-item x resume more (run_places (length slots) run.run_length []) [] t (record { row = run_slots start run.run_length []; laid = ([], [], refl, refl, (refl, refl, refl)); like = s }) in
+        let q = pass (moved resume p.state) (join p.here (Single x Nil)) in
+        subst (λ y. IsReached reader leaf before q bs (slots ++ more) (bytes ++ run_places (length slots) run.run_length []) y (runs ++ (run ∷ [])) quoted_are) (append-nil quotes)
+        (subst (λ y. IsReached reader leaf before q bs (slots ++ more) (bytes ++ run_places (length slots) run.run_length []) (quotes ++ []) (runs ++ (run ∷ [])) y) (append-nil quoted_are) r)
 
     -- a quote
-    pub reached-quote : (quote : Quote) (start end past : ℕ) (slot : Slot) → token reader leaf p.state.at ≡ Stands (item (Quoted quote) start end) past → IsLike reader.source slot (ItemSlot (item (Quoted quote) start end))
-        → IsReached reader leaf before (pass (moved past p.state) (join p.here (Single (item (Quoted quote) start end) Nil))) bs (slots ++ (slot ∷ [])) bytes (quotes ++ (length slots ∷ [])) runs (quoted_are ++ (quote ∷ []))
-    reached-quote quote start end past slot t s =
+    pub reached-quote : (quote : Quote) (start end resume : ℕ) (slot : Slot) → token reader leaf p.state.at ≡ Stands (item (Quoted quote) start end) resume → IsLike reader.source slot (ItemSlot (item (Quoted quote) start end))
+        → IsReached reader leaf before (pass (moved resume p.state) (join p.here (Single (item (Quoted quote) start end) Nil))) bs (slots ++ (slot ∷ [])) bytes (quotes ++ (length slots ∷ [])) runs (quoted_are ++ (quote ∷ []))
+    reached-quote quote start end resume slot t s =
         let x = item (Quoted quote) start end in
-        let r = reached-item x past (slot ∷ []) [] (length slots ∷ []) t (record { row = ItemSlot x ∷ []; laid = ([], [], refl, refl, (refl, refl, refl)); like = (s, refl) }) in
-        let q = pass (moved past p.state) (join p.here (Single x Nil)) in
+        let r = reached-item x resume (slot ∷ []) [] (length slots ∷ []) t (record { row = ItemSlot x ∷ []; laid = ([], [], refl, refl, (refl, refl, refl)); like = (s, refl) }) in
+        let q = pass (moved resume p.state) (join p.here (Single x Nil)) in
         subst (λ y. IsReached reader leaf before q bs (slots ++ (slot ∷ [])) y (quotes ++ (length slots ∷ [])) runs (quoted_are ++ (quote ∷ []))) (append-nil bytes)
         (subst (λ y. IsReached reader leaf before q bs (slots ++ (slot ∷ [])) (bytes ++ []) (quotes ++ (length slots ∷ [])) y (quoted_are ++ (quote ∷ []))) (append-nil runs) r)
 
     -- an autolink, with the slots of its begin, its text and its end
-    pub reached-autolink : (uri : List ℕ) (start end past : ℕ) (slot : Slot) → token reader leaf p.state.at ≡ Stands (item (Autolink uri) start end) past → IsLike reader.source slot (ItemSlot (item Own (suc start) (end - 1)))
-        → IsReached reader leaf before (pass (moved past p.state) (join p.here (Single (item (Autolink uri) start end) Nil))) bs (slots ++ (BeginSlot (Link (uri_link uri)) start end ∷ (slot ∷ (EndSlot ∷ [])))) bytes quotes runs quoted_are
-    reached-autolink uri start end past slot t s =
+    pub reached-autolink : (uri : List ℕ) (start end resume : ℕ) (slot : Slot) → token reader leaf p.state.at ≡ Stands (item (Autolink uri) start end) resume → IsLike reader.source slot (ItemSlot (item Own (suc start) (end - 1)))
+        → IsReached reader leaf before (pass (moved resume p.state) (join p.here (Single (item (Autolink uri) start end) Nil))) bs (slots ++ (BeginSlot (Link (uri_link uri)) start end ∷ (slot ∷ (EndSlot ∷ [])))) bytes quotes runs quoted_are
+    reached-autolink uri start end resume slot t s =
         let x = item (Autolink uri) start end in
         let more = BeginSlot (Link (uri_link uri)) start end ∷ (slot ∷ (EndSlot ∷ [])) in
         let inner = ItemSlot (item Own (suc start) (end - 1)) ∷ [] in
-        let r = reached-item x past more [] [] t
+        let r = reached-item x resume more [] [] t
         (record { row = BeginSlot (Link (uri_link uri)) start end ∷ (inner ++ (EndSlot ∷ [])); laid = (inner, [], refl, refl, (refl, refl, refl)); like = (refl, (s, (refl, refl))) }) in
-        let q = pass (moved past p.state) (join p.here (Single x Nil)) in
+        let q = pass (moved resume p.state) (join p.here (Single x Nil)) in
         let l = slots ++ more in
         subst (λ y. IsReached reader leaf before q bs l y quotes runs quoted_are) (append-nil bytes)
         (subst (λ y. IsReached reader leaf before q bs l (bytes ++ []) y runs quoted_are) (append-nil quotes)

@@ -39,7 +39,7 @@ abbrev pub whole : List ℕ → Leaf
 whole text = paragraph (stretch 0 (length text) ∷ [])
 
 abbrev pub start : Between
-start = record { expansion = 100000; asked = [] }
+start = record { expansion_left = 100000; asked = [] }
 
 -- a footnote reference as a text, since its number does not compute
 abbrev pub with_label : Event → Event
@@ -86,7 +86,7 @@ answered_html plan text = html_of (leaf_events (asking no_options text) plan (wh
 -- ## Documents
 
 abbrev pub profile : Options → List ℕ → Profile
-profile options text = record { options = options; lookup = basic_entity; expansion_limit = max (length text) 100000; has_callback = false }
+profile options text = record { options = options; lookup = basic_entity; reference_expansion_limit = max (length text) 100000; has_callback = false }
 
 abbrev pub events_of_document : Profile → List ℕ → BlockDocument → List Ranged
 events_of_document how text blocks = all_events (reader_of text how blocks) never (segments blocks) (at_start how)

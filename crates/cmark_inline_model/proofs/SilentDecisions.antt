@@ -9,7 +9,7 @@ use Rattle.cmark_grammar.specs.Items.{Bracket}
 use Rattle.cmark_grammar.specs.Labels.{fold, normal_form}
 use Rattle.cmark_grammar.specs.LeafText.{Leaf}
 use Rattle.cmark_grammar.specs.Letters.{first_is}
-use Rattle.cmark_grammar.specs.LinkDefinitions.{Found}
+use Rattle.cmark_grammar.specs.LinkDefinitions.{Parsed}
 use Rattle.cmark_grammar.specs.LinkTails.{LinkTail, link_tail_in, behind_collapsed, is_bracketed_label, reference_label_in}
 use Rattle.cmark_grammar.specs.LinkType.{Reference}
 use Rattle.cmark_grammar.specs.Lines.{is_content}
@@ -48,7 +48,7 @@ module _ (reader : Reader) (leaf : Leaf) where
   footnote_same [] = refl
   footnote_same (b ∷ bs) = ap (λ x. reader.options.footnotes && ((b == 94) && (is_bracketed_label bs && (reader.options.old_footnotes || x)))) (one_line_same bs)
 
-  unless_same : (found : Option Found) → unless_footnote (silent reader) leaf found ≡ unless_footnote reader leaf found
+  unless_same : (found : Option Parsed) → unless_footnote (silent reader) leaf found ≡ unless_footnote reader leaf found
   unless_same None = refl
   unless_same (Some found) = ap (λ b. if b then None else Some found) (footnote_same found.bytes)
 
@@ -76,7 +76,7 @@ module _ (reader : Reader) (leaf : Leaf) where
   refers_falls named taken closer t =
       let found = reader.definition (fold named.label) in
       let u = unasked t in
-      by_bool t (t.expansion == 0) (t.expansion == 0) (Settled (stays reader leaf closer t)) (defined_or_asked reader leaf found named taken closer t)
+      by_bool t (t.expansion_left == 0) (t.expansion_left == 0) (Settled (stays reader leaf closer t)) (defined_or_asked reader leaf found named taken closer t)
       (Settled (stays (silent reader) leaf closer u)) (defined_or_asked (silent reader) leaf found named taken closer u)
       refl (settled t (stays reader leaf closer t) (stays (silent reader) leaf closer u) refl) (defined_falls found named taken closer t)
 
@@ -107,11 +107,11 @@ module _ (reader : Reader) (leaf : Leaf) where
       (by_bool t is_label is_label (refers reader leaf named taken closer t) (Settled (stays reader leaf closer t)) (refers r leaf other taken closer u) (Settled (stays r leaf closer u))
       refl (subst (λ n. Falls t (refers reader leaf named taken closer t) (refers r leaf n taken closer u)) (sym same) (refers_falls named taken closer t)) stay)
 
-  reference_falls : (found : Option Found) (taken : Taken) (closer : Bracket) (t : State) → Falls t (reference_or reader leaf found taken closer t) (reference_or (silent reader) leaf found taken closer (unasked t))
+  reference_falls : (found : Option Parsed) (taken : Taken) (closer : Bracket) (t : State) → Falls t (reference_or reader leaf found taken closer t) (reference_or (silent reader) leaf found taken closer (unasked t))
   reference_falls (Some found) taken closer t =
       let end = place reader leaf found.behind in
-      refers_falls (record { label = as_label reader leaf found.bytes; link_type = Reference; end = end; past = end }) taken closer
-      (record { at = t.at; expansion = t.expansion; label_close = Some (end - 1); asked = t.asked; openers = t.openers })
+      refers_falls (record { label = as_label reader leaf found.bytes; link_type = Reference; end = end; resume = end }) taken closer
+      (record { at = t.at; expansion_left = t.expansion_left; label_close = Some (end - 1); asked = t.asked; openers = t.openers })
   reference_falls None taken closer t =
       let r = silent reader in
       let u = unasked t in
@@ -142,7 +142,7 @@ module _ (reader : Reader) (leaf : Leaf) where
       let r = silent reader in
       let u = unasked t in
       let refused = first.opener.is_inactive || (length (name_in (wiki_text reader leaf first closer)) == 0) in
-      let v : State = record { at = t.at; expansion = t.expansion; label_close = t.label_close; asked = t.asked; openers = tried first.nearer t.openers } in
+      let v : State = record { at = t.at; expansion_left = t.expansion_left; label_close = t.label_close; asked = t.asked; openers = tried first.nearer t.openers } in
       by_bool t refused refused (with_taken reader leaf taken closer v) (Settled (wikilink reader leaf first closer t)) (with_taken r leaf taken closer (unasked v)) (Settled (wikilink r leaf first closer u))
       refl (taken_falls taken closer v) (settled t (wikilink reader leaf first closer t) (wikilink r leaf first closer u) refl)
 
@@ -156,4 +156,4 @@ module _ (reader : Reader) (leaf : Leaf) where
 
   pub decide-falls : (s : State) (closer : Bracket) → Falls s (decide reader leaf s closer) (decide (silent reader) leaf (unasked s) closer)
   unfolding decide
-  decide-falls s closer = taking_falls (nearest s.openers) closer (record { at = s.at; expansion = s.expansion; label_close = s.label_close; asked = s.asked; openers = used_up s.openers })
+  decide-falls s closer = taking_falls (nearest s.openers) closer (record { at = s.at; expansion_left = s.expansion_left; label_close = s.label_close; asked = s.asked; openers = used_up s.openers })

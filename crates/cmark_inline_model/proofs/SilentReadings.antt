@@ -57,7 +57,7 @@ module _ (reader : Reader) (leaf : Leaf) (all : List Exchange) (none : AreUnansw
   reads-silent s (Opening opener after) t h = (token-same reader leaf s.at ∙ h.0, reads-silent (opened opener s) after t h.1)
 
 abbrev unasked_between : Between → Between
-unasked_between b = record { expansion = b.expansion; asked = [] }
+unasked_between b = record { expansion_left = b.expansion_left; asked = [] }
 
 module _ (reader : Reader) (all : List Exchange) (none : AreUnanswered all) where
   leaf_silent : (leaf : Leaf) (before after : Between) (events : List Ranged) → ReadsLeaf reader (IsNext all) leaf before events after

@@ -14,7 +14,7 @@ use Rattle.cmark_grammar.specs.LeafText.{Leaf}
 use Rattle.cmark_grammar.specs.Letters.{first_is, starts}
 use Rattle.cmark_grammar.specs.LineBreaks.{LineBreak, backslash_break_in, blank_break_in}
 use Rattle.cmark_grammar.specs.Lines.{is_content}
-use Rattle.cmark_grammar.specs.LinkDefinitions.{Found}
+use Rattle.cmark_grammar.specs.LinkDefinitions.{Parsed}
 use Rattle.cmark_grammar.specs.Readers.{Reader}
 use Rattle.cmark_grammar.specs.Tags.{behind_tag, no_prefix}
 use Rattle.cmark_grammar.specs.Tokens.{Entity, entity_in, is_punctuation}
@@ -29,11 +29,11 @@ module _ (reader : Reader) (leaf : Leaf) where
   break_same at None x y e = e
   break_same at (Some found) x y e = refl
 
-  code_same : (at size : ℕ) (found : Option Found) → code_or (silent reader) leaf at size found ≡ code_or reader leaf at size found
+  code_same : (at size : ℕ) (found : Option Parsed) → code_or (silent reader) leaf at size found ≡ code_or reader leaf at size found
   code_same at size None = refl
   code_same at size (Some found) = refl
 
-  backtick_same : (at size : ℕ) (found : Option Found) → escaped_backtick (silent reader) leaf at size found ≡ escaped_backtick reader leaf at size found
+  backtick_same : (at size : ℕ) (found : Option Parsed) → escaped_backtick (silent reader) leaf at size found ≡ escaped_backtick reader leaf at size found
   backtick_same at size None = refl
   backtick_same at size (Some found) = refl
 
@@ -55,7 +55,7 @@ module _ (reader : Reader) (leaf : Leaf) where
   markup_same at None x y e = e
   markup_same at (Some rest) x y e = refl
 
-  autolink_same : (at : ℕ) (found : Option Found) (x y : Token) → x ≡ y → autolink_or (silent reader) leaf at found x ≡ autolink_or reader leaf at found y
+  autolink_same : (at : ℕ) (found : Option Parsed) (x y : Token) → x ≡ y → autolink_or (silent reader) leaf at found x ≡ autolink_or reader leaf at found y
   autolink_same at None x y e = e
   autolink_same at (Some found) x y e = refl
 
@@ -68,7 +68,7 @@ module _ (reader : Reader) (leaf : Leaf) where
       if-same (first_is (λ c. c == 92) bs) (item_at Plain at (suc at)) (autolink_or (silent reader) leaf at (autolink_in bs) x) (item_at Plain at (suc at)) (autolink_or reader leaf at (autolink_in bs) y)
       refl (autolink_same at (autolink_in bs) x y (markup_same at markup (tag_or_text (silent reader) leaf at tag) (tag_or_text reader leaf at tag) (tag_same at tag)))
 
-  formula_same : (kind : List ℕ → ItemKind) (at : ℕ) (found : Option Found) → formula_or (silent reader) leaf kind at found ≡ formula_or reader leaf kind at found
+  formula_same : (kind : List ℕ → ItemKind) (at : ℕ) (found : Option Parsed) → formula_or (silent reader) leaf kind at found ≡ formula_or reader leaf kind at found
   formula_same kind at None = refl
   formula_same kind at (Some found) = refl
 
@@ -107,23 +107,23 @@ module _ (reader : Reader) (leaf : Leaf) where
   begins_at_same : (at : ℕ) → begins_at (silent reader) leaf at ≡ begins_at reader leaf at
   begins_at_same at = begins_same at (from reader leaf at)
 
-  goes_same : (t : Token) (stop : ℕ) (more other : ℕ → ℕ) → ((n : ℕ) → more n ≡ other n) → goes_on (silent reader) leaf t stop more ≡ goes_on reader leaf t stop other
-  goes_same (Stands item past) stop more other e = if-same (is_plain item.kind && (item.start == stop)) (more past) stop (other past) stop (e past) refl
-  goes_same (Opens opener) stop more other e = refl
-  goes_same (Closes closer) stop more other e = refl
-  goes_same Ends stop more other e = refl
+  goes_same : (t : Token) (item_end : ℕ) (more other : ℕ → ℕ) → ((n : ℕ) → more n ≡ other n) → goes_on (silent reader) leaf t item_end more ≡ goes_on reader leaf t item_end other
+  goes_same (Stands item resume) item_end more other e = if-same (is_plain item.kind && (item.start == item_end)) (more resume) item_end (other resume) item_end (e resume) refl
+  goes_same (Opens opener) item_end more other e = refl
+  goes_same (Closes closer) item_end more other e = refl
+  goes_same Ends item_end more other e = refl
 
-  plain_same : (n stop : ℕ) → plain_end (silent reader) leaf n stop ≡ plain_end reader leaf n stop
-  plain_same zero stop = refl
-  plain_same (suc n) stop =
-      ap (λ t. goes_on (silent reader) leaf t stop (plain_end (silent reader) leaf n)) (begins_at_same stop)
-      ∙ goes_same (begins_at reader leaf stop) stop (plain_end (silent reader) leaf n) (plain_end reader leaf n) (λ m. plain_same n m)
+  plain_same : (n item_end : ℕ) → plain_end (silent reader) leaf n item_end ≡ plain_end reader leaf n item_end
+  plain_same zero item_end = refl
+  plain_same (suc n) item_end =
+      ap (λ t. goes_on (silent reader) leaf t item_end (plain_end (silent reader) leaf n)) (begins_at_same item_end)
+      ∙ goes_same (begins_at reader leaf item_end) item_end (plain_end (silent reader) leaf n) (plain_end reader leaf n) (λ m. plain_same n m)
 
   longest_same : (t : Token) → longest (silent reader) leaf t ≡ longest reader leaf t
-  longest_same (Stands item past) =
-      if-same (is_plain item.kind) (item_at Plain item.start (plain_end (silent reader) leaf (length (from reader leaf past)) past)) (Stands item past)
-      (item_at Plain item.start (plain_end reader leaf (length (from reader leaf past)) past)) (Stands item past)
-      (ap (item_at Plain item.start) (plain_same (length (from reader leaf past)) past)) refl
+  longest_same (Stands item resume) =
+      if-same (is_plain item.kind) (item_at Plain item.start (plain_end (silent reader) leaf (length (from reader leaf resume)) resume)) (Stands item resume)
+      (item_at Plain item.start (plain_end reader leaf (length (from reader leaf resume)) resume)) (Stands item resume)
+      (ap (item_at Plain item.start) (plain_same (length (from reader leaf resume)) resume)) refl
   longest_same (Opens opener) = refl
   longest_same (Closes closer) = refl
   longest_same Ends = refl

@@ -117,9 +117,9 @@ single-cells x at gaps bytes more slots places s c =
 item-cells : (kind : ItemKind) (x : Item) (after : Inline) → Cells after → (at : ℕ) (slots : List Slot) (places quotes : List ℕ) → LaysItem kind x (λ a b c d. LaysOut a after b c d) at slots places quotes
     → AreCells at (gap_then kind x (gaps_of after)) (run_bytes_then kind x.start (run_bytes after)) slots places
 item-cells (Delimiters run) x after ih at slots places quotes h =
-    subst (λ l. AreCells at (no_gaps run.size (gaps_of after)) (bytes_then x.start run.size (run_bytes after)) l places) (sym h.2)
-    (subst (AreCells at (no_gaps run.size (gaps_of after)) (bytes_then x.start run.size (run_bytes after)) (run_slots x.start run.size h.0)) (sym h.3)
-    (run-cells run.size x.start at (gaps_of after) (run_bytes after) h.0 h.1 (ih (at + run.size) h.0 h.1 quotes h.4)))
+    subst (λ l. AreCells at (no_gaps run.run_length (gaps_of after)) (bytes_then x.start run.run_length (run_bytes after)) l places) (sym h.2)
+    (subst (AreCells at (no_gaps run.run_length (gaps_of after)) (bytes_then x.start run.run_length (run_bytes after)) (run_slots x.start run.run_length h.0)) (sym h.3)
+    (run-cells run.run_length x.start at (gaps_of after) (run_bytes after) h.0 h.1 (ih (at + run.run_length) h.0 h.1 quotes h.4)))
 item-cells (Quoted quote) x after ih at slots places quotes h = single-cells x at (gaps_of after) (run_bytes after) h.0 slots places h.2 (ih (suc at) h.0 places h.1 h.4)
 item-cells (FootnoteReference label) x after ih at slots places quotes h =
     let own = ItemSlot x ∷ h.0 in
@@ -162,7 +162,7 @@ HasRow siblings = (at : ℕ) → LaysOut at siblings (row_of siblings) (byte_pla
 
 item-laid : (kind : ItemKind) (x : Item) (after : Inline) → HasRow after
     → (at : ℕ) → LaysItem kind x (λ a b c d. LaysOut a after b c d) at (item_slots kind x (row_of after)) (item_places kind at (λ a. byte_places a after)) (item_quotes kind at (λ a. quote_places a after))
-item-laid (Delimiters run) x after ih at = (row_of after, byte_places (at + run.size) after, refl, refl, ih (at + run.size))
+item-laid (Delimiters run) x after ih at = (row_of after, byte_places (at + run.run_length) after, refl, refl, ih (at + run.run_length))
 item-laid (Quoted quote) x after ih at = (row_of after, quote_places (suc at) after, refl, refl, ih (suc at))
 item-laid (FootnoteReference label) x after ih at = ([], row_of after, refl, refl, subst (λ n. LaysOut n after (row_of after) (byte_places (suc at) after) (quote_places (suc at) after)) (let e : suc at ≡ at + 1 = omega arith in e) (ih (suc at)))
 item-laid kind x after ih at = (row_of after, refl, ih (suc at))
@@ -180,7 +180,7 @@ length-bytes (suc size) start bytes = let i = length-bytes size (suc start) byte
 
 item-taken : (kind : ItemKind) (x : Item) (after : Inline) (n : ℕ) → ((m : ℕ) → places_taken (runs_from after m) ≡ length (run_bytes after))
     → places_taken (run_then n kind (runs_from after)) ≡ length (run_bytes_then kind x.start (run_bytes after))
-item-taken (Delimiters run) x after n ih = let i = ih (n + run.size) in let l = length-bytes run.size x.start (run_bytes after) in omega (arith, i, l)
+item-taken (Delimiters run) x after n ih = let i = ih (n + run.run_length) in let l = length-bytes run.run_length x.start (run_bytes after) in omega (arith, i, l)
 item-taken kind x after n ih = ih n
 
 pub bytes-taken : (siblings : Inline) (n : ℕ) → places_taken (runs_from siblings n) ≡ length (run_bytes siblings)
@@ -189,7 +189,7 @@ bytes-taken (Single x after) n = item-taken x.kind x after n (bytes-taken after)
 bytes-taken (Around tag start end inside after) n = bytes-taken after n
 
 item-stands : (kind : ItemKind) (after : Inline) (n : ℕ) → ((m : ℕ) → StandFrom m (runs_from after m)) → StandFrom n (run_then n kind (runs_from after))
-item-stands (Delimiters run) after n ih = (refl, refl, ih (n + run.size))
+item-stands (Delimiters run) after n ih = (refl, refl, ih (n + run.run_length))
 item-stands kind after n ih = ih n
 
 pub runs-stand : (siblings : Inline) (n : ℕ) → StandFrom n (runs_from siblings n)

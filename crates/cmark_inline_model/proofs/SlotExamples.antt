@@ -6,7 +6,7 @@ use lib.Utf8.{encode}
 use Rattle.caseless.proofs.Computing.{caseless}
 use Rattle.ucd_category.proofs.Computing.{ucd_category}
 use Rattle.cmark_grammar.specs.BracketDecisions.{decide}
-use Rattle.cmark_grammar.specs.Emphasis.{agrees, pair_of, rest_of_opener, rest_of_closer, kinds_of, shuts}
+use Rattle.cmark_grammar.specs.Emphasis.{agrees, pair_of, rest_of_opener, rest_of_closer, kinds_of, deactivates}
 use Rattle.cmark_grammar.specs.EmphasisModel.{closed, pairs_of}
 use Rattle.cmark_grammar.specs.Event.{Ranged}
 use Rattle.cmark_grammar.specs.Flanking.{is_unicode_white_space, is_unicode_punctuation}
@@ -45,34 +45,34 @@ smart = record no_options { smart_punctuation = true }
 
 -- CommonMark 6.2: two bytes a side inside of one
 nested : html_off no_options (codes "***foo** bar*") ≡ codes "<em><strong>foo</strong> bar</em>"
-unfolding caseless encode chars token decide ucd_category is_unicode_white_space is_unicode_punctuation agrees pair_of rest_of_opener rest_of_closer kinds_of shuts closed
+unfolding caseless encode chars token decide ucd_category is_unicode_white_space is_unicode_punctuation agrees pair_of rest_of_opener rest_of_closer kinds_of deactivates closed
 nested = refl
 
 -- CommonMark 6.2: bytes that are left over stay texts
 left_over : html_off no_options (codes "**foo*") ≡ codes "*<em>foo</em>"
-unfolding caseless encode chars token decide ucd_category is_unicode_white_space is_unicode_punctuation agrees pair_of rest_of_opener rest_of_closer kinds_of shuts closed
+unfolding caseless encode chars token decide ucd_category is_unicode_white_space is_unicode_punctuation agrees pair_of rest_of_opener rest_of_closer kinds_of deactivates closed
 left_over = refl
 
 -- what a link holds has slots of its own
 around_link : html_off no_options (codes "**a [b *c*](/u) d** `e`") ≡ codes "<strong>a <a href=\"/u\">b <em>c</em></a> d</strong> <code>e</code>"
-unfolding caseless encode chars token decide ucd_category is_unicode_white_space is_unicode_punctuation agrees pair_of rest_of_opener rest_of_closer kinds_of shuts closed
+unfolding caseless encode chars token decide ucd_category is_unicode_white_space is_unicode_punctuation agrees pair_of rest_of_opener rest_of_closer kinds_of deactivates closed
 around_link = refl
 
 -- GFM 6.5, and superscript
 tildes : html_off strikethrough (codes "~a~ ~~b *c*~~ ^d^") ≡ codes "<del>a</del> <del>b <em>c</em></del> <sup>d</sup>"
-unfolding caseless encode chars token decide ucd_category is_unicode_white_space is_unicode_punctuation agrees pair_of rest_of_opener rest_of_closer kinds_of shuts closed
+unfolding caseless encode chars token decide ucd_category is_unicode_white_space is_unicode_punctuation agrees pair_of rest_of_opener rest_of_closer kinds_of deactivates closed
 tildes = refl
 
 -- two tildes without strikethrough are one text, whatever stands between them
 one_text : read_off subscript (codes "~~a *b*~~") ≡ says 0 9 (codes "~~a *b*~~") ∷ []
-unfolding caseless encode chars token decide ucd_category is_unicode_white_space is_unicode_punctuation agrees pair_of rest_of_opener rest_of_closer kinds_of shuts closed
+unfolding caseless encode chars token decide ucd_category is_unicode_white_space is_unicode_punctuation agrees pair_of rest_of_opener rest_of_closer kinds_of deactivates closed
 one_text = refl
 
 over_a_link : read_off subscript (codes "~~a [b](/u)~~ c") ≡ says 0 13 (codes "~~a [b](/u)~~") ∷ (says 13 15 (codes " c") ∷ [])
-unfolding caseless encode chars token decide ucd_category is_unicode_white_space is_unicode_punctuation agrees pair_of rest_of_opener rest_of_closer kinds_of shuts closed
+unfolding caseless encode chars token decide ucd_category is_unicode_white_space is_unicode_punctuation agrees pair_of rest_of_opener rest_of_closer kinds_of deactivates closed
 over_a_link = refl
 
 -- quotes are characters in their slots
 in_quotes : html_off smart (codes "*\"a\"* b") ≡ codes "<em>" ++ ((226 ∷ 128 ∷ 156 ∷ []) ++ (codes "a" ++ ((226 ∷ 128 ∷ 157 ∷ []) ++ codes "</em> b")))
-unfolding caseless encode chars token decide ucd_category is_unicode_white_space is_unicode_punctuation agrees pair_of rest_of_opener rest_of_closer kinds_of shuts closed
+unfolding caseless encode chars token decide ucd_category is_unicode_white_space is_unicode_punctuation agrees pair_of rest_of_opener rest_of_closer kinds_of deactivates closed
 in_quotes = refl

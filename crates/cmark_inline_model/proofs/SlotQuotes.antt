@@ -40,15 +40,15 @@ item-quoted : (kind : ItemKind) (start end : ℕ) (after : Inline) → Quotes af
     → LaysItem kind (record { kind = kind; start = start; end = end }) (λ a b c d. LaysOut a after b c d) (length before) slots bytes quotes
     → AreQuoted before slots bytes quotes cs (with_characters (Single (record { kind = kind; start = start; end = end }) after) cs)
 item-quoted (Delimiters run) start end after ih before slots bytes quotes cs h =
-    let own = run_slots start run.size [] in
-    let n = behind before own run.size (length-run-slots run.size start) in
+    let own = run_slots start run.run_length [] in
+    let n = behind before own run.run_length (length-run-slots run.run_length start) in
     let r = ih (before ++ own) h.0 h.1 quotes cs (subst (λ k. LaysOut k after h.0 h.1 quotes) (sym n) h.4) in
     record {
-      now = run_slots start run.size r.now;
+      now = run_slots start run.run_length r.now;
       cut =
-          ap (λ l. quoted quotes cs (before ++ l)) (h.2 ∙ run-slots-append run.size start h.0)
+          ap (λ l. quoted quotes cs (before ++ l)) (h.2 ∙ run-slots-append run.run_length start h.0)
           ∙ regroup before own h.0 r.now quotes cs r.cut
-          ∙ ap (λ l. before ++ l) (sym (run-slots-append run.size start r.now));
+          ∙ ap (λ l. before ++ l) (sym (run-slots-append run.run_length start r.now));
       laid = (r.now, h.1, refl, h.3, subst (λ k. LaysOut k (with_characters after cs) r.now h.1 []) n r.laid);
     }
 item-quoted (Quoted quote) start end after ih before slots bytes quotes cs h =

@@ -18,7 +18,7 @@ use Rattle.cmark_grammar.specs.Spans.{SpanKind, Emphasis, Strong, SingleTilde, D
 use Rattle.cmark_grammar.specs.Tag.{Tag, Linked}
 use Rattle.cmark_grammar.specs.TagEnd.{end_of}
 use Rattle.cmark_grammar.proofs.SpanPlaces.{places}
-use Rattle.cmark_inline_model.specs.Expansion.{costs}
+use Rattle.cmark_inline_model.specs.ReferenceExpansion.{costs}
 use Rattle.cmark_inline_model.specs.ReadingLinks.{LinkEvent, Begins, Finishes, Neither, of_tag, own_cost, costs_by, reference_costs}
 use Rattle.cmark_inline_model.proofs.CostLists.{Fewer, fewer-same, fewer-then, fewer-behind, fewer-both}
 use Rattle.cmark_inline_model.proofs.KindViews.{KindView, AQuote, ARun, AnAutolink, AText, kind-view}
@@ -42,7 +42,7 @@ runs-stand (Single x after) n = go (λ m. runs-stand after m) x.kind (kind-view 
   where
     go : ((m : ℕ) → StandFrom m (runs_from after m)) → (kind : ItemKind) → KindView kind → StandFrom n (run_then n kind (runs_from after))
     go i _ (AQuote quote) = i n
-    go i _ (ARun run) = (refl, refl, i (n + run.size))
+    go i _ (ARun run) = (refl, refl, i (n + run.run_length))
     go i _ (AnAutolink uri) = i n
     go i _ (AText kind t) = subst (StandFrom n) (sym (t.run n (runs_from after))) (i n)
 
@@ -65,7 +65,7 @@ gaps_size (Single x after) n = go (λ m. gaps_size after m) x.kind (kind-view x.
     go : ((m : ℕ) → length (gaps_of after) ≡ suc (places_taken (runs_from after m))) → (kind : ItemKind) → KindView kind
         → length (gap_then kind x (gaps_of after)) ≡ suc (places_taken (run_then n kind (runs_from after)))
     go i _ (AQuote quote) = put (i n)
-    go i _ (ARun run) = let e = i (n + run.size) in let f = none_size run.size (gaps_of after) in omega arith
+    go i _ (ARun run) = let e = i (n + run.run_length) in let f = none_size run.run_length (gaps_of after) in omega arith
     go i _ (AnAutolink uri) = put (i n)
     go i _ (AText kind t) = ap length (t.gap x (gaps_of after)) ∙ put (i n) ∙ ap (λ ss. suc (places_taken ss)) (sym (t.run n (runs_from after)))
 
@@ -152,7 +152,7 @@ module _ (priced : Tag → (end : ℕ) → List ℕ) (price : Linked → (end : 
     where
       go : gathered (gaps_of after) ≡ priced_in after → (kind : ItemKind) → KindView kind → gathered (gap_then kind x (gaps_of after)) ≡ priced_in after
       go i _ (AQuote quote) = gathered_single x (gaps_of after) ∙ i
-      go i _ (ARun run) = gathered_none run.size (gaps_of after) ∙ i
+      go i _ (ARun run) = gathered_none run.run_length (gaps_of after) ∙ i
       go i _ (AnAutolink uri) = gathered_single x (gaps_of after) ∙ i
       go i _ (AText kind t) = ap gathered (t.gap x (gaps_of after)) ∙ gathered_single x (gaps_of after) ∙ i
 

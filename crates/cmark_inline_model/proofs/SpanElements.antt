@@ -64,7 +64,7 @@ module _ (Holds : Tag → Inline → Type 0) where
 
       go : AllGaps (gaps_of after) → (kind : ItemKind) → KindView kind → AllGaps (gap_then kind x (gaps_of after))
       go k _ (AQuote quote) = put k
-      go k _ (ARun run) = none_hold run.size (gaps_of after) k
+      go k _ (ARun run) = none_hold run.run_length (gaps_of after) k
       go k _ (AnAutolink uri) = put k
       go k _ (AText kind t) = subst AllGaps (sym (t.gap x (gaps_of after))) (put k)
 

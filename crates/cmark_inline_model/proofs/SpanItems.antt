@@ -26,7 +26,7 @@ use Rattle.cmark_inline_model.specs.LinkRules.{IsFormedRightly}
 use Rattle.cmark_inline_model.specs.OptionRules.{IsRead, AllItems, IsTagGiven, IsEndGiven, IsGiven, AreGiven}
 use Rattle.cmark_inline_model.proofs.KindViews.{KindView, AQuote, ARun, AnAutolink, AText, kind-view}
 use Rattle.cmark_inline_model.proofs.SpanElements.{quoted_then, other_then}
-use Rattle.cmark_inline_model.proofs.SpanKinds.{AllKinds, AllSpans, OfMark, OfRuns, spans-hold}
+use Rattle.cmark_inline_model.proofs.SpanKinds.{AllKinds, AllSpans, OfDelimiter, OfRuns, spans-hold}
 
 some_is : {A : Type 0} {a b : A} → Some a ≡ Some b → a ≡ b
 some_is e = cc
@@ -84,7 +84,7 @@ module _ (options : Options) where
 
       go : GapsRead (gaps_of after) → (kind : ItemKind) → KindView kind → GapsRead (gap_then kind x (gaps_of after))
       go k _ (AQuote quote) = put k
-      go k _ (ARun run) = none_read run.size (gaps_of after) k
+      go k _ (ARun run) = none_read run.run_length (gaps_of after) k
       go k _ (AnAutolink uri) = put k
       go k _ (AText kind t) = subst GapsRead (sym (t.gap x (gaps_of after))) (put k)
 
@@ -99,7 +99,7 @@ module _ (options : Options) where
     where
       go : ItemsRead (run_bytes after) → (kind : ItemKind) → KindView kind → ItemsRead (run_bytes_then kind x.start (run_bytes after))
       go k _ (AQuote quote) = k
-      go k _ (ARun run) = bytes_read x.start run.size (run_bytes after) k
+      go k _ (ARun run) = bytes_read x.start run.run_length (run_bytes after) k
       go k _ (AnAutolink uri) = k
       go k _ (AText kind t) = subst ItemsRead (sym (t.bytes x.start (run_bytes after))) k
 
@@ -166,13 +166,13 @@ module _ (options : Options) where
       go true e = refl
       go false e = e
 
-  mark_read : (mark size : ℕ) → is_delimiter_run options mark size ≡ true → OfMark KindRead mark
+  delimiter_read : (delimiter size : ℕ) → is_delimiter_run options delimiter size ≡ true → OfDelimiter KindRead delimiter
   unfolding kinds_of
-  mark_read mark size e count = go (mark == 126) refl (mark == 94) refl
+  delimiter_read delimiter size e count = go (delimiter == 126) refl (delimiter == 94) refl
     where
-      go : (a : Bool) → (mark == 126) ≡ a → (b : Bool) → (mark == 94) ≡ b → AllKinds KindRead (if a then tilde_kinds count else if b then caret_kinds count else emphasis_kinds count)
-      go true f b g = tilde_kinds_read (tilde_on size (subst (λ m. is_delimiter_run options m size ≡ true) (eqb-true mark 126 f) e)) count
-      go false f true g = caret_kinds_read (caret_on size (subst (λ m. is_delimiter_run options m size ≡ true) (eqb-true mark 94 g) e)) count
+      go : (a : Bool) → (delimiter == 126) ≡ a → (b : Bool) → (delimiter == 94) ≡ b → AllKinds KindRead (if a then tilde_kinds count else if b then caret_kinds count else emphasis_kinds count)
+      go true f b g = tilde_kinds_read (tilde_on size (subst (λ m. is_delimiter_run options m size ≡ true) (eqb-true delimiter 126 f) e)) count
+      go false f true g = caret_kinds_read (caret_on size (subst (λ m. is_delimiter_run options m size ≡ true) (eqb-true delimiter 94 g) e)) count
       go false f false g = emphasis_kinds_read count
 
   marks_read : (siblings : Inline) (n : ℕ) → AreRead siblings → OfRuns KindRead (runs_from siblings n)
@@ -182,7 +182,7 @@ module _ (options : Options) where
     where
       go : ((m : ℕ) → OfRuns KindRead (runs_from after m)) → (kind : ItemKind) → IsRead options kind → KindView kind → OfRuns KindRead (run_then n kind (runs_from after))
       go i _ k (AQuote quote) = i n
-      go i _ k (ARun run) = (mark_read run.mark run.size k, i (n + run.size))
+      go i _ k (ARun run) = (delimiter_read run.delimiter run.run_length k, i (n + run.run_length))
       go i _ k (AnAutolink uri) = i n
       go i _ k (AText kind t) = subst (OfRuns KindRead) (sym (t.run n (runs_from after))) (i n)
 

@@ -1,16 +1,16 @@
--- Which kinds of spans the delimiter runs of siblings become: those of the runs' marks.
+-- Which kinds of spans the delimiter runs of siblings become: those of the runs' delimiters.
 use Rattle.std.specs.Prelude.{map}
 use Rattle.std.proofs.Common.{◌≡◌, ℕ, zero, suc, ◌+◌, ◌-◌, Bool, true, false, nat_lt, if◌then◌else◌, List, [], ◌∷◌, ◌++◌, refl, sym, subst}
-use Rattle.cmark_grammar.specs.Emphasis.{Run, Pair, Sibling, Plain, Delimiter, Piece, Whole, Standing, pair_of, rest_of_opener, rest_of_closer, kinds_of, nest, wrapped, row, keep, is_tilde_or_caret, shuts, shut, left_open, stand, Closes}
+use Rattle.cmark_grammar.specs.Emphasis.{Run, Pair, Sibling, Plain, Delimiter, Piece, Whole, Standing, pair_of, rest_of_opener, rest_of_closer, kinds_of, nest, wrapped, row, keep, is_tilde_or_caret, deactivates, deactivated, left_open, stand, Closes}
 use Rattle.cmark_grammar.specs.EmphasisModel.{closed, resolve, spans_of}
 use Rattle.cmark_grammar.specs.Spans.{SpanKind, span_width, Spans, Nil, Single, Around, join, singles}
 use Rattle.cmark_grammar.proofs.EmphasisSound.{closed-closes}
 
-mark_of_pair : (o c : Run) → (pair_of o c).mark ≡ c.mark
+mark_of_pair : (o c : Run) → (pair_of o c).delimiter ≡ c.delimiter
 unfolding pair_of
 mark_of_pair o c = refl
 
-mark_of_rest : (o c : Run) → (rest_of_closer o c).mark ≡ c.mark
+mark_of_rest : (o c : Run) → (rest_of_closer o c).delimiter ≡ c.delimiter
 unfolding rest_of_closer
 mark_of_rest o c = refl
 
@@ -24,14 +24,14 @@ module _ (Holds : SpanKind → Type 0) where
   AllSpans (Single at after) = AllSpans after
   AllSpans (Around span inside after) = Holds span.kind × AllSpans inside × AllSpans after
 
-  -- it holds of all spans that a pair of this mark becomes
-  abbrev pub OfMark : ℕ → Type 0
-  OfMark mark = (count : ℕ) → AllKinds (kinds_of mark count)
+  -- it holds of all spans that a pair of this delimiter becomes
+  abbrev pub OfDelimiter : ℕ → Type 0
+  OfDelimiter delimiter = (count : ℕ) → AllKinds (kinds_of delimiter count)
 
   abbrev pub OfRuns : List Sibling → Type 0
   OfRuns [] = Unit {0}
   OfRuns (Plain at ∷ siblings) = OfRuns siblings
-  OfRuns (Delimiter run ∷ siblings) = OfMark run.mark × OfRuns siblings
+  OfRuns (Delimiter run ∷ siblings) = OfDelimiter run.delimiter × OfRuns siblings
 
   abbrev OfPieces : List Piece → Type 0
   OfPieces [] = Unit {0}
@@ -82,36 +82,36 @@ module _ (Holds : SpanKind → Type 0) where
       go true = keep_holds run pieces h
       go false = (singles_hold run.at run.left Nil tt, h)
 
-  shut_hold : (pieces : List Piece) → OfPieces pieces → OfPieces (map shut pieces)
-  shut_hold [] h = tt
-  shut_hold (Whole f ∷ pieces) h = (h.0, shut_hold pieces h.1)
-  shut_hold (Standing run ∷ pieces) h = go (is_tilde_or_caret run.mark) (shut_hold pieces h)
+  deactivated_hold : (pieces : List Piece) → OfPieces pieces → OfPieces (map deactivated pieces)
+  deactivated_hold [] h = tt
+  deactivated_hold (Whole f ∷ pieces) h = (h.0, deactivated_hold pieces h.1)
+  deactivated_hold (Standing run ∷ pieces) h = go (is_tilde_or_caret run.delimiter) (deactivated_hold pieces h)
     where
-      go : (b : Bool) → OfPieces (map shut pieces) → OfPieces ((if b then Whole (singles run.at run.left Nil) else Standing run) ∷ map shut pieces)
+      go : (b : Bool) → OfPieces (map deactivated pieces) → OfPieces ((if b then Whole (singles run.at run.left Nil) else Standing run) ∷ map deactivated pieces)
       go true k = (singles_hold run.at run.left Nil tt, k)
       go false k = k
 
   left_holds : (closer : Run) (pieces : List Piece) → OfPieces pieces → OfPieces (left_open closer pieces)
-  left_holds closer pieces h = go (shuts closer)
+  left_holds closer pieces h = go (deactivates closer)
     where
-      go : (b : Bool) → OfPieces (if b then map shut pieces else pieces)
-      go true = shut_hold pieces h
+      go : (b : Bool) → OfPieces (if b then map deactivated pieces else pieces)
+      go true = deactivated_hold pieces h
       go false = h
 
-  wrapped_holds : (o c : Run) (inside : Spans) → OfMark c.mark → AllSpans inside → AllSpans (wrapped (pair_of o c) inside)
-  wrapped_holds o c inside mark h =
+  wrapped_holds : (o c : Run) (inside : Spans) → OfDelimiter c.delimiter → AllSpans inside → AllSpans (wrapped (pair_of o c) inside)
+  wrapped_holds o c inside delimiter h =
       let pair = pair_of o c in
-      nest_holds (kinds_of pair.mark pair.count) pair.from pair.to inside (subst OfMark (sym (mark_of_pair o c)) mark pair.count) h
+      nest_holds (kinds_of pair.delimiter pair.count) pair.from pair.to inside (subst OfDelimiter (sym (mark_of_pair o c)) delimiter pair.count) h
 
-  closes_hold : (pairs : List Pair) (c d : Run) (pieces now : List Piece) → Closes c pieces pairs d now → OfMark c.mark → OfPieces pieces → OfPieces now
-  closes_hold [] c d pieces now h mark k = subst OfPieces (sym h.2) (left_holds c pieces k)
-  closes_hold (pair ∷ more) c d pieces now h mark k =
+  closes_hold : (pairs : List Pair) (c d : Run) (pieces now : List Piece) → Closes c pieces pairs d now → OfDelimiter c.delimiter → OfPieces pieces → OfPieces now
+  closes_hold [] c d pieces now h delimiter k = subst OfPieces (sym h.2) (left_holds c pieces k)
+  closes_hold (pair ∷ more) c d pieces now h delimiter k =
       let cut : OfPieces (h.between ++ (Standing h.opener ∷ h.front)) = subst OfPieces h.cut k in
       let inner = row_holds h.between Nil (first_hold h.between (Standing h.opener ∷ h.front) cut) tt in
       let own : AllSpans (wrapped pair (row h.between Nil)) =
-      subst (λ p. AllSpans (wrapped p (row h.between Nil))) (sym h.is) (wrapped_holds h.opener c (row h.between Nil) mark inner) in
+      subst (λ p. AllSpans (wrapped p (row h.between Nil))) (sym h.is) (wrapped_holds h.opener c (row h.between Nil) delimiter inner) in
       closes_hold more (rest_of_closer h.opener c) d (Whole (wrapped pair (row h.between Nil)) ∷ keep (rest_of_opener h.opener c) h.front) now h.so
-      (subst OfMark (sym (mark_of_rest h.opener c)) mark)
+      (subst OfDelimiter (sym (mark_of_rest h.opener c)) delimiter)
       (own, keep_holds (rest_of_opener h.opener c) h.front (others_hold h.between (Standing h.opener ∷ h.front) cut))
 
   resolve_holds : (siblings : List Sibling) (pieces : List Piece) → OfRuns siblings → OfPieces pieces → OfPieces (resolve siblings pieces).pieces

@@ -19,7 +19,7 @@ use Rattle.cmark_inline_model.proofs.SpanElements.{quoted_then, other_then}
 
 -- a run has its bytes, and an autolink one at each side of its text
 abbrev pub Fills : ItemKind → (start end : ℕ) → Type 0
-Fills (Delimiters run) start end = start + run.size ≤ end
+Fills (Delimiters run) start end = start + run.run_length ≤ end
 Fills (Autolink uri) start end = start + 2 ≤ end
 Fills _ start end = Unit {0}
 
@@ -108,7 +108,7 @@ module _ (Pipe : ℕ → Type 0) where
       go : (kind : ItemKind) → KindView kind → Fills kind x.start x.end → Layout x.end (gaps_of after) (run_bytes after) to
           → Layout from (gap_then kind x (gaps_of after)) (run_bytes_then kind x.start (run_bytes after)) to
       go _ (AQuote quote) f k = put k
-      go _ (ARun run) f k = layout_run from x.start run.size x.end (gaps_of after) (run_bytes after) to h.0 f k
+      go _ (ARun run) f k = layout_run from x.start run.run_length x.end (gaps_of after) (run_bytes after) to h.0 f k
       go _ (AnAutolink uri) f k = put k
       go _ (AText kind t) f k =
           subst (λ l. Layout from l (run_bytes_then kind x.start (run_bytes after)) to) (sym (t.gap x (gaps_of after)))
@@ -126,7 +126,7 @@ module _ (Pipe : ℕ → Type 0) where
       go : ((m : ℕ) → length (run_bytes after) ≡ places_taken (runs_from after m)) → (kind : ItemKind) → KindView kind
           → length (run_bytes_then kind x.start (run_bytes after)) ≡ places_taken (run_then n kind (runs_from after))
       go i _ (AQuote quote) = i n
-      go i _ (ARun run) = let e = i (n + run.size) in let f = bytes_size x.start run.size (run_bytes after) in omega arith
+      go i _ (ARun run) = let e = i (n + run.run_length) in let f = bytes_size x.start run.run_length (run_bytes after) in omega arith
       go i _ (AnAutolink uri) = i n
       go i _ (AText kind t) = ap length (t.bytes x.start (run_bytes after)) ∙ i n ∙ ap places_taken (sym (t.run n (runs_from after)))
 

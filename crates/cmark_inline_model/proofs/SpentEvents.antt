@@ -10,7 +10,7 @@ use Rattle.cmark_grammar.specs.Siblings.{Inline, Nil, Single, Around, tag_by}
 use Rattle.cmark_grammar.specs.SiblingsModel.{spans_in}
 use Rattle.cmark_grammar.specs.Tag.{Tag, Linked}
 use Rattle.cmark_grammar.specs.TagEnd.{end_of}
-use Rattle.cmark_inline_model.specs.Expansion.{cost, costs}
+use Rattle.cmark_inline_model.specs.ReferenceExpansion.{cost, costs}
 use Rattle.cmark_inline_model.specs.PartRanges.{StandBetween}
 use Rattle.cmark_inline_model.specs.PartRanges as ranges
 use Rattle.cmark_inline_model.specs.ReadingLinks.{LinkEvent, Begins, Finishes, Neither, of_tag, of_end, own_cost, spent_by, spent_before}

@@ -16,5 +16,5 @@ text-planned text profile plan =
     let d = document text profile.options profile.lookup in
     let derives : Derives text profile.options profile.lookup d = (blocks profile.options text, blocks-body profile.options text, refl) in
     let turn = segments-turn (length text) 0 d (length text) (omega arith) (derived-order text profile.options profile.lookup d derives) in
-    let l = left-planned (reader_of text profile d) (segments d) profile.expansion_limit plan turn in
+    let l = left-planned (reader_of text profile d) (segments d) profile.reference_expansion_limit plan turn in
     (l.0, l.1, l.2, record { document = d; after = l.3.after; derives = derives; reads = l.3.reads; asked = l.3.asked })

@@ -1,7 +1,7 @@
 -- The bytes that open a span stand in one run, and so do those that close it: nothing stands between them.
 use Rattle.std.proofs.Common.{◌≡◌, ℕ, zero, suc, ◌+◌, ◌-◌, ◌<◌, ◌≤◌, Bool, true, false, nat_lt, if◌then◌else◌, List, [], ◌∷◌, ◌++◌, get_or, refl, sym, ap, ◌∙◌, subst, arith, map}
 use Rattle.cmark_grammar.specs.Emphasis.{Run, Pair, Sibling, Plain, Delimiter, Piece, Whole, Standing}
-use Rattle.cmark_grammar.specs.Emphasis.{paired_count, pair_of, rest_of_opener, rest_of_closer, kinds_of, nest, wrapped, row, keep, is_tilde_or_caret, shuts, shut, left_open, stand, Closes}
+use Rattle.cmark_grammar.specs.Emphasis.{paired_count, pair_of, rest_of_opener, rest_of_closer, kinds_of, nest, wrapped, row, keep, is_tilde_or_caret, deactivates, deactivated, left_open, stand, Closes}
 use Rattle.cmark_grammar.specs.EmphasisModel.{closed, resolve, spans_of}
 use Rattle.cmark_grammar.specs.Items.{ItemKind, Delimiters, Item}
 use Rattle.cmark_grammar.specs.Siblings.{Inline, Nil as NoSiblings, Single as SingleItem, Around as Element, run_then, runs_from, put_gap, no_gaps, gap_then, gaps_of}
@@ -68,20 +68,20 @@ module _ (E : ℕ → Type 0) where
       go true = tight-keep r ps h k
       go false = (tight-singles r.left r.at Nil tt, k)
 
-  tight-shut : (ps : List Piece) → TightPieces ps → TightPieces (map shut ps)
-  tight-shut [] h = tt
-  tight-shut (Whole f ∷ ps) h = (h.0, tight-shut ps h.1)
-  tight-shut (Standing r ∷ ps) h = go (is_tilde_or_caret r.mark) (tight-shut ps h.1)
+  tight-deactivated : (ps : List Piece) → TightPieces ps → TightPieces (map deactivated ps)
+  tight-deactivated [] h = tt
+  tight-deactivated (Whole f ∷ ps) h = (h.0, tight-deactivated ps h.1)
+  tight-deactivated (Standing r ∷ ps) h = go (is_tilde_or_caret r.delimiter) (tight-deactivated ps h.1)
     where
-      go : (b : Bool) → TightPieces (map shut ps) → TightPieces ((if b then Whole (singles r.at r.left Nil) else Standing r) ∷ map shut ps)
+      go : (b : Bool) → TightPieces (map deactivated ps) → TightPieces ((if b then Whole (singles r.at r.left Nil) else Standing r) ∷ map deactivated ps)
       go true i = (tight-singles r.left r.at Nil tt, i)
       go false i = (h.0, i)
 
   tight-left : (c : Run) (ps : List Piece) → TightPieces ps → TightPieces (left_open c ps)
-  tight-left c ps h = go (shuts c)
+  tight-left c ps h = go (deactivates c)
     where
-      go : (b : Bool) → TightPieces (if b then map shut ps else ps)
-      go true = tight-shut ps h
+      go : (b : Bool) → TightPieces (if b then map deactivated ps else ps)
+      go true = tight-deactivated ps h
       go false = h
 
   tight-pair : (b : List Piece) (o c : Run) (front : List Piece) → TightPieces (b ++ (Standing o ∷ front)) → TightRun c
@@ -89,8 +89,8 @@ module _ (E : ℕ → Type 0) where
   unfolding rest_of_opener rest_of_closer pair_of
   tight-pair b o c front h k =
       let n = paired_count o c in
-      let ks = kinds_of c.mark n in
-      let w : widths ks ≡ n = widths-kinds c.mark n in
+      let ks = kinds_of c.delimiter n in
+      let w : widths ks ≡ n = widths-kinds c.delimiter n in
       let le = count-opener o c in
       let le' = count-closer o c in
       let i = tight-cut b (Standing o ∷ front) h in
@@ -148,9 +148,9 @@ empties-put E n put gaps h (suc j) k e = h (suc j) k (put-rest put gaps j ∙ e)
 item-tight : (E : ℕ → Type 0) (kind : ItemKind) (x : Item) (after : Inline) (n : ℕ) → ((m : ℕ) → Empties E m (gaps_of after) → TightSiblings E (runs_from after m))
     → Empties E n (gap_then kind x (gaps_of after)) → TightSiblings E (run_then n kind (runs_from after))
 item-tight E (Delimiters run) x after n ih h =
-    let own : TightRun E (record { mark = run.mark; size = run.size; at = n; left = run.size; opens = run.opens; closes = run.closes }) =
-    λ i a b. let e : n + (i - n) ≡ i = omega (arith, a) in subst E e (h (i - n) (omega (arith, a)) (no-gaps-here run.size (i - n) (gaps_of after) (omega (arith, a, b)))) in
-    (own, ih (n + run.size) (λ j k e. let s : n + (run.size + j) ≡ (n + run.size) + j = omega arith in subst E s (h (run.size + j) (omega (arith, k)) (no-gaps-behind run.size j (gaps_of after) ∙ e))))
+    let own : TightRun E (record { delimiter = run.delimiter; run_length = run.run_length; at = n; left = run.run_length; opens = run.opens; closes = run.closes }) =
+    λ i a b. let e : n + (i - n) ≡ i = omega (arith, a) in subst E e (h (i - n) (omega (arith, a)) (no-gaps-here run.run_length (i - n) (gaps_of after) (omega (arith, a, b)))) in
+    (own, ih (n + run.run_length) (λ j k e. let s : n + (run.run_length + j) ≡ (n + run.run_length) + j = omega arith in subst E s (h (run.run_length + j) (omega (arith, k)) (no-gaps-behind run.run_length j (gaps_of after) ∙ e))))
 item-tight E kind x after n ih h = ih n (empties-put E n (SingleItem x) (gaps_of after) h)
 
 runs-tight : (E : ℕ → Type 0) (siblings : Inline) (n : ℕ) → Empties E n (gaps_of siblings) → TightSiblings E (runs_from siblings n)

@@ -20,13 +20,13 @@ use Rattle.cmark_grammar.specs.LeafText.{Leaf}
 use Rattle.cmark_grammar.specs.Letters.{first_is, starts}
 use Rattle.cmark_grammar.specs.LineBreaks.{LineBreak, backslash_break_in, blank_break_in}
 use Rattle.cmark_grammar.specs.Lines.{is_content}
-use Rattle.cmark_grammar.specs.LinkDefinitions.{Found}
+use Rattle.cmark_grammar.specs.LinkDefinitions.{Parsed}
 use Rattle.cmark_grammar.specs.Readers.{Reader}
 use Rattle.cmark_grammar.specs.Tags.{behind_tag, no_prefix}
 use Rattle.cmark_grammar.specs.Tokens.{Entity, entity_in, is_punctuation, slice}
 use Rattle.cmark_grammar.proofs.RowEdges.{Front, front-add}
 use Rattle.cmark_inline_model.specs.PlacedTokens.{AreLeafPlaces, one_stretch, text_reader, may_open_markup, is_as_written}
-use Rattle.cmark_inline_model.proofs.FindRests.{IsBehind, FoundBehind, behind-rest, autolink-behind, tag-behind}
+use Rattle.cmark_inline_model.proofs.FindRests.{IsBehind, ParsedBehind, behind-rest, autolink-behind, tag-behind}
 use Rattle.cmark_inline_model.proofs.PlacedTokens.{from-text, inside, fewer-steps, content-leads, no-own, no-break}
 use Rattle.cmark_inline_model.proofs.PlainTokens.{Shaped, NotPlain, begins-shaped, markup-not, goes-stop}
 use Rattle.cmark_inline_model.proofs.WordBytes.{IsWord, and-right, word-is, punctuation-word, Leads, prefix-leads, starts-leads, first-leads, leads-cons}
@@ -115,7 +115,7 @@ module _ (reader : Reader) (leaf : Leaf) (text : List ℕ) (place : ℕ → ℕ)
   alone = one_stretch leaf.is_cell text
 
   abbrev pub Joined : Token → Type 0
-  Joined (Stands x past) = is_as_written x.kind ≡ true → Together x.start x.end
+  Joined (Stands x resume) = is_as_written x.kind ≡ true → Together x.start x.end
   Joined (Opens b) = Unit {0}
   Joined (Closes b) = Unit {0}
   Joined Ends = Unit {0}
@@ -146,7 +146,7 @@ module _ (reader : Reader) (leaf : Leaf) (text : List ℕ) (place : ℕ → ℕ)
     bytes_joined : (n : ℕ) → Leads (λ c. is_content c ≡ true) n (b ∷ bs) → 0 < n → Together k (k + n)
     bytes_joined n f some = leads-together k 0 n (b ∷ bs) here f some k (k + n) (omega arith) refl
 
-    code_joined : (size : ℕ) (found : Option Found) → Together k (k + size) → Joined (code_or one alone k size found)
+    code_joined : (size : ℕ) (found : Option Parsed) → Together k (k + size) → Joined (code_or one alone k size found)
     code_joined size None t = λ e. t
     code_joined size (Some found) t = λ e. not_written e
 
@@ -157,7 +157,7 @@ module _ (reader : Reader) (leaf : Leaf) (text : List ℕ) (place : ℕ → ℕ)
     next_here : drop (suc k) text ≡ bs
     next_here = (inside reader leaf text place h k b bs here).2
 
-    escaped_joined : (found : Option Found) → first_is is_backtick bs ≡ true → Joined (escaped_backtick one alone (suc k) (backticks bs) found)
+    escaped_joined : (found : Option Parsed) → first_is is_backtick bs ≡ true → Joined (escaped_backtick one alone (suc k) (backticks bs) found)
     escaped_joined (Some found) e = λ w.
         (let f = first-leads IsWord is_backtick bs (λ d q. word-is d 96 refl (omega arith) q) e in leads-together (suc k) 0 1 bs next_here (content-leads 1 bs f) (omega arith) (suc k) (suc (suc k)) (omega arith) (omega arith))
     escaped_joined None e = λ w.
@@ -216,7 +216,7 @@ module _ (reader : Reader) (leaf : Leaf) (text : List ℕ) (place : ℕ → ℕ)
             (no_lines (length (b ∷ bs) - length rest) (b ∷ bs) (sym (ap (λ l. takes_lines (take (length l - length rest) l)) from_here) ∙ f))
 
     -- the bytes of an autolink up to behind its `>`
-    abbrev UriFront : Option Found → Type 0
+    abbrev UriFront : Option Parsed → Type 0
     UriFront None = Unit {0}
     UriFront (Some f) = Front (λ d. is_content d ≡ true) (length (b ∷ bs) - length f.behind) (b ∷ bs)
 
@@ -255,9 +255,9 @@ module _ (reader : Reader) (leaf : Leaf) (text : List ℕ) (place : ℕ → ℕ)
         go true = closed_front c
         go false = tt
 
-    autolink_joined : is_content b ≡ true → (found : Option Found) (other : Token) → autolink_in bs ≡ found → (found ≡ None → Joined other) → Joined (autolink_or one alone k found other)
+    autolink_joined : is_content b ≡ true → (found : Option Parsed) (other : Token) → autolink_in bs ≡ found → (found ≡ None → Joined other) → Joined (autolink_or one alone k found other)
     autolink_joined c None other e p = p refl
-    autolink_joined c (Some found) other e p = λ w. rest_joined found.behind (behind-rest (b ∷ bs) bs found.behind (1, refl) (subst (FoundBehind bs) e (autolink-behind bs))) (subst UriFront e (uri_front c))
+    autolink_joined c (Some found) other e p = λ w. rest_joined found.behind (behind-rest (b ∷ bs) bs found.behind (1, refl) (subst (ParsedBehind bs) e (autolink-behind bs))) (subst UriFront e (uri_front c))
 
     module _ (none : may_open_markup (b ∷ bs) ≡ false) where
       less_than_joined : (b == 60) ≡ true → Joined (less_than one alone k bs)
@@ -272,14 +272,14 @@ module _ (reader : Reader) (leaf : Leaf) (text : List ℕ) (place : ℕ → ℕ)
 
       run_joined : (n : ℕ) (beside : Flanking) → Leads (λ c. is_content c ≡ true) n (b ∷ bs) → 0 < n → Joined (run_or one alone k b n beside)
       run_joined n beside f some =
-          when (beside.opens || beside.closes) (item_at (Delimiters (record { mark = b; size = n; at = 0; left = n; opens = beside.opens; closes = beside.closes })) k (k + n)) (item_at Plain k (k + n)) (λ e w. not_written w)
+          when (beside.opens || beside.closes) (item_at (Delimiters (record { delimiter = b; run_length = n; at = 0; left = n; opens = beside.opens; closes = beside.closes })) k (k + n)) (item_at Plain k (k + n)) (λ e w. not_written w)
           (λ e w. bytes_joined n f some)
 
-      math_joined : is_content b ≡ true → (found : Option Found) → Joined (formula_or one alone InlineMath k found)
+      math_joined : is_content b ≡ true → (found : Option Parsed) → Joined (formula_or one alone InlineMath k found)
       math_joined c None = λ w. byte_joined c
       math_joined c (Some found) = λ w. not_written w
 
-      display_joined : is_content b ≡ true → (found : Option Found) → Joined (formula_or one alone DisplayMath k found)
+      display_joined : is_content b ≡ true → (found : Option Parsed) → Joined (formula_or one alone DisplayMath k found)
       display_joined c None = λ w. byte_joined c
       display_joined c (Some found) = λ w. not_written w
 
@@ -378,12 +378,12 @@ module _ (reader : Reader) (leaf : Leaf) (text : List ℕ) (place : ℕ → ℕ)
   plain_written kind e = not_written e
 
   goes_joined : (t : Token) (s e : ℕ) (more : ℕ → ℕ) → Joined t → Shaped one alone t → Together s e → ((x : ℕ) → Together s x → Together s (more x)) → Together s (goes_on one alone t e more)
-  goes_joined (Stands x past) s e more j shape t further = by (is_plain x.kind) (x.start == e) refl refl
+  goes_joined (Stands x resume) s e more j shape t further = by (is_plain x.kind) (x.start == e) refl refl
     where
-      by : (y z : Bool) → is_plain x.kind ≡ y → (x.start == e) ≡ z → Together s (if y && z then more past else e)
+      by : (y z : Bool) → is_plain x.kind ≡ y → (x.start == e) ≡ z → Together s (if y && z then more resume else e)
       by true true p q =
           let own = j (plain_written x.kind p) in
-          further past (grown s e past t (subst (λ i. Together i past) (eqb-true x.start e q) (subst (Together x.start) (shape p) own)))
+          further resume (grown s e resume t (subst (λ i. Together i resume) (eqb-true x.start e q) (subst (Together x.start) (shape p) own)))
       by true false p q = t
       by false z p q = t
   goes_joined (Opens b) s e more j shape t further = t
@@ -401,10 +401,10 @@ module _ (reader : Reader) (leaf : Leaf) (text : List ℕ) (place : ℕ → ℕ)
       by false m further = goes_joined (begins_at one alone e) s e (plain_end one alone n) (begins-joined e m) (begins-shaped one alone e (from one alone e)) t further
 
   longest_joined : (t : Token) → Joined t → Shaped one alone t → Joined (longest one alone t)
-  longest_joined (Stands x past) j shape = by (is_plain x.kind) refl
+  longest_joined (Stands x resume) j shape = by (is_plain x.kind) refl
     where
-      by : (z : Bool) → is_plain x.kind ≡ z → Joined (if z then item_at Plain x.start (plain_end one alone (length (from one alone past)) past) else Stands x past)
-      by true p = λ w. plain_joined (length (from one alone past)) x.start past (subst (Together x.start) (shape p) (j (plain_written x.kind p)))
+      by : (z : Bool) → is_plain x.kind ≡ z → Joined (if z then item_at Plain x.start (plain_end one alone (length (from one alone resume)) resume) else Stands x resume)
+      by true p = λ w. plain_joined (length (from one alone resume)) x.start resume (subst (Together x.start) (shape p) (j (plain_written x.kind p)))
       by false p = j
   longest_joined (Opens b) j shape = tt
   longest_joined (Closes b) j shape = tt
@@ -415,11 +415,11 @@ module _ (reader : Reader) (leaf : Leaf) (text : List ℕ) (place : ℕ → ℕ)
   token-joined k none = longest_joined (begins_at one alone k) (begins-joined k none) (begins-shaped one alone k (from one alone k))
 
   -- an item's bytes of the source are those of the text
-  pub text-together : (k : ℕ) → may_open_markup (drop k text) ≡ false → (x : Item) (past : ℕ) → token one alone k ≡ Stands x past → is_as_written x.kind ≡ true → slice reader.source (place x.start) (suc (place (x.end - 1))) ≡ slice text x.start x.end
-  text-together k none x past e w = together-slice x.start x.end (subst Joined e (token-joined k none) w)
+  pub text-together : (k : ℕ) → may_open_markup (drop k text) ≡ false → (x : Item) (resume : ℕ) → token one alone k ≡ Stands x resume → is_as_written x.kind ≡ true → slice reader.source (place x.start) (suc (place (x.end - 1))) ≡ slice text x.start x.end
+  text-together k none x resume e w = together-slice x.start x.end (subst Joined e (token-joined k none) w)
 
-  pub byte-together : (k : ℕ) → may_open_markup (drop k text) ≡ false → (x : Item) (past : ℕ) → begins_at one alone k ≡ Stands x past → is_as_written x.kind ≡ true → slice reader.source (place x.start) (suc (place (x.end - 1))) ≡ slice text x.start x.end
-  byte-together k none x past e w = together-slice x.start x.end (subst Joined e (begins-joined k none) w)
+  pub byte-together : (k : ℕ) → may_open_markup (drop k text) ≡ false → (x : Item) (resume : ℕ) → begins_at one alone k ≡ Stands x resume → is_as_written x.kind ≡ true → slice reader.source (place x.start) (suc (place (x.end - 1))) ≡ slice text x.start x.end
+  byte-together k none x resume e w = together-slice x.start x.end (subst Joined e (begins-joined k none) w)
 
   -- no line ends among these bytes
   no-content : (b : ℕ) → is_content b ≡ true → ((b == 10) || (b == 13)) ≡ false
@@ -430,8 +430,8 @@ module _ (reader : Reader) (leaf : Leaf) (text : List ℕ) (place : ℕ → ℕ)
       go false true f = not_written f
       go false false f = refl
 
-  pub byte-lines : (k : ℕ) → may_open_markup (drop k text) ≡ false → (x : Item) (past : ℕ) → begins_at one alone k ≡ Stands x past → is_as_written x.kind ≡ true → takes_lines (slice text x.start x.end) ≡ false
-  byte-lines k none x past e w =
+  pub byte-lines : (k : ℕ) → may_open_markup (drop k text) ≡ false → (x : Item) (resume : ℕ) → begins_at one alone k ≡ Stands x resume → is_as_written x.kind ≡ true → takes_lines (slice text x.start x.end) ≡ false
+  byte-lines k none x resume e w =
       let t = subst Joined e (begins-joined k none) w in
       list_any_none (λ b. (b == 10) || (b == 13)) (slice text x.start x.end) (λ j d lt.
       let m = length-take (x.end - x.start) (drop x.start text) in

@@ -20,7 +20,7 @@ use Rattle.cmark_grammar.specs.LeafText.{Leaf}
 use Rattle.cmark_grammar.specs.Letters.{first_is, starts}
 use Rattle.cmark_grammar.specs.LineBreaks.{LineBreak, backslash_break_in, blank_break_in}
 use Rattle.cmark_grammar.specs.Lines.{is_content}
-use Rattle.cmark_grammar.specs.LinkDefinitions.{Found}
+use Rattle.cmark_grammar.specs.LinkDefinitions.{Parsed}
 use Rattle.cmark_grammar.specs.Parts.{Parts, Nil, Single, Form, Closing, Opening}
 use Rattle.cmark_grammar.specs.Questions.{Saying}
 use Rattle.cmark_grammar.specs.Quotes.{Quote}
@@ -42,11 +42,11 @@ module _ (reader : Reader) (leaf : Leaf) (Holds : ItemKind → (start end : ℕ)
     pub quoted : reader.options.smart_punctuation ≡ true → (quote : Quote) (start end : ℕ) → Holds (Quoted quote) start end
     pub inline_math : reader.options.math ≡ true → (text : List ℕ) (start end : ℕ) → Holds (InlineMath text) start end
     pub display_math : reader.options.math ≡ true → (text : List ℕ) (start end : ℕ) → Holds (DisplayMath text) start end
-    pub run : (run : Run) (start : ℕ) → is_delimiter_run reader.options run.mark run.size ≡ true → Holds (Delimiters run) start (start + run.size)
-    pub autolink : (at b : ℕ) (bs : List ℕ) (found : Found) → from reader leaf at ≡ b ∷ bs → autolink_in bs ≡ Some found → Holds (Autolink found.bytes) at (place_of reader leaf found.behind)
+    pub run : (run : Run) (start : ℕ) → is_delimiter_run reader.options run.delimiter run.run_length ≡ true → Holds (Delimiters run) start (start + run.run_length)
+    pub autolink : (at b : ℕ) (bs : List ℕ) (found : Parsed) → from reader leaf at ≡ b ∷ bs → autolink_in bs ≡ Some found → Holds (Autolink found.bytes) at (place_of reader leaf found.behind)
 
   abbrev pub HoldsOf : Token → Type 0
-  HoldsOf (Stands item past) = Holds item.kind item.start item.end
+  HoldsOf (Stands item resume) = Holds item.kind item.start item.end
   HoldsOf (Opens opener) = Unit {0}
   HoldsOf (Closes closer) = Unit {0}
   HoldsOf Ends = Unit {0}
@@ -72,7 +72,7 @@ module _ (reader : Reader) (leaf : Leaf) (Holds : ItemKind → (start end : ℕ)
         hard true = holds.hard_break
         hard false = holds.soft_break
 
-    code_holds : (n : ℕ) (found : Option Found) → HoldsOf (code_or reader leaf at n found)
+    code_holds : (n : ℕ) (found : Option Parsed) → HoldsOf (code_or reader leaf at n found)
     code_holds n (Some found) = holds.code _ _ _
     code_holds n None = holds.own _ _
 
@@ -80,7 +80,7 @@ module _ (reader : Reader) (leaf : Leaf) (Holds : ItemKind → (start end : ℕ)
     entity_holds (Some entity) = holds.written _ _ _
     entity_holds None = holds.plain _ _
 
-    escaped_holds : (found : Option Found) → HoldsOf (escaped_backtick reader leaf (suc at) (backticks bs) found)
+    escaped_holds : (found : Option Parsed) → HoldsOf (escaped_backtick reader leaf (suc at) (backticks bs) found)
     escaped_holds (Some found) = holds.plain _ _
     escaped_holds None = holds.own _ _
 
@@ -107,7 +107,7 @@ module _ (reader : Reader) (leaf : Leaf) (Holds : ItemKind → (start end : ℕ)
         bytes : List ℕ
         bytes = take (size_to reader leaf at rest) (from reader leaf at)
 
-    autolink_holds : (found : Option Found) (other : Token) → autolink_in bs ≡ found → HoldsOf other → HoldsOf (autolink_or reader leaf at found other)
+    autolink_holds : (found : Option Parsed) (other : Token) → autolink_in bs ≡ found → HoldsOf other → HoldsOf (autolink_or reader leaf at found other)
     autolink_holds None other e h = h
     autolink_holds (Some found) other e h = holds.autolink at b bs found here e
 
@@ -125,10 +125,10 @@ module _ (reader : Reader) (leaf : Leaf) (Holds : ItemKind → (start end : ℕ)
         let intraword = is_intraword reader.options b n in
         let opens = opens_beside intraword (character_before reader leaf at) (character_at reader leaf (at + n)) in
         let closes = closes_beside intraword (character_before reader leaf at) (character_at reader leaf (at + n)) in
-        when (beside.opens || beside.closes) (item_at (Delimiters (record { mark = b; size = n; at = 0; left = n; opens = beside.opens; closes = beside.closes })) at (at + n)) (item_at Plain at (at + n))
-        (λ e. holds.run (record { mark = b; size = n; at = 0; left = n; opens = beside.opens; closes = beside.closes }) at (either_left is_run opens closes e)) (holds.plain _ _)
+        when (beside.opens || beside.closes) (item_at (Delimiters (record { delimiter = b; run_length = n; at = 0; left = n; opens = beside.opens; closes = beside.closes })) at (at + n)) (item_at Plain at (at + n))
+        (λ e. holds.run (record { delimiter = b; run_length = n; at = 0; left = n; opens = beside.opens; closes = beside.closes }) at (either_left is_run opens closes e)) (holds.plain _ _)
 
-    formula_holds : (kind : List ℕ → ItemKind) (found : Option Found) → ((text : List ℕ) (start end : ℕ) → Holds (kind text) start end) → HoldsOf (formula_or reader leaf kind at found)
+    formula_holds : (kind : List ℕ → ItemKind) (found : Option Parsed) → ((text : List ℕ) (start end : ℕ) → Holds (kind text) start end) → HoldsOf (formula_or reader leaf kind at found)
     formula_holds kind (Some found) h = h _ _ _
     formula_holds kind None h = holds.own _ _
 
@@ -179,7 +179,7 @@ module _ (reader : Reader) (leaf : Leaf) (Holds : ItemKind → (start end : ℕ)
   begins_at_holds holds at (b ∷ bs) e = begins_holds holds at b bs e
 
   longest_holds : HoldsOfItems → (t : Token) → HoldsOf t → HoldsOf (longest reader leaf t)
-  longest_holds holds (Stands item past) h = when (is_plain item.kind) (item_at Plain item.start (plain_end reader leaf (length (from reader leaf past)) past)) (Stands item past) (λ e. holds.plain _ _) h
+  longest_holds holds (Stands item resume) h = when (is_plain item.kind) (item_at Plain item.start (plain_end reader leaf (length (from reader leaf resume)) resume)) (Stands item resume) (λ e. holds.plain _ _) h
   longest_holds holds (Opens opener) h = tt
   longest_holds holds (Closes closer) h = tt
   longest_holds holds Ends h = tt
@@ -198,7 +198,7 @@ OfItems Holds (Opening opener after) = OfItems Holds after
 
 -- what holds of the items of a text's tokens holds of the items of its parts
 pub items-hold : (token : ℕ → Token) (decide : State → (closer : Bracket) → Decision) (Says : Saying) (Holds : Item → Type 0)
-    → ((at past : ℕ) (item : Item) → token at ≡ Stands item past → Holds item) → (s : State) (parts : Parts) (t : State) → Reads token decide Says s parts t → OfItems Holds parts
+    → ((at resume : ℕ) (item : Item) → token at ≡ Stands item resume → Holds item) → (s : State) (parts : Parts) (t : State) → Reads token decide Says s parts t → OfItems Holds parts
 items-hold token decide Says Holds keeps s Nil t h = tt
 items-hold token decide Says Holds keeps s (Single item after) t h = (keeps s.at h.0 item h.1, items-hold token decide Says Holds keeps (moved h.0 s) after t h.2)
 items-hold token decide Says Holds keeps s (Form opener inside closer formed after) t h =

@@ -19,12 +19,12 @@ use Rattle.cmark_grammar.specs.LeafText.{Leaf, end_of, InTurn}
 use Rattle.cmark_grammar.specs.Letters.{first_is, starts}
 use Rattle.cmark_grammar.specs.LineBreaks.{LineBreak, backslash_break_in, blank_break_in}
 use Rattle.cmark_grammar.specs.Lines.{is_content}
-use Rattle.cmark_grammar.specs.LinkDefinitions.{Found, behind_blanks}
+use Rattle.cmark_grammar.specs.LinkDefinitions.{Parsed, behind_blanks}
 use Rattle.cmark_grammar.specs.Quotes.{quote_beside}
 use Rattle.cmark_grammar.specs.Readers.{Reader}
 use Rattle.cmark_grammar.specs.Tags.{behind_tag, no_prefix}
 use Rattle.cmark_grammar.specs.Tokens.{Entity, entity_in, is_punctuation}
-use Rattle.cmark_grammar.proofs.ShorterRests.{LeavesBelow, FoundBelow, either, prefix-some, tag-shorter, code-shorter, autolink-within, inline-shorter, display-shorter, markup-shorter}
+use Rattle.cmark_grammar.proofs.ShorterRests.{LeavesBelow, ParsedBelow, either, prefix-some, tag-shorter, code-shorter, autolink-within, inline-shorter, display-shorter, markup-shorter}
 use Rattle.cmark_inline_model.specs.PartRanges.{StandsFrom}
 use Rattle.cmark_inline_model.proofs.LeafPlaces.{none-behind, place-within, place-from, place-behind, some-fit}
 use Rattle.cmark_inline_model.proofs.TokenSizes.{starts-size, first-size, EntityWithin, entity-within, BreakWithin, backslash-within, blank-within}
@@ -40,7 +40,7 @@ module _ (reader : Reader) (leaf : Leaf) (size : ℕ) (turn : InTurn 0 leaf.stre
   end = end_of leaf.stretches
 
   abbrev pub Onward : ℕ → Token → Type 0
-  Onward at (Stands item past) = StandsFrom at item.start item.end past × (at < past) × (past ≤ end)
+  Onward at (Stands item resume) = StandsFrom at item.start item.end resume × (at < resume) × (resume ≤ end)
   Onward at (Opens opener) = StandsFrom at opener.start opener.end end × (at < opener.end)
   Onward at (Closes closer) = (closer.start ≡ at) × (closer.end ≡ suc at) × (suc at ≤ end)
   Onward at Ends = Unit {0}
@@ -50,8 +50,8 @@ module _ (reader : Reader) (leaf : Leaf) (size : ℕ) (turn : InTurn 0 leaf.stre
   when at true x y h k = h refl
   when at false x y h k = k
 
-  item_onward : (at start stop : ℕ) (kind : ItemKind) → at ≤ start → start ≤ stop → at < stop → stop ≤ end → Onward at (item_at kind start stop)
-  item_onward at start stop kind a b c d = (record { begins = a; ordered = b; ends = omega arith }, c, d)
+  item_onward : (at start item_end : ℕ) (kind : ItemKind) → at ≤ start → start ≤ item_end → at < item_end → item_end ≤ end → Onward at (item_at kind start item_end)
+  item_onward at start item_end kind a b c d = (record { begins = a; ordered = b; ends = omega arith }, c, d)
 
   -- behind so many bytes of the leaf
   module _ (at : ℕ) (b : ℕ) (bs : List ℕ) (here : from reader leaf at ≡ b ∷ bs) where
@@ -88,12 +88,12 @@ module _ (reader : Reader) (leaf : Leaf) (size : ℕ) (turn : InTurn 0 leaf.stre
     break_onward None other h k = k
     break_onward (Some found) other h k =
         let e = size_here in let f = fits in
-        let stop = at + size_to reader leaf at found.behind in
-        let r = read_on_behind stop (omega arith) in
+        let item_end = at + size_to reader leaf at found.behind in
+        let r = read_on_behind item_end (omega arith) in
         let a = r.0 in let c = r.1 in
         (record { begins = omega arith; ordered = omega arith; ends = a }, omega arith, c)
 
-    code_onward : (n : ℕ) (found : Option Found) → 0 < n → n ≤ suc (length bs) → FoundBelow (suc (length bs)) found → Onward at (code_or reader leaf at n found)
+    code_onward : (n : ℕ) (found : Option Parsed) → 0 < n → n ≤ suc (length bs) → ParsedBelow (suc (length bs)) found → Onward at (code_or reader leaf at n found)
     code_onward n (Some found) h k f = rest_onward (Code (code_text (as_in leaf.is_cell found.bytes))) found.behind f
     code_onward n None h k f = bytes_onward at n Own (omega arith) (omega arith) k
 
@@ -125,7 +125,7 @@ module _ (reader : Reader) (leaf : Leaf) (size : ℕ) (turn : InTurn 0 leaf.stre
         some_backticks [] e = cc
         some_backticks (c ∷ l) e = prefix-some is_backtick c l e
 
-        escaped : (found : Option Found) → 0 < length bs → 0 < backticks bs → Onward at (escaped_backtick reader leaf (suc at) (backticks bs) found)
+        escaped : (found : Option Parsed) → 0 < length bs → 0 < backticks bs → Onward at (escaped_backtick reader leaf (suc at) (backticks bs) found)
         escaped (Some found) h k = let f = fits in item_onward at (suc at) (suc (suc at)) Plain (omega arith) (omega arith) (omega arith) (omega arith)
         escaped None h k =
             let f = fits in let w = prefix_len-le-length is_backtick bs in item_onward at (suc at) (suc at + backticks bs) Own (omega arith) (omega arith) (omega arith) (omega arith)
@@ -135,8 +135,8 @@ module _ (reader : Reader) (leaf : Leaf) (size : ℕ) (turn : InTurn 0 leaf.stre
     markup_onward (Some rest) other h k =
         let s = length-take (end - at) (drop at reader.source) in
         let f = fits in
-        let stop = at + (length (source_from reader leaf at) - length rest) in
-        let r = read_on_behind stop (omega arith) in
+        let item_end = at + (length (source_from reader leaf at) - length rest) in
+        let r = read_on_behind item_end (omega arith) in
         let a = r.0 in let c = r.1 in
         (record { begins = omega arith; ordered = omega arith; ends = a }, omega arith, c)
 
@@ -144,7 +144,7 @@ module _ (reader : Reader) (leaf : Leaf) (size : ℕ) (turn : InTurn 0 leaf.stre
     tag_onward None h = byte_onward Own
     tag_onward (Some rest) h = let e = size_here in rest_onward (tag_kind reader leaf (take (size_to reader leaf at rest) (from reader leaf at))) rest (omega arith)
 
-    autolink_onward : (found : Option Found) (other : Token) → FoundBelow (suc (length bs)) found → Onward at other → Onward at (autolink_or reader leaf at found other)
+    autolink_onward : (found : Option Parsed) (other : Token) → ParsedBelow (suc (length bs)) found → Onward at other → Onward at (autolink_or reader leaf at found other)
     autolink_onward None other h k = k
     autolink_onward (Some found) other h k = rest_onward (Autolink found.bytes) found.behind h
 
@@ -156,16 +156,16 @@ module _ (reader : Reader) (leaf : Leaf) (size : ℕ) (turn : InTurn 0 leaf.stre
         (markup_onward (behind_markup (source_from reader leaf at)) (tag_or_text reader leaf at (behind_tag no_prefix (from reader leaf at))) (markup-shorter (source_from reader leaf at))
         (tag_onward (behind_tag no_prefix (from reader leaf at)) (tag-shorter no_prefix (from reader leaf at)))))
 
-    run_onward : (mark n : ℕ) (beside : Flanking) → 0 < n → n ≤ suc (length bs) → Onward at (run_or reader leaf at mark n beside)
-    run_onward mark n beside h k =
-        when at (beside.opens || beside.closes) (item_at (Delimiters (record { mark = mark; size = n; at = 0; left = n; opens = beside.opens; closes = beside.closes })) at (at + n)) (item_at Plain at (at + n))
-        (λ e. bytes_onward at n (Delimiters (record { mark = mark; size = n; at = 0; left = n; opens = beside.opens; closes = beside.closes })) (omega arith) (omega arith) k) (bytes_onward at n Plain (omega arith) (omega arith) k)
+    run_onward : (delimiter n : ℕ) (beside : Flanking) → 0 < n → n ≤ suc (length bs) → Onward at (run_or reader leaf at delimiter n beside)
+    run_onward delimiter n beside h k =
+        when at (beside.opens || beside.closes) (item_at (Delimiters (record { delimiter = delimiter; run_length = n; at = 0; left = n; opens = beside.opens; closes = beside.closes })) at (at + n)) (item_at Plain at (at + n))
+        (λ e. bytes_onward at n (Delimiters (record { delimiter = delimiter; run_length = n; at = 0; left = n; opens = beside.opens; closes = beside.closes })) (omega arith) (omega arith) k) (bytes_onward at n Plain (omega arith) (omega arith) k)
 
-    formula_onward : (kind : List ℕ → ItemKind) (found : Option Found) → FoundBelow (suc (length bs)) found → Onward at (formula_or reader leaf kind at found)
+    formula_onward : (kind : List ℕ → ItemKind) (found : Option Parsed) → ParsedBelow (suc (length bs)) found → Onward at (formula_or reader leaf kind at found)
     formula_onward kind (Some found) h = rest_onward (kind (as_in leaf.is_cell found.bytes)) found.behind h
     formula_onward kind None h = byte_onward Own
 
-    more_found : (n m : ℕ) (found : Option Found) → n ≤ m → FoundBelow n found → FoundBelow m found
+    more_found : (n m : ℕ) (found : Option Parsed) → n ≤ m → ParsedBelow n found → ParsedBelow m found
     more_found n m None h k = tt
     more_found n m (Some found) h k = omega arith
 
@@ -244,26 +244,26 @@ module _ (reader : Reader) (leaf : Leaf) (size : ℕ) (turn : InTurn 0 leaf.stre
       go (b ∷ bs) e = begins_onward at b bs e
 
   -- plain bytes lead up to the leaf's end
-  goes_within : (t : Token) (stop : ℕ) (more : ℕ → ℕ) → stop ≤ end → Onward stop t → ((x : ℕ) → x ≤ end → (x ≤ more x) × (more x ≤ end)) → (stop ≤ goes_on reader leaf t stop more) × (goes_on reader leaf t stop more ≤ end)
-  goes_within (Stands item past) stop more h k i = by (is_plain item.kind && (item.start == stop))
+  goes_within : (t : Token) (item_end : ℕ) (more : ℕ → ℕ) → item_end ≤ end → Onward item_end t → ((x : ℕ) → x ≤ end → (x ≤ more x) × (more x ≤ end)) → (item_end ≤ goes_on reader leaf t item_end more) × (goes_on reader leaf t item_end more ≤ end)
+  goes_within (Stands item resume) item_end more h k i = by (is_plain item.kind && (item.start == item_end))
     where
-      by : (b : Bool) → (stop ≤ (if b then more past else stop)) × ((if b then more past else stop) ≤ end)
-      by true = let m = i past k.2 in let x = k.1 in let y = m.0 in let z = m.1 in (omega arith, z)
+      by : (b : Bool) → (item_end ≤ (if b then more resume else item_end)) × ((if b then more resume else item_end) ≤ end)
+      by true = let m = i resume k.2 in let x = k.1 in let y = m.0 in let z = m.1 in (omega arith, z)
       by false = (omega arith, h)
-  goes_within (Opens opener) stop more h k i = (omega arith, h)
-  goes_within (Closes closer) stop more h k i = (omega arith, h)
-  goes_within Ends stop more h k i = (omega arith, h)
+  goes_within (Opens opener) item_end more h k i = (omega arith, h)
+  goes_within (Closes closer) item_end more h k i = (omega arith, h)
+  goes_within Ends item_end more h k i = (omega arith, h)
 
-  plain_within : (n stop : ℕ) → stop ≤ end → (stop ≤ plain_end reader leaf n stop) × (plain_end reader leaf n stop ≤ end)
-  plain_within zero stop h = (omega arith, h)
-  plain_within (suc n) stop h = goes_within (begins_at reader leaf stop) stop (plain_end reader leaf n) h (begins-at-onward stop) (λ x k. plain_within n x k)
+  plain_within : (n item_end : ℕ) → item_end ≤ end → (item_end ≤ plain_end reader leaf n item_end) × (plain_end reader leaf n item_end ≤ end)
+  plain_within zero item_end h = (omega arith, h)
+  plain_within (suc n) item_end h = goes_within (begins_at reader leaf item_end) item_end (plain_end reader leaf n) h (begins-at-onward item_end) (λ x k. plain_within n x k)
 
   longest_onward : (at : ℕ) (t : Token) → Onward at t → Onward at (longest reader leaf t)
-  longest_onward at (Stands item past) h =
-      let stop = plain_end reader leaf (length (from reader leaf past)) past in
-      let p = plain_within (length (from reader leaf past)) past h.2 in
+  longest_onward at (Stands item resume) h =
+      let item_end = plain_end reader leaf (length (from reader leaf resume)) resume in
+      let p = plain_within (length (from reader leaf resume)) resume h.2 in
       let x = p.0 in let y = p.1 in let a = h.0.begins in let b = h.0.ordered in let c = h.0.ends in let d = h.1 in
-      when at (is_plain item.kind) (item_at Plain item.start stop) (Stands item past) (λ e. item_onward at item.start stop Plain a (omega arith) (omega arith) y) h
+      when at (is_plain item.kind) (item_at Plain item.start item_end) (Stands item resume) (λ e. item_onward at item.start item_end Plain a (omega arith) (omega arith) y) h
   longest_onward at (Opens opener) h = h
   longest_onward at (Closes closer) h = h
   longest_onward at Ends h = tt

@@ -44,4 +44,4 @@ module _ (reader : Reader) (leaf : Leaf) where
   leaf-items Says s parts t h =
       all_items parts
       (items-hold (token reader leaf) (decide reader leaf) Says (λ item. IsRead reader.options item.kind)
-      (λ at past item e. subst (HoldsOf reader leaf HasOption) e (token-holds reader leaf HasOption options_hold at)) s parts t h)
+      (λ at resume item e. subst (HoldsOf reader leaf HasOption) e (token-holds reader leaf HasOption options_hold at)) s parts t h)

@@ -17,12 +17,12 @@ use Rattle.cmark_grammar.specs.LeafText.{Leaf, size_of, end_of, InTurn}
 use Rattle.cmark_grammar.specs.Letters.{first_is, starts}
 use Rattle.cmark_grammar.specs.LineBreaks.{LineBreak, backslash_break_in, blank_break_in}
 use Rattle.cmark_grammar.specs.Lines.{is_content}
-use Rattle.cmark_grammar.specs.LinkDefinitions.{Found, behind_blanks}
+use Rattle.cmark_grammar.specs.LinkDefinitions.{Parsed, behind_blanks}
 use Rattle.cmark_grammar.specs.Readers.{Reader}
 use Rattle.cmark_grammar.specs.Tags.{behind_tag, no_prefix}
 use Rattle.cmark_grammar.specs.Tokens.{Entity, entity_in, is_punctuation}
 use Rattle.cmark_grammar.proofs.RowEdges.{Front}
-use Rattle.cmark_grammar.proofs.ShorterRests.{LeavesBelow, FoundBelow, either, tag-shorter, code-shorter, autolink-within, inline-shorter, display-shorter}
+use Rattle.cmark_grammar.proofs.ShorterRests.{LeavesBelow, ParsedBelow, either, tag-shorter, code-shorter, autolink-within, inline-shorter, display-shorter}
 use Rattle.cmark_inline_model.specs.LeafModel.{HaveLineEnds}
 use Rattle.cmark_inline_model.proofs.LeafPlaces.{bytes-size}
 use Rattle.cmark_inline_model.proofs.LeafSteps.{IsAt, at-size, at-next}
@@ -101,7 +101,7 @@ module _ (reader : Reader) (leaf : Leaf) (size : ℕ) (turn : InTurn 0 leaf.stre
   end-place = (0, (omega arith, refl))
 
   abbrev pub Sits : Token → Type 0
-  Sits (Stands item past) = IsPlace past × Uncut item.kind item.start item.end
+  Sits (Stands item resume) = IsPlace resume × Uncut item.kind item.start item.end
   Sits (Opens opener) = IsPlace opener.end × HaveContent opener.start opener.end
   Sits (Closes closer) = IsPlace closer.end × HaveContent closer.start closer.end
   Sits Ends = Unit {0}
@@ -167,7 +167,7 @@ module _ (reader : Reader) (leaf : Leaf) (size : ℕ) (turn : InTurn 0 leaf.stre
         hard true = tt
         hard false = tt
 
-    code_sits : (found : Option Found) → FoundBelow (suc (length bs)) found → Leads IsWord (backticks (b ∷ bs)) (b ∷ bs) → Sits (code_or reader leaf at (backticks (b ∷ bs)) found)
+    code_sits : (found : Option Parsed) → ParsedBelow (suc (length bs)) found → Leads IsWord (backticks (b ∷ bs)) (b ∷ bs) → Sits (code_or reader leaf at (backticks (b ∷ bs)) found)
     code_sits (Some found) h k = (rest_there found.behind (omega arith), tt)
     code_sits None h k = words_text (backticks (b ∷ bs)) at (b ∷ bs) there here k
 
@@ -203,7 +203,7 @@ module _ (reader : Reader) (leaf : Leaf) (size : ℕ) (turn : InTurn 0 leaf.stre
         (λ g. (let t = words_text 2 at (b ∷ bs) there here (leads-cons IsWord b 1 bs w (first-leads IsWord is_punctuation bs punctuation-word g)) in (t.0, less_content at (suc at) (at + 2) (omega arith) t.1)))
         (λ g. word_next w)))
       where
-        escaped : (found : Option Found) → IsPlace (suc at) → from reader leaf (suc at) ≡ bs → first_is is_backtick bs ≡ true → Sits (escaped_backtick reader leaf (suc at) (backticks bs) found)
+        escaped : (found : Option Parsed) → IsPlace (suc at) → from reader leaf (suc at) ≡ bs → first_is is_backtick bs ≡ true → Sits (escaped_backtick reader leaf (suc at) (backticks bs) found)
         escaped (Some found) p q e =
             let z : (suc at) + 1 ≡ suc (suc at) = omega arith in
             let t = words_text 1 (suc at) bs p q (first-leads IsWord is_backtick bs backtick_word e) in
@@ -222,7 +222,7 @@ module _ (reader : Reader) (leaf : Leaf) (size : ℕ) (turn : InTurn 0 leaf.stre
         kind true e = e
         kind false e = tt
 
-    autolink_sits : (found : Option Found) (other : Token) → FoundBelow (suc (length bs)) found → Sits other → Sits (autolink_or reader leaf at found other)
+    autolink_sits : (found : Option Parsed) (other : Token) → ParsedBelow (suc (length bs)) found → Sits other → Sits (autolink_or reader leaf at found other)
     autolink_sits None other h k = k
     autolink_sits (Some found) other h k = (rest_there found.behind (omega arith), tt)
 
@@ -244,16 +244,16 @@ module _ (reader : Reader) (leaf : Leaf) (size : ℕ) (turn : InTurn 0 leaf.stre
         let k = prefix-leads (λ c. c == b) (λ c. (is_content c ≡ true) × ((c == b) ≡ true)) (λ c e. same_byte c w e) (b ∷ bs) in
         let walked = walk (λ c. (c == b) ≡ true) n at (b ∷ bs) there here k.fits k.front in
         let text : HaveContent at (at + n) = λ i x y. subst (λ c. is_content c ≡ true) (sym (eqb-true (get_or reader.source i 0) b (walked.bytes i x y))) w.content in
-        when (beside.opens || beside.closes) (item_at (Delimiters (record { mark = b; size = n; at = 0; left = n; opens = beside.opens; closes = beside.closes })) at (at + n)) (item_at Plain at (at + n))
+        when (beside.opens || beside.closes) (item_at (Delimiters (record { delimiter = b; run_length = n; at = 0; left = n; opens = beside.opens; closes = beside.closes })) at (at + n)) (item_at Plain at (at + n))
         (λ e. (walked.place, (λ k x y. subst (λ c. (c == 124) ≡ false) (sym (eqb-true (get_or reader.source k 0) b (walked.bytes k x y))) other)))
         (λ e. (walked.place, text))
 
-    formula_sits : IsWord b → (kind : List ℕ → ItemKind) (found : Option Found) → ((text : List ℕ) (start end : ℕ) → Uncut (kind text) start end) → FoundBelow (suc (length bs)) found
+    formula_sits : IsWord b → (kind : List ℕ → ItemKind) (found : Option Parsed) → ((text : List ℕ) (start end : ℕ) → Uncut (kind text) start end) → ParsedBelow (suc (length bs)) found
         → Sits (formula_or reader leaf kind at found)
     formula_sits w kind (Some found) u h = (rest_there found.behind (omega arith), u _ at (place_of reader leaf found.behind))
     formula_sits w kind None u h = word_next w
 
-    more_found : (n m : ℕ) (found : Option Found) → n ≤ m → FoundBelow n found → FoundBelow m found
+    more_found : (n m : ℕ) (found : Option Parsed) → n ≤ m → ParsedBelow n found → ParsedBelow m found
     more_found n m None h k = tt
     more_found n m (Some found) h k = omega arith
 
@@ -361,19 +361,19 @@ module _ (reader : Reader) (leaf : Leaf) (size : ℕ) (turn : InTurn 0 leaf.stre
       go [] e = tt
       go (b ∷ bs) e = begins_sits at b bs h e
 
-  goes_place : (t : Token) (stop : ℕ) (more : ℕ → ℕ) → IsPlace stop → Sits t → ((x : ℕ) → IsPlace x → IsPlace (more x)) → IsPlace (goes_on reader leaf t stop more)
-  goes_place (Stands item past) stop more h k i = by (is_plain item.kind && (item.start == stop))
+  goes_place : (t : Token) (item_end : ℕ) (more : ℕ → ℕ) → IsPlace item_end → Sits t → ((x : ℕ) → IsPlace x → IsPlace (more x)) → IsPlace (goes_on reader leaf t item_end more)
+  goes_place (Stands item resume) item_end more h k i = by (is_plain item.kind && (item.start == item_end))
     where
-      by : (b : Bool) → IsPlace (if b then more past else stop)
-      by true = i past k.0
+      by : (b : Bool) → IsPlace (if b then more resume else item_end)
+      by true = i resume k.0
       by false = h
-  goes_place (Opens opener) stop more h k i = h
-  goes_place (Closes closer) stop more h k i = h
-  goes_place Ends stop more h k i = h
+  goes_place (Opens opener) item_end more h k i = h
+  goes_place (Closes closer) item_end more h k i = h
+  goes_place Ends item_end more h k i = h
 
-  plain_place : (n stop : ℕ) → IsPlace stop → IsPlace (plain_end reader leaf n stop)
-  plain_place zero stop h = h
-  plain_place (suc n) stop h = goes_place (begins_at reader leaf stop) stop (plain_end reader leaf n) h (begins_at_sits stop h) (λ x k. plain_place n x k)
+  plain_place : (n item_end : ℕ) → IsPlace item_end → IsPlace (plain_end reader leaf n item_end)
+  plain_place zero item_end h = h
+  plain_place (suc n) item_end h = goes_place (begins_at reader leaf item_end) item_end (plain_end reader leaf n) h (begins_at_sits item_end h) (λ x k. plain_place n x k)
 
   -- texts without a gap are one text
   plain_is : (kind : ItemKind) (start end : ℕ) → is_plain kind ≡ true → Uncut kind start end → HaveContent start end
@@ -387,20 +387,20 @@ module _ (reader : Reader) (leaf : Leaf) (size : ℕ) (turn : InTurn 0 leaf.stre
       go i x y true e = h i x (grind (arith))
       go i x y false e = k i (grind (arith)) y
 
-  ends_there : (at past : ℕ) (item : Item) → begins_at reader leaf at ≡ Stands item past → is_plain item.kind ≡ true → item.end ≡ past
-  ends_there at past item e f = (subst (Shaped reader leaf) e (begins-shaped reader leaf at (from reader leaf at))) f
+  ends_there : (at resume : ℕ) (item : Item) → begins_at reader leaf at ≡ Stands item resume → is_plain item.kind ≡ true → item.end ≡ resume
+  ends_there at resume item e f = (subst (Shaped reader leaf) e (begins-shaped reader leaf at (from reader leaf at))) f
 
-  plain_content : (n start stop : ℕ) → HaveContent start stop → IsPlace stop → HaveContent start (plain_end reader leaf n stop)
-  plain_content zero start stop h w = h
-  plain_content (suc n) start stop h w = go (begins_at reader leaf stop) refl (begins_at_sits stop w) (λ past q p. plain_content n start past q p)
+  plain_content : (n start item_end : ℕ) → HaveContent start item_end → IsPlace item_end → HaveContent start (plain_end reader leaf n item_end)
+  plain_content zero start item_end h w = h
+  plain_content (suc n) start item_end h w = go (begins_at reader leaf item_end) refl (begins_at_sits item_end w) (λ resume q p. plain_content n start resume q p)
     where
-      go : (t : Token) → begins_at reader leaf stop ≡ t → Sits t → ((past : ℕ) → HaveContent start past → IsPlace past → HaveContent start (plain_end reader leaf n past)) → HaveContent start (goes_on reader leaf t stop (plain_end reader leaf n))
-      go (Stands item past) e k more = by (is_plain item.kind) (item.start == stop) refl refl
+      go : (t : Token) → begins_at reader leaf item_end ≡ t → Sits t → ((resume : ℕ) → HaveContent start resume → IsPlace resume → HaveContent start (plain_end reader leaf n resume)) → HaveContent start (goes_on reader leaf t item_end (plain_end reader leaf n))
+      go (Stands item resume) e k more = by (is_plain item.kind) (item.start == item_end) refl refl
         where
-          by : (x y : Bool) → is_plain item.kind ≡ x → (item.start == stop) ≡ y → HaveContent start (if x && y then plain_end reader leaf n past else stop)
+          by : (x y : Bool) → is_plain item.kind ≡ x → (item.start == item_end) ≡ y → HaveContent start (if x && y then plain_end reader leaf n resume else item_end)
           by true true f g =
-              more past
-              (both_content start stop past h (subst (HaveContent stop) (ends_there stop past item e f) (subst (λ s. HaveContent s item.end) (eqb-true item.start stop g) (plain_is item.kind item.start item.end f k.1))))
+              more resume
+              (both_content start item_end resume h (subst (HaveContent item_end) (ends_there item_end resume item e f) (subst (λ s. HaveContent s item.end) (eqb-true item.start item_end g) (plain_is item.kind item.start item.end f k.1))))
               k.0
           by true false f g = h
           by false y f g = h
@@ -409,11 +409,11 @@ module _ (reader : Reader) (leaf : Leaf) (size : ℕ) (turn : InTurn 0 leaf.stre
       go Ends e k more = h
 
   longest_sits : (at : ℕ) (t : Token) → begins_at reader leaf at ≡ t → Sits t → Sits (longest reader leaf t)
-  longest_sits at (Stands item past) is h =
-      when (is_plain item.kind) (item_at Plain item.start (plain_end reader leaf (length (from reader leaf past)) past)) (Stands item past)
+  longest_sits at (Stands item resume) is h =
+      when (is_plain item.kind) (item_at Plain item.start (plain_end reader leaf (length (from reader leaf resume)) resume)) (Stands item resume)
       (λ e. (
-        plain_place (length (from reader leaf past)) past h.0,
-        plain_content (length (from reader leaf past)) item.start past (subst (HaveContent item.start) (ends_there at past item is e) (plain_is item.kind item.start item.end e h.1)) h.0,
+        plain_place (length (from reader leaf resume)) resume h.0,
+        plain_content (length (from reader leaf resume)) item.start resume (subst (HaveContent item.start) (ends_there at resume item is e) (plain_is item.kind item.start item.end e h.1)) h.0,
       )) (λ e. h)
   longest_sits at (Opens opener) is h = h
   longest_sits at (Closes closer) is h = h

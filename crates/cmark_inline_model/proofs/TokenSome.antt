@@ -16,14 +16,14 @@ use Rattle.cmark_grammar.specs.LeafText.{Leaf}
 use Rattle.cmark_grammar.specs.Letters.{first_is, starts}
 use Rattle.cmark_grammar.specs.LineBreaks.{LineBreak, backslash_break_in, blank_break_in}
 use Rattle.cmark_grammar.specs.Lines.{is_content}
-use Rattle.cmark_grammar.specs.LinkDefinitions.{Found}
+use Rattle.cmark_grammar.specs.LinkDefinitions.{Parsed}
 use Rattle.cmark_grammar.specs.Readers.{Reader}
 use Rattle.cmark_grammar.specs.Tags.{behind_tag, no_prefix}
 use Rattle.cmark_grammar.specs.Tokens.{Entity, entity_in, is_punctuation}
 
 -- an item or a bracket
 abbrev IsSome : Token → Type 0
-IsSome (Stands item past) = Unit {0}
+IsSome (Stands item resume) = Unit {0}
 IsSome (Opens opener) = Unit {0}
 IsSome (Closes closer) = Unit {0}
 IsSome Ends = ⊥
@@ -38,11 +38,11 @@ module _ (reader : Reader) (leaf : Leaf) where
   break_some at None other h = h
   break_some at (Some found) other h = tt
 
-  code_some : (at size : ℕ) (found : Option Found) → IsSome (code_or reader leaf at size found)
+  code_some : (at size : ℕ) (found : Option Parsed) → IsSome (code_or reader leaf at size found)
   code_some at size None = tt
   code_some at size (Some found) = tt
 
-  escaped_some : (at size : ℕ) (found : Option Found) → IsSome (escaped_backtick reader leaf at size found)
+  escaped_some : (at size : ℕ) (found : Option Parsed) → IsSome (escaped_backtick reader leaf at size found)
   escaped_some at size None = tt
   escaped_some at size (Some found) = tt
 
@@ -50,7 +50,7 @@ module _ (reader : Reader) (leaf : Leaf) where
   entity_some at None = tt
   entity_some at (Some found) = tt
 
-  autolink_some : (at : ℕ) (found : Option Found) (other : Token) → IsSome other → IsSome (autolink_or reader leaf at found other)
+  autolink_some : (at : ℕ) (found : Option Parsed) (other : Token) → IsSome other → IsSome (autolink_or reader leaf at found other)
   autolink_some at None other h = h
   autolink_some at (Some found) other h = tt
 
@@ -62,7 +62,7 @@ module _ (reader : Reader) (leaf : Leaf) where
   tag_some at None = tt
   tag_some at (Some rest) = tt
 
-  formula_some : (kind : List ℕ → ItemKind) (at : ℕ) (found : Option Found) → IsSome (formula_or reader leaf kind at found)
+  formula_some : (kind : List ℕ → ItemKind) (at : ℕ) (found : Option Parsed) → IsSome (formula_or reader leaf kind at found)
   formula_some kind at None = tt
   formula_some kind at (Some found) = tt
 
@@ -80,9 +80,9 @@ module _ (reader : Reader) (leaf : Leaf) where
       when (first_is (λ c. c == 92) bs) (item_at Plain at (suc at)) (autolink_or reader leaf at (autolink_in bs) others) tt
       (autolink_some at (autolink_in bs) others (markup_some at (behind_markup (source_from reader leaf at)) tag (tag_some at (behind_tag no_prefix (from reader leaf at)))))
 
-  run_some : (at mark size : ℕ) (beside : Flanking) → IsSome (run_or reader leaf at mark size beside)
-  run_some at mark size beside =
-      when (beside.opens || beside.closes) (item_at (Delimiters (record { mark = mark; size = size; at = 0; left = size; opens = beside.opens; closes = beside.closes })) at (at + size)) (item_at Plain at (at + size)) tt tt
+  run_some : (at delimiter size : ℕ) (beside : Flanking) → IsSome (run_or reader leaf at delimiter size beside)
+  run_some at delimiter size beside =
+      when (beside.opens || beside.closes) (item_at (Delimiters (record { delimiter = delimiter; run_length = size; at = 0; left = size; opens = beside.opens; closes = beside.closes })) at (at + size)) (item_at Plain at (at + size)) tt tt
 
   dollar_some : (at : ℕ) (bs : List ℕ) (braces : Braces) → IsSome (dollar reader leaf at bs braces)
   dollar_some at bs braces =
@@ -128,7 +128,7 @@ module _ (reader : Reader) (leaf : Leaf) where
       (when reader.options.smart_punctuation (smart_or reader leaf at b) plain (smart_some at b) tt))))))))))
 
   longest_some : (t : Token) → IsSome t → IsSome (longest reader leaf t)
-  longest_some (Stands item past) h = when (is_plain item.kind) (item_at Plain item.start (plain_end reader leaf (length (from reader leaf past)) past)) (Stands item past) tt tt
+  longest_some (Stands item resume) h = when (is_plain item.kind) (item_at Plain item.start (plain_end reader leaf (length (from reader leaf resume)) resume)) (Stands item resume) tt tt
   longest_some (Opens opener) h = tt
   longest_some (Closes closer) h = tt
   longest_some Ends h = h

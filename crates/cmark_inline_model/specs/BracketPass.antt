@@ -34,7 +34,7 @@ closed_by p closer outcome = resulting p closer outcome.result outcome.after
 
 module _ (token : ℕ → Token) (decide : State → (closer : Bracket) → Decision) (plan : Plan) where
   abbrev pub stepped : Token → Pass → Pass
-  stepped (Stands item past) p = pass (moved past p.state) (join p.here (Single item Nil))
+  stepped (Stands item resume) p = pass (moved resume p.state) (join p.here (Single item Nil))
   stepped (Opens opener) p = pass (opened opener p.state) (join p.here (Opening opener Nil))
   stepped (Closes closer) p = closed_by p closer (outcome_by plan p.state.asked (decide p.state closer))
   stepped Ends p = p

@@ -2,7 +2,7 @@ pub mod BracketPass
 pub mod CharacterRanges
 pub mod CutRanges
 pub mod Displays
-pub mod Expansion
+pub mod ReferenceExpansion
 pub mod FirstEvents
 pub mod FormedParts
 pub mod LeafGaps

@@ -23,10 +23,10 @@ pub record IsQuestion (reader : Reader) (q : Question) : Type 0 where
   pub undefined : reader.definition (case_folded q.reference) ≡ None
   pub has_callback : reader.has_callback ≡ true
 
--- and is put while something of the expansion limit is left
+-- and is put while something of the reference expansion limit is left
 abbrev pub AsksRightly : Reader → State → Decision → Type 0
 AsksRightly reader s (Settled outcome) = Unit {0}
-AsksRightly reader s (Asks q answered) = IsQuestion reader q × ((s.expansion == 0) ≡ false)
+AsksRightly reader s (Asks q answered) = IsQuestion reader q × ((s.expansion_left == 0) ≡ false)
 
 -- ## Where links and images lead
 

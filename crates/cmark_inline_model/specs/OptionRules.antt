@@ -16,7 +16,7 @@ IsRead options (Quoted quote) = options.smart_punctuation ≡ true
 IsRead options (InlineMath text) = options.math ≡ true
 IsRead options (DisplayMath text) = options.math ≡ true
 IsRead options (FootnoteReference label) = options.footnotes ≡ true
-IsRead options (Delimiters run) = is_delimiter_run options run.mark run.size ≡ true
+IsRead options (Delimiters run) = is_delimiter_run options run.delimiter run.run_length ≡ true
 IsRead options _ = Unit {0}
 
 -- this holds of each item of these parts

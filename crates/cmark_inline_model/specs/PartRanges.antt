@@ -37,7 +37,7 @@ pub record Reaches (from size : ℕ) (o : Outcome) : Type 0 where
   pub within : o.after.at ≤ size
 
 pub record KeepsRanges (token : ℕ → Token) (decide : State → (closer : Bracket) → Decision) (size : ℕ) : Type 0 where
-  pub stands : (at past : ℕ) (item : Item) → token at ≡ Stands item past → StandsFrom at item.start item.end past × (past ≤ size)
+  pub stands : (at resume : ℕ) (item : Item) → token at ≡ Stands item resume → StandsFrom at item.start item.end resume × (resume ≤ size)
   pub opens : (at : ℕ) (bracket : Bracket) → token at ≡ Opens bracket → StandsFrom at bracket.start bracket.end size
   pub closes : (at : ℕ) (bracket : Bracket) → token at ≡ Closes bracket → StandsFrom at bracket.start bracket.end size × (bracket.start < bracket.end)
   pub comes : (s : State) (closer : Bracket) → token s.at ≡ Closes closer → Always (Reaches closer.end size) (decide s closer)

@@ -10,7 +10,7 @@ use Rattle.cmark_inline_model.specs.PartLists.{join}
 
 module _ (token : ℕ → Token) (decide : State → (closer : Bracket) → Decision) (Says : Saying) where
   abbrev pub StepsBy : Token → Pass → Pass → Type 0
-  StepsBy (Stands item past) p q = q ≡ pass (moved past p.state) (join p.here (Single item Nil))
+  StepsBy (Stands item resume) p q = q ≡ pass (moved resume p.state) (join p.here (Single item Nil))
   StepsBy (Opens opener) p q = q ≡ pass (opened opener p.state) (join p.here (Opening opener Nil))
   StepsBy (Closes closer) p q = (outcome : Outcome) × Comes Says p.state.asked (decide p.state closer) outcome × (q ≡ closed_by p closer outcome)
   StepsBy Ends p q = q ≡ p

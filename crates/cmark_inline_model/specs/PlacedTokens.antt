@@ -58,7 +58,7 @@ placed_bracket place b = record { is_image = b.is_image; start = place b.start; 
 
 -- what begins in the text, in the places of the source
 abbrev pub placed : (place : ℕ → ℕ) → Token → Token
-placed place (Stands x past) = Stands (placed_item place x) (place past)
+placed place (Stands x resume) = Stands (placed_item place x) (place resume)
 placed place (Opens b) = Opens (placed_bracket place b)
 placed place (Closes b) = Closes (placed_bracket place b)
 placed place Ends = Ends

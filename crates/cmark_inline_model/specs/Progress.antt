@@ -24,7 +24,7 @@ Fits size o = FitsBy size (length o.after.openers) o.result
 -- one that is there
 pub record IsForward (token : ℕ → Token) (decide : State → (closer : Bracket) → Decision) (size : ℕ) : Type 0 where
   pub ends : (at : ℕ) → size ≤ at → token at ≡ Ends
-  pub stands : (at past : ℕ) (item : Item) → token at ≡ Stands item past → at < past
+  pub stands : (at resume : ℕ) (item : Item) → token at ≡ Stands item resume → at < resume
   pub opens : (at : ℕ) (bracket : Bracket) → token at ≡ Opens bracket → at < bracket.end
   pub comes : (s : State) (closer : Bracket) → token s.at ≡ Closes closer → Always (λ o. s.at < o.after.at) (decide s closer)
   pub fits : (s : State) (closer : Bracket) → Always (Fits (length s.openers)) (decide s closer)
@@ -39,7 +39,7 @@ pub record IsRecorded (decide : State → (closer : Bracket) → Decision) : Typ
 
 -- the same state behind other questions
 abbrev pub asked_behind : List Exchange → State → State
-asked_behind h s = record { at = s.at; expansion = s.expansion; label_close = s.label_close; asked = h ++ s.asked; openers = s.openers }
+asked_behind h s = record { at = s.at; expansion_left = s.expansion_left; label_close = s.label_close; asked = h ++ s.asked; openers = s.openers }
 
 abbrev pub outcome_behind : List Exchange → Outcome → Outcome
 outcome_behind h o = record { result = o.result; after = asked_behind h o.after }

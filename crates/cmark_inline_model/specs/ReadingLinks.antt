@@ -1,5 +1,5 @@
 -- Links and images among the events of a text: no link in a link but autolinks (CommonMark 6.3 and 6.5), where each leads (4.7), and
--- what references take off the expansion limit (this profile's own).
+-- what references take off the reference expansion limit (this profile's own).
 use Rattle.std.specs.Prelude.{◌≡◌, ℕ, zero, suc, pred, ◌+◌, Bool, true, false, nat_le, if◌then◌else◌, List, [], ◌∷◌, ◌++◌, length, sum}
 use Rattle.cmark_grammar.specs.Event.{Event, Start, End, Ranged}
 use Rattle.cmark_grammar.specs.LinkType.{Autolink}
@@ -8,7 +8,7 @@ use Rattle.cmark_grammar.specs.Readers.{Reader}
 use Rattle.cmark_grammar.specs.Tag.{Tag, Linked, Link, Image}
 use Rattle.cmark_grammar.specs.TagEnd as end
 use Rattle.cmark_grammar.specs.TagEnd.{TagEnd}
-use Rattle.cmark_inline_model.specs.Expansion.{cost_as}
+use Rattle.cmark_inline_model.specs.ReferenceExpansion.{cost_as}
 use Rattle.cmark_inline_model.specs.LinkRules.{IsLed}
 
 -- an event begins a link or an image, ends one, or does neither

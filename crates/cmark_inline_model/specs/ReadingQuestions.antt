@@ -25,12 +25,12 @@ IsCloserBelow limit events reader segments place = IsCloser reader segments plac
 
 -- each question has a closing bracket of its own among its bytes, from one place on and before another, behind that of the question
 -- before it
-abbrev pub AskedInTurn : (Closer : ℕ → Type 0) → (from : ℕ) → List Exchange → (to : ℕ) → Type 0
-AskedInTurn Closer from [] to = from ≤ to
-AskedInTurn Closer from (x ∷ xs) to =
-    (place : ℕ) × (from ≤ place) × Closer place × (x.question.start ≤ place) × (place < x.question.end) × AskedInTurn Closer (suc place) xs to
+abbrev pub PutInTurn : (Closer : ℕ → Type 0) → (from : ℕ) → List Exchange → (to : ℕ) → Type 0
+PutInTurn Closer from [] to = from ≤ to
+PutInTurn Closer from (x ∷ xs) to =
+    (place : ℕ) × (from ≤ place) × Closer place × (x.question.start ≤ place) × (place < x.question.end) × PutInTurn Closer (suc place) xs to
 
 -- this holds of each of them
-abbrev pub AllAsked : (Question → Type 0) → List Exchange → Type 0
-AllAsked Holds [] = Unit {0}
-AllAsked Holds (x ∷ xs) = Holds x.question × AllAsked Holds xs
+abbrev pub AllQuestions : (Question → Type 0) → List Exchange → Type 0
+AllQuestions Holds [] = Unit {0}
+AllQuestions Holds (x ∷ xs) = Holds x.question × AllQuestions Holds xs

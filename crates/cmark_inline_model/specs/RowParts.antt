@@ -25,12 +25,12 @@ runs_in (Around tag start end inside after) = runs_in after
 -- how many bytes they have
 abbrev pub bytes_in : List Run → ℕ
 bytes_in [] = 0
-bytes_in (run ∷ runs) = run.size + bytes_in runs
+bytes_in (run ∷ runs) = run.run_length + bytes_in runs
 
 -- as siblings, their bytes counted from a place on
 abbrev pub counted : (at : ℕ) → List Run → List Sibling
 counted at [] = []
-counted at (run ∷ runs) = Delimiter (record { mark = run.mark; size = run.size; at = at; left = run.size; opens = run.opens; closes = run.closes }) ∷ counted (at + run.size) runs
+counted at (run ∷ runs) = Delimiter (record { delimiter = run.delimiter; run_length = run.run_length; at = at; left = run.run_length; opens = run.opens; closes = run.closes }) ∷ counted (at + run.run_length) runs
 
 -- ## Rows
 

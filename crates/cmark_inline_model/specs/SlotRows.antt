@@ -47,7 +47,7 @@ run_places at (suc size) after = at ∷ run_places (suc at) size after
 
 abbrev pub LaysItem : ItemKind → Item → (After : ℕ → List Slot → List ℕ → List ℕ → Type 0) → (at : ℕ) → List Slot → (bytes quotes : List ℕ) → Type 0
 LaysItem (Delimiters run) x After at slots bytes quotes =
-    (more : List Slot) × (others : List ℕ) × (slots ≡ run_slots x.start run.size more) × (bytes ≡ run_places at run.size others) × After (at + run.size) more others quotes
+    (more : List Slot) × (others : List ℕ) × (slots ≡ run_slots x.start run.run_length more) × (bytes ≡ run_places at run.run_length others) × After (at + run.run_length) more others quotes
 LaysItem (Quoted quote) x After at slots bytes quotes =
     (more : List Slot) × (others : List ℕ) × (slots ≡ ItemSlot x ∷ more) × (quotes ≡ at ∷ others) × After (suc at) more bytes others
 LaysItem (FootnoteReference label) x After at slots bytes quotes =
@@ -66,7 +66,7 @@ LaysOut at (Around tag start end inside after) slots bytes quotes =
 
 -- such a row, with its places
 abbrev pub item_slots : ItemKind → Item → List Slot → List Slot
-item_slots (Delimiters run) x after = run_slots x.start run.size after
+item_slots (Delimiters run) x after = run_slots x.start run.run_length after
 item_slots _ x after = ItemSlot x ∷ after
 
 abbrev pub row_of : Inline → List Slot
@@ -75,7 +75,7 @@ row_of (Single x after) = item_slots x.kind x (row_of after)
 row_of (Around tag start end inside after) = BeginSlot tag start end ∷ (slots_of inside ++ (EndSlot ∷ row_of after))
 
 abbrev pub item_places : ItemKind → (at : ℕ) → (ℕ → List ℕ) → List ℕ
-item_places (Delimiters run) at after = run_places at run.size (after (at + run.size))
+item_places (Delimiters run) at after = run_places at run.run_length (after (at + run.run_length))
 item_places _ at after = after (suc at)
 
 abbrev pub byte_places : (at : ℕ) → Inline → List ℕ
@@ -84,7 +84,7 @@ byte_places at (Single x after) = item_places x.kind at (λ a. byte_places a aft
 byte_places at (Around tag start end inside after) = byte_places (at + (length (slots_of inside) + 2)) after
 
 abbrev pub item_quotes : ItemKind → (at : ℕ) → (ℕ → List ℕ) → List ℕ
-item_quotes (Delimiters run) at after = after (at + run.size)
+item_quotes (Delimiters run) at after = after (at + run.run_length)
 item_quotes (Quoted quote) at after = at ∷ after (suc at)
 item_quotes _ at after = after (suc at)
 

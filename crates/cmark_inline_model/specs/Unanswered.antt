@@ -15,8 +15,8 @@ abbrev pub silent : Reader → Reader
 silent reader = record { source = reader.source; options = reader.options; lookup = reader.lookup; definition = reader.definition; has_footnote = reader.has_footnote; has_callback = false }
 
 abbrev pub without_callback : Profile → Profile
-without_callback profile = record { options = profile.options; lookup = profile.lookup; expansion_limit = profile.expansion_limit; has_callback = false }
+without_callback profile = record { options = profile.options; lookup = profile.lookup; reference_expansion_limit = profile.reference_expansion_limit; has_callback = false }
 
 -- the same state, where nothing was asked
 abbrev pub unasked : State → State
-unasked s = record { at = s.at; expansion = s.expansion; label_close = s.label_close; asked = []; openers = s.openers }
+unasked s = record { at = s.at; expansion_left = s.expansion_left; label_close = s.label_close; asked = []; openers = s.openers }

@@ -11,7 +11,7 @@ ghost use Rattle.cmark_inline_model.specs.FirstEvents.{BeginWithEnd};
 ghost use Rattle.cmark_inline_model.specs.TextPlaces.{text_of};
 
 /// A leaf that has a byte is read as some event (`some`), and one that has none as no event (`none`): nothing is asked there, and the
-/// expansion limit stays what it was (`same`). The events of a leaf never begin with the end of an element (`first`).
+/// reference expansion limit stays what it was (`same`). The events of a leaf never begin with the end of an element (`first`).
 pub fn a_leaf_with_a_byte_has_an_event()
     ensures some { (reader : Reader) (exchanges : List Exchange) (leaf : Leaf) (before : Between) (events : List Ranged) (after : Between)
         → InTurn 0 leaf.stretches (length reader.source) → ReadsLeaf reader (IsNext exchanges) leaf before events after → text_of reader leaf ≢ [] → events ≢ [] }

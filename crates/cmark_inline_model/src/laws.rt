@@ -25,7 +25,7 @@ ghost use Rattle.cmark_grammar.specs.Items.{Bracket, Token};
 ghost use Rattle.cmark_grammar.specs.Parts.{Parts};
 ghost use Rattle.cmark_grammar.specs.Questions.{AnyAnswer, ByPlan, Exchange, IsNext, Plan};
 ghost use Rattle.cmark_inline_model.specs.BracketPass.{Pass, end_by, parts_by};
-ghost use Rattle.cmark_inline_model.specs.Expansion.{KeepsLimit, Spends, costs};
+ghost use Rattle.cmark_inline_model.specs.ReferenceExpansion.{KeepsLimit, Spends, costs};
 ghost use Rattle.cmark_inline_model.specs.FormedParts.{AllFormed, closings};
 ghost use Rattle.cmark_inline_model.specs.LinkRules.{AsksRightly, IsFormedRightly};
 ghost use Rattle.cmark_inline_model.specs.NestedLinks.{HasLinksApart, KeepsLinksApart};
@@ -89,7 +89,7 @@ pub fn questions_are_few()
         → Reads (token reader leaf) (decide reader leaf) AnyAnswer s parts t → length t.asked ≤ closings parts + length s.asked }
 {}
 
-/// A question is about a label that no definition has, and is put only while something of the expansion limit is left.
+/// A question is about a label that no definition has, and is put only while something of the reference expansion limit is left.
 pub fn questions_are_about_unknown_labels()
     ensures { (reader : Reader) (leaf : Leaf) (s : State) (closer : Bracket) → AsksRightly reader s (decide reader leaf s closer) }
 {}
@@ -103,10 +103,10 @@ pub fn references_lead_to_their_definitions()
         → (reader_of text profile document).definition folded ≡ first_with fold folded (references document) }
 {}
 
-/// All references but the last cost less than there was of the expansion limit.
+/// All references but the last cost less than there was of the reference expansion limit.
 pub fn references_keep_the_limit()
     ensures spent { (reader : Reader) (leaf : Leaf) (s : State) (parts : Parts) (t : State)
-        → Reads (token reader leaf) (decide reader leaf) AnyAnswer s parts t → Spends s.expansion (costs parts) t.expansion }
+        → Reads (token reader leaf) (decide reader leaf) AnyAnswer s parts t → Spends s.expansion_left (costs parts) t.expansion_left }
     ensures below { (cs : List ℕ) (last before after : ℕ) → Spends before (cs ++ (last ∷ [])) after → sum cs < before }
 {}
 
@@ -154,7 +154,7 @@ pub fn leaves_consist_of_lines()
 {}
 
 /// What the grammar decides about a closing bracket records its question, sees no earlier one, and keeps links apart and the
-/// expansion limit.
+/// reference expansion limit.
 pub fn decisions_keep_the_rules()
     ensures recorded { (reader : Reader) (leaf : Leaf) → IsRecorded (decide reader leaf) }
     ensures shifted { (reader : Reader) (leaf : Leaf) → IsShifted (decide reader leaf) }
@@ -170,8 +170,8 @@ pub fn a_text_has_a_reading()
 
 /// However the questions are answered, what is left of a text can be read with these answers.
 pub fn what_is_left_can_be_read()
-    ensures { (reader : Reader) (segments : List Segment) (expansion : ℕ) (plan : Plan) → AreLeavesInTurn (length reader.source) segments
-        → (exchanges : List Exchange) × (events : List Ranged) × AreByPlan plan [] exchanges × Left reader segments expansion exchanges events }
+    ensures { (reader : Reader) (segments : List Segment) (expansion_left : ℕ) (plan : Plan) → AreLeavesInTurn (length reader.source) segments
+        → (exchanges : List Exchange) × (events : List Ranged) × AreByPlan plan [] exchanges × Left reader segments expansion_left exchanges events }
 {}
 
 /// For each list of answers a text has one reading.
@@ -182,11 +182,11 @@ pub fn one_reading()
 
 /// What is left behind an event of the blocks, or behind a leaf, is left with it in front.
 pub fn what_is_left_grows_backwards()
-    ensures given { (reader : Reader) (r : Ranged) (others : List Segment) (expansion : ℕ) (exchanges : List Exchange) (events : List Ranged)
-        → Left reader others expansion exchanges events → Left reader (Given r ∷ others) expansion exchanges (r ∷ events) }
-    ensures leaf { (reader : Reader) (leaf : Leaf) (others : List Segment) (expansion : ℕ) (taken rest : List Exchange) (spans later : List Ranged) (between : Between)
-        → ReadsLeaf reader (IsNext taken) leaf (record { expansion = expansion; asked = [] }) spans between → between.asked ≡ taken
-        → Left reader others between.expansion rest later → Left reader (Content leaf ∷ others) expansion (taken ++ rest) (spans ++ later) }
+    ensures given { (reader : Reader) (r : Ranged) (others : List Segment) (expansion_left : ℕ) (exchanges : List Exchange) (events : List Ranged)
+        → Left reader others expansion_left exchanges events → Left reader (Given r ∷ others) expansion_left exchanges (r ∷ events) }
+    ensures leaf { (reader : Reader) (leaf : Leaf) (others : List Segment) (expansion_left : ℕ) (taken rest : List Exchange) (spans later : List Ranged) (between : Between)
+        → ReadsLeaf reader (IsNext taken) leaf (record { expansion_left = expansion_left; asked = [] }) spans between → between.asked ≡ taken
+        → Left reader others between.expansion_left rest later → Left reader (Content leaf ∷ others) expansion_left (taken ++ rest) (spans ++ later) }
 {}
 
 /// A callback that answers nothing and no callback differ in the questions alone: the events are the same.

@@ -32,8 +32,8 @@ pub fn slots_follow_the_pass()
     ensures first { (reader : Reader) (leaf : Leaf) (before : Between) → IsReached reader leaf before (pass (entering leaf before) Nil) [] [] [] [] [] [] }
     ensures item { (reader : Reader) (leaf : Leaf) (before : Between) (p : Pass) (bs : List BracketPlace) (slots : List Slot) (bytes quotes : List ℕ) (runs : List Run) (quoted : List Quote)
         → IsReached reader leaf before p bs slots bytes quotes runs quoted
-        → (x : Item) (past : ℕ) (more : List Slot) (more_bytes more_quotes : List ℕ) → token reader leaf p.state.at ≡ Stands x past → StandsFor reader (length slots) (Single x Nil) more more_bytes more_quotes
-        → IsReached reader leaf before (pass (moved past p.state) (join p.here (Single x Nil))) bs (slots ++ more) (bytes ++ more_bytes) (quotes ++ more_quotes)
+        → (x : Item) (resume : ℕ) (more : List Slot) (more_bytes more_quotes : List ℕ) → token reader leaf p.state.at ≡ Stands x resume → StandsFor reader (length slots) (Single x Nil) more more_bytes more_quotes
+        → IsReached reader leaf before (pass (moved resume p.state) (join p.here (Single x Nil))) bs (slots ++ more) (bytes ++ more_bytes) (quotes ++ more_quotes)
         (runs ++ runs_in (siblings_of reader.options (Single x Nil))) (quoted ++ quotes_of (siblings_of reader.options (Single x Nil))) }
     ensures opening { (reader : Reader) (leaf : Leaf) (before : Between) (p : Pass) (bs : List BracketPlace) (slots : List Slot) (bytes quotes : List ℕ) (runs : List Run) (quoted : List Quote)
         → IsReached reader leaf before p bs slots bytes quotes runs quoted
@@ -52,20 +52,20 @@ pub fn slots_follow_the_pass()
 pub fn items_have_their_slots()
     ensures own { (reader : Reader) (leaf : Leaf) (before : Between) (p : Pass) (bs : List BracketPlace) (slots : List Slot) (bytes quotes : List ℕ) (runs : List Run) (quoted : List Quote)
         → IsReached reader leaf before p bs slots bytes quotes runs quoted
-        → (kind : ItemKind) (start end past : ℕ) (slot : Slot) → token reader leaf p.state.at ≡ Stands (item kind start end) past → has_own_slot kind ≡ true → IsLike reader.source slot (ItemSlot (item kind start end))
-        → IsReached reader leaf before (pass (moved past p.state) (join p.here (Single (item kind start end) Nil))) bs (slots ++ (slot ∷ [])) bytes quotes runs quoted }
+        → (kind : ItemKind) (start end resume : ℕ) (slot : Slot) → token reader leaf p.state.at ≡ Stands (item kind start end) resume → has_own_slot kind ≡ true → IsLike reader.source slot (ItemSlot (item kind start end))
+        → IsReached reader leaf before (pass (moved resume p.state) (join p.here (Single (item kind start end) Nil))) bs (slots ++ (slot ∷ [])) bytes quotes runs quoted }
     ensures run { (reader : Reader) (leaf : Leaf) (before : Between) (p : Pass) (bs : List BracketPlace) (slots : List Slot) (bytes quotes : List ℕ) (runs : List Run) (quoted : List Quote)
         → IsReached reader leaf before p bs slots bytes quotes runs quoted
-        → (run : Run) (start end past : ℕ) (more : List Slot) → token reader leaf p.state.at ≡ Stands (item (Delimiters run) start end) past → AreLike reader.source more (run_slots start run.size [])
-        → IsReached reader leaf before (pass (moved past p.state) (join p.here (Single (item (Delimiters run) start end) Nil))) bs (slots ++ more) (bytes ++ run_places (length slots) run.size []) quotes (runs ++ (run ∷ [])) quoted }
+        → (run : Run) (start end resume : ℕ) (more : List Slot) → token reader leaf p.state.at ≡ Stands (item (Delimiters run) start end) resume → AreLike reader.source more (run_slots start run.run_length [])
+        → IsReached reader leaf before (pass (moved resume p.state) (join p.here (Single (item (Delimiters run) start end) Nil))) bs (slots ++ more) (bytes ++ run_places (length slots) run.run_length []) quotes (runs ++ (run ∷ [])) quoted }
     ensures quote { (reader : Reader) (leaf : Leaf) (before : Between) (p : Pass) (bs : List BracketPlace) (slots : List Slot) (bytes quotes : List ℕ) (runs : List Run) (quoted : List Quote)
         → IsReached reader leaf before p bs slots bytes quotes runs quoted
-        → (quote : Quote) (start end past : ℕ) (slot : Slot) → token reader leaf p.state.at ≡ Stands (item (Quoted quote) start end) past → IsLike reader.source slot (ItemSlot (item (Quoted quote) start end))
-        → IsReached reader leaf before (pass (moved past p.state) (join p.here (Single (item (Quoted quote) start end) Nil))) bs (slots ++ (slot ∷ [])) bytes (quotes ++ (length slots ∷ [])) runs (quoted ++ (quote ∷ [])) }
+        → (quote : Quote) (start end resume : ℕ) (slot : Slot) → token reader leaf p.state.at ≡ Stands (item (Quoted quote) start end) resume → IsLike reader.source slot (ItemSlot (item (Quoted quote) start end))
+        → IsReached reader leaf before (pass (moved resume p.state) (join p.here (Single (item (Quoted quote) start end) Nil))) bs (slots ++ (slot ∷ [])) bytes (quotes ++ (length slots ∷ [])) runs (quoted ++ (quote ∷ [])) }
     ensures autolink { (reader : Reader) (leaf : Leaf) (before : Between) (p : Pass) (bs : List BracketPlace) (slots : List Slot) (bytes quotes : List ℕ) (runs : List Run) (quoted : List Quote)
         → IsReached reader leaf before p bs slots bytes quotes runs quoted
-        → (uri : List ℕ) (start end past : ℕ) (slot : Slot) → token reader leaf p.state.at ≡ Stands (item (Autolink uri) start end) past → IsLike reader.source slot (ItemSlot (item Own (suc start) (end - 1)))
-        → IsReached reader leaf before (pass (moved past p.state) (join p.here (Single (item (Autolink uri) start end) Nil))) bs (slots ++ (BeginSlot (Link (uri_link uri)) start end ∷ (slot ∷ (EndSlot ∷ [])))) bytes quotes runs quoted }
+        → (uri : List ℕ) (start end resume : ℕ) (slot : Slot) → token reader leaf p.state.at ≡ Stands (item (Autolink uri) start end) resume → IsLike reader.source slot (ItemSlot (item Own (suc start) (end - 1)))
+        → IsReached reader leaf before (pass (moved resume p.state) (join p.here (Single (item (Autolink uri) start end) Nil))) bs (slots ++ (BeginSlot (Link (uri_link uri)) start end ∷ (slot ∷ (EndSlot ∷ [])))) bytes quotes runs quoted }
 {}
 
 /// Where a closing bracket forms something with the opening one that is noted at a place, what is formed stands in the place of that one's

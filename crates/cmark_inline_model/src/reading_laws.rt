@@ -20,7 +20,7 @@ ghost use Rattle.cmark_inline_model.specs.CutRanges.{InPlaceButCut, HasNoTasks};
 ghost use Rattle.cmark_inline_model.specs.LinkRules.{IsQuestion};
 ghost use Rattle.cmark_inline_model.specs.OptionRules.{AllItems, AreGiven, IsRead};
 ghost use Rattle.cmark_inline_model.specs.ReadingLinks.{AreLed, LinksApart, reference_costs};
-ghost use Rattle.cmark_inline_model.specs.ReadingQuestions.{AllAsked, AskedInTurn, IsCloser, IsCloserBelow};
+ghost use Rattle.cmark_inline_model.specs.ReadingQuestions.{AllQuestions, PutInTurn, IsCloser, IsCloserBelow};
 ghost use Rattle.cmark_inline_model.specs.ReadingRanges.{HasNoDisplays, InPlace, LieWithin};
 
 /// No link stands in a link, at any depth, but for autolinks (CommonMark 6.3 and 6.5).
@@ -35,20 +35,20 @@ pub fn links_lead_by_definitions_and_answers()
         → Derives text profile.options profile.lookup document → IsReading text profile exchanges events → AreLed (reader_of text profile document) exchanges events }
 {}
 
-/// A reference is formed only where something of the expansion limit is left: in the order in which they end, the destinations and
-/// titles of all references before it, over all leaves of the text, have fewer bytes than the limit. So have those of all but the last.
+/// A reference is formed only where something of the reference expansion limit is left: in the order in which they end, the destinations
+/// and titles of all references before it, over all leaves of the text, have fewer bytes than the limit. So have those of all but the last.
 pub fn references_stay_below_the_limit()
     ensures { (text : List ℕ) (profile : Profile) (exchanges : List Exchange) (events : List Ranged) (front behind : List ℕ) (own : ℕ)
-        → IsReading text profile exchanges events → reference_costs [] events ≡ front ++ (own ∷ behind) → sum front < profile.expansion_limit }
+        → IsReading text profile exchanges events → reference_costs [] events ≡ front ++ (own ∷ behind) → sum front < profile.reference_expansion_limit }
 {}
 
-/// A question is put only where something of the expansion limit is left: each has a closing bracket of its own among its bytes, in
-/// turn, and the destinations and titles of all references that end before that bracket, in its leaf and in the leaves before, have
+/// A question is put only where something of the reference expansion limit is left: each has a closing bracket of its own among its bytes,
+/// in turn, and the destinations and titles of all references that end before that bracket, in its leaf and in the leaves before, have
 /// fewer bytes than the limit.
 pub fn questions_are_put_below_the_limit()
     ensures { (text : List ℕ) (profile : Profile) (document : BlockDocument) (exchanges : List Exchange) (events : List Ranged)
         → Derives text profile.options profile.lookup document → IsReading text profile exchanges events
-        → AskedInTurn (IsCloserBelow profile.expansion_limit events (reader_of text profile document) (segments document)) 0 exchanges (length text) }
+        → PutInTurn (IsCloserBelow profile.reference_expansion_limit events (reader_of text profile document) (segments document)) 0 exchanges (length text) }
 {}
 
 /// The ranges of events lie in the text (`within`), one behind the other, and the range of each element around those of what is inside
@@ -76,26 +76,26 @@ pub fn options_that_are_off_read_nothing()
 {}
 
 /// At most one question is put for each closing bracket of the text, in the order of these; each is about a label that no
-/// definition has; and none is put where the expansion limit is nothing.
+/// definition has; and none is put where the reference expansion limit is nothing.
 pub fn questions_are_put_in_turn()
     ensures turn { (text : List ℕ) (profile : Profile) (document : BlockDocument) (exchanges : List Exchange) (events : List Ranged)
         → Derives text profile.options profile.lookup document → IsReading text profile exchanges events
-        → AskedInTurn (IsCloser (reader_of text profile document) (segments document)) 0 exchanges (length text) }
+        → PutInTurn (IsCloser (reader_of text profile document) (segments document)) 0 exchanges (length text) }
     ensures unknown { (text : List ℕ) (profile : Profile) (document : BlockDocument) (exchanges : List Exchange) (events : List Ranged)
         → Derives text profile.options profile.lookup document → IsReading text profile exchanges events
-        → AllAsked (IsQuestion (reader_of text profile document)) exchanges }
+        → AllQuestions (IsQuestion (reader_of text profile document)) exchanges }
     ensures limit { (text : List ℕ) (profile : Profile) (exchanges : List Exchange) (events : List Ranged)
-        → profile.expansion_limit ≡ 0 → IsReading text profile exchanges events → exchanges ≡ [] }
+        → profile.reference_expansion_limit ≡ 0 → IsReading text profile exchanges events → exchanges ≡ [] }
 {}
 
-/// Where the references before took all of the expansion limit, no question is put: not behind a place of a leaf where nothing is
+/// Where the references before took all of the reference expansion limit, no question is put: not behind a place of a leaf where nothing is
 /// left (`leaf`), and not in the leaves behind those whose references have as many bytes of destinations and titles as the limit, or
 /// more (`leaves`).
 pub fn nothing_is_asked_when_nothing_is_left()
     ensures leaf { (reader : Reader) (leaf : Leaf) (s : State) (parts : Parts) (t : State)
-        → s.expansion ≡ 0 → Reads (token reader leaf) (decide reader leaf) AnyAnswer s parts t → t.asked ≡ s.asked }
+        → s.expansion_left ≡ 0 → Reads (token reader leaf) (decide reader leaf) AnyAnswer s parts t → t.asked ≡ s.asked }
     ensures leaves { (text : List ℕ) (profile : Profile) (document : BlockDocument) (exchanges : List Exchange) (first others : List Segment) (earlier later : List Ranged) (between after : Between)
         → segments document ≡ first ++ others → ReadsAll (reader_of text profile document) (IsNext exchanges) first (at_start profile) earlier between
         → ReadsAll (reader_of text profile document) (IsNext exchanges) others between later after
-        → profile.expansion_limit ≤ sum (reference_costs [] earlier) → after.asked ≡ between.asked }
+        → profile.reference_expansion_limit ≤ sum (reference_costs [] earlier) → after.asked ≡ between.asked }
 {}

@@ -66,10 +66,10 @@ pub fn the_text_is_read_on_in_its_places()
 /// item in the text: of each byte that stands for itself (`begins`), and of the longest text (`token`).
 pub fn texts_have_their_bytes_in_the_source()
     ensures begins { (reader : Reader) (leaf : Leaf) (text : List ℕ) (place : ℕ → ℕ) → AreLeafPlaces reader leaf text place → (k : ℕ) → may_open_markup (drop k text) ≡ false
-        → (x : Item) (past : ℕ) → begins_at (text_reader reader.options reader.lookup text) (one_stretch leaf.is_cell text) k ≡ Stands x past → is_as_written x.kind ≡ true
+        → (x : Item) (resume : ℕ) → begins_at (text_reader reader.options reader.lookup text) (one_stretch leaf.is_cell text) k ≡ Stands x resume → is_as_written x.kind ≡ true
         → slice reader.source (place x.start) (suc (place (x.end - 1))) ≡ slice text x.start x.end }
     ensures token { (reader : Reader) (leaf : Leaf) (text : List ℕ) (place : ℕ → ℕ) → AreLeafPlaces reader leaf text place → (k : ℕ) → may_open_markup (drop k text) ≡ false
-        → (x : Item) (past : ℕ) → token (text_reader reader.options reader.lookup text) (one_stretch leaf.is_cell text) k ≡ Stands x past → is_as_written x.kind ≡ true
+        → (x : Item) (resume : ℕ) → token (text_reader reader.options reader.lookup text) (one_stretch leaf.is_cell text) k ≡ Stands x resume → is_as_written x.kind ≡ true
         → slice reader.source (place x.start) (suc (place (x.end - 1))) ≡ slice text x.start x.end }
 {}
 

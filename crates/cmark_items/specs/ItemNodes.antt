@@ -26,8 +26,8 @@ abbrev pub is_tight : ListFlags → Bool
 is_tight flags = (flags.0 % 2) == 1
 
 -- a list's number, if its character is a delimiter
-abbrev pub list_number : (mark number : ℕ) → Option ℕ
-list_number mark number = if is_delimiter mark then Some number else None
+abbrev pub list_number : (delimiter number : ℕ) → Option ℕ
+list_number delimiter number = if is_delimiter delimiter then Some number else None
 
 -- how an item of the block pass is a node: as an element, as what is spelt by the text at an index, or as a slice of the text;
 -- other items are none
@@ -58,7 +58,7 @@ shape body.TableHead = Element document.TableHead
 shape body.TableRow = Element document.TableRow
 shape body.TableCell = Element document.TableCell
 shape (body.BlockQuote kind) = Element (document.BlockQuote (option_map shown_block_quote_kind kind))
-shape (body.List flags mark number) = Element (document.BlockList (list_number mark number) (is_tight flags))
+shape (body.List flags delimiter number) = Element (document.BlockList (list_number delimiter number) (is_tight flags))
 shape (body.ListItem width) = Element document.ListItem
 shape (body.TaskListMarker is_checked) = Element (document.TaskMarker is_checked)
 shape (body.DefinitionList flags) = Element (document.DefinitionList (is_tight flags))

@@ -89,7 +89,7 @@ pub enum ItemBody {
     Link(LinkIndex),
     /// An image (CommonMark 6.4).
     Image(LinkIndex),
-    /// The mark of a task list item, and whether it is checked (GFM 5.3).
+    /// The marker of a task list item, and whether it is checked (GFM 5.3).
     TaskListMarker(bool),
     /// HTML that stands as it is (CommonMark 6.6).
     InlineHtml,

@@ -2,7 +2,7 @@
 use Rattle.std.proofs.Common.{◌≡◌, ℕ, ◌+◌, ◌-◌, ◌≤◌, ◌<◌, Bool, true, false, List, [], ◌∷◌, ◌++◌, length, get_or, refl, sym, ap, ◌∙◌, subst, arith, length-append}
 use Rattle.std.specs.Prelude.{if◌then◌else◌, nat_lt}
 use Rattle.std.proofs.lemmas.Bool.{ltb-true, ltb-false}
-use Rattle.cmark_leaf_text.specs.Stretches.{AreLines, AreStretches, IsOpen, PlacesMore, StandAs, joined, leaf_bytes, line_end, place_in, place_on, size_of}
+use Rattle.cmark_leaf_text.specs.Stretches.{AreLines, AreStretches, IsOpen, PlacesMore, StandAs, joined, leaf_bytes, end_in_leaf, place_in, place_on, size_of}
 use Rattle.cmark_leaf_text.specs.declared.stretch.LeafLine.{LeafLine}
 use Rattle.cmark_leaf_text.specs.declared.stretch.Stretch.{Stretch}
 use Rattle.cmark_leaf_text.proofs.StretchSteps.{first-open, from_start, joined-append, joined-one, ordered-open, size-joined, slice-length, slice-none}
@@ -129,7 +129,7 @@ module _ (source : List ℕ) where
     pub text : joined source (ss ++ (record { at = 0; start = place; end = place } ∷ [])) ++ leaf_bytes source lines ≡ leaf_bytes source lines
     pub places : StandSoFar lines lines (ss ++ (record { at = 0; start = place; end = place } ∷ []))
 
-  pub begin-lines : (lines : List LeafLine) (ss : List Stretch) → ss ≡ [] → 1 ≤ length lines → AreLines source 0 lines → Begins lines ss (get_or lines 0 (record { start = 0; stop = 0; past = 0 })).start
+  pub begin-lines : (lines : List LeafLine) (ss : List Stretch) → ss ≡ [] → 1 ≤ length lines → AreLines source 0 lines → Begins lines ss (get_or lines 0 (record { start = 0; content_end = 0; line_end = 0 })).start
   begin-lines [] ss none some h = absurd (omega (arith, some))
   begin-lines (line ∷ others) ss none some h =
       let lines : List LeafLine = line ∷ others in
@@ -144,18 +144,18 @@ module _ (source : List ℕ) where
       })
 
   -- a line more
-  pub stand-more : (lines rest others : List LeafLine) (line : LeafLine) (old new : List Stretch) → rest ≡ line ∷ others → StandSoFar lines rest old → PlacesMore source old line.start (line_end line others - line.start) new
-      → size new ≡ size old + (line_end line others - line.start) → StandSoFar lines others new
+  pub stand-more : (lines rest others : List LeafLine) (line : LeafLine) (old new : List Stretch) → rest ≡ line ∷ others → StandSoFar lines rest old → PlacesMore source old line.start (end_in_leaf line others - line.start) new
+      → size new ≡ size old + (end_in_leaf line others - line.start) → StandSoFar lines others new
   stand-more lines rest others line old new is h more grows = record { so_far = so_far; behind = behind }
     where
       m : ℕ
-      m = line_end line others - line.start
+      m = end_in_leaf line others - line.start
 
       at-line : (k : ℕ) → k < m → place_on (line ∷ others) k ≡ line.start + k
       at-line k lt = by-less (λ p. p ≡ line.start + k) k m (line.start + k) (place_on others (k - m)) (λ l. refl) (λ l. absurd (omega (arith, l, lt)))
 
-      past-line : (k : ℕ) → place_on (line ∷ others) (m + k) ≡ place_on others k
-      past-line k = by-less (λ p. p ≡ place_on others k) (m + k) m (line.start + (m + k)) (place_on others ((m + k) - m)) (λ l. absurd (omega (arith, l))) (λ l. ap (place_on others) (let q : (m + k) - m ≡ k = omega arith in q))
+      line_end-line : (k : ℕ) → place_on (line ∷ others) (m + k) ≡ place_on others k
+      line_end-line k = by-less (λ p. p ≡ place_on others k) (m + k) m (line.start + (m + k)) (place_on others ((m + k) - m)) (λ l. absurd (omega (arith, l))) (λ l. ap (place_on others) (let q : (m + k) - m ≡ k = omega arith in q))
 
       so_far : StandAs source lines new
       so_far k lt = go (nat_lt k (size old)) refl
@@ -173,4 +173,4 @@ module _ (source : List ℕ) where
       behind : (k : ℕ) → place_on lines (size new + k) ≡ place_on others k
       behind k =
           let n = grows in
-          ap (place_on lines) (let q : size new + k ≡ size old + (m + k) = omega (arith, n) in q) ∙ h.behind (m + k) ∙ ap (λ r. place_on r (m + k)) is ∙ past-line k
+          ap (place_on lines) (let q : size new + k ≡ size old + (m + k) = omega (arith, n) in q) ∙ h.behind (m + k) ∙ ap (λ r. place_on r (m + k)) is ∙ line_end-line k

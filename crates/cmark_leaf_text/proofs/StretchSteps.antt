@@ -6,7 +6,7 @@ use Rattle.std.proofs.lemmas.Bool.{lt-ltb, ltb-true, ltb-false}
 use Rattle.std.proofs.lemmas.List.{append-nil, get_or-drop, get_or-take, get_or_append_left, get_or-append_right, length-take, length-drop}
 use Rattle.std.proofs.lemmas.Option.{slice_get_within}
 use Rattle.cmark_grammar.specs.Tokens.{slice}
-use Rattle.cmark_leaf_text.specs.Stretches.{IsLine, AreLines, leaf_bytes, IsStretch, AreStretches, IsOpen, joined, line_end, place_in, size_of}
+use Rattle.cmark_leaf_text.specs.Stretches.{IsLine, AreLines, leaf_bytes, IsStretch, AreStretches, IsOpen, joined, end_in_leaf, place_in, size_of}
 use Rattle.cmark_leaf_text.specs.Reads.{IsPart}
 use Rattle.cmark_leaf_text.specs.declared.stretch.LeafLine.{LeafLine}
 use Rattle.cmark_leaf_text.specs.declared.stretch.Stretch.{Stretch}
@@ -164,33 +164,33 @@ module _ (source : List ℕ) where
   slice-none a = ap (λ n. take n (drop a source)) (let s : a - a ≡ 0 = omega arith in s)
 
   abbrev pub part_of : LeafLine → List LeafLine → LeafLine
-  part_of line others = record { start = line.start; stop = line_end line others; past = line_end line others }
+  part_of line others = record { start = line.start; content_end = end_in_leaf line others; line_end = end_in_leaf line others }
 
   pub line-part : (from : ℕ) (line : LeafLine) (others : List LeafLine) → AreLines source from (line ∷ others) → IsLine source from (part_of line others)
   line-part from line [] h =
       let c = h.0.content in
       let e = h.0.ending in
       let w = h.0.within in
-      record { behind = h.0.behind; content = c; ending = (let l : line.stop ≤ line.stop = omega arith in l); within = (let l : line.stop ≤ length source = omega (arith, e, w) in l); starts = h.0.starts; stops = h.0.stops; ends = h.0.stops }
+      record { behind = h.0.behind; content = c; ending = (let l : line.content_end ≤ line.content_end = omega arith in l); within = (let l : line.content_end ≤ length source = omega (arith, e, w) in l); starts = h.0.starts; stops = h.0.stops; ends = h.0.stops }
   line-part from line (next ∷ others) h =
       let c = h.0.content in
       let e = h.0.ending in
-      record { behind = h.0.behind; content = (let l : line.start ≤ line.past = omega (arith, c, e) in l); ending = (let l : line.past ≤ line.past = omega arith in l); within = h.0.within; starts = h.0.starts; stops = h.0.ends; ends = h.0.ends }
+      record { behind = h.0.behind; content = (let l : line.start ≤ line.line_end = omega (arith, c, e) in l); ending = (let l : line.line_end ≤ line.line_end = omega arith in l); within = h.0.within; starts = h.0.starts; stops = h.0.ends; ends = h.0.ends }
 
-  pub lines-behind : (from : ℕ) (line : LeafLine) (others : List LeafLine) → AreLines source from (line ∷ others) → AreLines source (line_end line others) others
+  pub lines-behind : (from : ℕ) (line : LeafLine) (others : List LeafLine) → AreLines source from (line ∷ others) → AreLines source (end_in_leaf line others) others
   lines-behind from line [] h = tt
   lines-behind from line (next ∷ others) h = h.1
 
-  pub leaf-bytes-cons : (line : LeafLine) (others : List LeafLine) → leaf_bytes source (line ∷ others) ≡ slice source line.start (line_end line others) ++ leaf_bytes source others
-  leaf-bytes-cons line [] = sym (append-nil (slice source line.start line.stop))
+  pub leaf-bytes-cons : (line : LeafLine) (others : List LeafLine) → leaf_bytes source (line ∷ others) ≡ slice source line.start (end_in_leaf line others) ++ leaf_bytes source others
+  leaf-bytes-cons line [] = sym (append-nil (slice source line.start line.content_end))
   leaf-bytes-cons line (next ∷ others) = refl
 
   pub line-bytes : (before : List ℕ) (all lines : List LeafLine) (line : LeafLine) (others : List LeafLine) (after : List ℕ) → lines ≡ line ∷ others
       → before ++ leaf_bytes source lines ≡ leaf_bytes source all
-      → after ≡ before ++ slice source line.start (line_end line others) → after ++ leaf_bytes source others ≡ leaf_bytes source all
+      → after ≡ before ++ slice source line.start (end_in_leaf line others) → after ++ leaf_bytes source others ≡ leaf_bytes source all
   line-bytes before all lines line others after is told grows =
       ap (λ l. l ++ leaf_bytes source others) grows
-      ∙ append_assoc before (slice source line.start (line_end line others)) (leaf_bytes source others)
+      ∙ append_assoc before (slice source line.start (end_in_leaf line others)) (leaf_bytes source others)
       ∙ ap (λ l. before ++ l) (sym (leaf-bytes-cons line others))
       ∙ ap (λ l. before ++ leaf_bytes source l) (sym is)
       ∙ told
@@ -210,8 +210,8 @@ module _ (source : List ℕ) where
   some-stretch [] at lt = absurd (omega (arith, lt))
   some-stretch (x ∷ ss) at lt = omega arith
 
-  pub nothing-past : (ss : List Stretch) (n : ℕ) (s : Stretch) → length ss ≤ n → slice_get ss n ≡ Some s → ⊥
-  nothing-past ss n s le e = let w = slice_get_within ss n s e in absurd (omega (arith, le, w))
+  pub nothing-line_end : (ss : List Stretch) (n : ℕ) (s : Stretch) → length ss ≤ n → slice_get ss n ≡ Some s → ⊥
+  nothing-line_end ss n s le e = let w = slice_get_within ss n s e in absurd (omega (arith, le, w))
 
   pub found : (ss : List Stretch) (at i : ℕ) (s : Stretch) → AreStretches source 0 0 ss → slice_get ss i ≡ Some s → s.at ≤ at
       → ((t : Stretch) → slice_get ss (i + 1) ≡ Some t → at < t.at) → at < length (joined source ss) → Placed ss at s

@@ -8,27 +8,27 @@ use Rattle.cmark_leaf_text.specs.declared.stretch.Stretch.{Stretch}
 -- a line lies in the source behind this place, and cuts no character
 pub record IsLine (source : List ℕ) (from : ℕ) (line : LeafLine) : Type 0 where
   pub behind : from ≤ line.start
-  pub content : line.start ≤ line.stop
-  pub ending : line.stop ≤ line.past
-  pub within : line.past ≤ length source
+  pub content : line.start ≤ line.content_end
+  pub ending : line.content_end ≤ line.line_end
+  pub within : line.line_end ≤ length source
   pub starts : IsCharBoundary source line.start
-  pub stops : IsCharBoundary source line.stop
-  pub ends : IsCharBoundary source line.past
+  pub stops : IsCharBoundary source line.content_end
+  pub ends : IsCharBoundary source line.line_end
 
 abbrev pub AreLines : (source : List ℕ) → (from : ℕ) → List LeafLine → Type 0
 AreLines source from [] = Unit {0}
-AreLines source from (line ∷ lines) = IsLine source from line × AreLines source line.past lines
+AreLines source from (line ∷ lines) = IsLine source from line × AreLines source line.line_end lines
 
 -- the bytes of the lines with the line ends between them
 abbrev pub leaf_bytes : (source : List ℕ) → List LeafLine → List ℕ
 leaf_bytes source [] = []
-leaf_bytes source (line ∷ []) = slice source line.start line.stop
-leaf_bytes source (line ∷ next ∷ lines) = slice source line.start line.past ++ leaf_bytes source (next ∷ lines)
+leaf_bytes source (line ∷ []) = slice source line.start line.content_end
+leaf_bytes source (line ∷ next ∷ lines) = slice source line.start line.line_end ++ leaf_bytes source (next ∷ lines)
 
 -- the place behind a line: with its line end, if others follow
-abbrev pub line_end : LeafLine → (others : List LeafLine) → ℕ
-line_end line [] = line.stop
-line_end line (next ∷ others) = line.past
+abbrev pub end_in_leaf : LeafLine → (others : List LeafLine) → ℕ
+end_in_leaf line [] = line.content_end
+end_in_leaf line (next ∷ others) = line.line_end
 
 abbrev pub size_of : Stretch → ℕ
 size_of stretch = stretch.end - stretch.start
@@ -59,7 +59,7 @@ place_in (stretch ∷ stretches) at = if nat_lt at (stretch.at + size_of stretch
 -- where in the source a byte of the text of lines stands
 abbrev pub place_on : List LeafLine → ℕ → ℕ
 place_on [] at = at
-place_on (line ∷ lines) at = if nat_lt at (line_end line lines - line.start) then line.start + at else place_on lines (at - (line_end line lines - line.start))
+place_on (line ∷ lines) at = if nat_lt at (end_in_leaf line lines - line.start) then line.start + at else place_on lines (at - (end_in_leaf line lines - line.start))
 
 -- the bytes of these stretches have the places that they have in the lines
 abbrev pub StandAs : (source : List ℕ) → List LeafLine → List Stretch → Type 0

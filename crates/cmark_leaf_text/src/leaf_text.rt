@@ -4,7 +4,7 @@ ghost use Rattle.std.specs.Prelude.{ℕ, ◌≡◌, ◌<◌, ◌≤◌, ◌+◌,
 ghost use Rattle.cmark_grammar.specs.Tokens.{slice};
 ghost use Rattle.cmark_leaf_text.specs.Reads.{IsRead, IsPart, IsFirstFrom, is_cell_of, text_of, source_of, place_of};
 ghost use Rattle.std.specs.Str.{IsCharBoundary};
-ghost use Rattle.cmark_leaf_text.specs.Stretches.{AreLines, AreStretches, IsOpen, IsLine, PlacesMore, StandAs, joined, leaf_bytes, line_end, place_on, FindsStretch};
+ghost use Rattle.cmark_leaf_text.specs.Stretches.{AreLines, AreStretches, IsOpen, IsLine, PlacesMore, StandAs, joined, leaf_bytes, end_in_leaf, place_on, FindsStretch};
 
 use crate::stretch::{LeafLine, Stretch};
 use std::alloc::{AllocError, Global};
@@ -205,7 +205,7 @@ impl<'a> LeafText<'a> {
         };
         let mut rest = lines;
         while let Some((line, others)) = rest.split_first() {
-            opened = self.push_part(opened, line.start, line_end(line, others))?;
+            opened = self.push_part(opened, line.start, end_in_leaf(line, others))?;
             rest = others;
         }
         self.stretches.push(opened)?;
@@ -220,7 +220,7 @@ impl<'a> LeafText<'a> {
         end: usize,
     ) -> Result<Stretch, AllocError>
         requires open { IsOpen (source_of self.old) self.old.stretches.items opened }
-        requires part { IsLine (source_of self.old) opened.end (record { start = start; stop = end; past = end }) }
+        requires part { IsLine (source_of self.old) opened.end (record { start = start; content_end = end; line_end = end }) }
         ensures open { IfOk result (λ next. IsOpen (source_of self.old) self.new.stretches.items next) }
         ensures end { IfOk result (λ next. next.end ≡ end) }
         ensures text { IfOk result (λ next. joined (source_of self.old) (self.new.stretches.items ++ (next ∷ [])) ≡ joined (source_of self.old) (self.old.stretches.items ++ (opened ∷ [])) ++ slice (source_of self.old) start end) }
@@ -256,13 +256,13 @@ impl<'a> LeafText<'a> {
 }
 
 // The place behind a line: with its line end, if others follow.
-fn line_end(line: &LeafLine, others: &[LeafLine]) -> usize
-    ensures { result ≡ line_end line.now others.now }
+fn end_in_leaf(line: &LeafLine, others: &[LeafLine]) -> usize
+    ensures { result ≡ end_in_leaf line.now others.now }
 {
     if others.is_empty() {
-        line.stop
+        line.content_end
     } else {
-        line.past
+        line.line_end
     }
 }
 

@@ -8,9 +8,9 @@ pub struct LeafLine {
     /// The first byte of what stands in it.
     pub start: usize,
     /// The place behind that. Trailing blanks are in it, but for the last line of a leaf.
-    pub stop: usize,
-    /// The place behind its line end.
-    pub past: usize,
+    pub content_end: usize,
+    /// The place behind its line ending.
+    pub line_end: usize,
 }
 
 /// A stretch of the source that stands in a leaf's text without a gap.

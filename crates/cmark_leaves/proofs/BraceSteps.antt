@@ -266,19 +266,19 @@ split-at zero bs = refl
 split-at (suc n) [] = refl
 split-at (suc n) (b ∷ bs) = ap (λ l. b ∷ l) (split-at n bs)
 
-pub stands-in : (text : List ℕ) (place stop : ℕ) (bs : List ℕ) (before size : ℕ) → IsUtf8 text → bs ≡ slice text place stop →
+pub stands-in : (text : List ℕ) (place content_end : ℕ) (bs : List ℕ) (before size : ℕ) → IsUtf8 text → bs ≡ slice text place content_end →
     before ≡ length (before_braces (λ b. b) (drop_end is_blank_byte bs)) → size ≡ length (drop_end is_blank_byte bs) → (before ≡ size → ⊥) →
     StandsAt text (place + before + 1) (place + size - 1) (inside_braces (λ b. b) (drop_end is_blank_byte bs))
-stands-in text place stop bs before size utf8 s b z some =
+stands-in text place content_end bs before size utf8 s b z some =
     let content = drop_end is_blank_byte bs in
     let front = before_braces (λ x. x) content in
     let inside = inside_braces (λ x. x) content in
     let parts : content ≡ front ++ (123 ∷ (inside ++ 125 ∷ [])) = braces-parts content (λ e. some (b ∙ e ∙ sym z)) in
     let blanks = drop_end-front is_blank_byte bs in
-    let more = blanks.0 ++ drop (stop - place) (drop place text) in
+    let more = blanks.0 ++ drop (content_end - place) (drop place text) in
     let whole : drop place text ≡ front ++ (123 ∷ (inside ++ 125 ∷ more)) =
-    sym (split-at (stop - place) (drop place text)) ∙ ap (λ l. l ++ drop (stop - place) (drop place text)) (sym s ∙ blanks.1 ∙ ap (λ l. l ++ blanks.0) parts)
-    ∙ append_assoc (front ++ (123 ∷ (inside ++ 125 ∷ []))) blanks.0 (drop (stop - place) (drop place text))
+    sym (split-at (content_end - place) (drop place text)) ∙ ap (λ l. l ++ drop (content_end - place) (drop place text)) (sym s ∙ blanks.1 ∙ ap (λ l. l ++ blanks.0) parts)
+    ∙ append_assoc (front ++ (123 ∷ (inside ++ 125 ∷ []))) blanks.0 (drop (content_end - place) (drop place text))
     ∙ append_assoc front (123 ∷ (inside ++ 125 ∷ [])) more ∙ ap (λ l. front ++ (123 ∷ l)) (append_assoc inside (125 ∷ []) more) in
     let opening : drop (place + before) text ≡ 123 ∷ (inside ++ 125 ∷ more) =
     sym (drop-drop before place text) ∙ ap (λ n. drop n (drop place text)) b ∙ ap (drop (length front)) whole ∙ drop-front front (123 ∷ (inside ++ 125 ∷ more)) in

@@ -9,7 +9,7 @@ use Rattle.cmark_scan.specs.LineStart.{columns_taken}
 use Rattle.cmark_lines.proofs.RestSteps.{rest-runs}
 use Rattle.cmark_lines.specs.Rests.{row_of}
 use Rattle.cmark_lines.specs.declared.line_rest.LineRest.{LineRest}
-use Rattle.cmark_leaves.specs.TextColumns.{AreTold}
+use Rattle.cmark_leaves.specs.TextColumns.{StandInText}
 
 -- the first of these columns is a further one of a tab
 abbrev pub goes_on : List Column → Bool
@@ -85,10 +85,10 @@ pub end-runs : (from : ℕ) (cs : List Column) (to : ℕ) → Runs from cs to �
 end-runs from [] to h = h
 end-runs from (c ∷ cs) to h = end-runs (suc c.at) cs to h.1
 
-pub drop-told : (text : List ℕ) (n : ℕ) (cs : List Column) → AreTold text cs → AreTold text (drop n cs)
-drop-told text zero cs t = t
-drop-told text (suc n) [] t = tt
-drop-told text (suc n) (c ∷ cs) t = drop-told text n cs t.1
+pub drop-in_text : (text : List ℕ) (n : ℕ) (cs : List Column) → StandInText text cs → StandInText text (drop n cs)
+drop-in_text text zero cs t = t
+drop-in_text text (suc n) [] t = tt
+drop-in_text text (suc n) (c ∷ cs) t = drop-in_text text n cs t.1
 
 -- where the place is that the bytes reach
 pub bytes-end : (from : ℕ) (cs : List Column) → Runs from cs (end_place from cs) → end_place from cs ≡ from + length (bytes_of cs)
@@ -100,7 +100,7 @@ bytes-end from (c ∷ cs) h = go (c.part == 0) refl (bytes-end (suc c.at) cs h.1
     go false e ih = let p : suc c.at ≡ from = sym (ap (λ z. if z then c.at else suc c.at) e) ∙ h.0 in omega (arith, ih, p)
 
 -- the bytes of the text stand in these columns
-pub bytes-slice : (text : List ℕ) (from : ℕ) (cs : List Column) (to : ℕ) → Runs from cs to → AreTold text cs → bytes_of cs ≡ slice text from to
+pub bytes-slice : (text : List ℕ) (from : ℕ) (cs : List Column) (to : ℕ) → Runs from cs to → StandInText text cs → bytes_of cs ≡ slice text from to
 bytes-slice text from [] to h t = sym (ap (λ n. take n (drop from text)) (let e : from ≡ to = h in let z : to - from ≡ 0 = omega (arith, e) in z))
 bytes-slice text from (c ∷ cs) to h t = go (c.part == 0) refl (bytes-slice text (suc c.at) cs to h.1 t.1)
   where
@@ -172,8 +172,8 @@ module _ (q : ℕ → Bool) where
       go es false is p e = skip es (q c.byte) p ∙ e
 
 -- the words of a line, whatever text it stands in
-pub words-runs : (rest : LineRest) → Runs (start_of (row_of rest)) (without_indent (row_of rest).columns) (row_of rest).stop
-words-runs rest = (drop-Runs (indent (row_of rest).columns) (begin_of (row_of rest)) (row_of rest).columns (row_of rest).stop (rest-runs rest)).0
+pub words-runs : (rest : LineRest) → Runs (start_of (row_of rest)) (without_indent (row_of rest).columns) (row_of rest).content_end
+words-runs rest = (drop-Runs (indent (row_of rest).columns) (begin_of (row_of rest)) (row_of rest).columns (row_of rest).content_end (rest-runs rest)).0
 
 -- where a line's words end
 pub words-end : (rest : LineRest) (words trimmed : List ℕ) → words ≡ bytes_of (without_indent (row_of rest).columns) → trimmed ≡ drop_end is_blank_byte words →
@@ -181,13 +181,13 @@ pub words-end : (rest : LineRest) (words trimmed : List ℕ) → words ≡ bytes
 words-end rest words trimmed w t =
     let cs = without_indent (row_of rest).columns in
     let cut = blanks-cut cs in
-    let runs = front-runs (start_of (row_of rest)) (drop_end is_blank cs) cut.behind (row_of rest).stop (subst (λ x. Runs (start_of (row_of rest)) x (row_of rest).stop) cut.is (words-runs rest)) in
+    let runs = front-runs (start_of (row_of rest)) (drop_end is_blank cs) cut.behind (row_of rest).content_end (subst (λ x. Runs (start_of (row_of rest)) x (row_of rest).content_end) cut.is (words-runs rest)) in
     ap (λ bs. start_of (row_of rest) + length bs) (t ∙ ap (drop_end is_blank_byte) w ∙ sym (drop_end-bytes is_blank_byte cs (drop-tabbed (indent (row_of rest).columns) (row_of rest).columns (rest-tabbed rest))))
     ∙ sym (bytes-end (start_of (row_of rest)) (drop_end is_blank cs) runs)
 
 -- the words reach to the line's ending
-pub words-stop : (rest : LineRest) (words : List ℕ) → words ≡ bytes_of (without_indent (row_of rest).columns) → start_of (row_of rest) + length words ≡ (row_of rest).stop
-words-stop rest words w =
+pub words-content_end : (rest : LineRest) (words : List ℕ) → words ≡ bytes_of (without_indent (row_of rest).columns) → start_of (row_of rest) + length words ≡ (row_of rest).content_end
+words-content_end rest words w =
     let cs = without_indent (row_of rest).columns in
-    let e : end_place (start_of (row_of rest)) cs ≡ (row_of rest).stop = end-runs (start_of (row_of rest)) cs (row_of rest).stop (words-runs rest) in
+    let e : end_place (start_of (row_of rest)) cs ≡ (row_of rest).content_end = end-runs (start_of (row_of rest)) cs (row_of rest).content_end (words-runs rest) in
     ap (λ bs. start_of (row_of rest) + length bs) w ∙ sym (bytes-end (start_of (row_of rest)) cs (subst (Runs (start_of (row_of rest)) cs) (sym e) (words-runs rest))) ∙ e

@@ -4,9 +4,9 @@ use Rattle.std.specs.Prelude.{if◌then◌else◌, nat_le, nat_lt}
 use Rattle.cmark_grammar.specs.Attributes.{is_white_space, before_braces}
 use Rattle.cmark_grammar.specs.Columns.{Column, drop_end, bytes_of}
 use Rattle.cmark_grammar.specs.Rows.{Row, place, first_place, begin_of}
-use Rattle.cmark_grammar.specs.SetextAttributes.{line_end, is_white, ends_in_braces, before_attributes, attributes_place}
+use Rattle.cmark_grammar.specs.SetextAttributes.{line_end_column, is_white, ends_in_braces, before_attributes, attributes_place}
 use Rattle.cmark_grammar.proofs.RowPlaces.{Runs}
-use Rattle.cmark_lines.proofs.RestSteps.{rest-runs, bytes-stop}
+use Rattle.cmark_lines.proofs.RestSteps.{rest-runs, bytes-content_end}
 use Rattle.cmark_lines.specs.Rests.{row_of}
 use Rattle.cmark_lines.specs.declared.line_rest.LineRest.{LineRest}
 use Rattle.cmark_leaves.specs.Contents.{content_columns, gathered_bytes, place_in}
@@ -61,31 +61,31 @@ place-at [] last left c behind e =
     let r = row_of last in
     let cut = blanks-cut r.columns in
     let is : r.columns ≡ left ++ c ∷ (behind ++ cut.behind) = cut.is ∙ ap (λ l. l ++ cut.behind) e ∙ append_assoc left (c ∷ behind) cut.behind in
-    runs-place (begin_of r) left c (behind ++ cut.behind) r.stop (subst (λ cs. Runs (begin_of r) cs r.stop) is (rest-runs last))
+    runs-place (begin_of r) left c (behind ++ cut.behind) r.content_end (subst (λ cs. Runs (begin_of r) cs r.content_end) is (rest-runs last))
 place-at (rest ∷ lines) last left c behind e =
-    elim (split r.columns (line_end r ∷ content_columns lines last) left behind c (sym (content-behind r (map row_of lines) (row_of last)) ∙ e)) [
+    elim (split r.columns (line_end_column r ∷ content_columns lines last) left behind c (sym (content-behind r (map row_of lines) (row_of last)) ∙ e)) [
       | inl s ↦ (
           let l : length (bytes_of left) ≤ length (bytes_of r.columns) = (let q = ap length (ap bytes_of s.1 ∙ join-bytes left (c ∷ s.0)) in let k = length-append (bytes_of left) (bytes_of (c ∷ s.0)) in omega (arith, q, k)) in
           in-first rest (map row_of lines) (row_of last) (length (bytes_of left)) l
-          ∙ runs-place (begin_of r) left c s.0 r.stop (subst (λ cs. Runs (begin_of r) cs r.stop) s.1 (rest-runs rest)))
+          ∙ runs-place (begin_of r) left c s.0 r.content_end (subst (λ cs. Runs (begin_of r) cs r.content_end) s.1 (rest-runs rest)))
       | inr s ↦ later s.0 s.1 s.2 (λ f more. place-at lines last f c behind more)
     ]
   where
     r : Row
     r = row_of rest
 
-    later : (f : List Column) → left ≡ r.columns ++ f → line_end r ∷ content_columns lines last ≡ f ++ c ∷ behind
+    later : (f : List Column) → left ≡ r.columns ++ f → line_end_column r ∷ content_columns lines last ≡ f ++ c ∷ behind
         → ((g : List Column) → content_columns lines last ≡ g ++ c ∷ behind → place_in (map row_of lines) (row_of last) (length (bytes_of g)) ≡ place c) → place_in (r ∷ map row_of lines) (row_of last) (length (bytes_of left)) ≡ place c
     later [] is at ih =
-        let same : c ≡ line_end r = (let q : line_end r ∷ content_columns lines last ≡ c ∷ behind = at in cc) in
+        let same : c ≡ line_end_column r = (let q : line_end_column r ∷ content_columns lines last ≡ c ∷ behind = at in cc) in
         let n : length (bytes_of left) ≡ length (bytes_of r.columns) = ap (λ l. length (bytes_of l)) (is ∙ append-nil r.columns) in
         in-first rest (map row_of lines) (row_of last) (length (bytes_of left)) (omega (arith, n))
-        ∙ ap (λ k. begin_of r + k) n ∙ bytes-stop rest ∙ ap place (sym same)
+        ∙ ap (λ k. begin_of r + k) n ∙ bytes-content_end rest ∙ ap place (sym same)
     later (x ∷ f) is at ih =
-        let same : x ≡ line_end r = (let q : line_end r ∷ content_columns lines last ≡ x ∷ (f ++ c ∷ behind) = at in cc) in
-        let more : content_columns lines last ≡ f ++ c ∷ behind = (let q : line_end r ∷ content_columns lines last ≡ x ∷ (f ++ c ∷ behind) = at in cc) in
+        let same : x ≡ line_end_column r = (let q : line_end_column r ∷ content_columns lines last ≡ x ∷ (f ++ c ∷ behind) = at in cc) in
+        let more : content_columns lines last ≡ f ++ c ∷ behind = (let q : line_end_column r ∷ content_columns lines last ≡ x ∷ (f ++ c ∷ behind) = at in cc) in
         let n : length (bytes_of left) ≡ length (bytes_of r.columns) + suc (length (bytes_of f)) =
-        ap length (ap bytes_of (is ∙ ap (λ y. r.columns ++ y ∷ f) same) ∙ join-bytes r.columns (line_end r ∷ f)) ∙ length-append (bytes_of r.columns) (10 ∷ bytes_of f) in
+        ap length (ap bytes_of (is ∙ ap (λ y. r.columns ++ y ∷ f) same) ∙ join-bytes r.columns (line_end_column r ∷ f)) ∙ length-append (bytes_of r.columns) (10 ∷ bytes_of f) in
         behind-first rest (map row_of lines) (row_of last) (length (bytes_of left)) (length (bytes_of f)) n ∙ ih f more
 
 drop-front : {A : Type 0} (a b : List A) → drop (length a) (a ++ b) ≡ b
@@ -143,19 +143,19 @@ nothing-behind (suc n) [] l = refl
 nothing-behind (suc n) (x ∷ xs) l = nothing-behind n xs (omega (arith, l))
 
 -- the byte stands in the line at hand
-pub place-first : (before : List LineRest) (last rest : LineRest) (i left len stop : ℕ) → i < length before → rest ≡ get_or before i rest → stop ≡ (row_of rest).stop → len ≡ length (bytes_of (row_of rest).columns) → left ≤ len
-    → (len - left ≤ stop) × (stop - (len - left) ≡ place_in (map row_of (drop i before)) (row_of last) left)
-place-first before last rest i left len stop l e s n le =
-    let b = bytes-stop rest in
+pub place-first : (before : List LineRest) (last rest : LineRest) (i left len content_end : ℕ) → i < length before → rest ≡ get_or before i rest → content_end ≡ (row_of rest).content_end → len ≡ length (bytes_of (row_of rest).columns) → left ≤ len
+    → (len - left ≤ content_end) × (content_end - (len - left) ≡ place_in (map row_of (drop i before)) (row_of last) left)
+place-first before last rest i left len content_end l e s n le =
+    let b = bytes-content_end rest in
     let is : place_in (map row_of (drop i before)) (row_of last) left ≡ begin_of (row_of rest) + left =
     ap (λ xs. place_in (map row_of xs) (row_of last) left) (drop-get before i rest l e) ∙ in-first rest (map row_of (drop (suc i) before)) (row_of last) left (omega (arith, n, le)) in
-    (omega (arith, b, s, n), (let q : stop - (len - left) ≡ begin_of (row_of rest) + left = omega (arith, b, s, n, le) in q ∙ sym is))
+    (omega (arith, b, s, n), (let q : content_end - (len - left) ≡ begin_of (row_of rest) + left = omega (arith, b, s, n, le) in q ∙ sym is))
 
 -- it stands in the last one
-pub place-last : (before : List LineRest) (last : LineRest) (i left len stop : ℕ) → length before ≤ i → stop ≡ (row_of last).stop → len ≡ length (bytes_of (row_of last).columns) → left ≤ length (gathered_bytes (map row_of (drop i before)) (row_of last))
-    → (len - left ≤ stop) × (stop - (len - left) ≡ place_in (map row_of (drop i before)) (row_of last) left)
-place-last before last i left len stop l s n le =
-    let b = bytes-stop last in
+pub place-last : (before : List LineRest) (last : LineRest) (i left len content_end : ℕ) → length before ≤ i → content_end ≡ (row_of last).content_end → len ≡ length (bytes_of (row_of last).columns) → left ≤ length (gathered_bytes (map row_of (drop i before)) (row_of last))
+    → (len - left ≤ content_end) × (content_end - (len - left) ≡ place_in (map row_of (drop i before)) (row_of last) left)
+place-last before last i left len content_end l s n le =
+    let b = bytes-content_end last in
     let none = nothing-behind i before l in
     let within : left ≤ length (bytes_of (row_of last).columns) = subst (λ xs. left ≤ length (gathered_bytes (map row_of xs) (row_of last))) none le in
-    (omega (arith, b, s, n), (let q : stop - (len - left) ≡ begin_of (row_of last) + left = omega (arith, b, s, n, within) in q ∙ sym (ap (λ xs. place_in (map row_of xs) (row_of last) left) none)))
+    (omega (arith, b, s, n), (let q : content_end - (len - left) ≡ begin_of (row_of last) + left = omega (arith, b, s, n, within) in q ∙ sym (ap (λ xs. place_in (map row_of xs) (row_of last) left) none)))

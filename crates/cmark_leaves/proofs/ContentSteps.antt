@@ -4,7 +4,7 @@ use Rattle.std.specs.Prelude.{if◌then◌else◌, nat_lt}
 use Rattle.cmark_grammar.specs.Attributes.{is_brace, closes, before_braces, without_last, inside_braces}
 use Rattle.cmark_grammar.specs.Columns.{Column, is_blank_byte, drop_end, put_before, none_or_last, bytes_of}
 use Rattle.cmark_grammar.specs.Rows.{Row}
-use Rattle.cmark_grammar.specs.SetextAttributes.{line_end, content_of, ends_in_braces}
+use Rattle.cmark_grammar.specs.SetextAttributes.{line_end_column, content_of, ends_in_braces}
 use Rattle.cmark_lines.specs.Rests.{row_of}
 use Rattle.cmark_lines.specs.declared.line_rest.LineRest.{LineRest}
 use Rattle.cmark_leaves.specs.Contents.{content_columns, gathered_bytes}
@@ -204,7 +204,7 @@ join-bytes (c ∷ a) b = go (c.part == 0) (join-bytes a b)
     go true ih = ap (λ l. c.byte ∷ l) ih
     go false ih = ih
 
-pub content-behind : (r : Row) (rs : List Row) (last : Row) → content_of (r ∷ (rs ++ last ∷ [])) ≡ r.columns ++ line_end r ∷ content_of (rs ++ last ∷ [])
+pub content-behind : (r : Row) (rs : List Row) (last : Row) → content_of (r ∷ (rs ++ last ∷ [])) ≡ r.columns ++ line_end_column r ∷ content_of (rs ++ last ∷ [])
 content-behind r [] last = refl
 content-behind r (s ∷ rs) last = refl
 
@@ -215,19 +215,19 @@ content-tabs [] last =
     front-tabs (drop_end (λ c. is_blank_byte c.byte) cs) cut.behind (subst AreTabs cut.is (tabbed-tabs cs (rest-tabbed last)))
 content-tabs (rest ∷ lines) last =
     subst AreTabs (sym (content-behind (row_of rest) (map row_of lines) (row_of last)))
-    (join-tabs (row_of rest).columns (line_end (row_of rest) ∷ content_columns lines last) (tabbed-tabs (row_of rest).columns (rest-tabbed rest)) ((λ e. absurd (true≢false e)), content-tabs lines last))
+    (join-tabs (row_of rest).columns (line_end_column (row_of rest) ∷ content_columns lines last) (tabbed-tabs (row_of rest).columns (rest-tabbed rest)) ((λ e. absurd (true≢false e)), content-tabs lines last))
 
 pub content-whole : (before : List LineRest) (last : LineRest) → ends_whole (content_columns before last) ≡ true
 content-whole [] last = drop_end-whole is_blank_byte (row_of last).columns refl (tabbed-tabs (row_of last).columns (rest-tabbed last))
 content-whole (rest ∷ lines) last =
     ap ends_whole (content-behind (row_of rest) (map row_of lines) (row_of last))
-    ∙ whole-behind (row_of rest).columns (line_end (row_of rest)) (content_columns lines last) refl (content-whole lines last)
+    ∙ whole-behind (row_of rest).columns (line_end_column (row_of rest)) (content_columns lines last) refl (content-whole lines last)
 
 -- the content's bytes are those that were gathered, without the blanks at their end
 pub content-bytes : (before : List LineRest) (last : LineRest) → bytes_of (content_columns before last) ≡ drop_end is_blank_byte (gathered_bytes (map row_of before) (row_of last))
 content-bytes [] last = drop_end-bytes is_blank_byte (row_of last).columns (rest-tabbed last)
 content-bytes (rest ∷ lines) last =
     ap bytes_of (content-behind (row_of rest) (map row_of lines) (row_of last))
-    ∙ join-bytes (row_of rest).columns (line_end (row_of rest) ∷ content_columns lines last)
+    ∙ join-bytes (row_of rest).columns (line_end_column (row_of rest) ∷ content_columns lines last)
     ∙ ap (λ l. bytes_of (row_of rest).columns ++ 10 ∷ l) (content-bytes lines last)
     ∙ sym (end-behind is_blank_byte (bytes_of (row_of rest).columns) 10 (gathered_bytes (map row_of lines) (row_of last)) refl)

@@ -12,10 +12,10 @@ use Rattle.cmark_lines.specs.Rests.{row_of}
 use Rattle.cmark_lines.specs.declared.line_rest.LineRest.{LineRest}
 use Rattle.std.specs.Str.{IsUtf8}
 use Rattle.cmark_grammar.specs.Attributes.{before_braces, inside_braces}
-use Rattle.cmark_leaves.specs.TextColumns.{AreTold}
+use Rattle.cmark_leaves.specs.TextColumns.{StandInText}
 use Rattle.cmark_leaves.specs.Closings.{behind_opening, without_closing_bytes, without_attributes_bytes, StandsAt, attribute_bytes}
 use Rattle.cmark_leaves.proofs.BraceSteps.{attributes-cut, attributes-bytes, inside-bytes, stands-in}
-use Rattle.cmark_leaves.proofs.ColumnCuts.{goes_on, AreTabbed, Cut, drop-tabbed, front-tabbed, front-runs, end-runs, drop_end-cut, drop_end-bytes, blanks-cut, words-runs, rest-tabbed, bytes-end, bytes-slice, drop-told}
+use Rattle.cmark_leaves.proofs.ColumnCuts.{goes_on, AreTabbed, Cut, drop-tabbed, front-tabbed, front-runs, end-runs, drop_end-cut, drop_end-bytes, blanks-cut, words-runs, rest-tabbed, bytes-end, bytes-slice, drop-in_text}
 
 nine : (b : ℕ) → (b == 35) ≡ true → b ≢ 9
 nine b e z = absurd (true≢false (sym e ∙ ap (λ x. x == 35) z))
@@ -189,16 +189,16 @@ abbrev pub behind_columns : Row → List Column
 behind_columns r = without_indent (drop (run 35 (words_of r)) (without_indent r.columns))
 
 abbrev pub heading_place : Row → ℕ
-heading_place r = first_place r.stop (behind_columns r)
+heading_place r = first_place r.content_end (behind_columns r)
 
 -- so many columns at the line's end have so many bytes
-pub behind-stop : (rest : LineRest) → heading_place (row_of rest) + length (bytes_of (behind_columns (row_of rest))) ≡ (row_of rest).stop
-behind-stop rest =
+pub behind-content_end : (rest : LineRest) → heading_place (row_of rest) + length (bytes_of (behind_columns (row_of rest))) ≡ (row_of rest).content_end
+behind-content_end rest =
     let r = row_of rest in
-    let d = drop-Runs (run 35 (words_of r)) (start_of r) (without_indent r.columns) r.stop (words-runs rest) in
+    let d = drop-Runs (run 35 (words_of r)) (start_of r) (without_indent r.columns) r.content_end (words-runs rest) in
     let cs = drop (run 35 (words_of r)) (without_indent r.columns) in
-    let e = drop-Runs (indent cs) (first_place r.stop cs) cs r.stop d.0 in
-    let z : end_place (heading_place r) (behind_columns r) ≡ r.stop = end-runs (heading_place r) (behind_columns r) r.stop e.0 in
+    let e = drop-Runs (indent cs) (first_place r.content_end cs) cs r.content_end d.0 in
+    let z : end_place (heading_place r) (behind_columns r) ≡ r.content_end = end-runs (heading_place r) (behind_columns r) r.content_end e.0 in
     sym (bytes-end (heading_place r) (behind_columns r) (subst (Runs (heading_place r) (behind_columns r)) (sym z) e.0)) ∙ z
 
 -- the bytes there
@@ -247,39 +247,39 @@ heading-bytes attributes rest =
 pub words-bytes : (rest : LineRest) → attribute_bytes (row_of rest) ≡ inside_braces (λ b. b) (drop_end is_blank_byte (behind_opening (words_of (row_of rest))))
 words-bytes rest = inside-bytes (without_trailing_blanks (behind_columns (row_of rest))) (content-tabbed rest) ∙ ap (inside_braces (λ b. b)) (content-bytes rest)
 
-behind-runs : (rest : LineRest) → Runs (heading_place (row_of rest)) (behind_columns (row_of rest)) (row_of rest).stop
+behind-runs : (rest : LineRest) → Runs (heading_place (row_of rest)) (behind_columns (row_of rest)) (row_of rest).content_end
 behind-runs rest =
     let r = row_of rest in
     let cs = drop (run 35 (words_of r)) (without_indent r.columns) in
-    let d = drop-Runs (run 35 (words_of r)) (start_of r) (without_indent r.columns) r.stop (words-runs rest) in
-    (drop-Runs (indent cs) (first_place r.stop cs) cs r.stop d.0).0
+    let d = drop-Runs (run 35 (words_of r)) (start_of r) (without_indent r.columns) r.content_end (words-runs rest) in
+    (drop-Runs (indent cs) (first_place r.content_end cs) cs r.content_end d.0).0
 
 heading-runs : (attributes : Bool) (rest : LineRest) →
     let cs = heading_columns attributes (run 35 (words_of (row_of rest))) (row_of rest) in Runs (heading_place (row_of rest)) cs (end_place (heading_place (row_of rest)) cs)
 heading-runs attributes rest =
     let r = row_of rest in
     let cut = cut-cut (text-cut attributes rest) (closing-cut (without_attributes attributes (without_trailing_blanks (behind_columns r)))) in
-    front-runs (heading_place r) (heading_columns attributes (run 35 (words_of r)) r) cut.behind r.stop (subst (λ x. Runs (heading_place r) x r.stop) cut.is (behind-runs rest))
+    front-runs (heading_place r) (heading_columns attributes (run 35 (words_of r)) r) cut.behind r.content_end (subst (λ x. Runs (heading_place r) x r.content_end) cut.is (behind-runs rest))
 
 -- the words between the braces stand in the text
-pub words-stand : (rest : LineRest) (from before size stop : ℕ) →
+pub words-stand : (rest : LineRest) (from before size content_end : ℕ) →
     let content = drop_end is_blank_byte (behind_opening (words_of (row_of rest))) in
     from ≡ heading_place (row_of rest) → before ≡ length (before_braces (λ b. b) content) → size ≡ length content → (before ≡ size → ⊥) →
-    (text : List ℕ) → IsUtf8 text → AreTold text (row_of rest).columns → StandsAt text (from + before + 1) (from + size - 1) (attribute_bytes (row_of rest))
-words-stand rest from before size stop f b s some text utf8 told =
+    (text : List ℕ) → IsUtf8 text → StandInText text (row_of rest).columns → StandsAt text (from + before + 1) (from + size - 1) (attribute_bytes (row_of rest))
+words-stand rest from before size content_end f b s some text utf8 in_text =
     let r = row_of rest in
     let level = run 35 (words_of r) in
     let bs = behind_opening (words_of r) in
-    let t = drop-told text (indent (drop level (without_indent r.columns))) (drop level (without_indent r.columns)) (drop-told text level (without_indent r.columns) (drop-told text (indent r.columns) r.columns told)) in
-    let slice_is : bs ≡ slice text (heading_place r) r.stop = sym (behind-bytes rest).0 ∙ bytes-slice text (heading_place r) (behind_columns r) r.stop (behind-runs rest) t in
+    let t = drop-in_text text (indent (drop level (without_indent r.columns))) (drop level (without_indent r.columns)) (drop-in_text text level (without_indent r.columns) (drop-in_text text (indent r.columns) r.columns in_text)) in
+    let slice_is : bs ≡ slice text (heading_place r) r.content_end = sym (behind-bytes rest).0 ∙ bytes-slice text (heading_place r) (behind_columns r) r.content_end (behind-runs rest) t in
     subst (λ at. StandsAt text (at + before + 1) (at + size - 1) (attribute_bytes r)) (sym f)
     (subst (λ ws. StandsAt text (heading_place r + before + 1) (heading_place r + size - 1) ws) (sym (words-bytes rest))
-    (stands-in text (heading_place r) r.stop bs before size utf8 slice_is b s some))
+    (stands-in text (heading_place r) r.content_end bs before size utf8 slice_is b s some))
 
 -- where a heading's text begins and ends, by the lengths of bytes
-pub heading-from : (rest : LineRest) (stop size : ℕ) → stop ≡ (row_of rest).stop → size ≡ length (behind_opening (words_of (row_of rest))) → (size ≤ stop) × (stop - size ≡ heading_place (row_of rest))
-heading-from rest stop size e f =
-    let s = behind-stop rest in
+pub heading-from : (rest : LineRest) (content_end size : ℕ) → content_end ≡ (row_of rest).content_end → size ≡ length (behind_opening (words_of (row_of rest))) → (size ≤ content_end) × (content_end - size ≡ heading_place (row_of rest))
+heading-from rest content_end size e f =
+    let s = behind-content_end rest in
     let l : length (bytes_of (behind_columns (row_of rest))) ≡ length (behind_opening (words_of (row_of rest))) = ap length (behind-bytes rest).0 in
     (omega (arith, s, l, e, f), omega (arith, s, l, e, f))
 

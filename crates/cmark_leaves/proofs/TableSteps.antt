@@ -9,7 +9,7 @@ use Rattle.cmark_scan.specs.TableCells.{cells_behind}
 use Rattle.cmark_lines.specs.Rests.{row_of}
 use Rattle.cmark_lines.specs.declared.line_rest.LineRest.{LineRest}
 use Rattle.cmark_block_model.specs.Drawing.{Drawing, drawn}
-use Rattle.cmark_leaves.proofs.ColumnCuts.{words-stop}
+use Rattle.cmark_leaves.proofs.ColumnCuts.{words-content_end}
 use Rattle.cmark_leaves.proofs.DrawSteps.{drawn-join}
 
 -- one node in front of others
@@ -18,55 +18,55 @@ drawn-node n inside after d = drawn-join (Node n inside Nil) after d
 
 module _ (text : List ℕ) where
   -- where no cell is left, it does not matter where the next one would begin
-  filled : (columns at other past : ℕ) → cells_then text columns at past [] ≡ cells_then text columns other past []
-  filled zero at other past = refl
-  filled (suc columns) at other past = ap (Node (node TableCell past past) Nil) (filled columns at other past)
+  filled : (columns at other line_end : ℕ) → cells_then text columns at line_end [] ≡ cells_then text columns other line_end []
+  filled zero at other line_end = refl
+  filled (suc columns) at other line_end = ap (Node (node TableCell line_end line_end) Nil) (filled columns at other line_end)
 
-  behind-cell : (columns at stop past : ℕ) (behind : List ℕ) → (behind ≡ []) ⊎ (at ≡ stop - length behind) →
-      cells_then text columns at past (cells_behind behind) ≡ cells_then text columns (stop - length behind) past (cells_behind behind)
-  behind-cell columns at stop past behind (inl none) =
-      subst (λ (bs : List ℕ). cells_then text columns at past (cells_behind bs) ≡ cells_then text columns (stop - length bs) past (cells_behind bs)) (sym none) (filled columns at (stop - 0) past)
-  behind-cell columns at stop past behind (inr same) = ap (λ n. cells_then text columns n past (cells_behind behind)) same
+  behind-cell : (columns at content_end line_end : ℕ) (behind : List ℕ) → (behind ≡ []) ⊎ (at ≡ content_end - length behind) →
+      cells_then text columns at line_end (cells_behind behind) ≡ cells_then text columns (content_end - length behind) line_end (cells_behind behind)
+  behind-cell columns at content_end line_end behind (inl none) =
+      subst (λ (bs : List ℕ). cells_then text columns at line_end (cells_behind bs) ≡ cells_then text columns (content_end - length bs) line_end (cells_behind bs)) (sym none) (filled columns at (content_end - 0) line_end)
+  behind-cell columns at content_end line_end behind (inr same) = ap (λ n. cells_then text columns n line_end (cells_behind behind)) same
 
   -- the first cell of a row that goes on with these bytes up to a place, in front of the others
-  pub cells-next : (cells behind cell : List ℕ) (size columns stop past : ℕ) → cells_behind cells ≡ take size cells ∷ cells_behind behind → cell ≡ take size cells → length cell ≡ size → length cells ≤ stop →
+  pub cells-next : (cells behind cell : List ℕ) (size columns content_end line_end : ℕ) → cells_behind cells ≡ take size cells ∷ cells_behind behind → cell ≡ take size cells → length cell ≡ size → length cells ≤ content_end →
       (behind ≡ []) ⊎ (length behind + suc size ≡ length cells) → (d : Drawing) →
-      let at = stop - length cells in
-      drawn (cells_then text (suc columns) at past (cells_behind cells)) d
-      ≡ drawn (cells_then text columns (stop - length behind) past (cells_behind behind)) (drawn (Node (node TableCell at (at + length cell)) (cell_tokens text at cell) Nil) d)
-  cells-next cells behind cell size columns stop past is same long within cut d =
-      let at = stop - length cells in
-      ap (λ cs. drawn (cells_then text (suc columns) at past cs) d) (is ∙ ap (λ c. c ∷ cells_behind behind) (sym same))
+      let at = content_end - length cells in
+      drawn (cells_then text (suc columns) at line_end (cells_behind cells)) d
+      ≡ drawn (cells_then text columns (content_end - length behind) line_end (cells_behind behind)) (drawn (Node (node TableCell at (at + length cell)) (cell_tokens text at cell) Nil) d)
+  cells-next cells behind cell size columns content_end line_end is same long within cut d =
+      let at = content_end - length cells in
+      ap (λ cs. drawn (cells_then text (suc columns) at line_end cs) d) (is ∙ ap (λ c. c ∷ cells_behind behind) (sym same))
       ∙ ap (λ more. drawn (Node (node TableCell at (at + length cell)) (cell_tokens text at cell) more) d)
-      (behind-cell columns (suc (at + length cell)) stop past behind (places cut))
-      ∙ drawn-node (node TableCell at (at + length cell)) (cell_tokens text at cell) (cells_then text columns (stop - length behind) past (cells_behind behind)) d
+      (behind-cell columns (suc (at + length cell)) content_end line_end behind (places cut))
+      ∙ drawn-node (node TableCell at (at + length cell)) (cell_tokens text at cell) (cells_then text columns (content_end - length behind) line_end (cells_behind behind)) d
     where
-      places : (behind ≡ []) ⊎ (length behind + suc size ≡ length cells) → (behind ≡ []) ⊎ (suc (stop - length cells + length cell) ≡ stop - length behind)
+      places : (behind ≡ []) ⊎ (length behind + suc size ≡ length cells) → (behind ≡ []) ⊎ (suc (content_end - length cells + length cell) ≡ content_end - length behind)
       places (inl none) = inl none
       places (inr e) = inr (omega (arith, e, long, within))
 
   -- where none is left, one is filled in
-  pub cells-missing : (cells : List ℕ) (columns at past : ℕ) → cells_behind cells ≡ [] → (d : Drawing) →
-      drawn (cells_then text (suc columns) at past (cells_behind cells)) d
-      ≡ drawn (cells_then text columns at past (cells_behind cells)) (drawn (Node (node TableCell past past) Nil Nil) d)
-  cells-missing cells columns at past none d =
-      ap (λ cs. drawn (cells_then text (suc columns) at past cs) d) none
-      ∙ drawn-node (node TableCell past past) Nil (cells_then text columns at past []) d
-      ∙ ap (λ cs. drawn (cells_then text columns at past cs) (drawn (Node (node TableCell past past) Nil Nil) d)) (sym none)
+  pub cells-missing : (cells : List ℕ) (columns at line_end : ℕ) → cells_behind cells ≡ [] → (d : Drawing) →
+      drawn (cells_then text (suc columns) at line_end (cells_behind cells)) d
+      ≡ drawn (cells_then text columns at line_end (cells_behind cells)) (drawn (Node (node TableCell line_end line_end) Nil Nil) d)
+  cells-missing cells columns at line_end none d =
+      ap (λ cs. drawn (cells_then text (suc columns) at line_end cs) d) none
+      ∙ drawn-node (node TableCell line_end line_end) Nil (cells_then text columns at line_end []) d
+      ∙ ap (λ cs. drawn (cells_then text columns at line_end cs) (drawn (Node (node TableCell line_end line_end) Nil Nil) d)) (sym none)
 
 -- where the first cell of a line begins
-pub cells-begin : (rest : LineRest) (words cells : List ℕ) (stop : ℕ) → words ≡ words_of (row_of rest) → cells ≡ without_first_pipe words → length cells ≤ length words → stop ≡ (row_of rest).stop →
-    (length cells ≤ stop) × (cells_start (row_of rest) ≡ stop - length cells)
-cells-begin rest words cells stop is cut fewer place =
-    let end : start_of (row_of rest) + length words ≡ (row_of rest).stop = words-stop rest words is in
+pub cells-begin : (rest : LineRest) (words cells : List ℕ) (content_end : ℕ) → words ≡ words_of (row_of rest) → cells ≡ without_first_pipe words → length cells ≤ length words → content_end ≡ (row_of rest).content_end →
+    (length cells ≤ content_end) × (cells_start (row_of rest) ≡ content_end - length cells)
+cells-begin rest words cells content_end is cut fewer place =
+    let end : start_of (row_of rest) + length words ≡ (row_of rest).content_end = words-content_end rest words is in
     let all : length (words_of (row_of rest)) ≡ length words = ap length (sym is) in
     let behind : length (without_first_pipe (words_of (row_of rest))) ≡ length cells = ap (λ ws. length (without_first_pipe ws)) (sym is) ∙ ap length (sym cut) in
     (omega (arith, end, fewer, place), omega (arith, end, fewer, place, all, behind))
 
 -- the cells of a line begin there
-pub cells-of-line : (text : List ℕ) (columns : ℕ) (r : Row) (cells : List ℕ) (stop past : ℕ) → cells_behind cells ≡ cells_of (words_of r) → cells_start r ≡ stop - length cells → past ≡ r.past →
-    row_cells text columns r ≡ cells_then text columns (stop - length cells) past (cells_behind cells)
-cells-of-line text columns r cells stop past is begins ends =
-    ap (λ at. cells_then text columns at r.past (cells_of (words_of r))) begins
-    ∙ ap (λ end. cells_then text columns (stop - length cells) end (cells_of (words_of r))) (sym ends)
-    ∙ ap (cells_then text columns (stop - length cells) past) (sym is)
+pub cells-of-line : (text : List ℕ) (columns : ℕ) (r : Row) (cells : List ℕ) (content_end line_end : ℕ) → cells_behind cells ≡ cells_of (words_of r) → cells_start r ≡ content_end - length cells → line_end ≡ r.line_end →
+    row_cells text columns r ≡ cells_then text columns (content_end - length cells) line_end (cells_behind cells)
+cells-of-line text columns r cells content_end line_end is begins ends =
+    ap (λ at. cells_then text columns at r.line_end (cells_of (words_of r))) begins
+    ∙ ap (λ end. cells_then text columns (content_end - length cells) end (cells_of (words_of r))) (sym ends)
+    ∙ ap (cells_then text columns (content_end - length cells) line_end) (sym is)

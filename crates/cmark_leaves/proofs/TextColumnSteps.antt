@@ -7,17 +7,17 @@ use Rattle.cmark_grammar.specs.Lines.{lines, content}
 use Rattle.cmark_grammar.specs.Rows.{Row, row_at, without}
 use Rattle.cmark_grammar.proofs.BoundaryLaws.{joined, lines-ended, content-cut}
 use Rattle.cmark_grammar.proofs.RowPlaces.{kept-behind}
-use Rattle.cmark_leaves.specs.TextColumns.{AreTold}
-use Rattle.cmark_leaves.proofs.ColumnCuts.{drop-told}
+use Rattle.cmark_leaves.specs.TextColumns.{StandInText}
+use Rattle.cmark_leaves.proofs.ColumnCuts.{drop-in_text}
 
-tab-told : (text : List ℕ) (at part n : ℕ) (rest : List Column) → drop at text ≡ tab ∷ drop (suc at) text → AreTold text rest → AreTold text (tab_columns at part n ++ rest)
-tab-told text at part zero rest e t = t
-tab-told text at part (suc n) rest e t = ((λ q. e), tab-told text at (suc part) n rest e t)
+tab-in_text : (text : List ℕ) (at part n : ℕ) (rest : List Column) → drop at text ≡ tab ∷ drop (suc at) text → StandInText text rest → StandInText text (tab_columns at part n ++ rest)
+tab-in_text text at part zero rest e t = t
+tab-in_text text at part (suc n) rest e t = ((λ q. e), tab-in_text text at (suc part) n rest e t)
 
-pub expand-told : (text : List ℕ) (column at : ℕ) (bs after : List ℕ) → drop at text ≡ bs ++ after → AreTold text (expand column at bs)
-expand-told text column at [] after e = tt
-expand-told text column at (b ∷ bs) after e =
-    go (b == tab) refl (expand-told text (column + to_tab_stop column) (suc at) bs after next) (expand-told text (suc column) (suc at) bs after next)
+pub expand-in_text : (text : List ℕ) (column at : ℕ) (bs after : List ℕ) → drop at text ≡ bs ++ after → StandInText text (expand column at bs)
+expand-in_text text column at [] after e = tt
+expand-in_text text column at (b ∷ bs) after e =
+    go (b == tab) refl (expand-in_text text (column + to_tab_stop column) (suc at) bs after next) (expand-in_text text (suc column) (suc at) bs after next)
   where
     next : drop (suc at) text ≡ bs ++ after
     next = ap (λ n. drop n text) (let s : suc at ≡ at + 1 = omega arith in s) ∙ sym (drop-drop 1 at text) ∙ ap (drop 1) e
@@ -28,38 +28,38 @@ expand-told text column at (b ∷ bs) after e =
     same : (a b : ℕ) → (a == b) ≡ true → a ≡ b
     same a b e = grind (arith)
 
-    go : (z : Bool) → (b == tab) ≡ z → AreTold text (expand (column + to_tab_stop column) (suc at) bs) → AreTold text (expand (suc column) (suc at) bs) →
-        AreTold text (if z then tab_columns at 0 (to_tab_stop column) ++ expand (column + to_tab_stop column) (suc at) bs else record { byte = b; at = at; part = 0 } ∷ expand (suc column) (suc at) bs)
-    go true q p r = tab-told text at 0 (to_tab_stop column) (expand (column + to_tab_stop column) (suc at) bs) (is ∙ ap (λ c. c ∷ drop (suc at) text) (same b tab q)) p
+    go : (z : Bool) → (b == tab) ≡ z → StandInText text (expand (column + to_tab_stop column) (suc at) bs) → StandInText text (expand (suc column) (suc at) bs) →
+        StandInText text (if z then tab_columns at 0 (to_tab_stop column) ++ expand (column + to_tab_stop column) (suc at) bs else record { byte = b; at = at; part = 0 } ∷ expand (suc column) (suc at) bs)
+    go true q p r = tab-in_text text at 0 (to_tab_stop column) (expand (column + to_tab_stop column) (suc at) bs) (is ∙ ap (λ c. c ∷ drop (suc at) text) (same b tab q)) p
     go false q p r = ((λ x. is), r)
 
 -- a whole line
-pub row-told : (text : List ℕ) (at : ℕ) (line : List ℕ) (more : List (List ℕ)) → lines (drop at text) ≡ line ∷ more → AreTold text (row_at at line).columns
-row-told text at line more is =
-    expand-told text 0 at (content line) (drop (length (content line)) line ++ joined more)
+pub row-in_text : (text : List ℕ) (at : ℕ) (line : List ℕ) (more : List (List ℕ)) → lines (drop at text) ≡ line ∷ more → StandInText text (row_at at line).columns
+row-in_text text at line more is =
+    expand-in_text text 0 at (content line) (drop (length (content line)) line ++ joined more)
     (sym (lines-ended (drop at text)).1 ∙ ap joined is ∙ ap (λ l. l ++ joined more) (sym (content-cut line)) ∙ append_assoc (content line) (drop (length (content line)) line) (joined more))
 
 -- without columns in front
-pub without-told : (text : List ℕ) (n : ℕ) (r : Row) → AreTold text r.columns → AreTold text (without n r).columns
-without-told text n r t = drop-told text n r.columns t
+pub without-in_text : (text : List ℕ) (n : ℕ) (r : Row) → StandInText text r.columns → StandInText text (without n r).columns
+without-in_text text n r t = drop-in_text text n r.columns t
 
 -- behind the prefix of a container that keeps the line, or that begins on it
-pub keeps-told : (text : List ℕ) (k : Container) (bare : Bool) (r s : Row) → keeps k bare r ≡ Some s → AreTold text r.columns → AreTold text s.columns
-keeps-told text k bare r s is t =
+pub keeps-in_text : (text : List ℕ) (k : Container) (bare : Bool) (r s : Row) → keeps k bare r ≡ Some s → StandInText text r.columns → StandInText text s.columns
+keeps-in_text text k bare r s is t =
     let w = kept-behind k bare r s is in
-    subst (λ x. AreTold text x.columns) w.1.1 (drop-told text w.0 r.columns t)
+    subst (λ x. StandInText text x.columns) w.1.1 (drop-in_text text w.0 r.columns t)
 
-pub enter-told : (text : List ℕ) (k : Container) (r : Row) → AreTold text r.columns → AreTold text (enter k r).columns
+pub enter-in_text : (text : List ℕ) (k : Container) (r : Row) → StandInText text r.columns → StandInText text (enter k r).columns
 unfolding enter
-enter-told text k r t = drop-told text (width_of k r) r.columns t
+enter-in_text text k r t = drop-in_text text (width_of k r) r.columns t
 
 -- the line that begins at a place of the text
-pub line-told : (text : List ℕ) (at : ℕ) (r : Row) → at ≤ length text → ((line : List ℕ) (more : List (List ℕ)) → lines (drop at text) ≡ line ∷ more → r ≡ row_at at line) → (at ≡ length text → r.columns ≡ []) → AreTold text r.columns
-line-told text at r le line none = go (lines (drop at text)) refl
+pub line-in_text : (text : List ℕ) (at : ℕ) (r : Row) → at ≤ length text → ((line : List ℕ) (more : List (List ℕ)) → lines (drop at text) ≡ line ∷ more → r ≡ row_at at line) → (at ≡ length text → r.columns ≡ []) → StandInText text r.columns
+line-in_text text at r le line none = go (lines (drop at text)) refl
   where
-    go : (ls : List (List ℕ)) → lines (drop at text) ≡ ls → AreTold text r.columns
+    go : (ls : List (List ℕ)) → lines (drop at text) ≡ ls → StandInText text r.columns
     go [] e =
         let bare : drop at text ≡ [] = sym (lines-ended (drop at text)).1 ∙ ap joined e in
         let len : length text - at ≡ 0 = sym (length-drop at text) ∙ ap length bare in
-        subst (AreTold text) (sym (none (omega (arith, le, len)))) tt
-    go (l ∷ ls) e = subst (λ x. AreTold text x.columns) (sym (line l ls e)) (row-told text at l ls e)
+        subst (StandInText text) (sym (none (omega (arith, le, len)))) tt
+    go (l ∷ ls) e = subst (λ x. StandInText text x.columns) (sym (line l ls e)) (row-in_text text at l ls e)

@@ -8,7 +8,7 @@ use Rattle.cmark_grammar.specs.Rows.{Row, words_of}
 use Rattle.cmark_grammar.specs.Tokens.{attribute_columns, content_columns}
 use Rattle.cmark_lines.specs.Rests.{row_of, IsIn}
 use Rattle.cmark_lines.specs.declared.line_rest.LineRest.{LineRest}
-use Rattle.cmark_leaves.specs.TextColumns.{AreTold}
+use Rattle.cmark_leaves.specs.TextColumns.{StandInText}
 
 -- what stands behind the `#` in front and the blanks there
 abbrev pub behind_opening : List ℕ → List ℕ
@@ -40,4 +40,4 @@ attribute_bytes r = bytes_of (attribute_columns true (content_columns (run 35 (w
 abbrev pub Finds : LineRest → Option (ℕ × ℕ) → Type 0
 Finds rest None = attribute_bytes (row_of rest) ≡ []
 Finds rest (Some found) =
-    (text : List ℕ) → IsUtf8 text → IsIn text rest → AreTold text (row_of rest).columns → StandsAt text found.0 found.1 (attribute_bytes (row_of rest))
+    (text : List ℕ) → IsUtf8 text → IsIn text rest → StandInText text (row_of rest).columns → StandsAt text found.0 found.1 (attribute_bytes (row_of rest))

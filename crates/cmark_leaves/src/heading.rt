@@ -100,7 +100,7 @@ pub fn find_attributes(rest: LineRest<'_>) -> Option<(usize, usize)>
     if before == content.len() {
         return None;
     }
-    let from = rest.stop() - behind.len();
+    let from = rest.content_end() - behind.len();
     Some((from + before + 1, from + content.len() - 1))
 }
 
@@ -120,6 +120,6 @@ pub fn draw_heading(
     let behind = behind_opening(rest.words());
     let text = without_attributes(without_trailing_blanks(behind), attributes);
     let content = without_closing(text);
-    let from = rest.stop() - behind.len();
+    let from = rest.content_end() - behind.len();
     draw_words(builder, from, from + content.len())
 }

@@ -22,7 +22,7 @@ fn words_end(rest: LineRest<'_>) -> usize
     ensures { result ≡ words_end (row_of rest.entry) }
 {
     let words = rest.words();
-    rest.stop() - (words.len() - without_trailing_blanks(words).len())
+    rest.content_end() - (words.len() - without_trailing_blanks(words).len())
 }
 
 /// The last lines of a paragraph that touch, from this byte offset to the end of the last one's words: as they are, as a node behind
@@ -53,10 +53,10 @@ pub fn draw_lines(
     requires { IsPlaced builder.old.tree }
     ensures placed { IsPlaced builder.new.tree }
     ensures drawn { OnOk result ((text : List ℕ) (d : Drawing) → Draws text builder.old d
-        → Draws text builder.new (drawn (stretch_then text from (row_of last.entry).past Nil) d)) }
+        → Draws text builder.new (drawn (stretch_then text from (row_of last.entry).line_end Nil) d)) }
     ensures definitions { defined (tables builder.new.allocations) ≡ defined (tables builder.old.allocations) }
 {
-    draw_words(builder, from, last.past())
+    draw_words(builder, from, last.line_end())
 }
 
 /// The texts inside the open node, as far as they stand before this byte offset, which is the end of the last one that is left. It takes

@@ -26,7 +26,7 @@ fn bytes_in<'a>(text: &'a str, rest: LineRest<'_>) -> &'a str
     requires { IsRead text.now rest }
     ensures { result.now ≡ bytes_of (row_of rest.entry).columns }
 {
-    &text[rest.begin()..rest.stop()]
+    &text[rest.begin()..rest.content_end()]
 }
 
 /// The bytes of these lines behind their prefixes, with a line feed for each line ending, in this memory.
@@ -57,11 +57,11 @@ fn place_of(before: &[LineRest<'_>], last: LineRest<'_>, size: usize) -> usize
     for rest in before {
         let len = rest.bytes().len();
         if left <= len {
-            return rest.stop() - (len - left);
+            return rest.content_end() - (len - left);
         }
         left = left - len - 1;
     }
-    last.stop() - (last.bytes().len() - left)
+    last.content_end() - (last.bytes().len() - left)
 }
 
 /// The attributes of a setext heading with these lines; none, where no braces stand at its end. All lines are read, in this memory.

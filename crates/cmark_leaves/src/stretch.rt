@@ -31,19 +31,25 @@ pub(crate) fn stretches_of(rest: LineRest<'_>) -> (Stretch, Stretch)
     ensures { (text : List ℕ) → piece_if text result.0.start result.0.end (piece_if text result.1.start result.1.end [])
         ≡ plain_line text (begin_of (row_of rest.entry)) (row_of rest.entry) }
 {
-    let (start, stop, past) = (rest.begin(), rest.stop(), rest.past());
-    if past - stop == 2 {
-        let content = Stretch { start, end: stop };
+    let (start, content_end, line_end) = (rest.begin(), rest.content_end(), rest.line_end());
+    if line_end - content_end == 2 {
+        let content = Stretch {
+            start,
+            end: content_end,
+        };
         let line_feed = Stretch {
-            start: stop + 1,
-            end: past,
+            start: content_end + 1,
+            end: line_end,
         };
         return (content, line_feed);
     }
-    let line = Stretch { start, end: past };
+    let line = Stretch {
+        start,
+        end: line_end,
+    };
     let none = Stretch {
-        start: past,
-        end: past,
+        start: line_end,
+        end: line_end,
     };
     (line, none)
 }

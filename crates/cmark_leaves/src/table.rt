@@ -38,31 +38,32 @@ fn draw_cell(builder: &mut Builder<'_>, at: usize, cell: &[u8]) -> Result<(), Al
     Ok(())
 }
 
-/// The next cell of a row of which these bytes are left, up to the byte offset `stop` of the text: as a node behind the last sibling.
-/// Where no cell is left an empty one is filled in at the row's end, `past`. Answers what is left behind it, and how many were filled in.
+/// The next cell of a row of which these bytes are left, up to the byte offset `content_end` of the text: as a node behind the last
+/// sibling. Where no cell is left an empty one is filled in at the row's end, `line_end`. Answers what is left behind it, and how many were
+/// filled in.
 fn draw_next_cell<'a>(
     builder: &mut Builder<'_>,
     cells: &'a [u8],
-    stop: usize,
-    past: usize,
+    content_end: usize,
+    line_end: usize,
 ) -> Result<(&'a [u8], usize), AllocError>
     requires placed { IsPlaced builder.old.tree }
-    requires within { length cells.now ≤ stop }
+    requires within { length cells.now ≤ content_end }
     ensures placed { IsPlaced builder.new.tree }
-    ensures within { IfOk result (λ next. length next.0.now ≤ stop) }
+    ensures within { IfOk result (λ next. length next.0.now ≤ content_end) }
     ensures drawn { IfOk result (λ next. (text : List ℕ) (left : ℕ) (d : Drawing) → Draws text builder.old d → (e : Drawing) × Draws text builder.new e
-        × (drawn (cells_then text (suc left) (stop - length cells.now) past (cells_behind cells.now)) d ≡ drawn (cells_then text left (stop - length next.0.now) past (cells_behind next.0.now)) e)) }
+        × (drawn (cells_then text (suc left) (content_end - length cells.now) line_end (cells_behind cells.now)) d ≡ drawn (cells_then text left (content_end - length next.0.now) line_end (cells_behind next.0.now)) e)) }
     ensures filled { IfOk result (λ next. (left : ℕ) → next.1 + (left - length (cells_behind next.0.now)) ≡ suc left - length (cells_behind cells.now)) }
     ensures few { IfOk result (λ next. next.1 ≤ 1) }
     ensures definitions { defined (tables builder.new.allocations) ≡ defined (tables builder.old.allocations) }
 {
     match next_cell(cells) {
         Some((size, behind)) => {
-            draw_cell(builder, stop - cells.len(), &cells[..size])?;
+            draw_cell(builder, content_end - cells.len(), &cells[..size])?;
             Ok((behind, 0))
         }
         None => {
-            builder.add(past, past, ItemBody::TableCell)?;
+            builder.add(line_end, line_end, ItemBody::TableCell)?;
             Ok((cells, 1))
         }
     }
@@ -82,13 +83,13 @@ fn draw_cells(
     ensures filled { IfOk result (λ filled. filled ≡ count_missing columns (row_of rest.entry)) }
     ensures definitions { defined (tables builder.new.allocations) ≡ defined (tables builder.old.allocations) }
 {
-    let stop = rest.stop();
-    let past = rest.past();
+    let content_end = rest.content_end();
+    let line_end = rest.line_end();
     let mut cells = cells_in_row(rest.words());
     let mut left = columns;
     let mut filled = 0;
     while left > 0 {
-        let (behind, more) = draw_next_cell(builder, cells, stop, past)?;
+        let (behind, more) = draw_next_cell(builder, cells, content_end, line_end)?;
         cells = behind;
         filled += more;
         left -= 1;
@@ -105,12 +106,12 @@ pub fn draw_head(
     requires { IsPlaced builder.old.tree }
     ensures placed { IsPlaced builder.new.tree }
     ensures drawn { OnOk result ((text : List ℕ) (d : Drawing) → Draws text builder.old d
-        → Draws text builder.new (drawn (Node (node TableHead (start_of (row_of rest.entry)) (row_of rest.entry).past) (row_cells text columns (row_of rest.entry)) Nil) d)) }
+        → Draws text builder.new (drawn (Node (node TableHead (start_of (row_of rest.entry)) (row_of rest.entry).line_end) (row_cells text columns (row_of rest.entry)) Nil) d)) }
     ensures definitions { defined (tables builder.new.allocations) ≡ defined (tables builder.old.allocations) }
 {
     builder.open(rest.words_begin(), ItemBody::TableHead)?;
     draw_cells(builder, rest, columns)?;
-    builder.close(rest.past());
+    builder.close(rest.line_end());
     Ok(())
 }
 
@@ -123,12 +124,12 @@ pub fn draw_row(
     requires { IsPlaced builder.old.tree }
     ensures placed { IsPlaced builder.new.tree }
     ensures drawn { OnOk result ((text : List ℕ) (d : Drawing) → Draws text builder.old d
-        → Draws text builder.new (drawn (Node (node TableRow (start_of (row_of rest.entry)) (row_of rest.entry).past) (row_cells text columns (row_of rest.entry)) Nil) d)) }
+        → Draws text builder.new (drawn (Node (node TableRow (start_of (row_of rest.entry)) (row_of rest.entry).line_end) (row_cells text columns (row_of rest.entry)) Nil) d)) }
     ensures filled { IfOk result (λ filled. filled ≡ count_missing columns (row_of rest.entry)) }
     ensures definitions { defined (tables builder.new.allocations) ≡ defined (tables builder.old.allocations) }
 {
     builder.open(rest.words_begin(), ItemBody::TableRow)?;
     let filled = draw_cells(builder, rest, columns)?;
-    builder.close(rest.past());
+    builder.close(rest.line_end());
     Ok(filled)
 }

@@ -16,9 +16,9 @@ scanned-task options r asked = ap (λ z. if z && is_flush r then task_of (words_
 pub box-behind : (r : Row) (is_checked : Bool) → Some is_checked ≡ scanned.task_in r → behind_task r ≡ without 3 r
 box-behind r is_checked e = ap (λ o. if is_some o then without 3 r else r) (sym e)
 
-pub box-stop : (r : Row) → (behind_task r).stop ≡ r.stop
-box-stop r = go (is_some (scanned.task_in r))
+pub box-content_end : (r : Row) → (behind_task r).content_end ≡ r.content_end
+box-content_end r = go (is_some (scanned.task_in r))
   where
-    go : (z : Bool) → (if z then without 3 r else r).stop ≡ r.stop
+    go : (z : Bool) → (if z then without 3 r else r).content_end ≡ r.content_end
     go true = refl
     go false = refl

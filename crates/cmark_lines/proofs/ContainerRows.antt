@@ -5,11 +5,11 @@ use Rattle.std.specs.Str.{IsCharBoundary}
 use Rattle.cmark_grammar.specs.Rows.{Row, without, hold, is_blank_line}
 use Rattle.cmark_grammar.specs.BlockQuoteKind.{BlockQuoteKind}
 use Rattle.cmark_grammar.specs.Containers as grammar
-use Rattle.cmark_grammar.specs.Containers.{is_quote, quote_width, keep_as, keeps, enter, strip_as, strip}
-use Rattle.cmark_grammar.proofs.RowPlaces.{strip-past}
+use Rattle.cmark_grammar.specs.Containers.{is_block_quote, block_quote_width, keep_as, keeps, enter, strip_as, strip}
+use Rattle.cmark_grammar.proofs.RowPlaces.{strip-line_end}
 use Rattle.cmark_grammar.proofs.RowEdges.{strips-good}
 use Rattle.cmark_lines.specs.Rests.{row_of, IsIn}
-use Rattle.cmark_lines.specs.Starts.{Shows, quote_entered}
+use Rattle.cmark_lines.specs.Starts.{Shows, block_quote_entered}
 use Rattle.cmark_lines.specs.declared.line_rest.LineRest.{LineRest}
 use Rattle.cmark_lines.specs.declared.container.Container.{Container}
 use Rattle.cmark_lines.specs.declared.container.Container.TheVariants as kept
@@ -26,26 +26,26 @@ pub bare-kept : (k : grammar.Container) (bare : Bool) (r : Row) → (bare && is_
 unfolding keeps
 bare-kept k bare r e = ap (λ z. if r.lazy || z then None else keep_as k r) (sym e)
 
-pub quote-keeps : (alert : Option BlockQuoteKind) (r : Row) → r.lazy ≡ false → quote_entered r ≡ keeps (grammar.Quote alert) false r
+pub block_quote-keeps : (alert : Option BlockQuoteKind) (r : Row) → r.lazy ≡ false → block_quote_entered r ≡ keeps (grammar.BlockQuote alert) false r
 unfolding keeps
-quote-keeps alert r whole = ap (λ z. if z || (false && is_blank_line r) then None else (if is_quote r then Some (without (quote_width r) r) else None)) (sym whole)
+block_quote-keeps alert r whole = ap (λ z. if z || (false && is_blank_line r) then None else (if is_block_quote r then Some (without (block_quote_width r) r) else None)) (sym whole)
 
 -- the containers that are shown
-pub shows-quote : (s : Container) (k : grammar.Container) → s ≡ kept.Quote → Shows s k → (alert : Option BlockQuoteKind) × (k ≡ grammar.Quote alert)
-shows-quote s k is h = by k (subst (λ x. Shows x k) is h)
+pub shows-block_quote : (s : Container) (k : grammar.Container) → s ≡ kept.BlockQuote → Shows s k → (alert : Option BlockQuoteKind) × (k ≡ grammar.BlockQuote alert)
+shows-block_quote s k is h = by k (subst (λ x. Shows x k) is h)
   where
-    by : (k : grammar.Container) → Shows kept.Quote k → (alert : Option BlockQuoteKind) × (k ≡ grammar.Quote alert)
-    by (grammar.Quote alert) p = (alert, refl)
-    by (grammar.Item mark number width task) p = absurd p
+    by : (k : grammar.Container) → Shows kept.BlockQuote k → (alert : Option BlockQuoteKind) × (k ≡ grammar.BlockQuote alert)
+    by (grammar.BlockQuote alert) p = (alert, refl)
+    by (grammar.Item delimiter number width task) p = absurd p
     by (grammar.Footnote label old size) p = absurd p
     by (grammar.ListDefinition width) p = absurd p
 
-pub shows-item : (s : Container) (w : ℕ) (k : grammar.Container) → s ≡ kept.Item w → Shows s k → (mark : ℕ) × ((number : Option ℕ) × ((task : Option Bool) × (k ≡ grammar.Item mark number w task)))
+pub shows-item : (s : Container) (w : ℕ) (k : grammar.Container) → s ≡ kept.Item w → Shows s k → (delimiter : ℕ) × ((number : Option ℕ) × ((task : Option Bool) × (k ≡ grammar.Item delimiter number w task)))
 shows-item s w k is h = by k (subst (λ x. Shows x k) is h)
   where
-    by : (k : grammar.Container) → Shows (kept.Item w) k → (mark : ℕ) × ((number : Option ℕ) × ((task : Option Bool) × (k ≡ grammar.Item mark number w task)))
-    by (grammar.Quote alert) p = absurd p
-    by (grammar.Item mark number width task) p = (mark, (number, (task, ap (λ n. grammar.Item mark number n task) (sym p))))
+    by : (k : grammar.Container) → Shows (kept.Item w) k → (delimiter : ℕ) × ((number : Option ℕ) × ((task : Option Bool) × (k ≡ grammar.Item delimiter number w task)))
+    by (grammar.BlockQuote alert) p = absurd p
+    by (grammar.Item delimiter number width task) p = (delimiter, (number, (task, ap (λ n. grammar.Item delimiter number n task) (sym p))))
     by (grammar.Footnote label old size) p = absurd p
     by (grammar.ListDefinition width) p = absurd p
 
@@ -53,8 +53,8 @@ pub shows-footnote : (s : Container) (old : Bool) (k : grammar.Container) → s 
 shows-footnote s old k is h = by k (subst (λ x. Shows x k) is h)
   where
     by : (k : grammar.Container) → Shows (kept.Footnote old) k → (label : List ℕ) × ((size : ℕ) × (k ≡ grammar.Footnote label old size))
-    by (grammar.Quote alert) p = absurd p
-    by (grammar.Item mark number width task) p = absurd p
+    by (grammar.BlockQuote alert) p = absurd p
+    by (grammar.Item delimiter number width task) p = absurd p
     by (grammar.Footnote label o size) p = (label, (size, ap (λ z. grammar.Footnote label z size) (sym p)))
     by (grammar.ListDefinition width) p = absurd p
 
@@ -62,8 +62,8 @@ pub shows-definition : (s : Container) (w : ℕ) (k : grammar.Container) → s �
 shows-definition s w k is h = by k (subst (λ x. Shows x k) is h)
   where
     by : (k : grammar.Container) → Shows (kept.Definition w) k → k ≡ grammar.ListDefinition w
-    by (grammar.Quote alert) p = absurd p
-    by (grammar.Item mark number width task) p = absurd p
+    by (grammar.BlockQuote alert) p = absurd p
+    by (grammar.Item delimiter number width task) p = absurd p
     by (grammar.Footnote label old size) p = absurd p
     by (grammar.ListDefinition width) p = ap grammar.ListDefinition (sym p)
 
@@ -96,4 +96,4 @@ pub kept-in : (text : List ℕ) (rest : LineRest) (k : grammar.Container) (o : O
 kept-in text rest k None is h = tt
 kept-in text rest k (Some moved) is h =
     let same : strip k false (row_of rest) ≡ row_of moved = ap (λ o. strip_as o (row_of rest)) (sym is) in
-    in-moved text rest moved (strip k false (row_of rest)) (sym same) (strip-past k false (row_of rest)) (strips-good (IsCharBoundary text) k false (row_of rest ∷ []) (h.good, tt)).0 h
+    in-moved text rest moved (strip k false (row_of rest)) (sym same) (strip-line_end k false (row_of rest)) (strips-good (IsCharBoundary text) k false (row_of rest ∷ []) (h.good, tt)).0 h

@@ -75,8 +75,8 @@ definition-left r s n w count is found = ap behind_definition (shallow-is r s n 
     go true z true false f e = absurd (let k : Some w ≡ None = e in cc)
     go true z false b f e = absurd (let k : Some w ≡ None = e in cc)
 
-pub stop-behind : (s : Row) → (behind_definition s).stop ≡ s.stop
-stop-behind s = refl
+pub content_end-behind : (s : Row) → (behind_definition s).content_end ≡ s.content_end
+content_end-behind s = refl
 
 -- what stands behind the marker stands in the text
 pub begun-in : (text : List ℕ) (rest : LineRest) (o : Option (ℕ × LineRest)) → option_map width_of o ≡ definition_behind (row_of rest) → IfSome o (EntersDefinition (row_of rest)) → IsIn text rest → IfSome o (λ begun. IsIn text begun.1)

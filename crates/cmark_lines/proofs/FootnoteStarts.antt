@@ -4,9 +4,9 @@ use Rattle.std.specs.Prelude.{if◌then◌else◌, nat_le}
 use Rattle.std.proofs.lemmas.Bool.{leb-true, leb-false}
 use Rattle.cmark_grammar.specs.Alerts.{alert_in}
 use Rattle.cmark_grammar.specs.Columns.{indent}
-use Rattle.cmark_grammar.specs.Containers.{Container, Footnote, footnote_width, footnote_of, footnote_or, container_with, container_of, item_of, is_quote, quote_width, enter, with_task, marker_width}
+use Rattle.cmark_grammar.specs.Containers.{Container, Footnote, footnote_width, footnote_of, footnote_or, container_with, container_of, item_of, is_block_quote, block_quote_width, enter, with_task, marker_width}
 use Rattle.cmark_grammar.specs.Footnotes.{footnotes_in, footnote_in, columns_over, marker_columns}
-use Rattle.cmark_grammar.specs.LinkDefinitions.{Found}
+use Rattle.cmark_grammar.specs.LinkDefinitions.{Parsed}
 use Rattle.cmark_grammar.specs.Options.{Options}
 use Rattle.cmark_grammar.specs.Rows.{Row, without, indent_of, words_of}
 use Rattle.cmark_scan_parts.specs.Footnotes.{marked, IsClosed}
@@ -25,7 +25,7 @@ label-seen r = go (nat_le (indent_of r) 3) refl
         ap (λ t. if t then footnote_in (words_of (shallow r)) else None) (eq-eqb _ 0 (flat r le)) ∙ ap footnote_in (same-words r le) ∙ ap (λ t. if t then footnote_in (words_of r) else None) (sym e)
     go false e = ap (λ t. if t then footnote_in (words_of (shallow r)) else None) (deep r (leb-false (indent_of r) 3 e)) ∙ ap (λ t. if t then footnote_in (words_of r) else None) (sym e)
 
-found-shallow : (r : Row) (found : Found) → footnote_at (shallow r) ≡ Some found → indent_of r ≤ 3
+found-shallow : (r : Row) (found : Parsed) → footnote_at (shallow r) ≡ Some found → indent_of r ≤ 3
 found-shallow r found is = go (nat_le (indent_of r) 3) refl
   where
     go : (z : Bool) → nat_le (indent_of r) 3 ≡ z → indent_of r ≤ 3
@@ -56,10 +56,10 @@ enters r le label old =
         ap (λ i. columns_over (suc (suc (suc (suc (length label))))) (drop i (shallow r).columns)) (flat r le)
         ∙ ap (λ j. columns_over (suc (suc (suc (suc (length label))))) (drop j r.columns)) (taken-all r le)
 
-pub stop-behind : (r : Row) → (behind_footnote (footnote_at r) r).stop ≡ r.stop
-stop-behind r = go (footnote_at r)
+pub content_end-behind : (r : Row) → (behind_footnote (footnote_at r) r).content_end ≡ r.content_end
+content_end-behind r = go (footnote_at r)
   where
-    go : (o : Option Found) → (behind_footnote o r).stop ≡ r.stop
+    go : (o : Option Parsed) → (behind_footnote o r).content_end ≡ r.content_end
     go None = refl
     go (Some found) = refl
 
@@ -96,7 +96,7 @@ begun-either : (options : Options) (r : Row) → begun_container options r ≡ f
 begun-either options r = go (nat_le (indent_of r) 3)
   where
     go : (z : Bool) → (if z then container_of options r else None)
-        ≡ footnote_or (if z then footnote_of (footnotes_in options) r else None) (if z then container_with (with_task options r (item_of r)) (is_quote r) (alert_in options (without (quote_width r) r)) else None)
+        ≡ footnote_or (if z then footnote_of (footnotes_in options) r else None) (if z then container_with (with_task options r (item_of r)) (is_block_quote r) (alert_in options (without (block_quote_width r) r)) else None)
     go true = refl
     go false = refl
 

@@ -61,13 +61,13 @@ module _ (E : ℕ → Type 0) where
           subst (λ n. E (n + k)) p (ih k lt ascii)
 
 -- a fence is a run of an ASCII byte
-fence-run : (indented : ℕ) (bs : List ℕ) (fence : CodeFence) → Some (shown_fence indented bs fence) ≡ fence_of indented bs → (fence.mark < 128) × (fence.size ≡ run fence.mark bs)
+fence-run : (indented : ℕ) (bs : List ℕ) (fence : CodeFence) → Some (shown_fence indented bs fence) ≡ fence_of indented bs → (fence.delimiter < 128) × (fence.run_length ≡ run fence.delimiter bs)
 fence-run indented bs fence is = go (nat_le 3 (run 96 bs) && (count_by (λ c. c == 96) (drop (run 96 bs) bs) == 0)) (nat_le 3 (run 126 bs)) is
   where
-    of : (b : ℕ) → b < 128 → shown_fence indented bs fence ≡ fence_with indented b bs → (fence.mark < 128) × (fence.size ≡ run fence.mark bs)
-    of b lt e = let m : fence.mark ≡ b = ap (λ f. f.mark) e in (omega (arith, m, lt), ap (λ f. f.size) e ∙ ap (λ x. run x bs) (sym m))
+    of : (b : ℕ) → b < 128 → shown_fence indented bs fence ≡ fence_with indented b bs → (fence.delimiter < 128) × (fence.run_length ≡ run fence.delimiter bs)
+    of b lt e = let m : fence.delimiter ≡ b = ap (λ f. f.delimiter) e in (omega (arith, m, lt), ap (λ f. f.run_length) e ∙ ap (λ x. run x bs) (sym m))
 
-    go : (x y : Bool) → Some (shown_fence indented bs fence) ≡ (if x then Some (fence_with indented 96 bs) else if y then Some (fence_with indented 126 bs) else None) → (fence.mark < 128) × (fence.size ≡ run fence.mark bs)
+    go : (x y : Bool) → Some (shown_fence indented bs fence) ≡ (if x then Some (fence_with indented 96 bs) else if y then Some (fence_with indented 126 bs) else None) → (fence.delimiter < 128) × (fence.run_length ≡ run fence.delimiter bs)
     go true y e = of 96 (omega arith) (let q : shown_fence indented bs fence ≡ fence_with indented 96 bs = cc in q)
     go false true e = of 126 (omega arith) (let q : shown_fence indented bs fence ≡ fence_with indented 126 bs = cc in q)
     go false false e = absurd (let q : Some (shown_fence indented bs fence) ≡ None = e in cc)
@@ -77,7 +77,7 @@ pub info-stands : (text : List ℕ) (indented : ℕ) (bs : List ℕ) (r : Row) (
 info-stands text indented bs r fence words is place g = (
   omega (arith, end),
   omega (arith, whole, ends, same),
-  behind-edge E fence.info_start (start_of r) cs r.stop runs good (omega (arith, ends, same, end)) (subst (λ l. Front IsAsciiByte fence.info_start l) (sym words) front) (start-E E r g),
+  behind-edge E fence.info_start (start_of r) cs r.content_end runs good (omega (arith, ends, same, end)) (subst (λ l. Front IsAsciiByte fence.info_start l) (sym words) front) (start-E E r g),
   ⊎_elim at_end before_end (eq-or-lt_of_le ends),
 )
   where
@@ -88,65 +88,65 @@ info-stands text indented bs r fence words is place g = (
     cs = without_indent r.columns
 
     ds : List ℕ
-    ds = drop fence.size bs
+    ds = drop fence.run_length bs
 
     blanks : ℕ
-    blanks = length (take_while is_blank_byte (drop fence.size bs))
+    blanks = length (take_while is_blank_byte (drop fence.run_length bs))
 
     es : List ℕ
-    es = drop (length (take_while is_blank_byte (drop fence.size bs))) (drop fence.size bs)
+    es = drop (length (take_while is_blank_byte (drop fence.run_length bs))) (drop fence.run_length bs)
 
-    runs : Runs (start_of r) (without_indent r.columns) r.stop
-    runs = (drop-Runs (indent r.columns) (begin_of r) r.columns r.stop g.runs).0
+    runs : Runs (start_of r) (without_indent r.columns) r.content_end
+    runs = (drop-Runs (indent r.columns) (begin_of r) r.columns r.content_end g.runs).0
 
     good : AreGood E (without_indent r.columns)
     good = drop-good E (indent r.columns) r.columns g.good
 
-    whole : start_of r + length (bytes_of (without_indent r.columns)) ≡ r.stop
-    whole = runs-bytes (start_of r) (without_indent r.columns) r.stop runs
+    whole : start_of r + length (bytes_of (without_indent r.columns)) ≡ r.content_end
+    whole = runs-bytes (start_of r) (without_indent r.columns) r.content_end runs
 
     same : length (bytes_of (without_indent r.columns)) ≡ length bs
     same = ap length words
 
-    start : fence.size + length (take_while is_blank_byte (drop fence.size bs)) ≡ fence.info_start
-    start = ap (λ n. fence.size + n) (length-prefix_len is_blank_byte (drop fence.size bs)) ∙ sym place.0
+    start : fence.run_length + length (take_while is_blank_byte (drop fence.run_length bs)) ≡ fence.info_start
+    start = ap (λ n. fence.run_length + n) (length-prefix_len is_blank_byte (drop fence.run_length bs)) ∙ sym place.0
 
-    end : fence.info_end ≡ fence.info_start + length (trimmed (drop fence.size bs))
+    end : fence.info_end ≡ fence.info_start + length (trimmed (drop fence.run_length bs))
     end = place.1
 
-    marks : (fence.mark < 128) × (fence.size ≡ run fence.mark bs)
+    marks : (fence.delimiter < 128) × (fence.run_length ≡ run fence.delimiter bs)
     marks = fence-run indented bs fence is
 
     front : Front IsAsciiByte fence.info_start bs
     front =
         subst (λ n. Front IsAsciiByte n bs) start
-        (front-add IsAsciiByte fence.size blanks bs (subst (λ n. Front IsAsciiByte n bs) (sym marks.1) (run-front fence.mark bs marks.0)) (prefix-front is_blank_byte IsAsciiByte blank-ascii (drop fence.size bs)))
+        (front-add IsAsciiByte fence.run_length blanks bs (subst (λ n. Front IsAsciiByte n bs) (sym marks.1) (run-front fence.delimiter bs marks.0)) (prefix-front is_blank_byte IsAsciiByte blank-ascii (drop fence.run_length bs)))
 
-    stops : (length (trimmed (drop fence.size bs)) ≤ length es) × (length (trimmed (drop fence.size bs)) < length es → is_blank_byte (get_or es (length (trimmed (drop fence.size bs))) 0) ≡ true)
+    stops : (length (trimmed (drop fence.run_length bs)) ≤ length es) × (length (trimmed (drop fence.run_length bs)) < length es → is_blank_byte (get_or es (length (trimmed (drop fence.run_length bs))) 0) ≡ true)
     stops = drop_end-stops is_blank_byte es
 
     left : fence.info_start + length es ≡ length bs
     left =
-        let a = length-drop fence.size bs in
-        let b = length-drop blanks (drop fence.size bs) in
-        let c = length-prefix_len (λ x. x == fence.mark) bs in
-        let d = prefix_len-le-length (λ x. x == fence.mark) bs in
-        let e = length-prefix_len is_blank_byte (drop fence.size bs) in
-        let f = prefix_len-le-length is_blank_byte (drop fence.size bs) in
+        let a = length-drop fence.run_length bs in
+        let b = length-drop blanks (drop fence.run_length bs) in
+        let c = length-prefix_len (λ x. x == fence.delimiter) bs in
+        let d = prefix_len-le-length (λ x. x == fence.delimiter) bs in
+        let e = length-prefix_len is_blank_byte (drop fence.run_length bs) in
+        let f = prefix_len-le-length is_blank_byte (drop fence.run_length bs) in
         omega (arith, a, b, c, d, e, f, start, marks.1)
 
     ends : fence.info_end ≤ length bs
     ends = omega (arith, end, stops.0, left)
 
     at_end : fence.info_end ≡ length bs → E (start_of r + fence.info_end)
-    at_end e = subst E (let s : r.stop ≡ start_of r + fence.info_end = omega (arith, whole, same, e) in s) g.stop
+    at_end e = subst E (let s : r.content_end ≡ start_of r + fence.info_end = omega (arith, whole, same, e) in s) g.content_end
 
     before_end : fence.info_end < length bs → E (start_of r + fence.info_end)
     before_end lt =
-        let n : ℕ = length (trimmed (drop fence.size bs)) in
+        let n : ℕ = length (trimmed (drop fence.run_length bs)) in
         let blank = stops.1 (omega (arith, lt, end, left)) in
         let at : get_or es n 0 ≡ get_or bs fence.info_end 0 =
-        get_or-drop blanks (drop fence.size bs) n 0 ∙ get_or-drop fence.size bs (blanks + n) 0 ∙ ap (λ k. get_or bs k 0) (let s : fence.size + (blanks + n) ≡ fence.info_end = omega (arith, start, end) in s)
+        get_or-drop blanks (drop fence.run_length bs) n 0 ∙ get_or-drop fence.run_length bs (blanks + n) 0 ∙ ap (λ k. get_or bs k 0) (let s : fence.run_length + (blanks + n) ≡ fence.info_end = omega (arith, start, end) in s)
         in
         let ascii : get_or bs fence.info_end 0 < 128 = subst (λ b. b < 128) at (blank-ascii (get_or es n 0) blank) in
-        before-edge E fence.info_end (start_of r) (without_indent r.columns) r.stop runs good (omega (arith, lt, same)) (subst (λ l. get_or l fence.info_end 0 < 128) (sym words) ascii)
+        before-edge E fence.info_end (start_of r) (without_indent r.columns) r.content_end runs good (omega (arith, lt, same)) (subst (λ l. get_or l fence.info_end 0 < 128) (sym words) ascii)

@@ -6,7 +6,7 @@ use Rattle.cmark_grammar.specs.Options.{Options}
 use Rattle.cmark_grammar.specs.Rows.{Row, lazy_row, is_blank_line, indent_of, words_of}
 use Rattle.cmark_grammar.specs.Leaves.{is_thematic_break, is_atx_heading, fence_of, underlines}
 use Rattle.cmark_grammar.specs.HtmlBlocks.{html_kind}
-use Rattle.cmark_grammar.specs.Containers.{Container, Quote, Item, Footnote, ListDefinition, Marker, marker_of, item_with, item_of, is_quote, keeps}
+use Rattle.cmark_grammar.specs.Containers.{Container, BlockQuote, Item, Footnote, ListDefinition, Marker, marker_of, item_with, item_of, is_block_quote, keeps}
 use Rattle.cmark_grammar.specs.DefinitionLists.{begins_definition, definition_width, is_definition, is_marker}
 use Rattle.cmark_grammar.specs.Footnotes.{footnotes_in}
 use Rattle.cmark_grammar.specs.TableRows.{table_interrupts}
@@ -28,16 +28,16 @@ lazy-item r (Some m) = refl
 
 lazy-item-interrupts : (same : Bool) (r : Row) (o : Option Container) → item_interrupts same (lazy_row r) o ≡ item_interrupts same r o
 lazy-item-interrupts same r None = refl
-lazy-item-interrupts same r (Some (Quote alert)) = refl
+lazy-item-interrupts same r (Some (BlockQuote alert)) = refl
 lazy-item-interrupts same r (Some (Footnote label old size)) = refl
 lazy-item-interrupts same r (Some (ListDefinition width)) = refl
-lazy-item-interrupts same r (Some (Item mark number width task)) = refl
+lazy-item-interrupts same r (Some (Item delimiter number width task)) = refl
 
 module _ (options : Options) (r : Row) (ahead : List Row) where
   -- whether a line interrupts does not depend on the prefixes that it lacks
   pub lazy-interrupts : (same : Bool) → interrupts options same (lazy_row r) ahead ≡ interrupts options same r ahead
   lazy-interrupts same =
-      ap (λ z. is_blank_line r || (footnote_interrupts (footnotes_in options) r || (nat_le (indent_of r) 3 && (is_quote r || (z || (is_thematic_break (words_of r)
+      ap (λ z. is_blank_line r || (footnote_interrupts (footnotes_in options) r || (nat_le (indent_of r) 3 && (is_block_quote r || (z || (is_thematic_break (words_of r)
       || (is_atx_heading (words_of r) || (is_some_fence (fence_of (indent_of r) (words_of r)) || html_interrupts (html_kind (words_of r))))))))))
       (lazy-item-interrupts same r (item_of (lazy_row r)) ∙ ap (item_interrupts same r) (lazy-item r (marker_of (words_of r))))
 

@@ -19,9 +19,9 @@ use Rattle.cmark_scan_parts.proofs.Lists.{rest_of}
 use Rattle.cmark_lines.specs.Rests.{no_row}
 
 -- the front of the line that begins at a place of the text
-module _ (text : List ℕ) (start : ℕ) (front : LineStart) (is : (at past : ℕ) → row_from at past front ≡ line_of at past (take (length text - start) (drop start text))) where
-  pub whole-line : (at past : ℕ) → row_from at past front ≡ line_of at past (drop start text)
-  whole-line at past = is at past ∙ ap (line_of at past) (rest_of text start)
+module _ (text : List ℕ) (start : ℕ) (front : LineStart) (is : (at line_end : ℕ) → row_from at line_end front ≡ line_of at line_end (take (length text - start) (drop start text))) where
+  pub whole-line : (at line_end : ℕ) → row_from at line_end front ≡ line_of at line_end (drop start text)
+  whole-line at line_end = is at line_end ∙ ap (line_of at line_end) (rest_of text start)
 
   pub line-len : (left : List ℕ) → ((at : ℕ) → bytes_of (columns_from at front) ≡ left) → length left ≡ length (content (drop start text))
   line-len left spelled = ap length (sym (spelled 0) ∙ ap (λ r. bytes_of r.columns) (whole-line 0 0) ∙ bytes_of-expand 0 0 (content (drop start text)))
@@ -34,9 +34,9 @@ module _ (text : List ℕ) (at k e : ℕ) (is_k : k ≡ length (content (drop at
   pub rows-further : at < length text → rows_from at (lines (drop at text)) ≡ line_of at (at + k + e) (drop at text) ∷ rows_from (at + k + e) (lines (drop (at + k + e) text))
   rows-further lt =
       rows-first text at k e lt (is_k ∙ length-prefix_len is_content (drop at text)) is_e
-      ∙ ap (λ cs. record { columns = expand 0 at cs; at = at; stop = at + k; past = at + k + e; lazy = false; held = false } ∷ rows_from (at + k + e) (lines (drop (at + k + e) text)))
+      ∙ ap (λ cs. record { columns = expand 0 at cs; at = at; content_end = at + k; line_end = at + k + e; lazy = false; held = false } ∷ rows_from (at + k + e) (lines (drop (at + k + e) text)))
       (ap (λ n. take n (drop at text)) (is_k ∙ length-prefix_len is_content (drop at text)))
-      ∙ ap (λ n. record { columns = expand 0 at (content (drop at text)); at = at; stop = at + n; past = at + k + e; lazy = false; held = false } ∷ rows_from (at + k + e) (lines (drop (at + k + e) text))) is_k
+      ∙ ap (λ n. record { columns = expand 0 at (content (drop at text)); at = at; content_end = at + n; line_end = at + k + e; lazy = false; held = false } ∷ rows_from (at + k + e) (lines (drop (at + k + e) text))) is_k
 
   at_end : at ≡ length text → drop at text ≡ []
   at_end e = drop_of_length-le text (omega (arith, e))
@@ -45,8 +45,8 @@ module _ (text : List ℕ) (at k e : ℕ) (is_k : k ≡ length (content (drop at
   row-none end =
       let q : k ≡ 0 = is_k ∙ ap (λ bs. length (content bs)) (at_end end) in
       let z : e ≡ 0 = is_e ∙ ap (λ n. ending_len (drop n (drop at text))) q ∙ ap ending_len (at_end end) in
-      ap (λ bs. line_of at (at + k + e) bs) (at_end end) ∙ ap (λ n. record { columns = []; at = at; stop = n; past = at + k + e; lazy = false; held = false }) (let s : at + 0 ≡ at = omega arith in s)
-      ∙ ap (λ n. record { columns = []; at = at; stop = at; past = n; lazy = false; held = false }) (let s : at + k + e ≡ at = omega (arith, q, z) in s)
+      ap (λ bs. line_of at (at + k + e) bs) (at_end end) ∙ ap (λ n. record { columns = []; at = at; content_end = n; line_end = at + k + e; lazy = false; held = false }) (let s : at + 0 ≡ at = omega arith in s)
+      ∙ ap (λ n. record { columns = []; at = at; content_end = at; line_end = n; lazy = false; held = false }) (let s : at + k + e ≡ at = omega (arith, q, z) in s)
 
   pub row-line : at ≤ length text → (line : List ℕ) (more : List (List ℕ)) → lines (drop at text) ≡ line ∷ more → line_of at (at + k + e) (drop at text) ≡ row_at at line
   row-line le line more is = go (drop at text) refl
@@ -113,13 +113,13 @@ module _ (E F : ℕ → Type 0) (n : ℕ) (up : (k : ℕ) → E k → F (n + k))
     good-shift cs g.1,
   )
 
-  row-shift : (past : ℕ) (bs : List ℕ) → F n → GoodRow E (line_of 0 past bs) → GoodRow F (line_of n (n + past) bs)
-  row-shift past bs edge g = record {
+  row-shift : (line_end : ℕ) (bs : List ℕ) → F n → GoodRow E (line_of 0 line_end bs) → GoodRow F (line_of n (n + line_end) bs)
+  row-shift line_end bs edge g = record {
     runs = subst (λ f. Runs f (expand 0 n (content bs)) (n + length (content bs))) (sym begins) runs;
     good = subst (AreGood F) (expand-shift n 0 0 (content bs) ∙ ap (λ m. expand 0 m (content bs)) (let s : n + 0 ≡ n = omega arith in s)) (good-shift (expand 0 0 (content bs)) g.good);
     begin = subst F (sym begins) edge;
-    stop = subst F (ap (λ m. n + m) zero-stop) (up (0 + length (content bs)) g.stop);
-    past = up past g.past;
+    content_end = subst F (ap (λ m. n + m) zero-stop) (up (0 + length (content bs)) g.content_end);
+    line_end = up line_end g.line_end;
     feed = λ two. subst F (let s : n + suc (0 + length (content bs)) ≡ suc (n + length (content bs)) = omega arith in s) (up (suc (0 + length (content bs))) (g.feed (omega (arith, two))));
   }
     where
@@ -129,7 +129,7 @@ module _ (E F : ℕ → Type 0) (n : ℕ) (up : (k : ℕ) → E k → F (n + k))
       runs : Runs n (expand 0 n (content bs)) (n + length (content bs))
       runs = expand-Runs 0 n (content bs)
 
-      begins : begin_of (line_of n (n + past) bs) ≡ n
+      begins : begin_of (line_of n (n + line_end) bs) ≡ n
       begins = first_place-Runs n (expand 0 n (content bs)) (n + length (content bs)) (expand-Runs 0 n (content bs))
 
 -- of a text, from a place on that cuts no character, the first line cuts none either
@@ -149,4 +149,4 @@ line-good text at k e is_k is_e lt utf8 edge =
 
 -- nor does the line of no byte
 pub none-good : (E : ℕ → Type 0) (at : ℕ) → E at → GoodRow E (no_row at)
-none-good E at edge = record { runs = refl; good = tt; begin = edge; stop = edge; past = edge; feed = λ two. absurd (let s : at - at ≡ 2 = two in omega (arith, s)) }
+none-good E at edge = record { runs = refl; good = tt; begin = edge; content_end = edge; line_end = edge; feed = λ two. absurd (let s : at - at ≡ 2 = two in omega (arith, s)) }

@@ -6,12 +6,12 @@ use Rattle.cmark_grammar.specs.Options.{Options}
 use Rattle.cmark_grammar.specs.Footnotes.{footnotes_in}
 use Rattle.cmark_grammar.specs.Columns.{bytes_of}
 use Rattle.cmark_grammar.specs.Rows.{Row, without, is_blank_line, indent_of, words_of}
-use Rattle.cmark_grammar.specs.Leaves.{Fence, run, is_thematic_break, is_atx_heading, fence_of, counted, code_further}
+use Rattle.cmark_grammar.specs.Leaves.{Fence, run, is_thematic_break, is_atx_heading, fence_of, counted, code_continuation}
 use Rattle.cmark_grammar.specs.HtmlBlocks.{html_kind}
 use Rattle.cmark_grammar.specs.LinkDefinitions.{label_in, with_label, definition_in, further_bytes, bytes_over}
 use Rattle.cmark_grammar.specs.BlockQuoteKind.{BlockQuoteKind}
 use Rattle.cmark_grammar.specs.Alerts.{alert_in}
-use Rattle.cmark_grammar.specs.Containers.{Container, Quote, Item, begins_with, is_quote, quote_width, item_of, container_with, container_of, with_task, marker_width}
+use Rattle.cmark_grammar.specs.Containers.{Container, BlockQuote, Item, begins_with, is_block_quote, block_quote_width, item_of, container_with, container_of, with_task, marker_width}
 use Rattle.cmark_grammar.specs.Openings.{Opening, Blank, Nests, Takes, Plain, AtxHeading, IndentedCode, or_else, nests_if, is_one, item_interrupts, fenced_if, html_if, break_if, heading_if, defined_if, metadata_begun, begins_no_link, text_lines, definition_of, table_if, text_of, leaf_of, whole_opens, opens}
 use Rattle.cmark_grammar.specs.Metadata.{metadata_kind}
 use Rattle.cmark_grammar.specs.TableRows.{table_head}
@@ -21,7 +21,7 @@ use Rattle.cmark_grammar.proofs.RowEdges.{marker-good}
 use Rattle.cmark_scan.specs.LeafLines.{atx_level}
 use Rattle.cmark_lines.specs.Rests.{row_of, IsIn}
 use Rattle.cmark_lines.specs.Opened.{bracket_of}
-use Rattle.cmark_lines.specs.Starts.{begun_item, begun_container, begun_marked, quote_entered}
+use Rattle.cmark_lines.specs.Starts.{begun_item, begun_container, begun_marked, block_quote_entered}
 use Rattle.cmark_lines.specs.declared.line_rest.LineRest.{LineRest}
 use Rattle.cmark_lines.proofs.RestSteps.{in-moved}
 
@@ -32,7 +32,7 @@ none_in (b ∷ bs) e = ap (λ z. if z then with_label (label_in bs) else None) e
 
 further-no_bracket : (r : Row) (more : List Row) → begins_with 91 (further_bytes r more) ≡ false
 further-no_bracket r [] = refl
-further-no_bracket r (s ∷ more) = go (nat_le 2 (r.past - r.stop))
+further-no_bracket r (s ∷ more) = go (nat_le 2 (r.line_end - r.content_end))
   where
     go : (z : Bool) → begins_with 91 ((if z then 13 ∷ 10 ∷ [] else 10 ∷ []) ++ (bytes_of s.columns ++ further_bytes s more)) ≡ false
     go true = refl
@@ -121,12 +121,12 @@ module _ (options : Options) (r : Row) (ahead : List Row) where
     abbrev chosen : (blank deep : Bool) → Opening
     chosen blank deep =
         or_else (metadata_begun (metadata_kind options r) ahead)
-        (if blank then Blank else if deep then Takes IndentedCode (counted code_further ahead) else or_else (nests_if (container_of options r)) (leaf_of options r ahead))
+        (if blank then Blank else if deep then Takes IndentedCode (counted code_continuation ahead) else or_else (nests_if (container_of options r)) (leaf_of options r ahead))
 
     pub opens-blank : is_blank_line r ≡ true → opens options r ahead ≡ or_else (metadata_begun (metadata_kind options r) ahead) Blank
     opens-blank blank = as_whole ∙ ap (λ z. chosen z (nat_le 4 (indent_of r))) blank
 
-    pub opens-code : is_blank_line r ≡ false → 4 ≤ indent_of r → opens options r ahead ≡ or_else (metadata_begun (metadata_kind options r) ahead) (Takes IndentedCode (counted code_further ahead))
+    pub opens-code : is_blank_line r ≡ false → 4 ≤ indent_of r → opens options r ahead ≡ or_else (metadata_begun (metadata_kind options r) ahead) (Takes IndentedCode (counted code_continuation ahead))
     opens-code blank deep = as_whole ∙ ap (λ z. chosen z (nat_le 4 (indent_of r))) blank ∙ ap (chosen false) (at_least (indent_of r) deep)
       where
         at_least : (n : ℕ) → 4 ≤ n → nat_le 4 n ≡ true
@@ -158,29 +158,29 @@ pub begun-shorter : (options : Options) (rest inside : LineRest) (k : Container)
 begun-shorter options rest inside k opened is = subst (λ x. length x.columns < length (row_of rest).columns) (sym is) (marker_len options k (row_of rest) [] opened)
 
 -- a line that begins no item, and shows a block quote's marker, begins a block quote: the line behind the marker tells whether it is an alert
-pub quote-begun : (options : Options) (r s : Row) → None ≡ begun_item r → Some s ≡ quote_entered r → Some (Quote (alert_in options s)) ≡ begun_marked options r
-quote-begun options r s none is = go (nat_le (indent_of r) 3) (begins_with 62 (words_of r)) none is
+pub block_quote-begun : (options : Options) (r s : Row) → None ≡ begun_item r → Some s ≡ block_quote_entered r → Some (BlockQuote (alert_in options s)) ≡ begun_marked options r
+block_quote-begun options r s none is = go (nat_le (indent_of r) 3) (begins_with 62 (words_of r)) none is
   where
     behind : Row
-    behind = without (quote_width r) r
+    behind = without (block_quote_width r) r
 
-    go : (shallow marked : Bool) → None ≡ (if shallow then item_of r else None) → Some s ≡ (if shallow && marked then Some (without (quote_width r) r) else None)
-        → Some (Quote (alert_in options s)) ≡ (if shallow then container_with (with_task options r (item_of r)) (shallow && marked) (alert_in options (without (quote_width r) r)) else None)
+    go : (shallow marked : Bool) → None ≡ (if shallow then item_of r else None) → Some s ≡ (if shallow && marked then Some (without (block_quote_width r) r) else None)
+        → Some (BlockQuote (alert_in options s)) ≡ (if shallow then container_with (with_task options r (item_of r)) (shallow && marked) (alert_in options (without (block_quote_width r) r)) else None)
     go true true n e =
         let same : s ≡ behind = cc in
-        ap (λ x. Some (Quote (alert_in options x))) same ∙ ap (λ o. container_with (with_task options r o) true (alert_in options behind)) n
+        ap (λ x. Some (BlockQuote (alert_in options x))) same ∙ ap (λ o. container_with (with_task options r o) true (alert_in options behind)) n
     go true false n e = absurd (let q : Some s ≡ None = e in cc)
     go false marked n e = absurd (let q : Some s ≡ None = e in cc)
 
-pub quote-inside : (r s : Row) (alert : Option BlockQuoteKind) → Some s ≡ quote_entered r → s ≡ without (marker_width (Quote alert) r) r
-quote-inside r s alert is = go (is_quote r) is
+pub block_quote-inside : (r s : Row) (alert : Option BlockQuoteKind) → Some s ≡ block_quote_entered r → s ≡ without (marker_width (BlockQuote alert) r) r
+block_quote-inside r s alert is = go (is_block_quote r) is
   where
-    go : (z : Bool) → Some s ≡ (if z then Some (without (quote_width r) r) else None) → s ≡ without (quote_width r) r
+    go : (z : Bool) → Some s ≡ (if z then Some (without (block_quote_width r) r) else None) → s ≡ without (block_quote_width r) r
     go true e = cc
     go false e = absurd (let q : Some s ≡ None = e in cc)
 
 -- an item of number 1, or a bullet, interrupts a paragraph of its own container where it is not blank behind its marker
-pub item-goes : (r s : Row) (same : Bool) (mark : ℕ) (number : Option ℕ) (width : ℕ) → same ≡ true → is_one number ≡ true → s ≡ without width r → not (is_blank_line s) ≡ item_interrupts same r (Some (Item mark number width None))
-item-goes r s same mark number width is_same one is =
+pub item-goes : (r s : Row) (same : Bool) (delimiter : ℕ) (number : Option ℕ) (width : ℕ) → same ≡ true → is_one number ≡ true → s ≡ without width r → not (is_blank_line s) ≡ item_interrupts same r (Some (Item delimiter number width None))
+item-goes r s same delimiter number width is_same one is =
     ap (λ x. not (is_blank_line x)) is ∙ ap (λ z. z && not (is_blank_line (without width r))) (sym one)
     ∙ ap (λ z. not z || (is_one number && not (is_blank_line (without width r)))) (sym is_same)

@@ -9,7 +9,7 @@ use Rattle.cmark_grammar.specs.Rows.{Row, without, is_bare, indent_of, words_of}
 use Rattle.cmark_grammar.specs.Leaves.{all_pass, are_blank, is_parted, run, is_break_of, is_thematic_break, is_atx_heading, fence_of, fence_with, is_run_of, underline_of, underlines}
 use Rattle.cmark_grammar.specs.Letters.{is_letter, first_is}
 use Rattle.cmark_grammar.specs.HtmlBlocks.{html_kind, kind_behind}
-use Rattle.cmark_grammar.specs.Containers.{is_bullet, is_digit, digits, delimited, marker_of, item_with, begins_with, quote_width, container_with, with_task}
+use Rattle.cmark_grammar.specs.Containers.{is_bullet, is_digit, digits, delimited, marker_of, item_with, begins_with, block_quote_width, container_with, with_task}
 use Rattle.cmark_grammar.specs.BlockQuoteKind.{BlockQuoteKind}
 use Rattle.cmark_grammar.specs.Alerts.{alert_in}
 use Rattle.cmark_grammar.specs.Footnotes.{Footnotes, footnotes_in, do_interrupt, footnote_in, behind_caret, is_label_found}
@@ -68,7 +68,7 @@ digit-none b l = go (is_digit b) refl
 -- a marker begins with a bullet or a digit
 unmarked : (b : ℕ) (bs : List ℕ) → is_bullet b ≡ false → is_digit b ≡ false → marker_of (b ∷ bs) ≡ None
 unmarked b bs bullet digit =
-    ap (λ z. if z then Some (record { mark = b; number = None; size = 1 }) else delimited (digits (b ∷ bs)) (drop (length (digits (b ∷ bs))) (b ∷ bs))) bullet
+    ap (λ z. if z then Some (record { delimiter = b; number = None; size = 1 }) else delimited (digits (b ∷ bs)) (drop (length (digits (b ∷ bs))) (b ∷ bs))) bullet
     ∙ ap (λ ds. delimited ds (drop (length ds) (b ∷ bs))) (take_while-cons is_digit b bs ∙ ap (λ z. cond z (b ∷ take_while is_digit bs) []) digit)
 
 neither : (words : List ℕ) → first_is begins_marker words ≡ false → (marker_of words ≡ None) × (begins_with 62 words ≡ false)
@@ -76,10 +76,10 @@ neither [] e = (refl, refl)
 neither (b ∷ bs) e = go (is_bullet b) (is_digit b) (b == 62) refl refl refl e
   where
     go : (x y z : Bool) → is_bullet b ≡ x → is_digit b ≡ y → (b == 62) ≡ z → (x || (y || z)) ≡ false → (marker_of (b ∷ bs) ≡ None) × (begins_with 62 (b ∷ bs) ≡ false)
-    go true y z bullet digit quote q = absurd (true≢false q)
-    go false true z bullet digit quote q = absurd (true≢false q)
-    go false false true bullet digit quote q = absurd (true≢false q)
-    go false false false bullet digit quote q = (unmarked b bs bullet digit, quote)
+    go true y z bullet digit block_quote q = absurd (true≢false q)
+    go false true z bullet digit block_quote q = absurd (true≢false q)
+    go false false true bullet digit block_quote q = absurd (true≢false q)
+    go false false false bullet digit block_quote q = (unmarked b bs bullet digit, block_quote)
 
 pub no-container : (options : Options) (r : Row) → first_is begins_marker (words_of r) ≡ false → begun_marked options r ≡ None
 no-container options r e =
@@ -89,7 +89,7 @@ no-container options r e =
     ∙ go (nat_le (indent_of r) 3)
   where
     alert : Option BlockQuoteKind
-    alert = alert_in options (without (quote_width r) r)
+    alert = alert_in options (without (block_quote_width r) r)
 
     go : (z : Bool) → (if z then container_with None (z && false) alert else None) ≡ None
     go true = refl

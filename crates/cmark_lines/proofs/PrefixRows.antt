@@ -5,21 +5,21 @@ use Rattle.std.proofs.lemmas.Bool.{leb-true, leb-false}
 use Rattle.cmark_grammar.specs.Columns.{Column, indent, without_indent}
 use Rattle.cmark_grammar.specs.Rows.{Row, without, indent_of, words_of, is_bare}
 use Rattle.cmark_grammar.specs.Leaves.{is_parted, is_thematic_break}
-use Rattle.cmark_grammar.specs.Containers.{Container, Quote, Item, Footnote, ListDefinition, Marker, is_bullet, is_delimiter, digits, number_of, delimited, marker_of, behind_marker, padding, width_with, item_with, item_of, quote_width, enter, keeps}
-use Rattle.cmark_scan.specs.LineMarkers.{begins_quote, behind_quote, item_in, item_numbers, entered}
-use Rattle.cmark_scan.proofs.PrefixSteps.{shallow, quote-seen, quote-entered, item-seen, item-entered, item-unseen, item-kept}
-use Rattle.cmark_lines.specs.Starts.{quote_entered, begun_item}
+use Rattle.cmark_grammar.specs.Containers.{Container, BlockQuote, Item, Footnote, ListDefinition, Marker, is_bullet, is_delimiter, digits, number_of, delimited, marker_of, behind_marker, padding, width_with, item_with, item_of, block_quote_width, enter, keeps}
+use Rattle.cmark_scan.specs.LineMarkers.{begins_block_quote, behind_block_quote, item_in, item_numbers, entered}
+use Rattle.cmark_scan.proofs.PrefixSteps.{shallow, block_quote-seen, block_quote-entered, item-seen, item-entered, item-unseen, item-kept}
+use Rattle.cmark_lines.specs.Starts.{block_quote_entered, begun_item}
 
 -- what is left behind up to three columns, where so many were taken
 pub shallow-is : (r s : Row) (n : ℕ) → n ≡ min 3 (indent_of r) → s ≡ without n r → s ≡ shallow r
 shallow-is r s n count is = is ∙ ap (λ m. without m r) count
 
-pub quote-none : (r : Row) → false ≡ begins_quote (shallow r) → None ≡ quote_entered r
-quote-none r e = ap (λ z. if z then Some (without (quote_width r) r) else None) (e ∙ quote-seen r)
+pub block_quote-none : (r : Row) → false ≡ begins_block_quote (shallow r) → None ≡ block_quote_entered r
+block_quote-none r e = ap (λ z. if z then Some (without (block_quote_width r) r) else None) (e ∙ block_quote-seen r)
 
-pub quote-some : (r s : Row) → true ≡ begins_quote (shallow r) → s ≡ behind_quote (shallow r) → Some s ≡ quote_entered r
-quote-some r s e is =
-    ap Some (is ∙ quote-entered r (sym (e ∙ quote-seen r))) ∙ ap (λ z. if z then Some (without (quote_width r) r) else None) (e ∙ quote-seen r)
+pub block_quote-some : (r s : Row) → true ≡ begins_block_quote (shallow r) → s ≡ behind_block_quote (shallow r) → Some s ≡ block_quote_entered r
+block_quote-some r s e is =
+    ap Some (is ∙ block_quote-entered r (sym (e ∙ block_quote-seen r))) ∙ ap (λ z. if z then Some (without (block_quote_width r) r) else None) (e ∙ block_quote-seen r)
 
 -- a marker is short
 abbrev pub IsShort : Option Marker → Type 0
@@ -30,7 +30,7 @@ delimited-short : (ds : List ℕ) (rest : List ℕ) → IsShort (delimited ds re
 delimited-short ds [] = tt
 delimited-short ds (b ∷ bs) = go (nat_lt 0 (length ds)) (nat_le (length ds) 9) (is_delimiter b) refl
   where
-    go : (x y z : Bool) → nat_le (length ds) 9 ≡ y → IsShort (if x && (y && z) then Some (record { mark = b; number = Some (number_of ds); size = suc (length ds) }) else None)
+    go : (x y z : Bool) → nat_le (length ds) 9 ≡ y → IsShort (if x && (y && z) then Some (record { delimiter = b; number = Some (number_of ds); size = suc (length ds) }) else None)
     go true true true ey = let le = leb-true (length ds) 9 ey in omega (arith, le)
     go true true false ey = tt
     go true false z ey = tt
@@ -40,7 +40,7 @@ pub marker-short : (bs : List ℕ) → IsShort (marker_of bs)
 marker-short [] = tt
 marker-short (b ∷ bs) = go (is_bullet b)
   where
-    go : (z : Bool) → IsShort (if z then Some (record { mark = b; number = None; size = 1 }) else delimited (digits (b ∷ bs)) (drop (length (digits (b ∷ bs))) (b ∷ bs)))
+    go : (z : Bool) → IsShort (if z then Some (record { delimiter = b; number = None; size = 1 }) else delimited (digits (b ∷ bs)) (drop (length (digits (b ∷ bs))) (b ∷ bs)))
     go true = omega arith
     go false = delimited-short (digits (b ∷ bs)) (drop (length (digits (b ∷ bs))) (b ∷ bs))
 
@@ -60,31 +60,31 @@ triple a x b y c z e = (ap (λ o. (all o).0) e, ap (λ o. (all o).1) e, ap (λ o
     all (Some t) = t
 
 -- what the call answers tells the item
-item-read : (r : Row) → indent_of r ≤ 3 → (mark : ℕ) (number : Option ℕ) (width : ℕ) → Some (mark, number, width) ≡ item_numbers 0 (item_of r) → item_of r ≡ Some (Item mark number width None)
-item-read r le mark number width is = go (marker_of (words_of r)) (marker-short (words_of r)) is
+item-read : (r : Row) → indent_of r ≤ 3 → (delimiter : ℕ) (number : Option ℕ) (width : ℕ) → Some (delimiter, number, width) ≡ item_numbers 0 (item_of r) → item_of r ≡ Some (Item delimiter number width None)
+item-read r le delimiter number width is = go (marker_of (words_of r)) (marker-short (words_of r)) is
   where
-    go : (o : Option Marker) → IsShort o → Some (mark, number, width) ≡ item_numbers 0 (item_with r o) → item_with r o ≡ Some (Item mark number width None)
-    go None short e = absurd (let q : Some (mark, number, width) ≡ None = e in cc)
+    go : (o : Option Marker) → IsShort o → Some (delimiter, number, width) ≡ item_numbers 0 (item_with r o) → item_with r o ≡ Some (Item delimiter number width None)
+    go None short e = absurd (let q : Some (delimiter, number, width) ≡ None = e in cc)
     go (Some m) short e = test (is_parted (drop m.size (words_of r)) && not (is_thematic_break (words_of r))) e
       where
-        test : (z : Bool) → Some (mark, number, width) ≡ item_numbers 0 (if z then Some (Item m.mark m.number (width_with m.size r) None) else None) → (if z then Some (Item m.mark m.number (width_with m.size r) None) else None) ≡ Some (Item mark number width None)
-        test false q = absurd (let p : Some (mark, number, width) ≡ None = q in cc)
+        test : (z : Bool) → Some (delimiter, number, width) ≡ item_numbers 0 (if z then Some (Item m.delimiter m.number (width_with m.size r) None) else None) → (if z then Some (Item m.delimiter m.number (width_with m.size r) None) else None) ≡ Some (Item delimiter number width None)
+        test false q = absurd (let p : Some (delimiter, number, width) ≡ None = q in cc)
         test true q =
-            let p = triple mark m.mark number m.number width (min (0 + width_with m.size r) (2 ^ 64 - 1)) q in
+            let p = triple delimiter m.delimiter number m.number width (min (0 + width_with m.size r) (2 ^ 64 - 1)) q in
             let w : width ≡ min (0 + width_with m.size r) (2 ^ 64 - 1) = p.2 in
             let few = padding-few (behind_marker m.size r) in
             let s : width_with m.size r ≡ width = omega (arith, w, few, le, short) in
-            ap (λ x. Some (Item x m.number (width_with m.size r) None)) (sym p.0) ∙ ap (λ n. Some (Item mark n (width_with m.size r) None)) (sym p.1) ∙ ap (λ n. Some (Item mark number n None)) s
+            ap (λ x. Some (Item x m.number (width_with m.size r) None)) (sym p.0) ∙ ap (λ n. Some (Item delimiter n (width_with m.size r) None)) (sym p.1) ∙ ap (λ n. Some (Item delimiter number n None)) s
 
 pub numbers-is : (r s : Row) (n : ℕ) → n ≡ min 3 (indent_of r) → s ≡ without n r → item_numbers n (item_in s) ≡ item_numbers (min 3 (indent_of r)) (item_in (shallow r))
 numbers-is r s n count is = ap (λ x. item_numbers n (item_in x)) (shallow-is r s n count is) ∙ ap (λ m. item_numbers m (item_in (shallow r))) count
 
-pub item-found : (r : Row) (mark : ℕ) (number : Option ℕ) (width : ℕ) → Some (mark, number, width) ≡ item_numbers (min 3 (indent_of r)) (item_in (shallow r)) → (indent_of r ≤ 3) × (item_of r ≡ Some (Item mark number width None))
-item-found r mark number width is = go (nat_le (indent_of r) 3) refl
+pub item-found : (r : Row) (delimiter : ℕ) (number : Option ℕ) (width : ℕ) → Some (delimiter, number, width) ≡ item_numbers (min 3 (indent_of r)) (item_in (shallow r)) → (indent_of r ≤ 3) × (item_of r ≡ Some (Item delimiter number width None))
+item-found r delimiter number width is = go (nat_le (indent_of r) 3) refl
   where
-    go : (z : Bool) → nat_le (indent_of r) 3 ≡ z → (indent_of r ≤ 3) × (item_of r ≡ Some (Item mark number width None))
-    go true e = let le = leb-true (indent_of r) 3 e in (le, item-read r le mark number width (is ∙ item-seen r le))
-    go false e = absurd (let p : Some (mark, number, width) ≡ None = is ∙ ap (item_numbers (min 3 (indent_of r))) (item-unseen r (leb-false (indent_of r) 3 e)) in cc)
+    go : (z : Bool) → nat_le (indent_of r) 3 ≡ z → (indent_of r ≤ 3) × (item_of r ≡ Some (Item delimiter number width None))
+    go true e = let le = leb-true (indent_of r) 3 e in (le, item-read r le delimiter number width (is ∙ item-seen r le))
+    go false e = absurd (let p : Some (delimiter, number, width) ≡ None = is ∙ ap (item_numbers (min 3 (indent_of r))) (item-unseen r (leb-false (indent_of r) 3 e)) in cc)
 
 begun-all : (r : Row) → indent_of r ≤ 3 → begun_item r ≡ item_of r
 begun-all r le = ap (λ z. if z then item_of r else None) (test (indent_of r) le)
@@ -92,28 +92,28 @@ begun-all r le = ap (λ z. if z then item_of r else None) (test (indent_of r) le
     test : (n : ℕ) → n ≤ 3 → nat_le n 3 ≡ true
     test n le = grind (arith)
 
-pub item-some : (r : Row) (mark : ℕ) (number : Option ℕ) (width : ℕ) → Some (mark, number, width) ≡ item_numbers (min 3 (indent_of r)) (item_in (shallow r)) → Some (Item mark number width None) ≡ begun_item r
-item-some r mark number width is = let h = item-found r mark number width is in sym (begun-all r h.0 ∙ h.1)
+pub item-some : (r : Row) (delimiter : ℕ) (number : Option ℕ) (width : ℕ) → Some (delimiter, number, width) ≡ item_numbers (min 3 (indent_of r)) (item_in (shallow r)) → Some (Item delimiter number width None) ≡ begun_item r
+item-some r delimiter number width is = let h = item-found r delimiter number width is in sym (begun-all r h.0 ∙ h.1)
 
-pub item-inside : (r s : Row) (mark : ℕ) (number : Option ℕ) (width : ℕ) → Some (mark, number, width) ≡ item_numbers (min 3 (indent_of r)) (item_in (shallow r)) → s ≡ entered (item_in (shallow r)) (shallow r) → s ≡ without width r
+pub item-inside : (r s : Row) (delimiter : ℕ) (number : Option ℕ) (width : ℕ) → Some (delimiter, number, width) ≡ item_numbers (min 3 (indent_of r)) (item_in (shallow r)) → s ≡ entered (item_in (shallow r)) (shallow r) → s ≡ without width r
 unfolding enter
-item-inside r s mark number width is e = let h = item-found r mark number width is in e ∙ item-entered r h.0 (Item mark number width None) h.1
+item-inside r s delimiter number width is e = let h = item-found r delimiter number width is in e ∙ item-entered r h.0 (Item delimiter number width None) h.1
 
 pub item-none : (r : Row) → None ≡ item_numbers (min 3 (indent_of r)) (item_in (shallow r)) → None ≡ begun_item r
 item-none r is = go (nat_le (indent_of r) 3) refl
   where
     by : (o : Option Container) → o ≡ item_of r → None ≡ item_numbers 0 o → None ≡ item_of r
     by None q e = q
-    by (Some (Quote alert)) q e = absurd (never q)
+    by (Some (BlockQuote alert)) q e = absurd (never q)
       where
-        never : Some (Quote alert) ≡ item_of r → ⊥
+        never : Some (BlockQuote alert) ≡ item_of r → ⊥
         never p = quote_item (marker_of (words_of r)) p
           where
-            quote_item : (m : Option Marker) → Some (Quote alert) ≡ item_with r m → ⊥
+            quote_item : (m : Option Marker) → Some (BlockQuote alert) ≡ item_with r m → ⊥
             quote_item None x = cc
             quote_item (Some m) x = test (is_parted (drop m.size (words_of r)) && not (is_thematic_break (words_of r))) x
               where
-                test : (z : Bool) → Some (Quote alert) ≡ (if z then Some (Item m.mark m.number (width_with m.size r) None) else None) → ⊥
+                test : (z : Bool) → Some (BlockQuote alert) ≡ (if z then Some (Item m.delimiter m.number (width_with m.size r) None) else None) → ⊥
                 test true y = cc
                 test false y = cc
     by (Some (Footnote label old size)) q e = absurd (never q)
@@ -125,7 +125,7 @@ item-none r is = go (nat_le (indent_of r) 3) refl
             footnote_item None x = cc
             footnote_item (Some m) x = test (is_parted (drop m.size (words_of r)) && not (is_thematic_break (words_of r))) x
               where
-                test : (z : Bool) → Some (Footnote label old size) ≡ (if z then Some (Item m.mark m.number (width_with m.size r) None) else None) → ⊥
+                test : (z : Bool) → Some (Footnote label old size) ≡ (if z then Some (Item m.delimiter m.number (width_with m.size r) None) else None) → ⊥
                 test true y = cc
                 test false y = cc
     by (Some (ListDefinition width)) q e = absurd (never q)
@@ -137,20 +137,20 @@ item-none r is = go (nat_le (indent_of r) 3) refl
             definition_item None x = cc
             definition_item (Some m) x = test (is_parted (drop m.size (words_of r)) && not (is_thematic_break (words_of r))) x
               where
-                test : (z : Bool) → Some (ListDefinition width) ≡ (if z then Some (Item m.mark m.number (width_with m.size r) None) else None) → ⊥
+                test : (z : Bool) → Some (ListDefinition width) ≡ (if z then Some (Item m.delimiter m.number (width_with m.size r) None) else None) → ⊥
                 test true y = cc
                 test false y = cc
-    by (Some (Item mark number width task)) q e = absurd (let p : None ≡ Some (mark, number, min (0 + width) (2 ^ 64 - 1)) = e in cc)
+    by (Some (Item delimiter number width task)) q e = absurd (let p : None ≡ Some (delimiter, number, min (0 + width) (2 ^ 64 - 1)) = e in cc)
 
     go : (z : Bool) → nat_le (indent_of r) 3 ≡ z → None ≡ (if z then item_of r else None)
     go true e = by (item_of r) refl (is ∙ item-seen r (leb-true (indent_of r) 3 e))
     go false e = refl
 
-pub stop_entered : (r : Row) → (entered (item_in r) r).stop ≡ r.stop
+pub content_end_entered : (r : Row) → (entered (item_in r) r).content_end ≡ r.content_end
 unfolding enter
-stop_entered r = go (item_in r)
+content_end_entered r = go (item_in r)
   where
-    go : (o : Option Container) → (entered o r).stop ≡ r.stop
+    go : (o : Option Container) → (entered o r).content_end ≡ r.content_end
     go None = refl
     go (Some k) = refl
 
@@ -162,8 +162,8 @@ module _ (r s : Row) (width : ℕ) (whole : r.lazy ≡ false) (is : s ≡ withou
   tested : (z : Bool) → (nat_le width (indent_of r) || is_bare s.columns) ≡ z → (nat_le width (indent_of r) || is_bare (without (min width (indent_of r)) r).columns) ≡ z
   tested z e = ap (λ x. nat_le width (indent_of r) || is_bare x.columns) (sym is) ∙ e
 
-  pub width-kept : (nat_le width (indent_of r) || is_bare s.columns) ≡ true → (mark : ℕ) (number : Option ℕ) (task : Option Bool) → Some s ≡ keeps (Item mark number width task) false r
-  width-kept e mark number task = ap Some is ∙ ap kept_if (sym (tested true e)) ∙ sym (item-kept r mark number width task whole)
+  pub width-kept : (nat_le width (indent_of r) || is_bare s.columns) ≡ true → (delimiter : ℕ) (number : Option ℕ) (task : Option Bool) → Some s ≡ keeps (Item delimiter number width task) false r
+  width-kept e delimiter number task = ap Some is ∙ ap kept_if (sym (tested true e)) ∙ sym (item-kept r delimiter number width task whole)
 
-  pub width-lacked : (nat_le width (indent_of r) || is_bare s.columns) ≡ false → (mark : ℕ) (number : Option ℕ) (task : Option Bool) → None ≡ keeps (Item mark number width task) false r
-  width-lacked e mark number task = ap kept_if (sym (tested false e)) ∙ sym (item-kept r mark number width task whole)
+  pub width-lacked : (nat_le width (indent_of r) || is_bare s.columns) ≡ false → (delimiter : ℕ) (number : Option ℕ) (task : Option Bool) → None ≡ keeps (Item delimiter number width task) false r
+  width-lacked e delimiter number task = ap kept_if (sym (tested false e)) ∙ sym (item-kept r delimiter number width task whole)

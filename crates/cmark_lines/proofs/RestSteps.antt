@@ -11,28 +11,28 @@ use Rattle.cmark_lines.specs.Rests.{row_of, IsIn}
 use Rattle.cmark_lines.specs.declared.line_rest.LineRest.{LineRest}
 
 -- the columns that are left stand one behind the other
-pub rest-runs : (rest : LineRest) → Runs (begin_of (row_of rest)) (row_of rest).columns (row_of rest).stop
+pub rest-runs : (rest : LineRest) → Runs (begin_of (row_of rest)) (row_of rest).columns (row_of rest).content_end
 unfolding row_of
 rest-runs rest =
     (drop-Runs (columns_taken rest.front) rest.start (expand 0 rest.start rest.front.bytes.now) (rest.start + length rest.front.bytes.now) (expand-Runs 0 rest.start rest.front.bytes.now)).0
 
-pub begin-stop : (rest : LineRest) → begin_of (row_of rest) ≤ (row_of rest).stop
-begin-stop rest = Runs-le (begin_of (row_of rest)) (row_of rest).columns (row_of rest).stop (rest-runs rest)
+pub begin-content_end : (rest : LineRest) → begin_of (row_of rest) ≤ (row_of rest).content_end
+begin-content_end rest = Runs-le (begin_of (row_of rest)) (row_of rest).columns (row_of rest).content_end (rest-runs rest)
 
 pub begin-start : (rest : LineRest) → begin_of (row_of rest) ≤ start_of (row_of rest)
-begin-start rest = (drop-Runs (indent_of (row_of rest)) (begin_of (row_of rest)) (row_of rest).columns (row_of rest).stop (rest-runs rest)).1
+begin-start rest = (drop-Runs (indent_of (row_of rest)) (begin_of (row_of rest)) (row_of rest).columns (row_of rest).content_end (rest-runs rest)).1
 
-pub start-stop : (rest : LineRest) → start_of (row_of rest) ≤ (row_of rest).stop
-start-stop rest =
-    Runs-le (start_of (row_of rest)) (without_indent (row_of rest).columns) (row_of rest).stop
-    (drop-Runs (indent_of (row_of rest)) (begin_of (row_of rest)) (row_of rest).columns (row_of rest).stop (rest-runs rest)).0
+pub start-content_end : (rest : LineRest) → start_of (row_of rest) ≤ (row_of rest).content_end
+start-content_end rest =
+    Runs-le (start_of (row_of rest)) (without_indent (row_of rest).columns) (row_of rest).content_end
+    (drop-Runs (indent_of (row_of rest)) (begin_of (row_of rest)) (row_of rest).columns (row_of rest).content_end (rest-runs rest)).0
 
-pub stop-past : (rest : LineRest) → (row_of rest).stop ≤ (row_of rest).past
+pub content_end-line_end : (rest : LineRest) → (row_of rest).content_end ≤ (row_of rest).line_end
 unfolding row_of
-stop-past rest = rest.ends
+content_end-line_end rest = rest.ends
 
 pub rest-lies : (from : ℕ) (rest : LineRest) → from ≤ begin_of (row_of rest) → Lies from (row_of rest)
-rest-lies from rest le = (le, rest-runs rest, stop-past rest)
+rest-lies from rest le = (le, rest-runs rest, content_end-line_end rest)
 
 -- it lacks no prefix
 pub whole : (rest : LineRest) → (row_of rest).lazy ≡ false
@@ -48,14 +48,14 @@ runs-bytes from (c ∷ cs) to h = go (c.part == 0) refl (runs-bytes (suc c.at) c
     go true e ih = let p : c.at ≡ from = sym (ap (λ z. if z then c.at else suc c.at) e) ∙ h.0 in omega (arith, ih, p)
     go false e ih = let p : suc c.at ≡ from = sym (ap (λ z. if z then c.at else suc c.at) e) ∙ h.0 in omega (arith, ih, p)
 
-pub bytes-stop : (rest : LineRest) → begin_of (row_of rest) + length (bytes_of (row_of rest).columns) ≡ (row_of rest).stop
-bytes-stop rest = runs-bytes (begin_of (row_of rest)) (row_of rest).columns (row_of rest).stop (rest-runs rest)
+pub bytes-content_end : (rest : LineRest) → begin_of (row_of rest) + length (bytes_of (row_of rest).columns) ≡ (row_of rest).content_end
+bytes-content_end rest = runs-bytes (begin_of (row_of rest)) (row_of rest).columns (row_of rest).content_end (rest-runs rest)
 
 -- what is left behind blanks stands in the text, too
-pub in-moved : (text : List ℕ) (rest moved : LineRest) (r : Row) → row_of moved ≡ r → r.past ≡ (row_of rest).past → GoodRow (IsCharBoundary text) r → IsIn text rest → IsIn text moved
-in-moved text rest moved r is past good h = record {
+pub in-moved : (text : List ℕ) (rest moved : LineRest) (r : Row) → row_of moved ≡ r → r.line_end ≡ (row_of rest).line_end → GoodRow (IsCharBoundary text) r → IsIn text rest → IsIn text moved
+in-moved text rest moved r is line_end good h = record {
   good = subst (GoodRow (IsCharBoundary text)) (sym is) good;
-  within = subst (λ p. p ≤ length text) (sym (ap (λ x. x.past) is ∙ past)) h.within;
+  within = subst (λ p. p ≤ length text) (sym (ap (λ x. x.line_end) is ∙ line_end)) h.within;
 }
 
 pub in-behind : (text : List ℕ) (n : ℕ) (rest moved : LineRest) → row_of moved ≡ without n (row_of rest) → n ≤ indent_of (row_of rest) → IsIn text rest → IsIn text moved

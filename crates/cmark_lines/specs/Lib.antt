@@ -3,4 +3,4 @@ pub mod Definitions
 pub mod Opened
 pub mod Rests
 pub mod Starts
-pub mod Verbatims
+pub mod Continuations

@@ -3,7 +3,7 @@ use Rattle.std.specs.Prelude.{◌≡◌, ℕ, ◌+◌, ◌<◌, ◌≤◌, Bool,
 use Rattle.std.specs.Str.{IsCharBoundary}
 use Rattle.cmark_grammar.specs.Options.{Options}
 use Rattle.cmark_grammar.specs.Rows.{Row, words_of, start_of}
-use Rattle.cmark_grammar.specs.Leaves.{counted, code_further, is_thematic_break, is_atx_heading, fence_of}
+use Rattle.cmark_grammar.specs.Leaves.{counted, code_continuation, is_thematic_break, is_atx_heading, fence_of}
 use Rattle.cmark_grammar.specs.HtmlBlocks.{html_kind, html_lines}
 use Rattle.cmark_grammar.specs.LinkDefinitions.{definition_in, bytes_over}
 use Rattle.cmark_grammar.specs.Containers.{begins_with}
@@ -28,7 +28,7 @@ bracket_of options r ahead = or_else (defined_if (length (text_lines options ahe
 abbrev pub opened : Options → Opening → Row → List Row → grammar.Opening
 opened options Blank r ahead = grammar.Blank
 opened options (Nests start) r ahead = grammar.Nests (shown_start options r start)
-opened options IndentedCode r ahead = grammar.Takes grammar.IndentedCode (counted code_further ahead)
+opened options IndentedCode r ahead = grammar.Takes grammar.IndentedCode (counted code_continuation ahead)
 opened options (Html kind) r ahead = grammar.Takes (grammar.HtmlBlock (kind_number kind)) (html_lines (kind_number kind) r ahead)
 opened options ThematicBreak r ahead = grammar.Takes grammar.ThematicBreak 0
 opened options (AtxHeading level) r ahead = grammar.Takes (grammar.AtxHeading (level_number level)) 0
@@ -59,7 +59,7 @@ HasInfo _ r = Unit {0}
 -- in order, and cutting no character of this text
 abbrev pub InfoStands : List ℕ → Row → CodeFence → Type 0
 InfoStands text r fence =
-    (fence.info_start ≤ fence.info_end) × (start_of r + fence.info_end ≤ r.stop) × IsCharBoundary text (start_of r + fence.info_start) × IsCharBoundary text (start_of r + fence.info_end)
+    (fence.info_start ≤ fence.info_end) × (start_of r + fence.info_end ≤ r.content_end) × IsCharBoundary text (start_of r + fence.info_start) × IsCharBoundary text (start_of r + fence.info_end)
 
 abbrev pub InfoIsIn : List ℕ → Opening → Row → Type 0
 InfoIsIn text (FencedCode indent fence) r = InfoStands text r fence

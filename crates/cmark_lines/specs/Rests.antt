@@ -7,11 +7,11 @@ use Rattle.cmark_scan.specs.LineStart.{row_from}
 use Rattle.cmark_lines.specs.declared.line_rest.LineRest.{LineRest}
 
 unfoldable pub row_of : LineRest → Row
-row_of rest = row_from rest.start rest.past rest.front
+row_of rest = row_from rest.start rest.line_end rest.front
 
 -- the line of no byte, and without an ending, at this place
 abbrev pub no_row : ℕ → Row
-no_row at = record { columns = []; at = at; stop = at; past = at; lazy = false; held = false }
+no_row at = record { columns = []; at = at; content_end = at; line_end = at; lazy = false; held = false }
 
 -- the columns of a line stand in order up to its ending, and no character of this text is cut where the line begins, at an
 -- ASCII byte of it, at its ending, or where the next line begins
@@ -21,4 +21,4 @@ CutsNoCharacter text r = GoodRow (IsCharBoundary text) r
 -- the line stands in this text
 pub record IsIn (text : List ℕ) (rest : LineRest) : Type 0 where
   pub good : CutsNoCharacter text (row_of rest)
-  pub within : (row_of rest).past ≤ length text
+  pub within : (row_of rest).line_end ≤ length text

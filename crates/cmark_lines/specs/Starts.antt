@@ -1,9 +1,9 @@
 -- Containers as this crate knows them, seen as those of the grammar.
 use Rattle.std.specs.Prelude.{◌≡◌, ℕ, Bool, ◌==◌, ◌||◌, nat_le, if◌then◌else◌, Option, Some, None}
 use Rattle.cmark_grammar.specs.Containers as grammar
-use Rattle.cmark_grammar.specs.Containers.{item_of, with_task, marker_width, container_of, container_with, footnote_of, is_quote, quote_width}
+use Rattle.cmark_grammar.specs.Containers.{item_of, with_task, marker_width, container_of, container_with, footnote_of, is_block_quote, block_quote_width}
 use Rattle.cmark_grammar.specs.Footnotes.{footnotes_in, footnote_in, marker_columns}
-use Rattle.cmark_grammar.specs.LinkDefinitions.{Found}
+use Rattle.cmark_grammar.specs.LinkDefinitions.{Parsed}
 use Rattle.cmark_scan_parts.specs.Footnotes.{marked, IsClosed}
 use Rattle.cmark_grammar.specs.Alerts.{alert_in}
 use Rattle.cmark_grammar.specs.TaskItems.{task_in}
@@ -20,25 +20,25 @@ use Rattle.cmark_lines.specs.declared.container.ContainerStart.TheVariants as be
 
 -- a container of the grammar keeps the lines that this one keeps: what else an item or a footnote definition is does not matter to its later lines
 abbrev pub Shows : Container → grammar.Container → Type 0
-Shows kept.Quote (grammar.Quote alert) = Unit {0}
-Shows kept.Quote (grammar.Item mark number width task) = ⊥
-Shows kept.Quote (grammar.Footnote label old size) = ⊥
-Shows kept.Quote (grammar.ListDefinition width) = ⊥
-Shows (kept.Item w) (grammar.Quote alert) = ⊥
-Shows (kept.Item w) (grammar.Item mark number width task) = w ≡ width
+Shows kept.BlockQuote (grammar.BlockQuote alert) = Unit {0}
+Shows kept.BlockQuote (grammar.Item delimiter number width task) = ⊥
+Shows kept.BlockQuote (grammar.Footnote label old size) = ⊥
+Shows kept.BlockQuote (grammar.ListDefinition width) = ⊥
+Shows (kept.Item w) (grammar.BlockQuote alert) = ⊥
+Shows (kept.Item w) (grammar.Item delimiter number width task) = w ≡ width
 Shows (kept.Item w) (grammar.Footnote label old size) = ⊥
 Shows (kept.Item w) (grammar.ListDefinition width) = ⊥
-Shows (kept.Footnote o) (grammar.Quote alert) = ⊥
-Shows (kept.Footnote o) (grammar.Item mark number width task) = ⊥
+Shows (kept.Footnote o) (grammar.BlockQuote alert) = ⊥
+Shows (kept.Footnote o) (grammar.Item delimiter number width task) = ⊥
 Shows (kept.Footnote o) (grammar.Footnote label old size) = o ≡ old
 Shows (kept.Footnote o) (grammar.ListDefinition width) = ⊥
-Shows (kept.Definition w) (grammar.Quote alert) = ⊥
-Shows (kept.Definition w) (grammar.Item mark number width task) = ⊥
+Shows (kept.Definition w) (grammar.BlockQuote alert) = ⊥
+Shows (kept.Definition w) (grammar.Item delimiter number width task) = ⊥
 Shows (kept.Definition w) (grammar.Footnote label old size) = ⊥
 Shows (kept.Definition w) (grammar.ListDefinition width) = w ≡ width
 
 abbrev pub shown_item : ItemStart → grammar.Container
-shown_item item = grammar.Item item.mark item.number item.width None
+shown_item item = grammar.Item item.delimiter item.number item.width None
 
 -- the footnote definition whose label has so many bytes
 abbrev pub shown_footnote : Row → (label_size : ℕ) → (old : Bool) → grammar.Container
@@ -47,12 +47,12 @@ shown_footnote r label_size old = let label = (marked (words_of r) label_size).b
 -- the container that begins, and the line behind its marker: that line tells whether a block quote is an alert, and whether an item has a
 -- task marker
 abbrev pub shown_start : Options → Row → ContainerStart → grammar.Container
-shown_start options r (begun.Quote inside) = grammar.Quote (alert_in options (row_of inside))
-shown_start options r (begun.Item item inside) = grammar.Item item.mark item.number item.width (task_in options (row_of inside))
+shown_start options r (begun.BlockQuote inside) = grammar.BlockQuote (alert_in options (row_of inside))
+shown_start options r (begun.Item item inside) = grammar.Item item.delimiter item.number item.width (task_in options (row_of inside))
 shown_start options r (begun.Footnote footnote inside) = shown_footnote r footnote.label_size footnote.old
 
 abbrev pub inside_of : ContainerStart → LineRest
-inside_of (begun.Quote inside) = inside
+inside_of (begun.BlockQuote inside) = inside
 inside_of (begun.Item item inside) = inside
 inside_of (begun.Footnote footnote inside) = inside
 
@@ -62,7 +62,7 @@ Enters r start = (options : Options) → row_of (inside_of start) ≡ without (m
 
 -- the label of a footnote definition stands between brackets
 abbrev pub HasMarker : Row → ContainerStart → Type 0
-HasMarker r (begun.Quote inside) = Unit {0}
+HasMarker r (begun.BlockQuote inside) = Unit {0}
 HasMarker r (begun.Item item inside) = Unit {0}
 HasMarker r (begun.Footnote footnote inside) = IsClosed (words_of r) footnote.label_size
 
@@ -75,13 +75,13 @@ abbrev pub begun_footnote : Options → Row → Option grammar.Container
 begun_footnote options r = if nat_le (indent_of r) 3 then footnote_of (footnotes_in options) r else None
 
 abbrev pub begun_marked : Options → Row → Option grammar.Container
-begun_marked options r = if nat_le (indent_of r) 3 then container_with (with_task options r (item_of r)) (is_quote r) (alert_in options (without (quote_width r) r)) else None
+begun_marked options r = if nat_le (indent_of r) 3 then container_with (with_task options r (item_of r)) (is_block_quote r) (alert_in options (without (block_quote_width r) r)) else None
 
 -- the label of the footnote definition, and what stands behind its marker
-abbrev pub begun_label : Row → Option Found
+abbrev pub begun_label : Row → Option Parsed
 begun_label r = if nat_le (indent_of r) 3 then footnote_in (words_of r) else None
 
-abbrev pub label_shown : Row → ℕ × LineRest → Found
+abbrev pub label_shown : Row → ℕ × LineRest → Parsed
 label_shown r begun = marked (words_of r) begun.0
 
 abbrev pub EntersFootnote : Row → ℕ × LineRest → Type 0
@@ -108,5 +108,5 @@ abbrev pub EntersItem : Row → ItemStart × LineRest → Type 0
 EntersItem r begun = row_of begun.1 ≡ without begun.0.width r
 
 -- the first line of a block quote behind its marker
-abbrev pub quote_entered : Row → Option Row
-quote_entered r = if is_quote r then Some (without (quote_width r) r) else None
+abbrev pub block_quote_entered : Row → Option Row
+block_quote_entered r = if is_block_quote r then Some (without (block_quote_width r) r) else None

@@ -18,7 +18,7 @@ use cmark_text::Options;
 #[derive(Clone, Copy)]
 pub enum Container {
     /// A block quote (CommonMark 5.1).
-    Quote,
+    BlockQuote,
     /// A list item (CommonMark 5.2).
     Item {
         /// How many columns the prefix of its later lines has.
@@ -40,7 +40,7 @@ pub enum Container {
 #[derive(Clone, Copy)]
 pub struct ItemStart {
     /// The bullet, or what stands behind the number: `.` or `)`.
-    pub mark: u8,
+    pub delimiter: u8,
     /// The number of an ordered item.
     pub number: Option<u64>,
     /// How many columns the prefix of its later lines has.
@@ -60,7 +60,7 @@ pub struct FootnoteStart {
 #[derive(Clone, Copy)]
 pub enum ContainerStart<'a> {
     /// A block quote; [`LineRest::alert_kind`] tells whether it is an alert.
-    Quote(LineRest<'a>),
+    BlockQuote(LineRest<'a>),
     /// A list item.
     Item(ItemStart, LineRest<'a>),
     /// A footnote definition (this profile's own), and the line behind the blanks that follow its marker.
@@ -82,7 +82,7 @@ impl Container {
             return None;
         }
         match self {
-            Container::Quote => rest.behind_quote(),
+            Container::BlockQuote => rest.behind_block_quote(),
             Container::Item { width } => rest.behind_width(width),
             Container::Footnote { old } => rest.behind_footnote(old),
             Container::Definition { width } => rest.behind_width(width),
@@ -139,8 +139,8 @@ fn marker_start<'a>(rest: LineRest<'a>, words: &[u8]) -> Option<ContainerStart<'
     if let Some((item, inside)) = rest.behind_item() {
         return Some(ContainerStart::Item(item, inside));
     }
-    let inside = rest.behind_quote()?;
-    Some(ContainerStart::Quote(inside))
+    let inside = rest.behind_block_quote()?;
+    Some(ContainerStart::BlockQuote(inside))
 }
 
 /// Whether the words of a line may begin with the marker of a list item or a block quote, by their first byte alone.

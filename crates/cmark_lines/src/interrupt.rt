@@ -5,7 +5,7 @@ ghost use Rattle.cmark_grammar.specs.Footnotes.{footnotes_in};
 ghost use Rattle.cmark_grammar.specs.Letters.{is_letter, first_is};
 ghost use Rattle.cmark_grammar.specs.Rows.{Row};
 ghost use Rattle.cmark_grammar.specs.Leaves.{is_atx_heading, fence_of, underlines};
-ghost use Rattle.cmark_grammar.specs.Containers.{is_quote};
+ghost use Rattle.cmark_grammar.specs.Containers.{is_block_quote};
 ghost use Rattle.cmark_grammar.specs.Openings.{interrupts, footnote_interrupts, is_one, item_interrupts, is_some_fence, html_interrupts};
 ghost use Rattle.cmark_grammar.specs.HtmlBlocks.{html_kind};
 ghost use Rattle.cmark_text.specs.Shown.{level_number, shown_options};
@@ -33,7 +33,9 @@ pub fn interrupts(rest: LineRest<'_>, same: bool, options: Options) -> bool
     rest.is_blank()
         || footnote_interrupts(rest, options)
         || (rest.indent_upto(4) < 4
-            && (is_quote(rest) || item_interrupts(rest, same) || leaf_interrupts(rest.words())))
+            && (is_block_quote(rest)
+                || item_interrupts(rest, same)
+                || leaf_interrupts(rest.words())))
 }
 
 /// Whether the line begins a footnote definition that interrupts a paragraph (this profile's own).
@@ -69,10 +71,10 @@ fn begins_with_letter_or_pipe(words: &[u8]) -> bool
 
 /// Whether the line begins a block quote.
 #[inline]
-fn is_quote(rest: LineRest<'_>) -> bool
-    ensures { result ≡ is_quote (row_of rest.entry) }
+fn is_block_quote(rest: LineRest<'_>) -> bool
+    ensures { result ≡ is_block_quote (row_of rest.entry) }
 {
-    rest.behind_quote().is_some()
+    rest.behind_block_quote().is_some()
 }
 
 /// Whether the line begins a list item that interrupts a paragraph.

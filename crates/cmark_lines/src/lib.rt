@@ -3,6 +3,7 @@
 #![tactic(auto)]
 
 mod container;
+mod continuation;
 mod definition;
 mod footnotes;
 mod interrupt;
@@ -10,14 +11,13 @@ mod line_rest;
 mod metadata;
 mod opening;
 mod table;
-mod verbatim;
 
 pub use cmark_scan::{CodeFence, HtmlKind};
 pub use container::{Container, ContainerStart, FootnoteStart, ItemStart};
+pub use continuation::{CodeOrHtml, Continuation, ends_at_once};
 pub use definition::{begins_definition, definition_start, reads_definition_lists};
 pub use interrupt::{interrupts, underlines};
 pub use line_rest::LineRest;
 pub use metadata::{ends_metadata, metadata_kind};
 pub use opening::{Opening, begins_with_label, begins_with_text, what_opens};
 pub use table::{begins_with_pipe, count_missing, head_cells, is_delimiter_row};
-pub use verbatim::{Further, Verbatim, ends_at_once};

@@ -17,10 +17,10 @@ pub struct LineRest<'a> {
     /// Where the whole line begins.
     start: usize,
     /// Where the next line begins.
-    past: usize,
+    line_end: usize,
     /// The line without its ending, of which the prefixes were taken.
     front: LineStart<'a>,
-    ghost ends: { (row_from start past front).stop ≤ past },
+    ghost ends: { (row_from start line_end front).content_end ≤ line_end },
 }
 
 impl<'a> LineRest<'a> {
@@ -39,10 +39,10 @@ impl<'a> LineRest<'a> {
         requires { start ≤ length text.now }
         ensures line { (line : List ℕ) (more : List (List ℕ)) → lines (drop start text.entry.now) ≡ line ∷ more → row_of result ≡ row_at start line }
         ensures further { start < length text.entry.now → rows_from start (lines (drop start text.entry.now))
-            ≡ row_of result ∷ rows_from (row_of result).past (lines (drop (row_of result).past text.entry.now)) }
+            ≡ row_of result ∷ rows_from (row_of result).line_end (lines (drop (row_of result).line_end text.entry.now)) }
         ensures none { start ≡ length text.entry.now → row_of result ≡ no_row start }
-        ensures ahead { start < length text.entry.now → start < (row_of result).past }
-        ensures within { (row_of result).past ≤ length text.entry.now }
+        ensures ahead { start < length text.entry.now → start < (row_of result).line_end }
+        ensures within { (row_of result).line_end ≤ length text.entry.now }
         ensures placed { IsUtf8 text.entry.now → IsCharBoundary text.entry.now start → IsIn text.entry.now result }
     {
         let bytes = &text[start..];
@@ -50,7 +50,7 @@ impl<'a> LineRest<'a> {
         let len = front.remaining_bytes().len();
         LineRest {
             start,
-            past: start + len + ending_len(&bytes[len..]),
+            line_end: start + len + ending_len(&bytes[len..]),
             front,
         }
     }
@@ -58,11 +58,19 @@ impl<'a> LineRest<'a> {
     /// The same line, of which this is left.
     #[inline]
     fn with_front(self, front: LineStart<'a>) -> LineRest<'a>
-        requires { (row_from self.start self.past front).stop ≡ (row_of self).stop }
-        ensures { row_of result ≡ row_from self.entry.start self.entry.past front.entry }
+        requires { (row_from self.start self.line_end front).content_end ≡ (row_of self).content_end }
+        ensures { row_of result ≡ row_from self.entry.start self.entry.line_end front.entry }
     {
-        let LineRest { start, past, .. } = self;
-        LineRest { start, past, front }
+        let LineRest {
+            start,
+            line_end,
+            ..
+        } = self;
+        LineRest {
+            start,
+            line_end,
+            front,
+        }
     }
 
     /// The place at which the rest begins. Of a tab that was cut by a prefix, it is the place behind the tab.
@@ -94,8 +102,8 @@ impl<'a> LineRest<'a> {
 
     /// The place at which the line's ending begins: the text's end, where the last line has none.
     #[inline]
-    pub fn stop(&self) -> usize
-        ensures place { result ≡ (row_of self.now).stop }
+    pub fn content_end(&self) -> usize
+        ensures place { result ≡ (row_of self.now).content_end }
         ensures order { start_of (row_of self.now) ≤ result }
         ensures boundary { (text : List ℕ) → IsIn text self.now → IsCharBoundary text result }
     {
@@ -104,13 +112,13 @@ impl<'a> LineRest<'a> {
 
     /// The place at which the next line begins.
     #[inline]
-    pub fn past(&self) -> usize
-        ensures place { result ≡ (row_of self.now).past }
-        ensures order { (row_of self.now).stop ≤ result }
+    pub fn line_end(&self) -> usize
+        ensures place { result ≡ (row_of self.now).line_end }
+        ensures order { (row_of self.now).content_end ≤ result }
         ensures boundary { (text : List ℕ) → IsIn text self.now → IsCharBoundary text result }
         ensures within { (text : List ℕ) → IsIn text self.now → result ≤ length text }
     {
-        self.past
+        self.line_end
     }
 
     /// How many columns of spaces and tabs stand in front, `n` at most.

@@ -28,7 +28,7 @@ pub fn metadata_kind(rest: LineRest<'_>, options: Options) -> Option<MetadataBlo
     }
 }
 
-/// Whether the line ends a metadata block of this kind: it holds the closing marks from its first column on, and blanks.
+/// Whether the line ends a metadata block of this kind: it holds the closing delimiter from its first column on, and blanks.
 #[inline]
 pub fn ends_metadata(rest: LineRest<'_>, kind: MetadataBlockKind) -> bool
     ensures { result ≡ ends_metadata (shown_metadata_block_kind kind) (row_of rest.entry) }

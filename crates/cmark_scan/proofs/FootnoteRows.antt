@@ -7,7 +7,7 @@ use Rattle.cmark_grammar.specs.Rows.{Row, without, indent_of, words_of}
 use Rattle.cmark_grammar.specs.Containers.{footnote_width}
 use Rattle.cmark_grammar.specs.Footnotes.{columns_over, marker_columns, footnote_in}
 use Rattle.cmark_grammar.specs.Leaves.{is_parted}
-use Rattle.cmark_grammar.specs.LinkDefinitions.{Found}
+use Rattle.cmark_grammar.specs.LinkDefinitions.{Parsed}
 use Rattle.cmark_scan.specs.LineMarkers.{is_flush, footnote_at, behind_footnote}
 use Rattle.cmark_scan_parts.specs.Footnotes.{marked}
 use Rattle.cmark_scan.proofs.RowSteps.{parted_none, found-is}
@@ -19,7 +19,7 @@ footnote-none = parted_none footnote_in refl (λ bs. refl) (λ bs. refl)
 pub found-at : (r : Row) (bs : List ℕ) → (is_flush r ≡ true → words_of r ≡ bs) → (is_flush r ≡ false → is_parted bs ≡ true) → footnote_at r ≡ footnote_in bs
 found-at r bs words blank = found-is r bs words blank footnote_in footnote-none
 
-pub flush-of : (r : Row) (found : Found) → footnote_at r ≡ Some found → is_flush r ≡ true
+pub flush-of : (r : Row) (found : Parsed) → footnote_at r ≡ Some found → is_flush r ≡ true
 flush-of r found is = go (is_flush r) refl is
   where
     go : (z : Bool) → is_flush r ≡ z → (if z then footnote_in (words_of r) else None) ≡ Some found → is_flush r ≡ true

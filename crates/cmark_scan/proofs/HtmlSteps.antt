@@ -10,8 +10,8 @@ use Rattle.std.proofs.lemmas.Bool.{leb-true, le-leb, lt-leb}
 use Rattle.std.proofs.lemmas.List.{take-map}
 use Rattle.std.proofs.lemmas.List.Folds.{length-prefix_len}
 use Rattle.cmark_grammar.specs.Leaves.{is_parted}
-use Rattle.cmark_grammar.specs.HtmlBlocks.{lower, is_alphanumeric, first_is, starts, is_among, verbatim_names, block_names, name_in, behind_name, begins_verbatim, begins_block, holds}
-use Rattle.cmark_scan.specs.HtmlLines.{names_from, ends_name, ends_block_name, ends_verbatim, closes_verbatim}
+use Rattle.cmark_grammar.specs.HtmlBlocks.{lower, is_alphanumeric, first_is, starts, is_among, raw_names, block_names, name_in, behind_name, begins_raw, begins_block, holds}
+use Rattle.cmark_scan.specs.HtmlLines.{names_from, ends_name, ends_block_name, ends_raw, closes_raw}
 
 abbrev Each : (ℕ → Type 0) → List ℕ → Type 0
 Each P [] = Unit {0}
@@ -95,10 +95,10 @@ name-lower bs n is = ap (λ m. take m (map lower bs)) (prefix-lower bs ∙ sym i
 rest-lower : (bs : List ℕ) (n : ℕ) → n ≡ prefix_len is_alphanumeric bs → behind_name (map lower bs) ≡ map lower (drop n bs)
 rest-lower bs n is = ap (λ m. drop m (map lower bs)) (length-prefix_len is_alphanumeric (map lower bs) ∙ prefix-lower bs ∙ sym is) ∙ drop-lower n bs
 
-pub verbatim-is : (bs : List ℕ) (n : ℕ) → n ≡ prefix_len is_alphanumeric bs → (is_among (map lower (take n bs)) verbatim_names && ends_name (drop n bs)) ≡ begins_verbatim (map lower bs)
-verbatim-is bs n is =
-    sym (ap (λ l. is_among l verbatim_names && ends_name (behind_name (map lower bs))) (name-lower bs n is)
-    ∙ ap (λ t. is_among (map lower (take n bs)) verbatim_names && t) (ap ends_name (rest-lower bs n is) ∙ ap (λ t. t || first_is (λ b. b == 62) (map lower (drop n bs))) (parted-lower (drop n bs)) ∙ ap (λ t. is_parted (drop n bs) || t) (first-lower (drop n bs))))
+pub raw-is : (bs : List ℕ) (n : ℕ) → n ≡ prefix_len is_alphanumeric bs → (is_among (map lower (take n bs)) raw_names && ends_name (drop n bs)) ≡ begins_raw (map lower bs)
+raw-is bs n is =
+    sym (ap (λ l. is_among l raw_names && ends_name (behind_name (map lower bs))) (name-lower bs n is)
+    ∙ ap (λ t. is_among (map lower (take n bs)) raw_names && t) (ap ends_name (rest-lower bs n is) ∙ ap (λ t. t || first_is (λ b. b == 62) (map lower (drop n bs))) (parted-lower (drop n bs)) ∙ ap (λ t. is_parted (drop n bs) || t) (first-lower (drop n bs))))
 
 pub block-is : (bs : List ℕ) (n : ℕ) → n ≡ prefix_len is_alphanumeric bs → (is_among (map lower (take n bs)) block_names && ends_block_name (drop n bs)) ≡ begins_block (map lower bs)
 block-is bs n is =
@@ -114,7 +114,7 @@ or-swap false true true d = refl
 or-swap false true false d = refl
 or-swap false false c d = refl
 
-holds-cons : (b : ℕ) (bs : List ℕ) → ends_verbatim (b ∷ bs) ≡ (closes_verbatim (b ∷ bs) || ends_verbatim bs)
+holds-cons : (b : ℕ) (bs : List ℕ) → ends_raw (b ∷ bs) ≡ (closes_raw (b ∷ bs) || ends_raw bs)
 holds-cons b bs =
     ap (λ t. (starts (codes "</pre>") (b ∷ bs) || holds (codes "</pre>") bs) || ((starts (codes "</script>") (b ∷ bs) || holds (codes "</script>") bs) || t))
     (or-swap (starts (codes "</style>") (b ∷ bs)) (holds (codes "</style>") bs) (starts (codes "</textarea>") (b ∷ bs)) (holds (codes "</textarea>") bs))
@@ -122,27 +122,27 @@ holds-cons b bs =
     (or-swap (starts (codes "</script>") (b ∷ bs)) (holds (codes "</script>") bs) (starts (codes "</style>") (b ∷ bs) || starts (codes "</textarea>") (b ∷ bs)) (holds (codes "</style>") bs || holds (codes "</textarea>") bs))
     ∙ or-swap (starts (codes "</pre>") (b ∷ bs)) (holds (codes "</pre>") bs) (starts (codes "</script>") (b ∷ bs) || (starts (codes "</style>") (b ∷ bs) || starts (codes "</textarea>") (b ∷ bs))) (holds (codes "</script>") bs || (holds (codes "</style>") bs || holds (codes "</textarea>") bs))
 
-closes-not : (b : ℕ) (bs : List ℕ) → (b == 60) ≡ false → closes_verbatim (b ∷ bs) ≡ false
+closes-not : (b : ℕ) (bs : List ℕ) → (b == 60) ≡ false → closes_raw (b ∷ bs) ≡ false
 closes-not b bs e = rw e refl
 
 -- bytes before the first `<` change nothing
-pub ends-skip : (bs : List ℕ) (n : ℕ) → n ≤ length bs → ((k : ℕ) → k < n → (get_or bs k 0 == 60) ≡ false) → ends_verbatim (map lower (drop n bs)) ≡ ends_verbatim (map lower bs)
+pub ends-skip : (bs : List ℕ) (n : ℕ) → n ≤ length bs → ((k : ℕ) → k < n → (get_or bs k 0 == 60) ≡ false) → ends_raw (map lower (drop n bs)) ≡ ends_raw (map lower bs)
 ends-skip bs zero le other = refl
 ends-skip [] (suc n) le other = absurd (omega arith)
 ends-skip (b ∷ bs) (suc n) le other =
     ends-skip bs n (omega arith) (λ k lt. other (suc k) (omega arith))
-    ∙ sym (holds-cons (lower b) (map lower bs) ∙ ap (λ t. t || ends_verbatim (map lower bs)) (closes-not (lower b) (map lower bs) (lower-mark b 60 (omega arith) ∙ other 0 (omega arith))))
+    ∙ sym (holds-cons (lower b) (map lower bs) ∙ ap (λ t. t || ends_raw (map lower bs)) (closes-not (lower b) (map lower bs) (lower-mark b 60 (omega arith) ∙ other 0 (omega arith))))
 
-pub ends-none : (bs : List ℕ) → ((k : ℕ) → k < length bs → (get_or bs k 0 == 60) ≡ false) → false ≡ ends_verbatim (map lower bs)
-ends-none bs other = ap (λ l. ends_verbatim (map lower l)) (sym (drop_of_length-le bs (omega arith))) ∙ ends-skip bs (length bs) (omega arith) other
+pub ends-none : (bs : List ℕ) → ((k : ℕ) → k < length bs → (get_or bs k 0 == 60) ≡ false) → false ≡ ends_raw (map lower bs)
+ends-none bs other = ap (λ l. ends_raw (map lower l)) (sym (drop_of_length-le bs (omega arith))) ∙ ends-skip bs (length bs) (omega arith) other
 
-pub ends-here : (bs : List ℕ) → 0 < length bs → closes_verbatim (map lower bs) ≡ true → true ≡ ends_verbatim (map lower bs)
+pub ends-here : (bs : List ℕ) → 0 < length bs → closes_raw (map lower bs) ≡ true → true ≡ ends_raw (map lower bs)
 ends-here [] some e = absurd (omega arith)
-ends-here (b ∷ bs) some e = sym (holds-cons (lower b) (map lower bs) ∙ ap (λ t. t || ends_verbatim (map lower bs)) e)
+ends-here (b ∷ bs) some e = sym (holds-cons (lower b) (map lower bs) ∙ ap (λ t. t || ends_raw (map lower bs)) e)
 
-pub ends-next : (bs : List ℕ) → 0 < length bs → closes_verbatim (map lower bs) ≡ false → ends_verbatim (map lower (drop 1 bs)) ≡ ends_verbatim (map lower bs)
+pub ends-next : (bs : List ℕ) → 0 < length bs → closes_raw (map lower bs) ≡ false → ends_raw (map lower (drop 1 bs)) ≡ ends_raw (map lower bs)
 ends-next [] some e = absurd (omega arith)
-ends-next (b ∷ bs) some e = sym (holds-cons (lower b) (map lower bs) ∙ ap (λ t. t || ends_verbatim (map lower bs)) e)
+ends-next (b ∷ bs) some e = sym (holds-cons (lower b) (map lower bs) ∙ ap (λ t. t || ends_raw (map lower bs)) e)
 
 -- a word stands somewhere where it is found
 holds-first : (word : List ℕ) → 0 < length word → (bs : List ℕ) → is_some (behind_first word bs) ≡ holds word bs

@@ -10,7 +10,7 @@ use Rattle.std.proofs.lemmas.List.Sums.{sum_by-cons, fails_before_first}
 use Rattle.memchr.specs.Find.{IsFirstByte, is_byte}
 use Rattle.cmark_grammar.specs.Columns.{is_blank_byte, put_before, drop_end}
 use Rattle.cmark_grammar.specs.Leaves.{all_pass, run, trimmed, fence_with, is_break_of, is_thematic_break}
-use Rattle.cmark_scan.specs.LeafLines.{is_break_mark, stops_break, long_fence, backtick_fence}
+use Rattle.cmark_scan.specs.LeafLines.{is_break_character, stops_break, long_fence, backtick_fence}
 
 pub all_pass-each : (p : ℕ → Bool) (bs : List ℕ) → ((k : ℕ) → k < length bs → p (get_or bs k 0) ≡ true) → all_pass p bs ≡ true
 all_pass-each p [] each = refl
@@ -29,12 +29,12 @@ and-false : (z : Bool) → (z && false) ≡ false
 and-false true = refl
 and-false false = refl
 
-pub break-fails : (mark : ℕ) (bs : List ℕ) (k : ℕ) → k < length bs → ((get_or bs k 0 == mark) || is_blank_byte (get_or bs k 0)) ≡ false → false ≡ is_break_of mark bs
-break-fails mark bs k lt e = sym (ap (λ t. nat_le 3 (count_by (λ c. c == mark) bs) && t) (all_pass-fails (λ c. (c == mark) || is_blank_byte c) bs k lt e) ∙ and-false _)
+pub break-fails : (character : ℕ) (bs : List ℕ) (k : ℕ) → k < length bs → ((get_or bs k 0 == character) || is_blank_byte (get_or bs k 0)) ≡ false → false ≡ is_break_of character bs
+break-fails character bs k lt e = sym (ap (λ t. nat_le 3 (count_by (λ c. c == character) bs) && t) (all_pass-fails (λ c. (c == character) || is_blank_byte c) bs k lt e) ∙ and-false _)
 
-pub break-passes : (mark : ℕ) (bs : List ℕ) (n : ℕ) → n ≡ count_by (λ c. c == mark) bs → ((k : ℕ) → k < length bs → ((get_or bs k 0 == mark) || is_blank_byte (get_or bs k 0)) ≡ true) → nat_le 3 n ≡ is_break_of mark bs
-break-passes mark bs n is each =
-    ap (nat_le 3) is ∙ and-true _ ∙ ap (λ t. nat_le 3 (count_by (λ c. c == mark) bs) && t) (sym (all_pass-each (λ c. (c == mark) || is_blank_byte c) bs each))
+pub break-passes : (character : ℕ) (bs : List ℕ) (n : ℕ) → n ≡ count_by (λ c. c == character) bs → ((k : ℕ) → k < length bs → ((get_or bs k 0 == character) || is_blank_byte (get_or bs k 0)) ≡ true) → nat_le 3 n ≡ is_break_of character bs
+break-passes character bs n is each =
+    ap (nat_le 3) is ∙ and-true _ ∙ ap (λ t. nat_le 3 (count_by (λ c. c == character) bs) && t) (sym (all_pass-each (λ c. (c == character) || is_blank_byte c) bs each))
   where
     and-true : (z : Bool) → z ≡ (z && true)
     and-true true = refl
@@ -44,20 +44,20 @@ count_by-cons : (p : ℕ → Bool) (b : ℕ) (bs : List ℕ) → count_by p (b �
 count_by-cons p b bs = sum_by-cons (λ x. cond (p x) 1 0) b bs
 
 -- blanks in front change nothing
-break-blank : (mark b : ℕ) (bs : List ℕ) → is_blank_byte mark ≡ false → is_blank_byte b ≡ true → is_break_of mark (b ∷ bs) ≡ is_break_of mark bs
-break-blank mark b bs no_blank blank =
-    let other : (b == mark) ≡ false = ne_eqb b mark (λ same. true≢false (sym blank ∙ ap is_blank_byte same ∙ no_blank)) in
-    ap (λ n. nat_le 3 n && (((b == mark) || is_blank_byte b) && all_pass (λ c. (c == mark) || is_blank_byte c) bs)) (count_by-cons (λ c. c == mark) b bs)
-    ∙ ap (λ t. nat_le 3 (cond t 1 0 + count_by (λ c. c == mark) bs) && ((t || is_blank_byte b) && all_pass (λ c. (c == mark) || is_blank_byte c) bs)) other
-    ∙ ap (λ t. nat_le 3 (0 + count_by (λ c. c == mark) bs) && (t && all_pass (λ c. (c == mark) || is_blank_byte c) bs)) blank
-    ∙ ap (λ n. nat_le 3 n && all_pass (λ c. (c == mark) || is_blank_byte c) bs) (let e : 0 + count_by (λ c. c == mark) bs ≡ count_by (λ c. c == mark) bs = omega arith in e)
+break-blank : (character b : ℕ) (bs : List ℕ) → is_blank_byte character ≡ false → is_blank_byte b ≡ true → is_break_of character (b ∷ bs) ≡ is_break_of character bs
+break-blank character b bs no_blank blank =
+    let other : (b == character) ≡ false = ne_eqb b character (λ same. true≢false (sym blank ∙ ap is_blank_byte same ∙ no_blank)) in
+    ap (λ n. nat_le 3 n && (((b == character) || is_blank_byte b) && all_pass (λ c. (c == character) || is_blank_byte c) bs)) (count_by-cons (λ c. c == character) b bs)
+    ∙ ap (λ t. nat_le 3 (cond t 1 0 + count_by (λ c. c == character) bs) && ((t || is_blank_byte b) && all_pass (λ c. (c == character) || is_blank_byte c) bs)) other
+    ∙ ap (λ t. nat_le 3 (0 + count_by (λ c. c == character) bs) && (t && all_pass (λ c. (c == character) || is_blank_byte c) bs)) blank
+    ∙ ap (λ n. nat_le 3 n && all_pass (λ c. (c == character) || is_blank_byte c) bs) (let e : 0 + count_by (λ c. c == character) bs ≡ count_by (λ c. c == character) bs = omega arith in e)
 
-break-behind : (mark : ℕ) (bs : List ℕ) → is_blank_byte mark ≡ false → is_break_of mark bs ≡ is_break_of mark (drop (prefix_len is_blank_byte bs) bs)
-break-behind mark [] no_blank = refl
-break-behind mark (b ∷ bs) no_blank = go (is_blank_byte b) refl (break-behind mark bs no_blank)
+break-behind : (character : ℕ) (bs : List ℕ) → is_blank_byte character ≡ false → is_break_of character bs ≡ is_break_of character (drop (prefix_len is_blank_byte bs) bs)
+break-behind character [] no_blank = refl
+break-behind character (b ∷ bs) no_blank = go (is_blank_byte b) refl (break-behind character bs no_blank)
   where
-    go : (z : Bool) → is_blank_byte b ≡ z → is_break_of mark bs ≡ is_break_of mark (drop (prefix_len is_blank_byte bs) bs) → is_break_of mark (b ∷ bs) ≡ is_break_of mark (drop (cond z (1 + prefix_len is_blank_byte bs) 0) (b ∷ bs))
-    go true e ih = break-blank mark b bs no_blank e ∙ ih ∙ ap (λ n. is_break_of mark (drop n (b ∷ bs))) (let s : suc (prefix_len is_blank_byte bs) ≡ 1 + prefix_len is_blank_byte bs = omega arith in s)
+    go : (z : Bool) → is_blank_byte b ≡ z → is_break_of character bs ≡ is_break_of character (drop (prefix_len is_blank_byte bs) bs) → is_break_of character (b ∷ bs) ≡ is_break_of character (drop (cond z (1 + prefix_len is_blank_byte bs) 0) (b ∷ bs))
+    go true e ih = break-blank character b bs no_blank e ∙ ih ∙ ap (λ n. is_break_of character (drop n (b ∷ bs))) (let s : suc (prefix_len is_blank_byte bs) ≡ 1 + prefix_len is_blank_byte bs = omega arith in s)
     go false e ih = refl
 
 break-rest : (bs rest : List ℕ) → rest ≡ drop (prefix_len is_blank_byte bs) bs → is_thematic_break bs ≡ is_thematic_break rest
@@ -66,11 +66,11 @@ break-rest bs rest is =
     ∙ ap (λ t. is_break_of 42 (drop (prefix_len is_blank_byte bs) bs) || (is_break_of 45 (drop (prefix_len is_blank_byte bs) bs) || t)) (break-behind 95 bs refl)
     ∙ ap is_thematic_break (sym is)
 
-break-other : (mark b : ℕ) (bs : List ℕ) → is_blank_byte b ≡ false → b ≢ mark → is_break_of mark (b ∷ bs) ≡ false
-break-other mark b bs no_blank ne = sym (break-fails mark (b ∷ bs) 0 (omega arith) (rw (ne_eqb b mark ne) no_blank))
+break-other : (character b : ℕ) (bs : List ℕ) → is_blank_byte b ≡ false → b ≢ character → is_break_of character (b ∷ bs) ≡ false
+break-other character b bs no_blank ne = sym (break-fails character (b ∷ bs) 0 (omega arith) (rw (ne_eqb b character ne) no_blank))
 
 -- the first byte tells which of them it can be
-break-first : (b : ℕ) (bs : List ℕ) → is_blank_byte b ≡ false → (is_break_mark b && is_break_of b (b ∷ bs)) ≡ is_thematic_break (b ∷ bs)
+break-first : (b : ℕ) (bs : List ℕ) → is_blank_byte b ≡ false → (is_break_character b && is_break_of b (b ∷ bs)) ≡ is_thematic_break (b ∷ bs)
 break-first b bs no_blank = go (b == 42) refl (b == 45) refl (b == 95) refl
   where
     or-false : (z : Bool) → z ≡ (z || false)
@@ -110,14 +110,14 @@ pub break-none : (bs rest : List ℕ) → rest ≡ drop (prefix_len is_blank_byt
 break-none bs [] is lt = sym (break-rest bs [] is)
 break-none bs (b ∷ rest) is lt = absurd (omega arith)
 
-break-some : (bs rest : List ℕ) → rest ≡ drop (prefix_len is_blank_byte bs) bs → 1 ≤ length rest → (is_break_mark (get_or rest 0 0) && is_break_of (get_or rest 0 0) rest) ≡ is_thematic_break bs
+break-some : (bs rest : List ℕ) → rest ≡ drop (prefix_len is_blank_byte bs) bs → 1 ≤ length rest → (is_break_character (get_or rest 0 0) && is_break_of (get_or rest 0 0) rest) ≡ is_thematic_break bs
 break-some bs [] is some = absurd (omega arith)
 break-some bs (b ∷ rest) is some = break-first b rest (no_blank-behind bs b rest (sym is)) ∙ sym (break-rest bs (b ∷ rest) is)
 
-pub break-yes : (bs rest : List ℕ) → rest ≡ drop (prefix_len is_blank_byte bs) bs → 1 ≤ length rest → true ≡ is_break_mark (get_or rest 0 0) → is_break_of (get_or rest 0 0) rest ≡ is_thematic_break bs
+pub break-yes : (bs rest : List ℕ) → rest ≡ drop (prefix_len is_blank_byte bs) bs → 1 ≤ length rest → true ≡ is_break_character (get_or rest 0 0) → is_break_of (get_or rest 0 0) rest ≡ is_thematic_break bs
 break-yes bs rest is some holds = ap (λ t. t && is_break_of (get_or rest 0 0) rest) holds ∙ break-some bs rest is some
 
-pub break-no : (bs rest : List ℕ) → rest ≡ drop (prefix_len is_blank_byte bs) bs → 1 ≤ length rest → false ≡ is_break_mark (get_or rest 0 0) → false ≡ is_thematic_break bs
+pub break-no : (bs rest : List ℕ) → rest ≡ drop (prefix_len is_blank_byte bs) bs → 1 ≤ length rest → false ≡ is_break_character (get_or rest 0 0) → false ≡ is_thematic_break bs
 break-no bs rest is some fails = ap (λ t. t && is_break_of (get_or rest 0 0) rest) fails ∙ break-some bs rest is some
 
 -- a byte that is not found stands nowhere
@@ -134,9 +134,9 @@ count-some p [] k lt e = absurd (omega arith)
 count-some p (b ∷ bs) zero lt e = let s = count_by-cons p b bs in let c : ◌≡◌ {A = ℕ} (cond {A = ℕ} (p b) 1 0) 1 = ap (λ t. cond {A = ℕ} t 1 0) e in omega arith
 count-some p (b ∷ bs) (suc k) lt e = let s = count_by-cons p b bs in let ih = count-some p bs k (omega arith) e in omega arith
 
-pub count-found : (mark : ℕ) (bs : List ℕ) (found : Option ℕ) → IsFirstByte (is_byte mark) bs found → (count_by (λ c. c == mark) bs == 0) ≡ cond (is_some found) false true
-count-found mark bs None none = eq-eqb _ 0 (count-none (λ c. c == mark) bs (λ k lt e. none k (omega arith) lt e))
-count-found mark bs (Some n) some = ne_eqb _ 0 (λ z. let h = count-some (λ c. c == mark) bs n (let q = some.0.high in omega arith) some.1 in absurd (omega arith))
+pub count-found : (character : ℕ) (bs : List ℕ) (found : Option ℕ) → IsFirstByte (is_byte character) bs found → (count_by (λ c. c == character) bs == 0) ≡ cond (is_some found) false true
+count-found character bs None none = eq-eqb _ 0 (count-none (λ c. c == character) bs (λ k lt e. none k (omega arith) lt e))
+count-found character bs (Some n) some = ne_eqb _ 0 (λ z. let h = count-some (λ c. c == character) bs n (let q = some.0.high in omega arith) some.1 in absurd (omega arith))
 
 -- a fence, and its info string by its place
 range-is : (bs cs : List ℕ) (size blanks : ℕ) → cs ≡ drop size bs → blanks ≡ prefix_len is_blank_byte cs → slice_range bs (size + blanks) (size + blanks + length (trimmed cs)) ≡ trimmed cs
@@ -157,13 +157,13 @@ range-is bs cs size blanks is blank =
     front-of-drop_end q [] = refl
     front-of-drop_end q (x ∷ xs) = put-front q x xs (drop_end q xs) (front-of-drop_end q xs)
 
-pub fence-found : (indent mark size blanks : ℕ) (bs cs ds : List ℕ) → size ≡ run mark bs → 3 ≤ size → cs ≡ drop size bs → blanks ≡ prefix_len is_blank_byte cs → ds ≡ trimmed cs
-    → Some (record { indented = indent; mark = mark; size = size; info = slice_range bs (size + blanks) (size + blanks + length ds) }) ≡ long_fence indent mark bs
-fence-found indent mark size blanks bs cs ds is many rest blank info =
-    ap (λ l. Some (record { indented = indent; mark = mark; size = size; info = l }))
+pub fence-found : (indent delimiter size blanks : ℕ) (bs cs ds : List ℕ) → size ≡ run delimiter bs → 3 ≤ size → cs ≡ drop size bs → blanks ≡ prefix_len is_blank_byte cs → ds ≡ trimmed cs
+    → Some (record { indented = indent; delimiter = delimiter; run_length = size; info = slice_range bs (size + blanks) (size + blanks + length ds) }) ≡ long_fence indent delimiter bs
+fence-found indent delimiter size blanks bs cs ds is many rest blank info =
+    ap (λ l. Some (record { indented = indent; delimiter = delimiter; run_length = size; info = l }))
     (ap (λ l. slice_range bs (size + blanks) (size + blanks + length l)) info ∙ range-is bs cs size blanks rest blank ∙ ap trimmed rest)
-    ∙ ap (λ n. Some (record { indented = indent; mark = mark; size = n; info = trimmed (drop n bs) })) is
-    ∙ sym (ap (λ t. if t then Some (fence_with indent mark bs) else None) (le-leb 3 (run mark bs) (omega arith)))
+    ∙ ap (λ n. Some (record { indented = indent; delimiter = delimiter; run_length = n; info = trimmed (drop n bs) })) is
+    ∙ sym (ap (λ t. if t then Some (fence_with indent delimiter bs) else None) (le-leb 3 (run delimiter bs) (omega arith)))
 
 pub backticks-found : (indent : ℕ) (bs : List ℕ) (size : ℕ) (cs : List ℕ) (found : Option ℕ) → size ≡ run 96 bs → cs ≡ drop size bs → IsFirstByte (is_byte 96) cs found → is_some found ≡ false → long_fence indent 96 bs ≡ backtick_fence indent bs
 backticks-found indent bs size cs found is rest first none =
@@ -175,16 +175,16 @@ backticks-found indent bs size cs found is rest first none =
     and-true false = refl
 
 -- a byte that is neither a break's nor a blank stops it
-pub stop-known : (mark : ℕ) (bs : List ℕ) (taken stop : ℕ) → taken ≤ stop → stop < length bs → (get_or bs stop 0 == mark) ≡ false → is_blank_byte (get_or bs stop 0) ≡ false → is_break_of mark (drop taken bs) ≡ false
-stop-known mark bs taken stop le lt other no_blank =
+pub stop-known : (character : ℕ) (bs : List ℕ) (taken stop : ℕ) → taken ≤ stop → stop < length bs → (get_or bs stop 0 == character) ≡ false → is_blank_byte (get_or bs stop 0) ≡ false → is_break_of character (drop taken bs) ≡ false
+stop-known character bs taken stop le lt other no_blank =
     let at : get_or (drop taken bs) (stop - taken) 0 ≡ get_or bs stop 0 = get_or-drop taken bs (stop - taken) 0 ∙ ap (λ n. get_or bs n 0) (let e : taken + (stop - taken) ≡ stop = omega arith in e) in
-    sym (break-fails mark (drop taken bs) (stop - taken) (let l = length-drop taken bs in omega arith)
-    (ap (λ t. t || is_blank_byte (get_or (drop taken bs) (stop - taken) 0)) (ap (λ b. b == mark) at ∙ other) ∙ ap is_blank_byte at ∙ no_blank))
+    sym (break-fails character (drop taken bs) (stop - taken) (let l = length-drop taken bs in omega arith)
+    (ap (λ t. t || is_blank_byte (get_or (drop taken bs) (stop - taken) 0)) (ap (λ b. b == character) at ∙ other) ∙ ap is_blank_byte at ∙ no_blank))
 
-pub stop-found : (mark : ℕ) (bs : List ℕ) (n : ℕ) → Some n ≡ position (stops_break mark) bs → (n < length bs) × (is_blank_byte (get_or bs n 0) ≡ false) × ((get_or bs n 0 == mark) ≡ false)
-stop-found mark bs n is =
-    let found = position-Some (stops_break mark) bs n 0 (sym is) in
-    let apart = neither (get_or bs n 0 == mark) (is_blank_byte (get_or bs n 0)) found.1 in
+pub stop-found : (character : ℕ) (bs : List ℕ) (n : ℕ) → Some n ≡ position (stops_break character) bs → (n < length bs) × (is_blank_byte (get_or bs n 0) ≡ false) × ((get_or bs n 0 == character) ≡ false)
+stop-found character bs n is =
+    let found = position-Some (stops_break character) bs n 0 (sym is) in
+    let apart = neither (get_or bs n 0 == character) (is_blank_byte (get_or bs n 0)) found.1 in
     (found.0, apart.1, apart.0)
   where
     neither : (x y : Bool) → not (x || y) ≡ true → (x ≡ false) × (y ≡ false)
@@ -193,13 +193,13 @@ stop-found mark bs n is =
     neither false false e = (refl, refl)
 
 -- behind some bytes, where no blank stands in front
-pub break-here : (bs : List ℕ) (taken mark : ℕ) → taken < length bs → mark ≡ get_or bs taken 0 → is_blank_byte (get_or (drop taken bs) 0 0) ≡ false → (is_break_mark mark && is_break_of mark (drop taken bs)) ≡ is_thematic_break (drop taken bs)
-break-here bs taken mark lt is no_blank =
+pub break-here : (bs : List ℕ) (taken character : ℕ) → taken < length bs → character ≡ get_or bs taken 0 → is_blank_byte (get_or (drop taken bs) 0 0) ≡ false → (is_break_character character && is_break_of character (drop taken bs)) ≡ is_thematic_break (drop taken bs)
+break-here bs taken character lt is no_blank =
     first (drop taken bs) (let l = length-drop taken bs in omega arith) (is ∙ sym (get_or-drop taken bs 0 0 ∙ ap (λ n. get_or bs n 0) (let e : taken + 0 ≡ taken = omega arith in e))) no_blank
   where
-    first : (cs : List ℕ) → 0 < length cs → mark ≡ get_or cs 0 0 → is_blank_byte (get_or cs 0 0) ≡ false → (is_break_mark mark && is_break_of mark cs) ≡ is_thematic_break cs
+    first : (cs : List ℕ) → 0 < length cs → character ≡ get_or cs 0 0 → is_blank_byte (get_or cs 0 0) ≡ false → (is_break_character character && is_break_of character cs) ≡ is_thematic_break cs
     first [] some is no_blank = absurd (omega arith)
-    first (c ∷ cs) some is no_blank = ap (λ m. is_break_mark m && is_break_of m (c ∷ cs)) is ∙ break-first c cs no_blank
+    first (c ∷ cs) some is no_blank = ap (λ m. is_break_character m && is_break_of m (c ∷ cs)) is ∙ break-first c cs no_blank
 
 cond-none : (b : Bool) (n : ℕ) → cond b (Some n) None ≡ None → b ≡ false
 cond-none true n e = cc
@@ -207,23 +207,23 @@ cond-none false n e = refl
 
 none-passes : (p : ℕ → Bool) (bs : List ℕ) → None ≡ position p bs → (k : ℕ) → k < length bs → p (get_or bs k 0) ≡ false
 none-passes p bs is k below =
-    let past : length bs ≤ position_or_len p bs = ltb-false (position_or_len p bs) (length bs) (cond-none (nat_lt (position_or_len p bs) (length bs)) (position_or_len p bs) (sym is)) in
+    let line_end : length bs ≤ position_or_len p bs = ltb-false (position_or_len p bs) (length bs) (cond-none (nat_lt (position_or_len p bs) (length bs)) (position_or_len p bs) (sym is)) in
     fails_before_first p bs k 0 (omega arith)
 
--- where none stands, all bytes are the mark or blanks
-pub no-stop : (mark : ℕ) (bs : List ℕ) → None ≡ position (stops_break mark) bs → all_pass (λ c. (c == mark) || is_blank_byte c) bs ≡ true
-no-stop mark bs is = all_pass-each (λ c. (c == mark) || is_blank_byte c) bs (λ k lt. on _ (none-passes (stops_break mark) bs is k lt))
+-- where none stands, all bytes are the character or blanks
+pub no-stop : (character : ℕ) (bs : List ℕ) → None ≡ position (stops_break character) bs → all_pass (λ c. (c == character) || is_blank_byte c) bs ≡ true
+no-stop character bs is = all_pass-each (λ c. (c == character) || is_blank_byte c) bs (λ k lt. on _ (none-passes (stops_break character) bs is k lt))
   where
     on : (z : Bool) → not z ≡ false → z ≡ true
     on true e = refl
     on false e = absurd (true≢false e)
 
 -- and one that was found is known from then on
-pub stop-learned : (bs : List ℕ) (taken size mark : ℕ) → size < length (drop taken bs) → (get_or (drop taken bs) size 0 == mark) ≡ false → (nat_le taken (taken + size) && (nat_lt (taken + size) (length bs) && not (get_or bs (taken + size) 0 == mark))) ≡ true
-stop-learned bs taken size mark lt other =
-    ap (λ t. t && (nat_lt (taken + size) (length bs) && not (get_or bs (taken + size) 0 == mark))) (le-leb taken (taken + size) (omega arith))
-    ∙ ap (λ t. t && not (get_or bs (taken + size) 0 == mark)) (le-leb (suc (taken + size)) (length bs) (let l = length-drop taken bs in omega arith))
-    ∙ ap not (ap (λ b. b == mark) (sym (get_or-drop taken bs size 0)) ∙ other)
+pub stop-learned : (bs : List ℕ) (taken size character : ℕ) → size < length (drop taken bs) → (get_or (drop taken bs) size 0 == character) ≡ false → (nat_le taken (taken + size) && (nat_lt (taken + size) (length bs) && not (get_or bs (taken + size) 0 == character))) ≡ true
+stop-learned bs taken size character lt other =
+    ap (λ t. t && (nat_lt (taken + size) (length bs) && not (get_or bs (taken + size) 0 == character))) (le-leb taken (taken + size) (omega arith))
+    ∙ ap (λ t. t && not (get_or bs (taken + size) 0 == character)) (le-leb (suc (taken + size)) (length bs) (let l = length-drop taken bs in omega arith))
+    ∙ ap not (ap (λ b. b == character) (sym (get_or-drop taken bs size 0)) ∙ other)
 
-pub mark-here : (bs : List ℕ) (taken b mark : ℕ) → b ≡ get_or bs taken 0 → get_or (drop taken bs) 0 0 ≡ mark → b ≡ mark
-mark-here bs taken b mark is e = is ∙ ap (λ n. get_or bs n 0) (let s : taken ≡ taken + 0 = omega arith in s) ∙ sym (get_or-drop taken bs 0 0) ∙ e
+pub character-here : (bs : List ℕ) (taken b character : ℕ) → b ≡ get_or bs taken 0 → get_or (drop taken bs) 0 0 ≡ character → b ≡ character
+character-here bs taken b character is e = is ∙ ap (λ n. get_or bs n 0) (let s : taken ≡ taken + 0 = omega arith in s) ∙ sym (get_or-drop taken bs 0 0) ∙ e

@@ -8,8 +8,8 @@ use Rattle.cmark_grammar.specs.Columns.{Column, without_indent, bytes_of}
 use Rattle.cmark_grammar.specs.Rows.{Row, without, indent_of, words_of, is_bare, is_blank_line}
 use Rattle.cmark_grammar.specs.Leaves.{is_parted, is_thematic_break}
 use Rattle.cmark_grammar.specs.BlockQuoteKind.{BlockQuoteKind}
-use Rattle.cmark_grammar.specs.Containers.{Container, Quote, Item, Footnote, ListDefinition, Marker, marker_of, padding, width_with, item_with, item_of, begins_with, is_quote, one_blank, quote_width, enter, keep_as, keeps}
-use Rattle.cmark_scan.specs.LineMarkers.{is_flush, begins_quote, behind_quote, item_in, item_numbers, entered}
+use Rattle.cmark_grammar.specs.Containers.{Container, BlockQuote, Item, Footnote, ListDefinition, Marker, marker_of, padding, width_with, item_with, item_of, begins_with, is_block_quote, one_blank, block_quote_width, enter, keep_as, keeps}
+use Rattle.cmark_scan.specs.LineMarkers.{is_flush, begins_block_quote, behind_block_quote, item_in, item_numbers, entered}
 use Rattle.cmark_scan.proofs.PlaceSteps.{indent-drop}
 
 -- the row behind up to three columns of blanks
@@ -29,29 +29,29 @@ module _ (r : Row) (le : indent_of r ≤ 3) where
 pub deep : (r : Row) → 3 < indent_of r → is_flush (shallow r) ≡ false
 deep r lt = ne_eqb (indent_of (shallow r)) 0 (λ e. let d = indent-drop (min 3 (indent_of r)) r.columns (omega arith) in absurd (omega (arith, d, e, lt)))
 
--- a quote's marker behind up to three columns is the one that the grammar sees on the whole row
-pub quote-seen : (r : Row) → begins_quote (shallow r) ≡ is_quote r
-quote-seen r = go (nat_le (indent_of r) 3) refl
+-- a block quote's marker behind up to three columns is the one that the grammar sees on the whole row
+pub block_quote-seen : (r : Row) → begins_block_quote (shallow r) ≡ is_block_quote r
+block_quote-seen r = go (nat_le (indent_of r) 3) refl
   where
-    go : (z : Bool) → nat_le (indent_of r) 3 ≡ z → begins_quote (shallow r) ≡ is_quote r
+    go : (z : Bool) → nat_le (indent_of r) 3 ≡ z → begins_block_quote (shallow r) ≡ is_block_quote r
     go true e =
         let le = leb-true (indent_of r) 3 e in
-        ap (λ t. t && is_quote (shallow r)) (eq-eqb _ 0 (flat r le)) ∙ ap (λ n. nat_le n 3 && begins_with 62 (words_of (shallow r))) (flat r le)
+        ap (λ t. t && is_block_quote (shallow r)) (eq-eqb _ 0 (flat r le)) ∙ ap (λ n. nat_le n 3 && begins_with 62 (words_of (shallow r))) (flat r le)
         ∙ ap (begins_with 62) (same-words r le) ∙ ap (λ t. t && begins_with 62 (words_of r)) (sym e)
-    go false e = ap (λ t. t && is_quote (shallow r)) (deep r (leb-false (indent_of r) 3 e)) ∙ ap (λ t. t && begins_with 62 (words_of r)) (sym e)
+    go false e = ap (λ t. t && is_block_quote (shallow r)) (deep r (leb-false (indent_of r) 3 e)) ∙ ap (λ t. t && begins_with 62 (words_of r)) (sym e)
 
-quote-shallow : (r : Row) → is_quote r ≡ true → indent_of r ≤ 3
-quote-shallow r e = go (nat_le (indent_of r) 3) refl e
+block_quote-shallow : (r : Row) → is_block_quote r ≡ true → indent_of r ≤ 3
+block_quote-shallow r e = go (nat_le (indent_of r) 3) refl e
   where
     go : (z : Bool) → nat_le (indent_of r) 3 ≡ z → (z && begins_with 62 (words_of r)) ≡ true → indent_of r ≤ 3
     go true f e = leb-true (indent_of r) 3 f
     go false f e = absurd (true≢false (sym e))
 
-quote-left : (r : Row) → is_quote r ≡ true → behind_quote (shallow r) ≡ without (quote_width r) r
-quote-left r e =
-    let le = quote-shallow r e in
+block_quote-left : (r : Row) → is_block_quote r ≡ true → behind_block_quote (shallow r) ≡ without (block_quote_width r) r
+block_quote-left r e =
+    let le = block_quote-shallow r e in
     let k : ℕ = indent_of r in
-    ap (λ t. if t then without (quote_width (shallow r)) (shallow r) else shallow r) (quote-seen r ∙ e)
+    ap (λ t. if t then without (block_quote_width (shallow r)) (shallow r) else shallow r) (block_quote-seen r ∙ e)
     ∙ ap (λ n. without (suc (n + one_blank (drop (suc n) (shallow r).columns))) (shallow r)) (flat r le)
     ∙ ap (λ n. record r { columns = drop (suc (0 + one_blank (drop 1 (drop n r.columns)))) (drop n r.columns) }) (taken-all r le)
     ∙ ap (λ cs. record r { columns = cs }) (drop-drop (suc (0 + one_blank (drop 1 (drop k r.columns)))) k r.columns)
@@ -59,28 +59,28 @@ quote-left r e =
     ∙ ap (λ n. without (k + suc (0 + one_blank (drop n r.columns))) r) (let s : k + 1 ≡ suc k = omega arith in s)
     ∙ ap (λ n. without n r) (let s : k + suc (0 + one_blank (drop (suc k) r.columns)) ≡ suc (k + one_blank (drop (suc k) r.columns)) = omega arith in s)
 
--- a later line of a quote: behind up to three columns and the marker stands what the grammar keeps of it
-pub quote-kept : (alert : Option BlockQuoteKind) (r : Row) → r.lazy ≡ false → keeps (Quote alert) false r ≡ (if begins_quote (shallow r) then Some (behind_quote (shallow r)) else None)
+-- a later line of a block quote: behind up to three columns and the marker stands what the grammar keeps of it
+pub block_quote-kept : (alert : Option BlockQuoteKind) (r : Row) → r.lazy ≡ false → keeps (BlockQuote alert) false r ≡ (if begins_block_quote (shallow r) then Some (behind_block_quote (shallow r)) else None)
 unfolding keeps
-quote-kept alert r whole =
-    ap (λ t. if t || (false && is_blank_line r) then None else keep_as (Quote alert) r) whole
-    ∙ go (is_quote r) refl ∙ ap (λ t. if t then Some (behind_quote (shallow r)) else None) (sym (quote-seen r))
+block_quote-kept alert r whole =
+    ap (λ t. if t || (false && is_blank_line r) then None else keep_as (BlockQuote alert) r) whole
+    ∙ go (is_block_quote r) refl ∙ ap (λ t. if t then Some (behind_block_quote (shallow r)) else None) (sym (block_quote-seen r))
   where
-    go : (z : Bool) → is_quote r ≡ z → (if z then Some (without (quote_width r) r) else None) ≡ (if z then Some (behind_quote (shallow r)) else None)
-    go true e = ap Some (sym (quote-left r e))
+    go : (z : Bool) → is_block_quote r ≡ z → (if z then Some (without (block_quote_width r) r) else None) ≡ (if z then Some (behind_block_quote (shallow r)) else None)
+    go true e = ap Some (sym (block_quote-left r e))
     go false e = refl
 
--- the first line of a quote
-pub quote-entered : (r : Row) → is_quote r ≡ true → behind_quote (shallow r) ≡ without (quote_width r) r
-quote-entered r e = quote-left r e
+-- the first line of a block quote
+pub block_quote-entered : (r : Row) → is_block_quote r ≡ true → behind_block_quote (shallow r) ≡ without (block_quote_width r) r
+block_quote-entered r e = block_quote-left r e
 
 -- a list item, with its width from the row's beginning on
 abbrev pub widened : ℕ → Option Container → Option Container
 widened k None = None
-widened k (Some (Quote alert)) = Some (Quote alert)
+widened k (Some (BlockQuote alert)) = Some (BlockQuote alert)
 widened k (Some (Footnote label old size)) = Some (Footnote label old size)
 widened k (Some (ListDefinition width)) = Some (ListDefinition width)
-widened k (Some (Item mark number width task)) = Some (Item mark number (k + width) task)
+widened k (Some (Item delimiter number width task)) = Some (Item delimiter number (k + width) task)
 
 module _ (r : Row) (le : indent_of r ≤ 3) where
   pub width-widened : (size : ℕ) → width_with size r ≡ indent_of r + width_with size (shallow r)
@@ -99,11 +99,11 @@ module _ (r : Row) (le : indent_of r ≤ 3) where
       by : (o : Option Marker) → item_with r o ≡ widened (indent_of r) (item_with (shallow r) o)
       by None = refl
       by (Some m) =
-          ap (λ w. if is_parted (drop m.size (words_of r)) && not (is_thematic_break (words_of r)) then Some (Item m.mark m.number w None) else None) (width-widened m.size)
-          ∙ ap (λ l. if is_parted (drop m.size l) && not (is_thematic_break l) then Some (Item m.mark m.number (indent_of r + width_with m.size (shallow r)) None) else None) (sym (same-words r le))
+          ap (λ w. if is_parted (drop m.size (words_of r)) && not (is_thematic_break (words_of r)) then Some (Item m.delimiter m.number w None) else None) (width-widened m.size)
+          ∙ ap (λ l. if is_parted (drop m.size l) && not (is_thematic_break l) then Some (Item m.delimiter m.number (indent_of r + width_with m.size (shallow r)) None) else None) (sym (same-words r le))
           ∙ test (is_parted (drop m.size (words_of (shallow r))) && not (is_thematic_break (words_of (shallow r))))
         where
-          test : (z : Bool) → (if z then Some (Item m.mark m.number (indent_of r + width_with m.size (shallow r)) None) else None) ≡ widened (indent_of r) (if z then Some (Item m.mark m.number (width_with m.size (shallow r)) None) else None)
+          test : (z : Bool) → (if z then Some (Item m.delimiter m.number (indent_of r + width_with m.size (shallow r)) None) else None) ≡ widened (indent_of r) (if z then Some (Item m.delimiter m.number (width_with m.size (shallow r)) None) else None)
           test true = refl
           test false = refl
 
@@ -113,45 +113,45 @@ module _ (r : Row) (le : indent_of r ≤ 3) where
     where
       by : (o : Option Container) → item_numbers (indent_of r) o ≡ item_numbers 0 (widened (indent_of r) o)
       by None = refl
-      by (Some (Quote alert)) = refl
+      by (Some (BlockQuote alert)) = refl
       by (Some (Footnote label old size)) = refl
       by (Some (ListDefinition width)) = refl
-      by (Some (Item mark number width task)) = ap (λ n. Some (mark, number, min n (2 ^ 64 - 1))) (let s : indent_of r + width ≡ 0 + (indent_of r + width) = omega arith in s)
+      by (Some (Item delimiter number width task)) = ap (λ n. Some (delimiter, number, min n (2 ^ 64 - 1))) (let s : indent_of r + width ≡ 0 + (indent_of r + width) = omega arith in s)
 
-  no_quote_item : (alert : Option BlockQuoteKind) → item_in (shallow r) ≡ Some (Quote alert) → ⊥
+  no_quote_item : (alert : Option BlockQuoteKind) → item_in (shallow r) ≡ Some (BlockQuote alert) → ⊥
   no_quote_item alert e = go (is_flush (shallow r)) (marker_of (words_of (shallow r))) e
     where
-      test : (z : Bool) (mark : ℕ) (number : Option ℕ) (width : ℕ) → (if z then Some (Item mark number width None) else None) ≡ Some (Quote alert) → ⊥
-      test true mark number width q = cc
-      test false mark number width q = cc
+      test : (z : Bool) (delimiter : ℕ) (number : Option ℕ) (width : ℕ) → (if z then Some (Item delimiter number width None) else None) ≡ Some (BlockQuote alert) → ⊥
+      test true delimiter number width q = cc
+      test false delimiter number width q = cc
 
-      go : (z : Bool) (o : Option Marker) → (if z then item_with (shallow r) o else None) ≡ Some (Quote alert) → ⊥
+      go : (z : Bool) (o : Option Marker) → (if z then item_with (shallow r) o else None) ≡ Some (BlockQuote alert) → ⊥
       go true None q = cc
-      go true (Some m) q = test (is_parted (drop m.size (words_of (shallow r))) && not (is_thematic_break (words_of (shallow r)))) m.mark m.number (width_with m.size (shallow r)) q
+      go true (Some m) q = test (is_parted (drop m.size (words_of (shallow r))) && not (is_thematic_break (words_of (shallow r)))) m.delimiter m.number (width_with m.size (shallow r)) q
       go false o q = cc
 
   no_footnote_item : (label : List ℕ) (old : Bool) (size : ℕ) → item_in (shallow r) ≡ Some (Footnote label old size) → ⊥
   no_footnote_item label old size e = go (is_flush (shallow r)) (marker_of (words_of (shallow r))) e
     where
-      test : (z : Bool) (mark : ℕ) (number : Option ℕ) (width : ℕ) → (if z then Some (Item mark number width None) else None) ≡ Some (Footnote label old size) → ⊥
-      test true mark number width q = cc
-      test false mark number width q = cc
+      test : (z : Bool) (delimiter : ℕ) (number : Option ℕ) (width : ℕ) → (if z then Some (Item delimiter number width None) else None) ≡ Some (Footnote label old size) → ⊥
+      test true delimiter number width q = cc
+      test false delimiter number width q = cc
 
       go : (z : Bool) (o : Option Marker) → (if z then item_with (shallow r) o else None) ≡ Some (Footnote label old size) → ⊥
       go true None q = cc
-      go true (Some m) q = test (is_parted (drop m.size (words_of (shallow r))) && not (is_thematic_break (words_of (shallow r)))) m.mark m.number (width_with m.size (shallow r)) q
+      go true (Some m) q = test (is_parted (drop m.size (words_of (shallow r))) && not (is_thematic_break (words_of (shallow r)))) m.delimiter m.number (width_with m.size (shallow r)) q
       go false o q = cc
 
   no_definition_item : (width : ℕ) → item_in (shallow r) ≡ Some (ListDefinition width) → ⊥
   no_definition_item width e = go (is_flush (shallow r)) (marker_of (words_of (shallow r))) e
     where
-      test : (z : Bool) (mark : ℕ) (number : Option ℕ) (w : ℕ) → (if z then Some (Item mark number w None) else None) ≡ Some (ListDefinition width) → ⊥
-      test true mark number w q = cc
-      test false mark number w q = cc
+      test : (z : Bool) (delimiter : ℕ) (number : Option ℕ) (w : ℕ) → (if z then Some (Item delimiter number w None) else None) ≡ Some (ListDefinition width) → ⊥
+      test true delimiter number w q = cc
+      test false delimiter number w q = cc
 
       go : (z : Bool) (o : Option Marker) → (if z then item_with (shallow r) o else None) ≡ Some (ListDefinition width) → ⊥
       go true None q = cc
-      go true (Some m) q = test (is_parted (drop m.size (words_of (shallow r))) && not (is_thematic_break (words_of (shallow r)))) m.mark m.number (width_with m.size (shallow r)) q
+      go true (Some m) q = test (is_parted (drop m.size (words_of (shallow r))) && not (is_thematic_break (words_of (shallow r)))) m.delimiter m.number (width_with m.size (shallow r)) q
       go false o q = cc
 
   -- and what it leaves is the item's first line
@@ -161,14 +161,14 @@ module _ (r : Row) (le : indent_of r ≤ 3) where
     where
       by : (o : Option Container) → item_in (shallow r) ≡ o → widened (indent_of r) o ≡ Some k → entered o (shallow r) ≡ enter k r
       by None e q = let z : None ≡ Some k = q in absurd (cc)
-      by (Some (Quote alert)) e q = absurd (no_quote_item alert e)
+      by (Some (BlockQuote alert)) e q = absurd (no_quote_item alert e)
       by (Some (Footnote label old size)) e q = absurd (no_footnote_item label old size e)
       by (Some (ListDefinition width)) e q = absurd (no_definition_item width e)
-      by (Some (Item mark number width None)) e q =
-          let z : Item mark number (indent_of r + width) None ≡ k = cc in
+      by (Some (Item delimiter number width None)) e q =
+          let z : Item delimiter number (indent_of r + width) None ≡ k = cc in
           ap (λ cs. record r { columns = cs }) (drop-drop width (min 3 (indent_of r)) r.columns) ∙ ap (λ n. without (n + width) r) (taken-all r le) ∙ ap (λ c. enter c r) z
-      by (Some (Item mark number width (Some is_checked))) e q =
-          let z : Item mark number (indent_of r + width) (Some is_checked) ≡ k = cc in
+      by (Some (Item delimiter number width (Some is_checked))) e q =
+          let z : Item delimiter number (indent_of r + width) (Some is_checked) ≡ k = cc in
           ap (λ cs. record r { columns = cs }) (drop-drop (width + 3) (min 3 (indent_of r)) r.columns) ∙ ap (λ n. without (n + (width + 3)) r) (taken-all r le)
           ∙ ap (λ n. without n r) (let s : indent_of r + (width + 3) ≡ indent_of r + width + 3 = omega arith in s) ∙ ap (λ c. enter c r) z
 
@@ -177,12 +177,12 @@ pub item-unseen : (r : Row) → 3 < indent_of r → item_in (shallow r) ≡ None
 item-unseen r lt = ap (λ t. if t then item_of (shallow r) else None) (deep r lt)
 
 -- a later line of an item: its width of blanks, or nothing behind fewer
-pub item-kept : (r : Row) (mark : ℕ) (number : Option ℕ) (width : ℕ) (task : Option Bool) → r.lazy ≡ false
-    → keeps (Item mark number width task) false r
+pub item-kept : (r : Row) (delimiter : ℕ) (number : Option ℕ) (width : ℕ) (task : Option Bool) → r.lazy ≡ false
+    → keeps (Item delimiter number width task) false r
     ≡ (if nat_le width (indent_of r) || is_bare (without (min width (indent_of r)) r).columns then Some (without (min width (indent_of r)) r) else None)
 unfolding keeps
-item-kept r mark number width task whole =
-    ap (λ t. if t || (false && is_blank_line r) then None else keep_as (Item mark number width task) r) whole ∙ go (nat_le width (indent_of r)) refl
+item-kept r delimiter number width task whole =
+    ap (λ t. if t || (false && is_blank_line r) then None else keep_as (Item delimiter number width task) r) whole ∙ go (nat_le width (indent_of r)) refl
   where
     go : (z : Bool) → nat_le width (indent_of r) ≡ z → (if is_blank_line r || nat_le width (indent_of r) then Some (without width r) else None) ≡ (if nat_le width (indent_of r) || is_bare (without (min width (indent_of r)) r).columns then Some (without (min width (indent_of r)) r) else None)
     go true e =
@@ -198,18 +198,18 @@ item-kept r mark number width task whole =
         ∙ ap (λ n. if false || is_bare (without n r).columns then Some (without n r) else None) (let lt = leb-false width (indent_of r) e in let s : indent_of r ≡ min width (indent_of r) = omega arith in s)
         ∙ ap (λ t. if t || is_bare (without (min width (indent_of r)) r).columns then Some (without (min width (indent_of r)) r) else None) (sym e)
       where
-        past : (cs : List Column) → without_indent r.columns ≡ cs → is_bare cs ≡ true → drop width r.columns ≡ cs
-        past [] f b =
+        line_end : (cs : List Column) → without_indent r.columns ≡ cs → is_bare cs ≡ true → drop width r.columns ≡ cs
+        line_end [] f b =
             ap (λ n. drop n r.columns) (let lt = leb-false width (indent_of r) e in let s : width ≡ indent_of r + (width - indent_of r) = omega arith in s)
             ∙ sym (drop-drop (width - indent_of r) (indent_of r) r.columns) ∙ ap (drop (width - indent_of r)) f ∙ none (width - indent_of r)
           where
             none : (n : ℕ) → drop {A = Column} n [] ≡ []
             none zero = refl
             none (suc n) = refl
-        past (c ∷ cs) f b = absurd (true≢false (sym b))
+        line_end (c ∷ cs) f b = absurd (true≢false (sym b))
 
         by : (cs : List Column) → without_indent r.columns ≡ cs → (if is_blank_line r || false then Some (without width r) else None) ≡ (if false || is_bare (without_indent r.columns) then Some (record r { columns = without_indent r.columns }) else None)
         by [] f =
-            ap (λ l. if is_bare l || false then Some (without width r) else None) f ∙ ap (λ l. Some (record r { columns = l })) (past [] f refl ∙ sym f)
+            ap (λ l. if is_bare l || false then Some (without width r) else None) f ∙ ap (λ l. Some (record r { columns = l })) (line_end [] f refl ∙ sym f)
             ∙ ap (λ l. if false || is_bare l then Some (record r { columns = without_indent r.columns }) else None) (sym f)
         by (c ∷ cs) f = ap (λ l. if is_bare l || false then Some (without width r) else None) f ∙ ap (λ l. if false || is_bare l then Some (record r { columns = without_indent r.columns }) else None) (sym f)

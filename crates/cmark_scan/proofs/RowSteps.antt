@@ -9,11 +9,11 @@ use Rattle.std.proofs.lemmas.List.Sums.{take_while-cons}
 use Rattle.cmark_grammar.specs.Columns.{Column, expand, is_blank, is_blank_byte, indent, without_indent}
 use Rattle.cmark_grammar.specs.Rows.{Row, without, indent_of, words_of, is_bare}
 use Rattle.cmark_grammar.specs.Leaves.{are_blank, is_parted, is_thematic_break}
-use Rattle.cmark_grammar.specs.Containers.{Container, Item, Marker, marker_of, padding, width_with, item_with, item_of, begins_with, is_quote, one_blank, quote_width, enter}
+use Rattle.cmark_grammar.specs.Containers.{Container, Item, Marker, marker_of, padding, width_with, item_with, item_of, begins_with, is_block_quote, one_blank, block_quote_width, enter}
 use Rattle.cmark_grammar.specs.Alerts.{alert_of}
 use Rattle.cmark_grammar.specs.TaskMarkers.{task_of}
 use Rattle.cmark_grammar.proofs.ColumnSteps.{drop-prefix}
-use Rattle.cmark_scan.specs.LineMarkers.{is_flush, flush, begins_quote, behind_quote, item_in, entered, definition_in, behind_definition}
+use Rattle.cmark_scan.specs.LineMarkers.{is_flush, flush, begins_block_quote, behind_block_quote, item_in, entered, definition_in, behind_definition}
 use Rattle.cmark_scan.specs.Markers.{parted, begun}
 
 blank_cases : (b : ℕ) → is_blank_byte b ≡ true → (b ≡ 32) ⊎ (b ≡ 9)
@@ -94,7 +94,7 @@ marker-front (b ∷ bs) m e = go (is_blank_byte b) refl
 
 -- the item that a marker in front begins
 abbrev pub item_at : Row → Marker → Container
-item_at r m = Item m.mark m.number (m.size + padding (drop m.size r.columns)) None
+item_at r m = Item m.delimiter m.number (m.size + padding (drop m.size r.columns)) None
 
 module _ (r : Row) (bs : List ℕ) (words : is_flush r ≡ true → words_of r ≡ bs) (blank : is_flush r ≡ false → is_parted bs ≡ true) where
   pub found-is : {A : Type 0} (f : List ℕ → Option A) → ((cs : List ℕ) → is_parted cs ≡ true → f cs ≡ None) → flush r (f (words_of r)) ≡ f bs
@@ -128,8 +128,8 @@ module _ (r : Row) (bs : List ℕ) (words : is_flush r ≡ true → words_of r �
       by e None = refl
       by e (Some m) = test (is_parted (drop m.size (words_of r)) && not (is_thematic_break (words_of r)))
         where
-          test : (z : Bool) → (if z then Some (Item m.mark m.number (width_with m.size r) None) else None) ≡ option_map (item_at r) (if z then Some m else None)
-          test true = ap (λ w. Some (Item m.mark m.number w None)) (width-is m.size e)
+          test : (z : Bool) → (if z then Some (Item m.delimiter m.number (width_with m.size r) None) else None) ≡ option_map (item_at r) (if z then Some m else None)
+          test true = ap (λ w. Some (Item m.delimiter m.number w None)) (width-is m.size e)
           test false = refl
 
       go : (z : Bool) → is_flush r ≡ z → (if z then item_of r else None) ≡ option_map (item_at r) (begun_in bs)
@@ -137,17 +137,17 @@ module _ (r : Row) (bs : List ℕ) (words : is_flush r ≡ true → words_of r �
       go false e = ap (option_map (item_at r)) (sym (marker-none bs (blank e)))
 
 -- the line behind a container's marker
-pub entered-is : (r r1 r2 : Row) (mark : ℕ) (number : Option ℕ) (size p : ℕ) → r1 ≡ without size r → p ≡ padding r1.columns → r2 ≡ without p r1
-    → r2 ≡ entered (Some (Item mark number (size + padding (drop size r.columns)) None)) r
+pub entered-is : (r r1 r2 : Row) (delimiter : ℕ) (number : Option ℕ) (size p : ℕ) → r1 ≡ without size r → p ≡ padding r1.columns → r2 ≡ without p r1
+    → r2 ≡ entered (Some (Item delimiter number (size + padding (drop size r.columns)) None)) r
 unfolding enter
-entered-is r r1 r2 mark number size p first pad second =
+entered-is r r1 r2 delimiter number size p first pad second =
     second ∙ ap (without p) first ∙ ap (λ cs. record r { columns = cs }) (drop-drop p size r.columns) ∙ ap (λ n. without (size + n) r) (pad ∙ ap (λ x. padding x.columns) first)
 
 -- block quotes
-pub quote-begins : (r : Row) → begins_quote r ≡ (is_flush r && begins_with 62 (words_of r))
-quote-begins r = go (is_flush r) refl
+pub block_quote-begins : (r : Row) → begins_block_quote r ≡ (is_flush r && begins_with 62 (words_of r))
+block_quote-begins r = go (is_flush r) refl
   where
-    go : (z : Bool) → is_flush r ≡ z → (z && is_quote r) ≡ (z && begins_with 62 (words_of r))
+    go : (z : Bool) → is_flush r ≡ z → (z && is_block_quote r) ≡ (z && begins_with 62 (words_of r))
     go true e = ap (λ t. t && begins_with 62 (words_of r)) (ap (λ n. nat_le n 3) (eqb-true (indent_of r) 0 e))
     go false e = refl
 
@@ -159,20 +159,20 @@ one_blank-is (c ∷ cs) = ap (λ l. min 1 (length l)) (take_while-cons is_blank 
     go true = omega arith
     go false = refl
 
-flat-of : (r : Row) → begins_quote r ≡ true → indent_of r ≡ 0
+flat-of : (r : Row) → begins_block_quote r ≡ true → indent_of r ≡ 0
 flat-of r e = go (is_flush r) refl e
   where
-    go : (z : Bool) → is_flush r ≡ z → (z && is_quote r) ≡ true → indent_of r ≡ 0
+    go : (z : Bool) → is_flush r ≡ z → (z && is_block_quote r) ≡ true → indent_of r ≡ 0
     go true f e = eqb-true (indent_of r) 0 f
     go false f e = absurd (true≢false (sym e))
 
-pub quote-behind : (r r1 r2 : Row) (k : ℕ) → true ≡ begins_quote r → r1 ≡ without 1 r → k ≡ min 1 (indent r1.columns) → r2 ≡ without k r1 → r2 ≡ behind_quote r
-quote-behind r r1 r2 k begins first count second =
+pub block_quote-behind : (r r1 r2 : Row) (k : ℕ) → true ≡ begins_block_quote r → r1 ≡ without 1 r → k ≡ min 1 (indent r1.columns) → r2 ≡ without k r1 → r2 ≡ behind_block_quote r
+block_quote-behind r r1 r2 k begins first count second =
     second ∙ ap (without k) first ∙ ap (λ cs. record r { columns = cs }) (drop-drop k 1 r.columns)
     ∙ ap (λ n. without n r) (ap (λ n. 1 + n) (count ∙ one_blank-is r1.columns ∙ ap (λ x. one_blank x.columns) first) ∙ width)
-    ∙ ap (λ t. if t then without (quote_width r) r else r) begins
+    ∙ ap (λ t. if t then without (block_quote_width r) r else r) begins
   where
-    width : 1 + one_blank (drop 1 r.columns) ≡ quote_width r
+    width : 1 + one_blank (drop 1 r.columns) ≡ block_quote_width r
     width = (let e : 1 + one_blank (drop 1 r.columns) ≡ suc (0 + one_blank (drop 1 r.columns)) = omega arith in e) ∙ ap (λ n. suc (n + one_blank (drop (suc n) r.columns))) (sym (flat-of r (sym begins)))
 
 -- definitions

@@ -3,10 +3,10 @@ use Rattle.std.specs.Prelude.{ℕ, Bool, ◌==◌, ◌&&◌, ◌||◌, if◌then
 use Rattle.cmark_grammar.specs.Leaves.{is_parted}
 use Rattle.cmark_grammar.specs.HtmlBlocks.{is_letter, first_is, starts, holds}
 use Rattle.cmark_scan.specs.declared.html_block.HtmlKind.{HtmlKind}
-use Rattle.cmark_scan.specs.declared.html_block.HtmlKind.TheVariants.{Verbatim, Comment, Processing, Declaration, Cdata, Block, Tag}
+use Rattle.cmark_scan.specs.declared.html_block.HtmlKind.TheVariants.{Raw, Comment, Processing, Declaration, Cdata, Block, Tag}
 
 abbrev pub kind_number : HtmlKind → ℕ
-kind_number Verbatim = 1
+kind_number Raw = 1
 kind_number Comment = 2
 kind_number Processing = 3
 kind_number Declaration = 4
@@ -46,8 +46,8 @@ names_from b =
     else []
 
 -- one of the closing tags of names whose content is taken as it is stands somewhere, or in front
-abbrev pub ends_verbatim : List ℕ → Bool
-ends_verbatim bs = holds (codes "</pre>") bs || (holds (codes "</script>") bs || (holds (codes "</style>") bs || holds (codes "</textarea>") bs))
+abbrev pub ends_raw : List ℕ → Bool
+ends_raw bs = holds (codes "</pre>") bs || (holds (codes "</script>") bs || (holds (codes "</style>") bs || holds (codes "</textarea>") bs))
 
-abbrev pub closes_verbatim : List ℕ → Bool
-closes_verbatim bs = starts (codes "</pre>") bs || (starts (codes "</script>") bs || (starts (codes "</style>") bs || starts (codes "</textarea>") bs))
+abbrev pub closes_raw : List ℕ → Bool
+closes_raw bs = starts (codes "</pre>") bs || (starts (codes "</script>") bs || (starts (codes "</style>") bs || starts (codes "</textarea>") bs))

@@ -1,9 +1,9 @@
 -- What begins on a line behind the prefixes that were taken, where no blank stands in front of it.
 use Rattle.std.specs.Prelude.{ℕ, ◌+◌, ◌-◌, ◌^◌, min, Bool, ◌==◌, ◌&&◌, if◌then◌else◌, [], Option, Some, None, is_some, unwrap_or}
 use Rattle.cmark_grammar.specs.Rows.{Row, without, indent_of, words_of}
-use Rattle.cmark_grammar.specs.Containers.{Container, Quote, Item, Footnote, ListDefinition, is_quote, quote_width, footnote_width, item_of, enter}
+use Rattle.cmark_grammar.specs.Containers.{Container, BlockQuote, Item, Footnote, ListDefinition, is_block_quote, block_quote_width, footnote_width, item_of, enter}
 use Rattle.cmark_grammar.specs.Footnotes.{footnote_in, marker_columns}
-use Rattle.cmark_grammar.specs.LinkDefinitions.{Found}
+use Rattle.cmark_grammar.specs.LinkDefinitions.{Parsed}
 use Rattle.cmark_grammar.specs.BlockQuoteKind.{BlockQuoteKind}
 use Rattle.cmark_grammar.specs.Alerts.{alert_of}
 use Rattle.cmark_grammar.specs.DefinitionLists.{definition_width}
@@ -17,11 +17,11 @@ abbrev pub flush : {A : Type 0} → Row → Option A → Option A
 flush r found = if is_flush r then found else None
 
 -- the marker of a block quote, and the line behind it
-abbrev pub begins_quote : Row → Bool
-begins_quote r = is_flush r && is_quote r
+abbrev pub begins_block_quote : Row → Bool
+begins_block_quote r = is_flush r && is_block_quote r
 
-abbrev pub behind_quote : Row → Row
-behind_quote r = if begins_quote r then without (quote_width r) r else r
+abbrev pub behind_block_quote : Row → Row
+behind_block_quote r = if begins_block_quote r then without (block_quote_width r) r else r
 
 -- the tag of an alert, and the line behind it, on which nothing is left
 abbrev pub alert_in : Row → Option BlockQuoteKind
@@ -45,10 +45,10 @@ sum_up_to_most m n = min (m + n) (2 ^ 64 - 1)
 -- a list item's character, its number, none for a bullet, and its width with the indent that was taken before
 abbrev pub item_numbers : (indent : ℕ) → Option Container → Option (ℕ × Option ℕ × ℕ)
 item_numbers indent None = None
-item_numbers indent (Some (Quote alert)) = None
+item_numbers indent (Some (BlockQuote alert)) = None
 item_numbers indent (Some (Footnote label old size)) = None
 item_numbers indent (Some (ListDefinition width)) = None
-item_numbers indent (Some (Item mark number width task)) = Some (mark, number, sum_up_to_most indent width)
+item_numbers indent (Some (Item delimiter number width task)) = Some (delimiter, number, sum_up_to_most indent width)
 
 -- the width of a definition's prefix, and its first line behind the marker
 abbrev pub definition_in : Row → Option ℕ
@@ -65,9 +65,9 @@ abbrev pub behind_task : Row → Row
 behind_task r = if is_some (task_in r) then without 3 r else r
 
 -- the footnote definition whose marker stands in front, and the line behind the marker and all blanks behind it
-abbrev pub footnote_at : Row → Option Found
+abbrev pub footnote_at : Row → Option Parsed
 footnote_at r = flush r (footnote_in (words_of r))
 
-abbrev pub behind_footnote : Option Found → Row → Row
+abbrev pub behind_footnote : Option Parsed → Row → Row
 behind_footnote None r = r
 behind_footnote (Some found) r = without (footnote_width (marker_columns found.bytes r.columns) r) r

@@ -15,18 +15,18 @@ abbrev pub columns_from : ℕ → LineStart → List Column
 columns_from at line = drop (columns_taken line) (expand 0 at line.bytes.now)
 
 -- the row that is left, where the line begins at this place of a text and the next one at that one
-abbrev pub row_from : (at past : ℕ) → LineStart → Row
-row_from at past line = record { columns = columns_from at line; at = at; stop = at + length line.bytes.now; past = past; lazy = false; held = line.held }
+abbrev pub row_from : (at line_end : ℕ) → LineStart → Row
+row_from at line_end line = record { columns = columns_from at line; at = at; content_end = at + length line.bytes.now; line_end = line_end; lazy = false; held = line.held }
 
 -- the whole line that these bytes begin with, at this place of a text
-abbrev pub line_of : (at past : ℕ) → List ℕ → Row
-line_of at past bytes = record { columns = expand 0 at (content bytes); at = at; stop = at + length (content bytes); past = past; lazy = false; held = false }
+abbrev pub line_of : (at line_end : ℕ) → List ℕ → Row
+line_of at line_end bytes = record { columns = expand 0 at (content bytes); at = at; content_end = at + length (content bytes); line_end = line_end; lazy = false; held = false }
 
 -- how many columns in front are left of a tab of which a part was taken
 abbrev pub cut_columns : List Column → ℕ
 cut_columns [] = 0
 cut_columns (c ∷ cs) = if c.part == 0 then 0 else suc (cut_columns cs)
 
--- a byte still to come is known that stops a thematic break of this mark
-abbrev pub knows_stop : (mark : ℕ) → LineStart → Bool
-knows_stop mark line = nat_le line.taken line.break_stop && (nat_lt line.break_stop (length line.bytes.now) && not (slice_index line.bytes.now line.break_stop == mark))
+-- a byte still to come is known that stops a thematic break of this character
+abbrev pub knows_stop : (character : ℕ) → LineStart → Bool
+knows_stop character line = nat_le line.taken line.break_stop && (nat_lt line.break_stop (length line.bytes.now) && not (slice_index line.bytes.now line.break_stop == character))

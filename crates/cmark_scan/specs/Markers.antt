@@ -5,7 +5,7 @@ use Rattle.cmark_grammar.specs.Containers.{Marker}
 use Rattle.cmark_scan.specs.declared.marker.ListMarker.{ListMarker}
 
 abbrev pub shown_marker : ListMarker → Marker
-shown_marker marker = record { mark = marker.mark; number = marker.number; size = marker.size }
+shown_marker marker = record { delimiter = marker.delimiter; number = marker.number; size = marker.size }
 
 -- the marker, where nothing or a blank stands behind it
 abbrev pub parted : Option Marker → List ℕ → Option Marker

@@ -2,9 +2,9 @@
 
 ghost use Rattle.std.specs.Prelude.{◌≡◌, ◌<◌, ◌≤◌, ◌==◌, ◌∷◌, length, drop, map, take_while, option_map, bytes_eq, false};
 ghost use Rattle.std.specs.List.{prefix_len};
-ghost use Rattle.cmark_grammar.specs.HtmlBlocks.{lower, is_alphanumeric, is_among, first_is, verbatim_names, block_names, behind_slash, begins_verbatim, begins_block, is_lone_tag, kind_behind, html_kind, holds, holds_end};
+ghost use Rattle.cmark_grammar.specs.HtmlBlocks.{lower, is_alphanumeric, is_among, first_is, raw_names, block_names, behind_slash, begins_raw, begins_block, is_lone_tag, kind_behind, html_kind, holds, holds_end};
 ghost use Rattle.cmark_grammar.specs.Tags.{is_name_byte};
-ghost use Rattle.cmark_scan.specs.HtmlLines.{kind_number, names_from, ends_name, ends_block_name, begins_declaration, ends_verbatim, closes_verbatim};
+ghost use Rattle.cmark_scan.specs.HtmlLines.{kind_number, names_from, ends_name, ends_block_name, begins_declaration, ends_raw, closes_raw};
 
 use crate::bytes::{are_blank, is_alphanumeric, is_parted, lower, starts, starts_lower};
 use cmark_scan_parts::bytes::is_letter;
@@ -15,7 +15,7 @@ use memchr::{memchr, memmem};
 #[derive(Clone, Copy, PartialEq, Eq)]
 pub enum HtmlKind {
     /// Kind 1: `<pre`, `<script`, `<style` or `<textarea`.
-    Verbatim,
+    Raw,
     /// Kind 2: `<!--`.
     Comment,
     /// Kind 3: `<?`.
@@ -47,8 +47,8 @@ fn kind_behind(line: &[u8], behind: &[u8]) -> Option<HtmlKind>
     ensures { option_map kind_number result ≡ kind_behind behind.now }
 {
     let size = count_alphanumeric(behind);
-    if begins_verbatim(behind, size) {
-        Some(HtmlKind::Verbatim)
+    if begins_raw(behind, size) {
+        Some(HtmlKind::Raw)
     } else if starts(behind, b"!--") {
         Some(HtmlKind::Comment)
     } else if starts(behind, b"?") {
@@ -90,12 +90,12 @@ fn behind_slash(bytes: &[u8]) -> &[u8]
 
 /// Whether a tag begins behind `<` whose content is taken as it is: one of those names in any case, and a blank, `>` or the
 /// line's end. So many letters and digits stand in front.
-fn begins_verbatim(behind: &[u8], size: usize) -> bool
+fn begins_raw(behind: &[u8], size: usize) -> bool
     requires count { size ≡ prefix_len is_alphanumeric behind.now }
     requires within { size ≤ length behind.now }
-    ensures { result ≡ begins_verbatim (map lower behind.now) }
+    ensures { result ≡ begins_raw (map lower behind.now) }
 {
-    is_verbatim_name(&behind[..size]) && ends_name(&behind[size..])
+    is_raw_name(&behind[..size]) && ends_name(&behind[size..])
 }
 
 /// Whether an open or a closing tag of a block's name begins behind `<`, where so many letters and digits stand in front.
@@ -166,7 +166,7 @@ fn scan_html_type_7(line: &[u8]) -> bool
     ensures { line.now ≡ 60 ∷ drop 1 line.now → result ≡ is_lone_tag (drop 1 line.now) }
 {
     match scan_tag(line) {
-        Some(rest) => are_blank(rest) && !is_verbatim_name(tag_name(behind_slash(&line[1..]))),
+        Some(rest) => are_blank(rest) && !is_raw_name(tag_name(behind_slash(&line[1..]))),
         None => false,
     }
 }
@@ -206,8 +206,8 @@ fn is_html_tag(name: &[u8]) -> bool
 }
 
 /// Whether the name is among those whose content is taken as it is, in any case.
-fn is_verbatim_name(name: &[u8]) -> bool
-    ensures { result ≡ is_among (map lower name.now) verbatim_names }
+fn is_raw_name(name: &[u8]) -> bool
+    ensures { result ≡ is_among (map lower name.now) raw_names }
 {
     is_word(name, b"pre")
         || is_word(name, b"script")
@@ -278,7 +278,7 @@ pub fn holds_end(line: &[u8], kind: HtmlKind) -> bool
     ensures none { 6 ≤ kind_number kind → result ≡ false }
 {
     match kind {
-        HtmlKind::Verbatim => ends_verbatim(line),
+        HtmlKind::Raw => ends_raw(line),
         HtmlKind::Comment => holds(line, b"-->"),
         HtmlKind::Processing => holds(line, b"?>"),
         HtmlKind::Declaration => holds(line, b">"),
@@ -296,13 +296,13 @@ fn holds(line: &[u8], word: &[u8]) -> bool
 }
 
 /// Whether one of the closing tags of kind 1 stands somewhere, in any case.
-fn ends_verbatim(line: &[u8]) -> bool
-    ensures { result ≡ ends_verbatim (map lower line.now) }
+fn ends_raw(line: &[u8]) -> bool
+    ensures { result ≡ ends_raw (map lower line.now) }
 {
     let mut rest = line;
     while let Some(at) = memchr(b'<', rest) {
         let found = &rest[at..];
-        if closes_verbatim(found) {
+        if closes_raw(found) {
             return true;
         }
         rest = &found[1..];
@@ -311,8 +311,8 @@ fn ends_verbatim(line: &[u8]) -> bool
 }
 
 /// Whether one of the closing tags of kind 1 stands in front, in any case.
-fn closes_verbatim(bytes: &[u8]) -> bool
-    ensures { result ≡ closes_verbatim (map lower bytes.now) }
+fn closes_raw(bytes: &[u8]) -> bool
+    ensures { result ≡ closes_raw (map lower bytes.now) }
 {
     starts_lower(bytes, b"</pre>")
         || starts_lower(bytes, b"</script>")

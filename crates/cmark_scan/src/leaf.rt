@@ -5,7 +5,7 @@ ghost use Rattle.std.specs.Prelude.{◌≡◌, ℕ, IfSome, option_map};
 ghost use Rattle.std.specs.List.{position};
 ghost use Rattle.cmark_grammar.specs.Leaves.{run, is_break_of, is_thematic_break, is_run_of, underline_of, fence_of};
 ghost use Rattle.cmark_text.specs.Shown.{level_number};
-ghost use Rattle.cmark_scan.specs.LeafLines.{is_break_mark, stops_break, level_at, atx_level, shown_fence, HasPlace, long_fence, backtick_fence, closes_with};
+ghost use Rattle.cmark_scan.specs.LeafLines.{is_break_character, stops_break, level_at, atx_level, shown_fence, HasPlace, long_fence, backtick_fence, closes_with};
 
 use crate::bytes::{are_blank, count_leading, is_parted, trimmed};
 use cmark_scan_parts::bytes::{count_blanks, is_blank};
@@ -16,9 +16,9 @@ use memchr::memchr;
 #[derive(Clone, Copy)]
 pub struct CodeFence {
     /// The fence's character, a backtick or a tilde.
-    pub mark: u8,
+    pub delimiter: u8,
     /// How often it stands there, three times at least.
-    pub size: usize,
+    pub run_length: usize,
     /// Where the info string begins in the line handed in, without the blanks around it.
     pub info_start: usize,
     /// Where it ends.
@@ -33,35 +33,35 @@ pub fn scan_hrule(line: &[u8]) -> bool
 {
     let rest = &line[count_blanks(line)..];
     match rest {
-        [mark, ..] => is_break_mark(*mark) && is_break_of(rest, *mark),
+        [character, ..] => is_break_character(*character) && is_break_of(rest, *character),
         [] => false,
     }
 }
 
 /// Whether thematic breaks are made of this byte.
 #[inline]
-pub(crate) fn is_break_mark(byte: u8) -> bool
-    ensures { result ≡ is_break_mark byte }
+pub(crate) fn is_break_character(byte: u8) -> bool
+    ensures { result ≡ is_break_character byte }
 {
     byte == b'*' || byte == b'-' || byte == b'_'
 }
 
 /// Where the first byte stands that is neither this one nor a blank.
 #[inline]
-pub(crate) fn break_stop(line: &[u8], mark: u8) -> Option<usize>
-    ensures { result ≡ position (stops_break mark) line.now }
+pub(crate) fn break_stop(line: &[u8], character: u8) -> Option<usize>
+    ensures { result ≡ position (stops_break character) line.now }
 {
     line.iter()
-        .position(|byte| *byte != mark && !is_blank(*byte))
+        .position(|byte| *byte != character && !is_blank(*byte))
 }
 
 /// Whether the byte stands there three times at least, and else blanks alone.
-pub(crate) fn is_break_of(line: &[u8], mark: u8) -> bool
-    ensures { result ≡ is_break_of mark line.now }
+pub(crate) fn is_break_of(line: &[u8], character: u8) -> bool
+    ensures { result ≡ is_break_of character line.now }
 {
     let mut count: usize = 0;
     for byte in line {
-        if *byte == mark {
+        if *byte == character {
             count += 1;
         } else if !is_blank(*byte) {
             return false;
@@ -115,11 +115,11 @@ pub fn scan_setext_heading(line: &[u8]) -> Option<HeadingLevel>
 
 /// Whether the line is one run of this byte and blanks behind it.
 #[inline]
-fn is_run_of(line: &[u8], mark: u8) -> bool
-    ensures { result ≡ is_run_of mark line.now }
+fn is_run_of(line: &[u8], character: u8) -> bool
+    ensures { result ≡ is_run_of character line.now }
 {
-    let size = count_leading(line, mark);
-    size > 0 && are_blank(&line[size..])
+    let run_length = count_leading(line, character);
+    run_length > 0 && are_blank(&line[run_length..])
 }
 
 /// The code fence that the line is, if it opens a code block (CommonMark 4.5): three or more backticks with none behind
@@ -143,7 +143,7 @@ fn backtick_fence(line: &[u8]) -> Option<CodeFence>
     ensures place { IfSome result (HasPlace line.now) }
 {
     let fence = fence_of(line, b'`')?;
-    if memchr(b'`', &line[fence.size..]).is_some() {
+    if memchr(b'`', &line[fence.run_length..]).is_some() {
         return None;
     }
     Some(fence)
@@ -151,20 +151,20 @@ fn backtick_fence(line: &[u8]) -> Option<CodeFence>
 
 /// A fence of this byte, three times at least, whatever stands behind.
 #[inline]
-fn fence_of(line: &[u8], mark: u8) -> Option<CodeFence>
-    ensures fence { (indent : ℕ) → option_map (shown_fence indent line.now) result ≡ long_fence indent mark line.now }
+fn fence_of(line: &[u8], delimiter: u8) -> Option<CodeFence>
+    ensures fence { (indent : ℕ) → option_map (shown_fence indent line.now) result ≡ long_fence indent delimiter line.now }
     ensures place { IfSome result (HasPlace line.now) }
-    ensures size { IfSome result (λ fence. fence.size ≡ run mark line.now) }
+    ensures run_length { IfSome result (λ fence. fence.run_length ≡ run delimiter line.now) }
 {
-    let size = count_leading(line, mark);
-    if size < 3 {
+    let run_length = count_leading(line, delimiter);
+    if run_length < 3 {
         return None;
     }
-    let behind = &line[size..];
-    let info_start = size + count_blanks(behind);
+    let behind = &line[run_length..];
+    let info_start = run_length + count_blanks(behind);
     Some(CodeFence {
-        mark,
-        size,
+        delimiter,
+        run_length,
         info_start,
         info_end: info_start + trimmed(behind).len(),
     })
@@ -173,9 +173,9 @@ fn fence_of(line: &[u8], mark: u8) -> Option<CodeFence>
 /// Whether the line ends a code block that a fence of so many of this byte opened (CommonMark 4.5): as many at least, then
 /// blanks alone.
 #[inline]
-pub fn scan_closing_code_fence(line: &[u8], mark: u8, size: usize) -> bool
-    ensures { result ≡ closes_with mark size line.now }
+pub fn scan_closing_code_fence(line: &[u8], delimiter: u8, run_length: usize) -> bool
+    ensures { result ≡ closes_with delimiter run_length line.now }
 {
-    let run = count_leading(line, mark);
-    run >= size && are_blank(&line[run..])
+    let run = count_leading(line, delimiter);
+    run >= run_length && are_blank(&line[run..])
 }

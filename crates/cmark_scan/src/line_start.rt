@@ -7,7 +7,7 @@ ghost use Rattle.cmark_scan.specs.Places.{column_behind};
 
 mod markers;
 
-use crate::leaf::{break_stop, is_break_mark, is_break_of};
+use crate::leaf::{break_stop, is_break_character, is_break_of};
 use cmark_search::find_line_end;
 
 /// A line, of which some columns in front were taken. A tab stands for the columns up to the next tab stop, four columns
@@ -42,13 +42,13 @@ impl<'a> LineStart<'a> {
     ghost use Rattle.cmark_grammar.specs.Rows.{without, hold, indent_of, words_of, is_bare, begin_of};
     ghost use Rattle.cmark_grammar.specs.Leaves.{all_pass, is_parted, is_break_of, is_thematic_break};
     ghost use Rattle.cmark_scan.specs.LineMarkers.{is_flush};
-    ghost use Rattle.cmark_scan.specs.LeafLines.{is_break_mark};
+    ghost use Rattle.cmark_scan.specs.LeafLines.{is_break_character};
     ghost use Rattle.cmark_scan.specs.LineStart.{columns_taken, columns_from, row_from, line_of, cut_columns, knows_stop};
 
     /// The line that the bytes begin with, of which nothing was taken: the bytes up to the first LF or CR, or all.
     #[inline(always)]
     pub fn new(bytes: &'a [u8]) -> LineStart<'a>
-        ensures { (at past : ℕ) → row_from at past result ≡ line_of at past bytes.entry.now }
+        ensures { (at line_end : ℕ) → row_from at line_end result ≡ line_of at line_end bytes.entry.now }
     {
         let len = content_len(bytes);
         LineStart {
@@ -76,8 +76,8 @@ impl<'a> LineStart<'a> {
     /// The bytes to come, or none where columns of a tab are left.
     #[inline]
     fn ahead(&self) -> &'a [u8]
-        ensures words { (at past : ℕ) → is_flush (row_from at past self.now) ≡ true → words_of (row_from at past self.now) ≡ result.now }
-        ensures blank { (at past : ℕ) → is_flush (row_from at past self.now) ≡ false → is_parted result.now ≡ true }
+        ensures words { (at line_end : ℕ) → is_flush (row_from at line_end self.now) ≡ true → words_of (row_from at line_end self.now) ≡ result.now }
+        ensures blank { (at line_end : ℕ) → is_flush (row_from at line_end self.now) ≡ false → is_parted result.now ≡ true }
         ensures whole { 0 < length result.now → self.now.pending ≡ 0 }
         ensures rest { 0 < length result.now → result.now ≡ drop self.now.taken self.now.bytes.now }
     {
@@ -88,15 +88,15 @@ impl<'a> LineStart<'a> {
         }
     }
 
-    /// Whether a byte still to come is known, by an earlier search, that stops a thematic break of this mark.
+    /// Whether a byte still to come is known, by an earlier search, that stops a thematic break of this character.
     #[inline]
-    fn has_stop(&self, mark: u8) -> bool
-        ensures known { result ≡ knows_stop mark self.now }
-        ensures none { IsTrue result → is_break_of mark (drop self.now.taken self.now.bytes.now) ≡ false }
+    fn has_stop(&self, character: u8) -> bool
+        ensures known { result ≡ knows_stop character self.now }
+        ensures none { IsTrue result → is_break_of character (drop self.now.taken self.now.bytes.now) ≡ false }
     {
         self.taken <= self.break_stop
             && self.break_stop < self.bytes.len()
-            && self.bytes[self.break_stop] != mark
+            && self.bytes[self.break_stop] != character
     }
 
     /// Whether a thematic break stands from here on (CommonMark 4.1), where the byte in front is no blank.
@@ -107,22 +107,22 @@ impl<'a> LineStart<'a> {
     fn is_break(&mut self) -> bool
         requires { is_blank_byte (slice_index (drop self.old.taken self.old.bytes.now) 0) ≡ false }
         ensures found { result ≡ is_thematic_break (drop self.old.taken self.old.bytes.now) }
-        ensures learns { (mark : ℕ) → slice_index (drop self.old.taken self.old.bytes.now) 0 ≡ mark → is_break_mark mark ≡ true → all_pass (λ b. (b == mark) || is_blank_byte b) (drop self.old.taken self.old.bytes.now) ≡ false → knows_stop mark self.new ≡ true }
+        ensures learns { (character : ℕ) → slice_index (drop self.old.taken self.old.bytes.now) 0 ≡ character → is_break_character character ≡ true → all_pass (λ b. (b == character) || is_blank_byte b) (drop self.old.taken self.old.bytes.now) ≡ false → knows_stop character self.new ≡ true }
         ensures stays { IsTrue result → self.new ≡ self.old }
-        ensures rest { (at past : ℕ) → row_from at past self.new ≡ row_from at past self.old }
+        ensures rest { (at line_end : ℕ) → row_from at line_end self.new ≡ row_from at line_end self.old }
         ensures line { self.new.bytes ≡ self.old.bytes }
         ensures taken { self.new.taken ≡ self.old.taken }
         ensures pending { self.new.pending ≡ self.old.pending }
     {
         let rest = &self.bytes[self.taken..];
-        let Some(mark) = self.next_byte() else {
+        let Some(character) = self.next_byte() else {
             return false;
         };
-        if !is_break_mark(mark) || self.has_stop(mark) {
+        if !is_break_character(character) || self.has_stop(character) {
             return false;
         }
-        let Some(size) = break_stop(rest, mark) else {
-            return is_break_of(rest, mark);
+        let Some(size) = break_stop(rest, character) else {
+            return is_break_of(rest, character);
         };
         self.break_stop = self.taken + size;
         false
@@ -135,7 +135,7 @@ impl<'a> LineStart<'a> {
         requires within { n ≤ length (drop self.old.taken self.old.bytes.now) }
         requires plain { (k : ℕ) → k < n → slice_index (drop self.old.taken self.old.bytes.now) k ≢ tab }
         ensures line { self.new.bytes ≡ self.old.bytes }
-        ensures rest { (at past : ℕ) → row_from at past self.new ≡ without n (row_from at past self.old) }
+        ensures rest { (at line_end : ℕ) → row_from at line_end self.new ≡ without n (row_from at line_end self.old) }
         ensures whole { self.new.pending ≡ 0 }
         ensures taken { self.new.taken ≡ self.old.taken + n }
     {
@@ -168,7 +168,7 @@ impl<'a> LineStart<'a> {
         requires last { slice_index (drop self.old.taken self.old.bytes.now) (n - 1) ≢ tab }
         ensures line { self.new.bytes ≡ self.old.bytes }
         ensures whole { self.new.pending ≡ 0 }
-        ensures rest { (at past : ℕ) → row_from at past self.new ≡ without (columns_over n (columns_from at self.old)) (row_from at past self.old) }
+        ensures rest { (at line_end : ℕ) → row_from at line_end self.new ≡ without (columns_over n (columns_from at self.old)) (row_from at line_end self.old) }
     {
         let stop = self.taken + n;
         while self.taken < stop {
@@ -180,7 +180,7 @@ impl<'a> LineStart<'a> {
     #[inline]
     fn goes_on_with(&self, byte: u8) -> bool
         requires { is_blank_byte byte ≡ false }
-        ensures found { (at past : ℕ) → result ≡ (is_flush (row_from at past self.now) && begins_with byte (words_of (row_from at past self.now))) }
+        ensures found { (at line_end : ℕ) → result ≡ (is_flush (row_from at line_end self.now) && begins_with byte (words_of (row_from at line_end self.now))) }
         ensures whole { IsTrue result → self.now.pending ≡ 0 }
         ensures some { IsTrue result → 1 ≤ length (drop self.now.taken self.now.bytes.now) }
         ensures first { IsTrue result → slice_index (drop self.now.taken self.now.bytes.now) 0 ≡ byte }
@@ -225,7 +225,7 @@ impl<'a> LineStart<'a> {
     #[inline]
     pub fn scan_space_upto(&mut self, n: usize) -> usize
         ensures count { (at : ℕ) → result ≡ min n (indent (columns_from at self.old)) }
-        ensures rest { (at past : ℕ) → row_from at past self.new ≡ without result (row_from at past self.old) }
+        ensures rest { (at line_end : ℕ) → row_from at line_end self.new ≡ without result (row_from at line_end self.old) }
     {
         let mut count = self.pending.min(n);
         self.pending -= count;
@@ -245,8 +245,8 @@ impl<'a> LineStart<'a> {
     /// all the same.
     #[inline]
     pub fn scan_space(&mut self, n: usize) -> bool
-        ensures enough { (at past : ℕ) → result ≡ nat_le n (indent_of (row_from at past self.old)) }
-        ensures rest { (at past : ℕ) → row_from at past self.new ≡ without (min n (indent_of (row_from at past self.old))) (row_from at past self.old) }
+        ensures enough { (at line_end : ℕ) → result ≡ nat_le n (indent_of (row_from at line_end self.old)) }
+        ensures rest { (at line_end : ℕ) → row_from at line_end self.new ≡ without (min n (indent_of (row_from at line_end self.old))) (row_from at line_end self.old) }
     {
         self.scan_space_upto(n) == n
     }
@@ -254,7 +254,7 @@ impl<'a> LineStart<'a> {
     /// Takes all spaces and tabs in front.
     #[inline]
     pub fn scan_all_space(&mut self)
-        ensures { (at past : ℕ) → row_from at past self.new ≡ without (indent_of (row_from at past self.old)) (row_from at past self.old) }
+        ensures { (at line_end : ℕ) → row_from at line_end self.new ≡ without (indent_of (row_from at line_end self.old)) (row_from at line_end self.old) }
     {
         self.pending = 0;
         while self.take_blank() > 0 {}
@@ -263,7 +263,7 @@ impl<'a> LineStart<'a> {
     /// Notes that a container which has no prefix keeps the line (this profile's own). Nothing is taken.
     #[inline]
     pub fn hold(&mut self)
-        ensures { (at past : ℕ) → row_from at past self.new ≡ hold (row_from at past self.old) }
+        ensures { (at line_end : ℕ) → row_from at line_end self.new ≡ hold (row_from at line_end self.old) }
     {
         self.held = true;
     }
@@ -271,7 +271,7 @@ impl<'a> LineStart<'a> {
     /// Whether a container which has no prefix keeps the line (this profile's own).
     #[inline]
     pub fn is_held(&self) -> bool
-        ensures { (at past : ℕ) → result ≡ (row_from at past self.now).held }
+        ensures { (at line_end : ℕ) → result ≡ (row_from at line_end self.now).held }
     {
         self.held
     }
@@ -304,7 +304,7 @@ impl<'a> LineStart<'a> {
     /// How many bytes of the line were taken, a tab of which a part was taken among them.
     #[inline]
     pub fn bytes_scanned(&self) -> usize
-        ensures { (at past : ℕ) → begin_of (row_from at past self.now) ≡ at + result }
+        ensures { (at line_end : ℕ) → begin_of (row_from at line_end self.now) ≡ at + result }
     {
         self.taken
     }

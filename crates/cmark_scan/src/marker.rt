@@ -18,7 +18,7 @@ use cmark_text::BlockQuoteKind;
 #[derive(Clone, Copy)]
 pub(crate) struct ListMarker {
     /// The bullet, or what stands behind the number: `.` or `)`.
-    pub mark: u8,
+    pub delimiter: u8,
     /// The number of an ordered item.
     pub number: Option<u64>,
     /// How many bytes it has, which are as many columns.
@@ -49,11 +49,13 @@ fn scan_marker(line: &[u8]) -> Option<ListMarker>
     ensures plain { IfSome result (λ marker. (k : ℕ) → k < marker.size → slice_index line.now k ≢ tab) }
 {
     match line {
-        [mark, ..] if *mark == b'-' || *mark == b'+' || *mark == b'*' => Some(ListMarker {
-            mark: *mark,
-            number: None,
-            size: 1,
-        }),
+        [delimiter, ..] if *delimiter == b'-' || *delimiter == b'+' || *delimiter == b'*' => Some(
+            ListMarker {
+                delimiter: *delimiter,
+                number: None,
+                size: 1,
+            },
+        ),
         _ => scan_number(line),
     }
 }
@@ -69,12 +71,12 @@ fn scan_number(line: &[u8]) -> Option<ListMarker>
     if count == 0 || count > 9 || count == line.len() {
         return None;
     }
-    let mark = line[count];
-    if !is_delimiter(mark) {
+    let delimiter = line[count];
+    if !is_delimiter(delimiter) {
         return None;
     }
     Some(ListMarker {
-        mark,
+        delimiter,
         number: Some(number_of(&line[..count])),
         size: count + 1,
     })

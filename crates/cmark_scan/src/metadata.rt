@@ -34,8 +34,8 @@ pub fn scan_closing_metadata_fence(line: &[u8], kind: MetadataBlockKind) -> bool
 
 /// Whether the line is exactly these bytes and blanks behind them.
 #[inline]
-fn is_line_of(line: &[u8], mark: &[u8]) -> bool
-    ensures { result ≡ is_line_of mark.now line.now }
+fn is_line_of(line: &[u8], delimiter: &[u8]) -> bool
+    ensures { result ≡ is_line_of delimiter.now line.now }
 {
-    starts(line, mark) && are_blank(&line[mark.len()..])
+    starts(line, delimiter) && are_blank(&line[delimiter.len()..])
 }

@@ -8,7 +8,7 @@ use Rattle.std.proofs.lemmas.List.{get_or-drop}
 use Rattle.std.proofs.lemmas.Str.{IsCharBoundary-after_ascii}
 use Rattle.cmark_grammar.specs.Columns.{is_blank_byte}
 use Rattle.cmark_grammar.specs.Letters.{is_letter, first_is, starts, behind_all, behind_if, behind_start, behind_first, and_then}
-use Rattle.cmark_grammar.specs.Tags.{is_name_byte, is_attribute_start, is_attribute_byte, is_value_byte, is_space_byte, behind_line_feed, behind_ending, behind_tag_name, behind_attribute_name, behind_bare_value, behind_greater, behind_open_end, behind_closing_tag, without_prefix, on_next_line, behind_space, prefix_behind, behind_quote, behind_value, behind_assigned, behind_attribute, behind_attributes, behind_open_tag, behind_tag_start, behind_tag}
+use Rattle.cmark_grammar.specs.Tags.{is_name_byte, is_attribute_start, is_attribute_byte, is_value_byte, is_space_byte, behind_line_feed, behind_ending, behind_tag_name, behind_attribute_name, behind_bare_value, behind_greater, behind_open_end, behind_closing_tag, without_prefix, on_next_line, behind_space, prefix_behind, behind_quotation_mark, behind_value, behind_assigned, behind_attribute, behind_attributes, behind_open_tag, behind_tag_start, behind_tag}
 use Rattle.cmark_grammar.specs.InlineHtml.{behind_comment, declaration_in, cdata_in, opened_in, find_with}
 use Rattle.cmark_scan_parts.proofs.Closers.{here_starts}
 
@@ -98,18 +98,18 @@ module _ (prefix : List ℕ → ℕ) where
       let blanks : List ℕ = behind_all is_blank_byte bs in
       onward bs blanks _ (all-rest is_blank_byte bs) (line-rest blanks (behind_ending blanks) (ending-rest blanks))
 
-  quote-rest : (quote skip : ℕ) (bs r : List ℕ) → behind_quote prefix quote skip bs ≡ Some r → IsRest bs r
+  quote-rest : (quote skip : ℕ) (bs r : List ℕ) → behind_quotation_mark prefix quote skip bs ≡ Some r → IsRest bs r
   quote-rest quote skip [] r e = cc
   quote-rest quote (suc skip) (b ∷ bs) r e = onward (b ∷ bs) bs r (1, refl) (quote-rest quote skip bs r e)
   quote-rest quote zero (b ∷ bs) r e =
       ⊎_elim (λ s. (1, same bs r s)) (λ f. onward (b ∷ bs) bs r (1, refl) (quote-rest quote (prefix_behind prefix b bs) bs r f))
-      (branch (b == quote) (Some bs) (behind_quote prefix quote (prefix_behind prefix b bs) bs) r e)
+      (branch (b == quote) (Some bs) (behind_quotation_mark prefix quote (prefix_behind prefix b bs) bs) r e)
 
   value-rest : (bs r : List ℕ) → behind_value prefix bs ≡ Some r → IsRest bs r
   value-rest [] r e = cc
   value-rest (b ∷ bs) r e =
       ⊎_elim (λ f. onward (b ∷ bs) bs r (1, refl) (quote-rest b 0 bs r f)) (λ f. then-all is_value_byte is_value_byte (b ∷ bs) r f)
-      (branch ((b == 34) || (b == 39)) (behind_quote prefix b 0 bs) (behind_bare_value (b ∷ bs)) r e)
+      (branch ((b == 34) || (b == 39)) (behind_quotation_mark prefix b 0 bs) (behind_bare_value (b ∷ bs)) r e)
 
   assigned-rest : (name bs r : List ℕ) → IsRest name bs → behind_assigned prefix name bs ≡ Some r → IsRest name r
   assigned-rest name [] r h e = (0, same name r e)

@@ -3,10 +3,10 @@ use Rattle.std.proofs.Common.{◌≡◌, ℕ, suc, ◌+◌, Bool, true, false, �
 use Rattle.std.proofs.lemmas.List.{get_or-drop}
 use Rattle.cmark_grammar.specs.Letters.{first_is}
 use Rattle.cmark_grammar.specs.Footnotes.{colon_behind, label_then_colon}
-use Rattle.cmark_grammar.specs.LinkDefinitions.{Found, up_to, is_label, label_if}
+use Rattle.cmark_grammar.specs.LinkDefinitions.{Parsed, up_to, is_label, label_if}
 use Rattle.cmark_scan_parts.specs.Footnotes.{labelled}
 
-abbrev pub closed : List ℕ → (size : ℕ) → Found
+abbrev pub closed : List ℕ → (size : ℕ) → Parsed
 closed bytes size = record { bytes = take size bytes; behind = drop (suc size) bytes }
 
 abbrev pub has_colon : List ℕ → Bool
@@ -24,7 +24,7 @@ label-is bytes size is = ap (λ o. label_then_colon (label_if o)) (sym is) ∙ g
     go : (z : Bool) → label_then_colon (if z then Some (closed bytes size) else None) ≡ (if z then (if has_colon (drop (suc size) bytes) then Some (labelled bytes size) else None) else None)
     go true =
         colon-is (take size bytes) (drop (suc size) bytes)
-        ∙ ap (λ (l : List ℕ). if has_colon (drop (suc size) bytes) then Some (let found : Found = record { bytes = take size bytes; behind = l } in found) else None)
+        ∙ ap (λ (l : List ℕ). if has_colon (drop (suc size) bytes) then Some (let found : Parsed = record { bytes = take size bytes; behind = l } in found) else None)
         (drop-drop 1 (suc size) bytes ∙ ap (λ n. drop n bytes) (let e : suc size + 1 ≡ suc (suc size) = omega arith in e))
     go false = refl
 

@@ -5,7 +5,7 @@ use Rattle.std.specs.Prelude.{Result, Ok, count_by, fold, option_map, slice_rang
 use Rattle.std.proofs.lemmas.Bool.{lt-leb, le-leb}
 use Rattle.std.proofs.lemmas.List.{take_more, get_or-drop}
 use Rattle.cmark_grammar.specs.Letters.{and_then}
-use Rattle.cmark_grammar.specs.LinkDefinitions.{Found, put, up_to_byte, escapes_next, characters, is_white, label_if}
+use Rattle.cmark_grammar.specs.LinkDefinitions.{Parsed, put, up_to_byte, escapes_next, characters, is_white, label_if}
 use Rattle.cmark_grammar.specs.LabelsOverLines.{as_in_cell, label_prefix, up_to_bracket, label_over_lines}
 use Rattle.cmark_text.specs.declared.text.CowStr.{CowStr}
 use Rattle.cmark_text.specs.declared.text.CowStr.TheVariants.{Borrowed}
@@ -40,7 +40,7 @@ words_more bs b =
     ap (nat_lt 0) (last_step (λ n c. n + (if not (is_white c) then 1 else 0)) 0 bs b)
     ∙ one_more (count_by (λ c. not (is_white c)) bs) (not (is_white b))
 
-pub label_fails : (all here : Option Found) (text : List ℕ) → all ≡ puts text here → here ≡ None → None ≡ label_if all
+pub label_fails : (all here : Option Parsed) (text : List ℕ) → all ≡ puts text here → here ≡ None → None ≡ label_if all
 label_fails all here text reads e = sym (ap label_if (reads ∙ ap (puts text) e ∙ puts-none text))
 
 module _ (prefix : List ℕ → Option ℕ) where
@@ -53,8 +53,8 @@ module _ (prefix : List ℕ → Option ℕ) where
   behind e bs next None is = cc
   behind e bs next (Some n) is = let same : next ≡ drop n bs = cc in skipped e n bs ∙ ap (up_to_bracket prefix e 0) (sym same)
 
-  pub label_more : (all : Option Found) (text rest others next : List ℕ) (e : Bool) (b : ℕ) → all ≡ puts text (up_to_bracket prefix e 0 rest) → rest ≡ b ∷ others
-      → ((bs : List ℕ) (found : Option Found) → up_to_byte e 93 91 true b bs found ≡ put b found) → Some next ≡ option_map (λ n. drop n others) (label_prefix prefix b others)
+  pub label_more : (all : Option Parsed) (text rest others next : List ℕ) (e : Bool) (b : ℕ) → all ≡ puts text (up_to_bracket prefix e 0 rest) → rest ≡ b ∷ others
+      → ((bs : List ℕ) (found : Option Parsed) → up_to_byte e 93 91 true b bs found ≡ put b found) → Some next ≡ option_map (λ n. drop n others) (label_prefix prefix b others)
       → all ≡ puts (text ++ b ∷ []) (up_to_bracket prefix (escapes_next e b) 0 next)
   label_more all text rest others next e b reads is step line =
       reads ∙ ap (λ l. puts text (up_to_bracket prefix e 0 l)) is
@@ -65,17 +65,17 @@ module _ (prefix : List ℕ → Option ℕ) where
   no_line e bs None is = refl
   no_line e bs (Some n) is = cc
 
-  pub label_cut : (all : Option Found) (text rest others : List ℕ) (e : Bool) (b : ℕ) → all ≡ puts text (up_to_bracket prefix e 0 rest) → rest ≡ b ∷ others
-      → ((bs : List ℕ) (found : Option Found) → up_to_byte e 93 91 true b bs found ≡ put b found) → None ≡ option_map (λ n. drop n others) (label_prefix prefix b others)
+  pub label_cut : (all : Option Parsed) (text rest others : List ℕ) (e : Bool) (b : ℕ) → all ≡ puts text (up_to_bracket prefix e 0 rest) → rest ≡ b ∷ others
+      → ((bs : List ℕ) (found : Option Parsed) → up_to_byte e 93 91 true b bs found ≡ put b found) → None ≡ option_map (λ n. drop n others) (label_prefix prefix b others)
       → None ≡ label_if all
   label_cut all text rest others e b reads is step line =
       label_fails all _ text reads (ap (up_to_bracket prefix e 0) is ∙ step others _ ∙ ap (put b) (no_line (escapes_next e b) others (label_prefix prefix b others) line))
 
-pub label_ends : (all here : Option Found) (text others : List ℕ) (n : ℕ) (words t : Bool) → all ≡ puts text here → here ≡ Some (record { bytes = []; behind = others }) → n ≡ characters text → words ≡ has_words text
+pub label_ends : (all here : Option Parsed) (text others : List ℕ) (n : ℕ) (words t : Bool) → all ≡ puts text here → here ≡ Some (record { bytes = []; behind = others }) → n ≡ characters text → words ≡ has_words text
     → t ≡ (nat_le n 999 && words) → label_if all ≡ (if t then Some (record { bytes = text; behind = others }) else None)
 label_ends all here text others n words t reads e count some is =
     ap label_if (reads ∙ ap (puts text) e ∙ puts-done text others)
-    ∙ ap (λ (p : Bool). if p then Some (let found : Found = record { bytes = text; behind = others } in found) else None) (sym (is ∙ ap (λ m. nat_le m 999 && words) count ∙ ap (λ w. nat_le (characters text) 999 && w) some))
+    ∙ ap (λ (p : Bool). if p then Some (let found : Parsed = record { bytes = text; behind = others } in found) else None) (sym (is ∙ ap (λ m. nat_le m 999 && words) count ∙ ap (λ w. nat_le (characters text) 999 && w) some))
 
 -- more characters than a label has
 grows : (p : ℕ → Bool) (a : ℕ) (bs : List ℕ) → a ≤ fold (λ n c. n + (if p c then 1 else 0)) a bs
@@ -89,15 +89,15 @@ longer_from p a (b ∷ text) bs = longer_from p (a + (if p b then 1 else 0)) tex
 longer : (text bs : List ℕ) → characters text ≤ characters (text ++ bs)
 longer text bs = longer_from (λ c. nat_lt c 128 || nat_le 192 c) 0 text bs
 
-puts-some : (text : List ℕ) (found : Found) → puts text (Some found) ≡ Some (record { bytes = text ++ found.bytes; behind = found.behind })
+puts-some : (text : List ℕ) (found : Parsed) → puts text (Some found) ≡ Some (record { bytes = text ++ found.bytes; behind = found.behind })
 puts-some [] found = refl
 puts-some (b ∷ text) found = ap (put b) (puts-some text found)
 
-pub too_long : (all here : Option Found) (text : List ℕ) (n : ℕ) → all ≡ puts text here → n ≡ characters text → 999 < n → None ≡ label_if all
+pub too_long : (all here : Option Parsed) (text : List ℕ) (n : ℕ) → all ≡ puts text here → n ≡ characters text → 999 < n → None ≡ label_if all
 too_long all None text n reads count lt = sym (ap label_if (reads ∙ puts-none text))
 too_long all (Some found) text n reads count lt =
     sym (ap label_if (reads ∙ puts-some text found)
-    ∙ ap (λ t. if t && has_words (text ++ found.bytes) then Some (let f : Found = record { bytes = text ++ found.bytes; behind = found.behind } in f) else None)
+    ∙ ap (λ t. if t && has_words (text ++ found.bytes) then Some (let f : Parsed = record { bytes = text ++ found.bytes; behind = found.behind } in f) else None)
     (lt-leb (characters (text ++ found.bytes)) 999 (let m = longer text found.bytes in omega arith)))
 
 -- what was read of a text up to a place: the stretches that were copied, and the bytes behind a mark
@@ -121,13 +121,13 @@ pub byte-cut : (bytes text : List ℕ) (at : ℕ) → bytes ≡ text → at < le
 byte-cut bytes text at same lt = drop-cons text at 0 lt ∙ ap (λ (l : List ℕ). get_or l at 0 ∷ drop (suc at) text) (sym same) ∙ ap (λ n. get_or bytes at 0 ∷ drop n text) (let e : suc at ≡ at + 1 = omega arith in e)
 
 -- a label that stands in no table
-in_no_cell : (o : Option Found) → option_map (as_in_cell false) o ≡ o
+in_no_cell : (o : Option Parsed) → option_map (as_in_cell false) o ≡ o
 in_no_cell None = refl
 in_no_cell (Some found) = refl
 
 module _ (prefix : List ℕ → Option ℕ) (text : List ℕ) where
   pub no_rest : None ≡ label_if (up_to_bracket prefix false 0 text) → None ≡ option_map (cut_behind text) (label_over_lines prefix false text)
-  no_rest e = ap (λ (o : Option Found). option_map (cut_behind text) (option_map (as_in_cell false) o)) e
+  no_rest e = ap (λ (o : Option Parsed). option_map (cut_behind text) (option_map (as_in_cell false) o)) e
 
   pub rest_found : (bytes : List ℕ) (at : ℕ) → at < length text → label_if (up_to_bracket prefix false 0 text) ≡ Some (record { bytes = bytes; behind = drop (at + 1) text })
       → Some (let part : Part = record { end = at + 1; bytes = bytes } in part) ≡ option_map (cut_behind text) (label_over_lines prefix false text)
@@ -136,8 +136,8 @@ module _ (prefix : List ℕ → Option ℕ) (text : List ℕ) where
       ∙ ap (option_map (cut_behind text)) (sym e ∙ sym (in_no_cell _))
 
 -- one byte more of a label, and the prefixes behind it
-pub label_onward : (prefix : List ℕ → Option ℕ) (all : Option Found) (text : List ℕ) (at size b : ℕ) (e e' : Bool) (read read' : List ℕ) → all ≡ puts read (up_to_bracket prefix e 0 (drop at text)) → drop at text ≡ b ∷ drop (at + 1) text
-    → ((bs : List ℕ) (found : Option Found) → up_to_byte e 93 91 true b bs found ≡ put b found) → Some size ≡ label_prefix prefix b (drop (at + 1) text) → read' ≡ read ++ b ∷ [] → e' ≡ escapes_next e b
+pub label_onward : (prefix : List ℕ → Option ℕ) (all : Option Parsed) (text : List ℕ) (at size b : ℕ) (e e' : Bool) (read read' : List ℕ) → all ≡ puts read (up_to_bracket prefix e 0 (drop at text)) → drop at text ≡ b ∷ drop (at + 1) text
+    → ((bs : List ℕ) (found : Option Parsed) → up_to_byte e 93 91 true b bs found ≡ put b found) → Some size ≡ label_prefix prefix b (drop (at + 1) text) → read' ≡ read ++ b ∷ [] → e' ≡ escapes_next e b
     → all ≡ puts read' (up_to_bracket prefix e' 0 (drop (at + 1 + size) text))
 label_onward prefix all text at size b e e' read read' reads cut step line is escapes =
     label_more prefix all read (drop at text) (drop (at + 1) text) (drop (at + 1 + size) text) e b reads cut step

@@ -1,27 +1,27 @@
 -- A part read from byte to byte.
 use Rattle.std.proofs.Common.{◌≡◌, ℕ, suc, ◌-◌, ◌<◌, List, [], ◌∷◌, ◌++◌, length, take, drop, get_or, Option, None, Some, refl, sym, ap, ◌∙◌, arith, append_assoc, length-append}
-use Rattle.cmark_grammar.specs.LinkDefinitions.{Found, put}
+use Rattle.cmark_grammar.specs.LinkDefinitions.{Parsed, put}
 
 -- bytes that were read in front of what is read behind them
-abbrev pub puts : List ℕ → Option Found → Option Found
+abbrev pub puts : List ℕ → Option Parsed → Option Parsed
 puts [] found = found
 puts (b ∷ bs) found = put b (puts bs found)
 
 -- what is read of all bytes is a first part of them, and then what is read of this rest
-pub record Reads (all here : Option Found) (bytes rest : List ℕ) : Type 0 where
+pub record Reads (all here : Option Parsed) (bytes rest : List ℕ) : Type 0 where
   pub front : List ℕ
   pub cut : bytes ≡ front ++ rest
   pub same : all ≡ puts front here
 
-pub reads_none : (all : Option Found) (bytes : List ℕ) → Reads all all bytes bytes
+pub reads_none : (all : Option Parsed) (bytes : List ℕ) → Reads all all bytes bytes
 reads_none all bytes = record { front = []; cut = refl; same = refl }
 
-pub puts-more : (front : List ℕ) (b : ℕ) (found : Option Found) → puts front (put b found) ≡ puts (front ++ b ∷ []) found
+pub puts-more : (front : List ℕ) (b : ℕ) (found : Option Parsed) → puts front (put b found) ≡ puts (front ++ b ∷ []) found
 puts-more [] b found = refl
 puts-more (c ∷ front) b found = ap (put c) (puts-more front b found)
 
 -- one byte more
-pub reads_more : (all here next : Option Found) (bytes rest others : List ℕ) (b : ℕ) → Reads all here bytes rest → rest ≡ b ∷ others → here ≡ put b next → Reads all next bytes others
+pub reads_more : (all here next : Option Parsed) (bytes rest others : List ℕ) (b : ℕ) → Reads all here bytes rest → rest ≡ b ∷ others → here ≡ put b next → Reads all next bytes others
 reads_more all here next bytes rest others b r is e = record {
   front = r.front ++ b ∷ [];
   cut = r.cut ∙ ap (λ l. r.front ++ l) is ∙ sym (append_assoc r.front (b ∷ []) others);
@@ -33,7 +33,7 @@ pub puts-none : (front : List ℕ) → puts front None ≡ None
 puts-none [] = refl
 puts-none (b ∷ front) = ap (put b) (puts-none front)
 
-pub reads_fail : (all here : Option Found) (bytes rest : List ℕ) → Reads all here bytes rest → here ≡ None → None ≡ all
+pub reads_fail : (all here : Option Parsed) (bytes rest : List ℕ) → Reads all here bytes rest → here ≡ None → None ≡ all
 reads_fail all here bytes rest r e = sym (r.same ∙ ap (puts r.front) e ∙ puts-none r.front)
 
 pub puts-done : (front behind : List ℕ) → puts front (Some (record { bytes = []; behind = behind })) ≡ Some (record { bytes = front; behind = behind })
@@ -56,25 +56,25 @@ front_size : (bytes front rest : List ℕ) → bytes ≡ front ++ rest → lengt
 front_size bytes front rest cut = let n = ap length cut in let l = length-append front rest in omega arith
 
 -- the part ends at a closer
-pub reads_closed : (all here : Option Found) (bytes rest others : List ℕ) (b : ℕ) → Reads all here bytes rest → rest ≡ b ∷ others → here ≡ Some (record { bytes = []; behind = others })
-    → Some (let found : Found = record { bytes = take (length bytes - length rest) bytes; behind = drop (suc (length bytes - length rest)) bytes } in found) ≡ all
+pub reads_closed : (all here : Option Parsed) (bytes rest others : List ℕ) (b : ℕ) → Reads all here bytes rest → rest ≡ b ∷ others → here ≡ Some (record { bytes = []; behind = others })
+    → Some (let found : Parsed = record { bytes = take (length bytes - length rest) bytes; behind = drop (suc (length bytes - length rest)) bytes } in found) ≡ all
 reads_closed all here bytes rest others b r is e =
     let size : length bytes - length rest ≡ length r.front = front_size bytes r.front rest r.cut in
-    ap (λ n. let found : Found = record { bytes = take n bytes; behind = drop (suc n) bytes } in Some found) size
-    ∙ ap (λ l. let found : Found = record { bytes = take (length r.front) l; behind = drop (suc (length r.front)) l } in Some found) (r.cut ∙ ap (λ l. r.front ++ l) is)
-    ∙ ap (λ l. let found : Found = record { bytes = l; behind = drop (suc (length r.front)) (r.front ++ b ∷ others) } in Some found) (take-front r.front (b ∷ others))
-    ∙ ap (λ l. let found : Found = record { bytes = r.front; behind = l } in Some found) (drop-front-suc r.front others b)
+    ap (λ n. let found : Parsed = record { bytes = take n bytes; behind = drop (suc n) bytes } in Some found) size
+    ∙ ap (λ l. let found : Parsed = record { bytes = take (length r.front) l; behind = drop (suc (length r.front)) l } in Some found) (r.cut ∙ ap (λ l. r.front ++ l) is)
+    ∙ ap (λ l. let found : Parsed = record { bytes = l; behind = drop (suc (length r.front)) (r.front ++ b ∷ others) } in Some found) (take-front r.front (b ∷ others))
+    ∙ ap (λ l. let found : Parsed = record { bytes = r.front; behind = l } in Some found) (drop-front-suc r.front others b)
     ∙ sym (r.same ∙ ap (puts r.front) e ∙ puts-done r.front others)
 
 -- or in front of the rest
-pub reads_open : (all here : Option Found) (bytes rest : List ℕ) → Reads all here bytes rest → here ≡ Some (record { bytes = []; behind = rest })
-    → Some (let found : Found = record { bytes = take (length bytes - length rest) bytes; behind = drop (length bytes - length rest) bytes } in found) ≡ all
+pub reads_open : (all here : Option Parsed) (bytes rest : List ℕ) → Reads all here bytes rest → here ≡ Some (record { bytes = []; behind = rest })
+    → Some (let found : Parsed = record { bytes = take (length bytes - length rest) bytes; behind = drop (length bytes - length rest) bytes } in found) ≡ all
 reads_open all here bytes rest r e =
     let size : length bytes - length rest ≡ length r.front = front_size bytes r.front rest r.cut in
-    ap (λ n. let found : Found = record { bytes = take n bytes; behind = drop n bytes } in Some found) size
-    ∙ ap (λ l. let found : Found = record { bytes = take (length r.front) l; behind = drop (length r.front) l } in Some found) r.cut
-    ∙ ap (λ l. let found : Found = record { bytes = l; behind = drop (length r.front) (r.front ++ rest) } in Some found) (take-front r.front rest)
-    ∙ ap (λ l. let found : Found = record { bytes = r.front; behind = l } in Some found) (drop-front r.front rest)
+    ap (λ n. let found : Parsed = record { bytes = take n bytes; behind = drop n bytes } in Some found) size
+    ∙ ap (λ l. let found : Parsed = record { bytes = take (length r.front) l; behind = drop (length r.front) l } in Some found) r.cut
+    ∙ ap (λ l. let found : Parsed = record { bytes = l; behind = drop (length r.front) (r.front ++ rest) } in Some found) (take-front r.front rest)
+    ∙ ap (λ l. let found : Parsed = record { bytes = r.front; behind = l } in Some found) (drop-front r.front rest)
     ∙ sym (r.same ∙ ap (puts r.front) e ∙ puts-done r.front rest)
 
 get_or-front : (front others : List ℕ) (b : ℕ) → get_or (front ++ b ∷ others) (length front) 0 ≡ b
@@ -82,7 +82,7 @@ get_or-front [] others b = refl
 get_or-front (c ∷ front) others b = get_or-front front others b
 
 -- which byte stands there
-pub reads_byte : (all here : Option Found) (bytes rest others : List ℕ) (b : ℕ) → Reads all here bytes rest → rest ≡ b ∷ others
+pub reads_byte : (all here : Option Parsed) (bytes rest others : List ℕ) (b : ℕ) → Reads all here bytes rest → rest ≡ b ∷ others
     → (length bytes - length rest < length bytes) × (get_or bytes (length bytes - length rest) 0 ≡ b)
 reads_byte all here bytes rest others b r is =
     let size : length bytes - length rest ≡ length r.front = front_size bytes r.front rest r.cut in (
@@ -95,8 +95,8 @@ no_bytes [] e = refl
 no_bytes (b ∷ bs) e = absurd (omega arith)
 
 -- the part goes on to the end
-pub reads_end : (all here : Option Found) (bytes rest : List ℕ) → Reads all here bytes rest → length rest ≡ 0 → here ≡ Some (record { bytes = []; behind = [] })
-    → Some (let found : Found = record { bytes = take (length bytes) bytes; behind = drop (length bytes) bytes } in found) ≡ all
+pub reads_end : (all here : Option Parsed) (bytes rest : List ℕ) → Reads all here bytes rest → length rest ≡ 0 → here ≡ Some (record { bytes = []; behind = [] })
+    → Some (let found : Parsed = record { bytes = take (length bytes) bytes; behind = drop (length bytes) bytes } in found) ≡ all
 reads_end all here bytes rest r none e =
-    ap (λ n. let found : Found = record { bytes = take n bytes; behind = drop n bytes } in Some found) (let size : length bytes ≡ length bytes - length rest = omega arith in size)
-    ∙ reads_open all here bytes rest r (e ∙ ap (λ bs. let found : Found = record { bytes = []; behind = bs } in Some found) (sym (no_bytes rest none)))
+    ap (λ n. let found : Parsed = record { bytes = take n bytes; behind = drop n bytes } in Some found) (let size : length bytes ≡ length bytes - length rest = omega arith in size)
+    ∙ reads_open all here bytes rest r (e ∙ ap (λ bs. let found : Parsed = record { bytes = []; behind = bs } in Some found) (sym (no_bytes rest none)))

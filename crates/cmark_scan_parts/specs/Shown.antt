@@ -2,7 +2,7 @@
 use Rattle.cmark_grammar.specs.InlineHtml.{OwnedTag, Find}
 use Rattle.cmark_scan_parts.specs.declared.owned.HtmlTag.{HtmlTag}
 use Rattle.std.specs.Prelude.{ℕ, List, ◌+◌, ◌-◌, ◌<◌, ◌≤◌, ◌≡◌, slice_index, suc, length, Option, option_map}
-use Rattle.cmark_grammar.specs.LinkDefinitions.{Found}
+use Rattle.cmark_grammar.specs.LinkDefinitions.{Parsed}
 use Rattle.cmark_scan_parts.specs.declared.link.Cut.{Cut}
 use Rattle.cmark_text.specs.declared.text.CowStr.{CowStr}
 use Rattle.cmark_text.specs.declared.text.CowStr.TheVariants.{Boxed, Borrowed, Inlined}
@@ -27,14 +27,14 @@ abbrev pub shown_cut : Cut → Part
 shown_cut closed = record { end = closed.end; bytes = closed.part.now }
 
 -- what was found from a place on, with a closer of one byte
-abbrev pub cut_at : (start : ℕ) → Option Found → Option Part
+abbrev pub cut_at : (start : ℕ) → Option Parsed → Option Part
 cut_at start found = option_map (λ f. record { end = start + suc (length f.bytes); bytes = f.bytes }) found
 
 abbrev pub shown_entity : Entity → tokens.Entity
 shown_entity entity = record { bytes = text_bytes entity.text; size = entity.len }
 
 -- what was found in a text, and where it ends in the text
-abbrev pub cut_behind : (text : List ℕ) → Found → Part
+abbrev pub cut_behind : (text : List ℕ) → Parsed → Part
 cut_behind text found = record { end = length text - length found.behind; bytes = found.bytes }
 
 -- a part of so many bytes, of which some stand in front of these, ends with a semicolon

@@ -1,17 +1,17 @@
 -- Steps of a scanner from byte to byte.
 use Rattle.std.specs.Prelude.{ℕ, List, [], ◌∷◌, Option, Some, None}
-use Rattle.cmark_grammar.specs.LinkDefinitions.{Found, put}
+use Rattle.cmark_grammar.specs.LinkDefinitions.{Parsed, put}
 use Rattle.cmark_scan_parts.specs.declared.closed.Step.{Step}
 use Rattle.cmark_scan_parts.specs.declared.closed.Step.TheVariants.{Ends, Fails, GoesOn}
 
 -- what is read from a byte on, if this is what the byte does, and that is read behind it: one that ends a part is its
 -- closer, or stands behind it
-abbrev pub read_closed : Step → ℕ → List ℕ → Option Found → Option Found
+abbrev pub read_closed : Step → ℕ → List ℕ → Option Parsed → Option Parsed
 read_closed Ends b bs found = Some (record { bytes = []; behind = bs })
 read_closed Fails b bs found = None
 read_closed GoesOn b bs found = put b found
 
-abbrev pub read_bare : Step → ℕ → List ℕ → Option Found → Option Found
+abbrev pub read_bare : Step → ℕ → List ℕ → Option Parsed → Option Parsed
 read_bare Ends b bs found = Some (record { bytes = []; behind = b ∷ bs })
 read_bare Fails b bs found = None
 read_bare GoesOn b bs found = put b found

@@ -1,7 +1,7 @@
 //! Parts of a text that a closer ends: labels, titles, and destinations in pointed brackets (CommonMark 6.3).
 
 ghost use Rattle.std.specs.Prelude.{◌≡◌, ◌<◌, ◌==◌, ◌&&◌, ◌||◌, ℕ, List, Option, suc, not, false, length, drop, take, slice_index, IfSome, option_map};
-ghost use Rattle.cmark_grammar.specs.LinkDefinitions.{Found, up_to_byte, up_to};
+ghost use Rattle.cmark_grammar.specs.LinkDefinitions.{Parsed, up_to_byte, up_to};
 ghost use Rattle.cmark_scan_parts.specs.Steps.{read_closed, OnEnds};
 
 use crate::bytes::escapes_next;
@@ -34,7 +34,7 @@ pub(crate) fn closed_step(
     over_lines: bool,
     byte: u8,
 ) -> Step
-    ensures value { (bs : List ℕ) (found : Option Found) → up_to_byte escaped closer refused over_lines byte bs found ≡ read_closed result byte bs found }
+    ensures value { (bs : List ℕ) (found : Option Parsed) → up_to_byte escaped closer refused over_lines byte bs found ≡ read_closed result byte bs found }
     ensures ends { OnEnds result (byte ≡ closer) }
 {
     if !escaped && byte == closer {

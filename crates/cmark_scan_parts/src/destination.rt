@@ -2,7 +2,7 @@
 
 ghost use Rattle.std.specs.Prelude.{◌≡◌, ◌<◌, ◌≤◌, ◌+◌, ℕ, List, Option, false, length, drop, take, slice_index, IfSome, option_map};
 ghost use Rattle.std.specs.Str.{IsCharBoundary};
-ghost use Rattle.cmark_grammar.specs.LinkDefinitions.{Found, up_to, bare_byte, bare_in, depth_after};
+ghost use Rattle.cmark_grammar.specs.LinkDefinitions.{Parsed, up_to, bare_byte, bare_in, depth_after};
 ghost use Rattle.cmark_grammar.specs.Destinations.{link_destination_in};
 ghost use Rattle.cmark_scan_parts.specs.Shown.{shown_cut, cut_behind};
 ghost use Rattle.cmark_scan_parts.specs.Steps.{read_bare, OnEnds, OnGoesOn};
@@ -28,7 +28,7 @@ fn depth_after(escaped: bool, depth: usize, byte: u8) -> usize
 /// parentheses are closed, and refuses it elsewhere; so does one more parenthesis where 32 are open.
 fn bare_step(escaped: bool, depth: usize, byte: u8) -> Step
     requires { depth ≤ 32 }
-    ensures value { (bs : List ℕ) (found : Option Found) → bare_byte escaped depth byte bs found ≡ read_bare result byte bs found }
+    ensures value { (bs : List ℕ) (found : Option Parsed) → bare_byte escaped depth byte bs found ≡ read_bare result byte bs found }
     ensures ends { OnEnds result (byte < 128) }
     ensures shallow { OnGoesOn result (depth_after escaped depth byte ≤ 32) }
 {

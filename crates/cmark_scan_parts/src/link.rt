@@ -4,7 +4,7 @@ ghost use Rattle.std.specs.Prelude.{◌≡◌, ◌+◌, ◌<◌, ◌≤◌, ◌=
 ghost use Rattle.std.specs.List.{prefix_len};
 ghost use Rattle.std.specs.Str.{IsCharBoundary};
 ghost use Rattle.cmark_grammar.specs.Autolinks.{has_scheme, is_uri_byte, autolink_in, piped_name_in};
-ghost use Rattle.cmark_grammar.specs.LinkDefinitions.{Found};
+ghost use Rattle.cmark_grammar.specs.LinkDefinitions.{Parsed};
 ghost use Rattle.cmark_grammar.specs.Letters.{first_is};
 ghost use Rattle.cmark_scan_parts.specs.Shown.{shown_cut, cut_at};
 

@@ -6,7 +6,7 @@
 ghost use Rattle.std.specs.Prelude.{◌≡◌, ◌-◌, ◌<◌, ◌≤◌, length, true, option_copied, IfSome};
 ghost use Rattle.std.specs.Str.{IsUtf8, IsCharBoundary};
 ghost use Rattle.cmark_grammar.specs.Lines.{is_content};
-ghost use Rattle.cmark_grammar.specs.Tags.{without_prefix, behind_space, behind_tag_name, behind_attribute_name, behind_bare_value, behind_greater, behind_open_end, behind_closing_tag, behind_quote, behind_value, behind_assigned, behind_attribute, behind_attributes, behind_open_tag, behind_tag_start, behind_tag, no_prefix};
+ghost use Rattle.cmark_grammar.specs.Tags.{without_prefix, behind_space, behind_tag_name, behind_attribute_name, behind_bare_value, behind_greater, behind_open_end, behind_closing_tag, behind_quotation_mark, behind_value, behind_assigned, behind_attribute, behind_attributes, behind_open_tag, behind_tag_start, behind_tag, no_prefix};
 ghost use Rattle.cmark_scan_parts.specs.Handled.{AnswersWithin, ForAnswers};
 
 use crate::bytes::{Class, behind_ending, is_attribute_start, is_letter, is_space};
@@ -92,7 +92,7 @@ fn behind_space<'a, H: Fn(&[u8]) -> usize>(bytes: &'a [u8], handler: &H) -> &'a 
 }
 
 /// The bytes behind the closing quote, if `bytes` are those behind the opening one.
-fn behind_quote<'a, H: Fn(&[u8]) -> usize>(
+fn behind_quotation_mark<'a, H: Fn(&[u8]) -> usize>(
     quote: u8,
     bytes: &'a [u8],
     handler: &H,
@@ -100,7 +100,7 @@ fn behind_quote<'a, H: Fn(&[u8]) -> usize>(
     requires callable { H.IsAlwaysCallable handler.now }
     requires within { AnswersWithin H.Fn handler.now }
     requires quote { is_content quote ≡ true }
-    ensures value { ForAnswers H.Fn handler.now (λ prefix. option_copied result ≡ behind_quote prefix quote 0 bytes.now) }
+    ensures value { ForAnswers H.Fn handler.now (λ prefix. option_copied result ≡ behind_quotation_mark prefix quote 0 bytes.now) }
     ensures within { IfSome result (λ rest. length rest.now ≤ length bytes.now) }
 {
     let mut line = bytes;
@@ -121,8 +121,8 @@ fn behind_value<'a, H: Fn(&[u8]) -> usize>(bytes: &'a [u8], handler: &H) -> Opti
     ensures within { IfSome result (λ rest. length rest.now ≤ length bytes.now) }
 {
     match bytes {
-        [b'"', rest @ ..] => behind_quote(b'"', rest, handler),
-        [b'\'', rest @ ..] => behind_quote(b'\'', rest, handler),
+        [b'"', rest @ ..] => behind_quotation_mark(b'"', rest, handler),
+        [b'\'', rest @ ..] => behind_quotation_mark(b'\'', rest, handler),
         _ => behind_bare_value(bytes),
     }
 }

@@ -21,7 +21,7 @@ use Rattle.cmark_text.specs.declared.text.CowStr.{CowStr}
 use Rattle.cmark_walk.specs.Walking as walking
 use Rattle.cmark_walk.specs.Walking.{MayBeginWithEnd}
 use Rattle.cmark_span_walk.specs.declared.span_walk.SpanWalk.{SpanWalk}
-use Rattle.cmark_span_walk.specs.Walking.{ArePlaced, EntersLeaf, IsReadBy, KeepsLeft, NoEndIsNext, ReadsLeaf, Remains, expansion_of, spans_to_come}
+use Rattle.cmark_span_walk.specs.Walking.{ArePlaced, EntersLeaf, IsReadBy, KeepsLeft, NoEndIsNext, ReadsLeaf, Remains, expansion_left_of, spans_to_come}
 use Rattle.cmark_span_walk.proofs.LeafReads.{whole-size}
 use Rattle.cmark_span_walk.proofs.Readings.{outside-remains, remains-outside}
 use Rattle.cmark_span_walk.proofs.Walks.{closed, closed-at}
@@ -80,11 +80,11 @@ module _ {E F : Type 0} (replacement : E → Lookup) (reader : Reader) where
   blocks-begin walk out n exchanges events m b =
       let by = m.read_by in
       let left = remains-outside replacement reader walk by out exchanges events m in
-      segments-begin reader (IsNext exchanges) by.left (record { expansion = expansion_of walk; asked = [] }) left.after events by.placed (n by.left by.stands.blocks.remains) left.reads b
+      segments-begin reader (IsNext exchanges) by.left (record { expansion_left = expansion_left_of walk; asked = [] }) left.after events by.placed (n by.left by.stands.blocks.remains) left.reads b
 
   -- the leaf has no more events, and what is left behind it is left
-  pub closed-keeps : (walk : SpanWalk E F) (inline : InlineState) → walk.in_leaf ≡ true → inline.expansion ≡ walk.inline.expansion → events_to_come walk.leaf walk.inline ≡ [] → KeepsLeft replacement reader walk (closed walk inline)
-  closed-keeps walk inline inside expansion none exchanges events m =
+  pub closed-keeps : (walk : SpanWalk E F) (inline : InlineState) → walk.in_leaf ≡ true → inline.expansion_left ≡ walk.inline.expansion_left → events_to_come walk.leaf walk.inline ≡ [] → KeepsLeft replacement reader walk (closed walk inline)
+  closed-keeps walk inline inside expansion_left none exchanges events m =
       let r = m.read_by in
       let new : SpanWalk E F = closed walk inline in
       let read : IsReadBy replacement reader new = record {
@@ -94,7 +94,7 @@ module _ {E F : Type 0} (replacement : E → Lookup) (reader : Reader) where
         same = record { source = r.same.source; options_are = r.same.options_are; lookup_is = r.same.lookup_is; definitions = r.same.definitions; footnotes_are = r.same.footnotes_are; callback = r.same.callback };
       } in
       let later : events ≡ m.later = m.are ∙ ap (λ z. spans_to_come z walk ++ m.later) inside ∙ ap (λ l. l ++ m.later) none in
-      outside-remains replacement reader new read refl exchanges events (subst (λ l. Left reader r.left (expansion_of new) exchanges l) (sym later) (subst (λ n. Left reader r.left n exchanges m.later) (sym expansion) m.reads))
+      outside-remains replacement reader new read refl exchanges events (subst (λ l. Left reader r.left (expansion_left_of new) exchanges l) (sym later) (subst (λ n. Left reader r.left n exchanges m.later) (sym expansion_left) m.reads))
 
   -- ## Before a leaf
 
@@ -102,15 +102,15 @@ module _ {E F : Type 0} (replacement : E → Lookup) (reader : Reader) where
     placed-leaf : ArePlaced reader (Content leaf ∷ others)
     placed-leaf = subst (ArePlaced reader) is r.placed
 
-    left-leaf : (exchanges : List Exchange) (events : List Ranged) → Remains replacement reader mid exchanges events → Left reader (Content leaf ∷ others) (expansion_of mid) exchanges events
-    left-leaf exchanges events m = subst (λ l. Left reader l (expansion_of mid) exchanges events) is (remains-outside replacement reader mid r out exchanges events m)
+    left-leaf : (exchanges : List Exchange) (events : List Ranged) → Remains replacement reader mid exchanges events → Left reader (Content leaf ∷ others) (expansion_left_of mid) exchanges events
+    left-leaf exchanges events m = subst (λ l. Left reader l (expansion_left_of mid) exchanges events) is (remains-outside replacement reader mid r out exchanges events m)
 
     -- one that has a text
     pub text-begins : leaf.stretches ≢ [] → NoEndIsNext replacement reader mid
     text-begins some exchanges events m b =
-        let left = left-leaf exchanges events m in segments-begin reader (IsNext exchanges) (Content leaf ∷ others) (record { expansion = expansion_of mid; asked = [] }) left.after events placed-leaf some left.reads b
+        let left = left-leaf exchanges events m in segments-begin reader (IsNext exchanges) (Content leaf ∷ others) (record { expansion_left = expansion_left_of mid; asked = [] }) left.after events placed-leaf some left.reads b
 
-    module _ (Says : F → BrokenLink → Option (CowStr × CowStr) → F → Type 0) (old new : SpanWalk E F) (same : expansion_of old ≡ expansion_of mid) (enters : EntersLeaf others new) (reads : ReadsLeaf Says replacement reader leaf old new) where
+    module _ (Says : F → BrokenLink → Option (CowStr × CowStr) → F → Type 0) (old new : SpanWalk E F) (same : expansion_left_of old ≡ expansion_left_of mid) (enters : EntersLeaf others new) (reads : ReadsLeaf Says replacement reader leaf old new) where
       -- one without a text: what is left behind it is left
       empty-keeps : leaf.stretches ≡ [] → KeepsLeft replacement reader mid new
       empty-keeps empty exchanges events m =
@@ -118,19 +118,19 @@ module _ {E F : Type 0} (replacement : E → Lookup) (reader : Reader) where
           let turn = placed-leaf.0.placed.turn in
           let text = text-none reader leaf empty in
           let h = left.reads in
-          let before : Between = record { expansion = expansion_of mid; asked = [] } in
-          let entered : Between = record { expansion = expansion_of old; asked = [] } in
+          let before : Between = record { expansion_left = expansion_left_of mid; asked = [] } in
+          let entered : Between = record { expansion_left = expansion_left_of old; asked = [] } in
           let asked = reads.resolves.asked in
-          let between : Between = record { expansion = expansion_of new; asked = asked } in
+          let between : Between = record { expansion_left = expansion_left_of new; asked = asked } in
           let spans : h.0 ≡ [] = leaf-none reader (IsNext exchanges) leaf before h.0 h.2 turn text h.3 in
           let kept : h.2 ≡ before = leaf-same reader (IsNext exchanges) leaf before h.0 h.2 turn text h.3 in
           let own = reads.resolves.reads [] in
           let none : events_to_come new.leaf new.inline ≡ [] = leaf-none reader (IsNext (asked ++ [])) leaf entered (events_to_come new.leaf new.inline) between turn text own in
-          let limit : expansion_of new ≡ expansion_of mid = ap (λ (z : Between). z.expansion) (leaf-same reader (IsNext (asked ++ [])) leaf entered (events_to_come new.leaf new.inline) between turn text own) ∙ same in
+          let limit : expansion_left_of new ≡ expansion_left_of mid = ap (λ (z : Between). z.expansion_left) (leaf-same reader (IsNext (asked ++ [])) leaf entered (events_to_come new.leaf new.inline) between turn text own) ∙ same in
           let later : events ≡ h.1 = h.5 ∙ ap (λ l. l ++ h.1) spans in
           let rest : ReadsAll reader (IsNext exchanges) others before events left.after =
           subst (λ l. ReadsAll reader (IsNext exchanges) others before l left.after) (sym later) (subst (λ z. ReadsAll reader (IsNext exchanges) others z h.1 left.after) kept h.4) in
-          let behind : Left reader others (expansion_of mid) exchanges events = record { after = left.after; reads = rest; asked = left.asked } in
+          let behind : Left reader others (expansion_left_of mid) exchanges events = record { after = left.after; reads = rest; asked = left.asked } in
           record {
             read_by = record { left = others; stands = enters.stands; placed = placed-leaf.1; same = reads.same };
             later = events;

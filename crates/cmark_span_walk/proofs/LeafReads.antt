@@ -22,7 +22,7 @@ use Rattle.cmark_items.specs.Footnotes.{footnote}
 use Rattle.cmark_items.specs.declared.definitions.RefDefs.{RefDefs}
 use Rattle.cmark_items.specs.declared.footnotes.FootnoteDefs.{FootnoteDefs}
 use Rattle.cmark_leaf_text.specs.Reads.{is_cell_of, place_of, source_of, text_of}
-use Rattle.cmark_leaf_text.specs.Stretches.{leaf_bytes, line_end, place_on}
+use Rattle.cmark_leaf_text.specs.Stretches.{leaf_bytes, end_in_leaf, place_on}
 use Rattle.cmark_leaf_text.specs.declared.leaf_text.LeafText.{LeafText}
 use Rattle.cmark_leaf_text.specs.declared.stretch.LeafLine.{LeafLine}
 use Rattle.cmark_walk.specs.Walking.{lines_of}
@@ -40,7 +40,7 @@ line-bytes source [] = refl
 line-bytes source (s ∷ []) = sym (append-nil (slice source s.start s.end))
 line-bytes source (s ∷ (t ∷ ss)) = ap (λ l. slice source s.start s.end ++ l) (line-bytes source (t ∷ ss))
 
-end-of-line : (s : Stretch) (ss : List Stretch) → line_end (record { start = s.start; stop = s.end; past = s.end }) (lines_of ss) ≡ s.end
+end-of-line : (s : Stretch) (ss : List Stretch) → end_in_leaf (record { start = s.start; content_end = s.end; line_end = s.end }) (lines_of ss) ≡ s.end
 end-of-line s [] = refl
 end-of-line s (t ∷ ss) = refl
 

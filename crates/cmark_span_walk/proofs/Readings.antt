@@ -34,7 +34,7 @@ use Rattle.cmark_walk.specs.declared.walk.Walk.{Walk}
 use Rattle.cmark_walk.specs.Walking as walking
 use Rattle.cmark_walk.specs.Walking.{lines_of}
 use Rattle.cmark_span_walk.specs.declared.span_walk.SpanWalk.{SpanWalk}
-use Rattle.cmark_span_walk.specs.Walking.{ArePlaced, Ends, EntersLeaf, HasAsked, HasRange, IsOnlyLine, IsReadBy, Passes, ReadsLeaf, ReadsSame, Remains, StandsAt, callback_of, definitions_of, expansion_of, source_of, spans_to_come}
+use Rattle.cmark_span_walk.specs.Walking.{ArePlaced, Ends, EntersLeaf, HasAsked, HasRange, IsOnlyLine, IsReadBy, Passes, ReadsLeaf, ReadsSame, Remains, StandsAt, callback_of, definitions_of, expansion_left_of, source_of, spans_to_come}
 use Rattle.cmark_span_walk.proofs.Walks.{Lasts, behind-at, closed, closed-at, met-by, one-left, same-at}
 
 -- texts of which each byte stands for itself
@@ -43,23 +43,23 @@ stand-whole options lookup is_cell text h k lt blank =
     let i = h k (omega arith) lt blank in
     record { end = i.end; further = i.further; within = i.within; token = i.token }
 
-one-line : (ss : List Stretch) (line : LeafLine) → lines_of ss ≡ line ∷ [] → ss ≡ record { start = line.start; end = line.stop } ∷ []
+one-line : (ss : List Stretch) (line : LeafLine) → lines_of ss ≡ line ∷ [] → ss ≡ record { start = line.start; end = line.content_end } ∷ []
 one-line [] line e = absurd (let q : [] ≡ line ∷ [] = e in cc)
 one-line (s ∷ []) line e = ap (λ (l : List LeafLine). stretches l) e
   where
     stretches : List LeafLine → List Stretch
     stretches [] = []
-    stretches (l ∷ ls) = record { start = l.start; end = l.stop } ∷ []
+    stretches (l ∷ ls) = record { start = l.start; end = l.content_end } ∷ []
 one-line (s ∷ (t ∷ ss)) line e = absurd (let q : line_of s ∷ (line_of t ∷ lines_of ss) ≡ line ∷ [] = e in cc)
   where
     line_of : Stretch → LeafLine
-    line_of s = record { start = s.start; stop = s.end; past = s.end }
+    line_of s = record { start = s.start; content_end = s.end; line_end = s.end }
 
 -- the range of a line
-pub plain-range : (source : List ℕ) (lines : List LeafLine) (text : List ℕ) → (only : IsOnlyLine source lines text) → IsRange source only.line.start only.line.stop
+pub plain-range : (source : List ℕ) (lines : List LeafLine) (text : List ℕ) → (only : IsOnlyLine source lines text) → IsRange source only.line.start only.line.content_end
 plain-range source lines text only =
     let some = only.part.some in
-    record { ordered = (let q : only.line.start ≤ only.line.stop = omega (arith, some) in q); within = only.part.within; starts = only.part.starts; ends = only.part.ends }
+    record { ordered = (let q : only.line.start ≤ only.line.content_end = omega (arith, some) in q); within = only.part.within; starts = only.part.starts; ends = only.part.ends }
 
 module _ {F : Type 0} (Says : F → BrokenLink → Option (CowStr × CowStr) → F → Type 0) where
   -- questions behind others
@@ -86,15 +86,15 @@ module _ {F : Type 0} (Says : F → BrokenLink → Option (CowStr × CowStr) →
 
 module _ {E F : Type 0} (replacement : E → Lookup) (reader : Reader) where
   -- what is left behind what the walk stands in
-  remains-left : (walk : SpanWalk E F) (r : IsReadBy replacement reader walk) (rest : List Exchange) (events : List Ranged) (m : Remains replacement reader walk rest events) → Left reader r.left (expansion_of walk) rest m.later
-  remains-left walk r rest events m = subst (λ l. Left reader l (expansion_of walk) rest m.later) (one-left walk m.read_by.left r.left m.read_by.stands.blocks r.stands.blocks) m.reads
+  remains-left : (walk : SpanWalk E F) (r : IsReadBy replacement reader walk) (rest : List Exchange) (events : List Ranged) (m : Remains replacement reader walk rest events) → Left reader r.left (expansion_left_of walk) rest m.later
+  remains-left walk r rest events m = subst (λ l. Left reader l (expansion_left_of walk) rest m.later) (one-left walk m.read_by.left r.left m.read_by.stands.blocks r.stands.blocks) m.reads
 
   -- outside of a leaf
-  pub outside-remains : (walk : SpanWalk E F) (r : IsReadBy replacement reader walk) → walk.in_leaf ≡ false → (rest : List Exchange) (events : List Ranged) → Left reader r.left (expansion_of walk) rest events → Remains replacement reader walk rest events
+  pub outside-remains : (walk : SpanWalk E F) (r : IsReadBy replacement reader walk) → walk.in_leaf ≡ false → (rest : List Exchange) (events : List Ranged) → Left reader r.left (expansion_left_of walk) rest events → Remains replacement reader walk rest events
   outside-remains walk r out rest events h = record { read_by = r; later = events; reads = h; are = sym (ap (λ b. spans_to_come b walk ++ events) out) }
 
-  pub remains-outside : (walk : SpanWalk E F) (r : IsReadBy replacement reader walk) → walk.in_leaf ≡ false → (rest : List Exchange) (events : List Ranged) → Remains replacement reader walk rest events → Left reader r.left (expansion_of walk) rest events
-  remains-outside walk r out rest events m = subst (Left reader r.left (expansion_of walk) rest) (sym (m.are ∙ ap (λ b. spans_to_come b walk ++ m.later) out)) (remains-left walk r rest events m)
+  pub remains-outside : (walk : SpanWalk E F) (r : IsReadBy replacement reader walk) → walk.in_leaf ≡ false → (rest : List Exchange) (events : List Ranged) → Remains replacement reader walk rest events → Left reader r.left (expansion_left_of walk) rest events
+  remains-outside walk r out rest events m = subst (Left reader r.left (expansion_left_of walk) rest) (sym (m.are ∙ ap (λ b. spans_to_come b walk ++ m.later) out)) (remains-left walk r rest events m)
 
 module _ {E F : Type 0} (Says : F → BrokenLink → Option (CowStr × CowStr) → F → Type 0) (replacement : E → Lookup) where
   -- what is read over the turns of a call, for each reader
@@ -138,9 +138,9 @@ module _ {E F : Type 0} (Says : F → BrokenLink → Option (CowStr × CowStr) �
     same-inline walk inline s = record { source = s.source; options_are = s.options_are; lookup_is = s.lookup_is; definitions = s.definitions; footnotes_are = s.footnotes_are; callback = s.callback }
 
     -- spans of the leaf, or none
-    pub spanned : (walk : SpanWalk E F) (inline : InlineState) (front : List Ranged) (r : IsReadBy replacement reader walk) → walk.in_leaf ≡ true → StandsAt (record walk { inline = inline }) r.left → inline.expansion ≡ walk.inline.expansion
+    pub spanned : (walk : SpanWalk E F) (inline : InlineState) (front : List Ranged) (r : IsReadBy replacement reader walk) → walk.in_leaf ≡ true → StandsAt (record walk { inline = inline }) r.left → inline.expansion_left ≡ walk.inline.expansion_left
         → events_to_come walk.leaf walk.inline ≡ front ++ events_to_come walk.leaf inline → Passes Says replacement reader front walk (record walk { inline = inline })
-    spanned walk inline front r inside stands expansion first = record { taken = []; answered = refl; read_by = read; back = back }
+    spanned walk inline front r inside stands expansion_left first = record { taken = []; answered = refl; read_by = read; back = back }
       where
         new : SpanWalk E F
         new = record walk { inline = inline }
@@ -152,7 +152,7 @@ module _ {E F : Type 0} (Says : F → BrokenLink → Option (CowStr × CowStr) �
         back rest events m = record {
           read_by = r;
           later = m.later;
-          reads = subst (λ n. Left reader r.left n rest m.later) expansion (remains-left replacement reader new read rest events m);
+          reads = subst (λ n. Left reader r.left n rest m.later) expansion_left (remains-left replacement reader new read rest events m);
           are =
               ap (λ l. front ++ l) (m.are ∙ ap (λ b. spans_to_come b new ++ m.later) inside)
               ∙ sym (append_assoc front (events_to_come walk.leaf inline) m.later)
@@ -161,9 +161,9 @@ module _ {E F : Type 0} (Says : F → BrokenLink → Option (CowStr × CowStr) �
         }
 
     -- the leaf has no more
-    pub closed-passes : (walk : SpanWalk E F) (inline : InlineState) (r : IsReadBy replacement reader walk) → walk.in_leaf ≡ true → inline.expansion ≡ walk.inline.expansion → events_to_come walk.leaf walk.inline ≡ []
+    pub closed-passes : (walk : SpanWalk E F) (inline : InlineState) (r : IsReadBy replacement reader walk) → walk.in_leaf ≡ true → inline.expansion_left ≡ walk.inline.expansion_left → events_to_come walk.leaf walk.inline ≡ []
         → Passes Says replacement reader [] walk (closed walk inline)
-    closed-passes walk inline r inside expansion none = record { taken = []; answered = refl; read_by = read; back = back }
+    closed-passes walk inline r inside expansion_left none = record { taken = []; answered = refl; read_by = read; back = back }
       where
         new : SpanWalk E F
         new = closed walk inline
@@ -180,7 +180,7 @@ module _ {E F : Type 0} (Says : F → BrokenLink → Option (CowStr × CowStr) �
         back rest events m = record {
           read_by = r;
           later = events;
-          reads = subst (λ n. Left reader r.left n rest events) expansion (remains-outside replacement reader new read refl rest events m);
+          reads = subst (λ n. Left reader r.left n rest events) expansion_left (remains-outside replacement reader new read refl rest events m);
           are = sym (ap (λ b. spans_to_come b walk ++ events) inside ∙ ap (λ l. l ++ events) none);
         }
 
@@ -211,7 +211,7 @@ module _ {E F : Type 0} (Says : F → BrokenLink → Option (CowStr × CowStr) �
               read_by = read;
               back = λ rest events m.
                   outside-remains replacement reader mid r out rest (e ∷ events)
-                  (subst (λ l. Left reader l (expansion_of mid) rest (e ∷ events)) (sym is) (left-given reader e others (expansion_of mid) rest events (remains-outside replacement reader new read out rest events m)));
+                  (subst (λ l. Left reader l (expansion_left_of mid) rest (e ∷ events)) (sym is) (left-given reader e others (expansion_left_of mid) rest events (remains-outside replacement reader new read out rest events m)));
             },
           )
 
@@ -232,17 +232,17 @@ module _ {E F : Type 0} (Says : F → BrokenLink → Option (CowStr × CowStr) �
       over-ends r is = record {
         taken = [];
         answered = refl;
-        none = outside-remains replacement reader mid r out [] [] (subst (λ l. Left reader l (expansion_of mid) [] []) (sym is) (record { after = record { expansion = expansion_of mid; asked = [] }; reads = (refl, refl); asked = refl }));
+        none = outside-remains replacement reader mid r out [] [] (subst (λ l. Left reader l (expansion_left_of mid) [] []) (sym is) (record { after = record { expansion_left = expansion_left_of mid; asked = [] }; reads = (refl, refl); asked = refl }));
       }
 
       -- a leaf in front of what is left
       behind-leaf : (leaf : Leaf) (others : List Segment) (r : IsReadBy replacement reader mid) → r.left ≡ Content leaf ∷ others → (taken rest : List Exchange) (spans later : List Ranged) (between : Between)
-          → ReadsGrammarLeaf reader (IsNext taken) leaf (record { expansion = expansion_of mid; asked = [] }) spans between → between.asked ≡ taken
-          → Left reader others between.expansion rest later → Remains replacement reader mid (taken ++ rest) (spans ++ later)
+          → ReadsGrammarLeaf reader (IsNext taken) leaf (record { expansion_left = expansion_left_of mid; asked = [] }) spans between → between.asked ≡ taken
+          → Left reader others between.expansion_left rest later → Remains replacement reader mid (taken ++ rest) (spans ++ later)
       behind-leaf leaf others r is taken rest spans later between h asked left =
           outside-remains replacement reader mid r out (taken ++ rest) (spans ++ later)
-          (subst (λ l. Left reader l (expansion_of mid) (taken ++ rest) (spans ++ later)) (sym is)
-          (left-leaf reader (decide-recorded reader) (decide-shifted reader) leaf others (expansion_of mid) taken rest spans later between h asked left))
+          (subst (λ l. Left reader l (expansion_left_of mid) (taken ++ rest) (spans ++ later)) (sym is)
+          (left-leaf reader (decide-recorded reader) (decide-shifted reader) leaf others (expansion_left_of mid) taken rest spans later between h asked left))
 
       -- a leaf that is entered
       pub leaf-passes : (budget : ℕ) (leaf : Leaf) (others : List Segment) (new : SpanWalk E F) (r : IsReadBy replacement reader mid) → r.left ≡ Content leaf ∷ others → EntersLeaf others new
@@ -259,10 +259,10 @@ module _ {E F : Type 0} (Says : F → BrokenLink → Option (CowStr × CowStr) �
           read = record { left = others; stands = enters.stands; placed = placed.1; same = reads.same }
 
           between : Between
-          between = record { expansion = expansion_of new; asked = taken }
+          between = record { expansion_left = expansion_left_of new; asked = taken }
 
-          leaf-read : ReadsGrammarLeaf reader (IsNext taken) leaf (record { expansion = expansion_of mid; asked = [] }) (events_to_come new.leaf new.inline) between
-          leaf-read = subst (λ xs. ReadsGrammarLeaf reader (IsNext xs) leaf (record { expansion = expansion_of mid; asked = [] }) (events_to_come new.leaf new.inline) between) (append-nil taken) (reads.resolves.reads [])
+          leaf-read : ReadsGrammarLeaf reader (IsNext taken) leaf (record { expansion_left = expansion_left_of mid; asked = [] }) (events_to_come new.leaf new.inline) between
+          leaf-read = subst (λ xs. ReadsGrammarLeaf reader (IsNext xs) leaf (record { expansion_left = expansion_left_of mid; asked = [] }) (events_to_come new.leaf new.inline) between) (append-nil taken) (reads.resolves.reads [])
 
           back : (rest : List Exchange) (events : List Ranged) → Remains replacement reader new rest events → Remains replacement reader mid (taken ++ rest) events
           back rest events m =
@@ -272,7 +272,7 @@ module _ {E F : Type 0} (Says : F → BrokenLink → Option (CowStr × CowStr) �
       -- a leaf that is one plain text
       pub plain-passes : (budget : ℕ) (leaf : Leaf) (others : List Segment) (text : List ℕ) (r : IsReadBy replacement reader mid) → r.left ≡ Content leaf ∷ others → walking.Remains walk others → budget ≡ mid.budget - 1
           → (only : IsOnlyLine (source_of mid) lines.items text) → lines.items ≡ lines_of leaf.stretches → StandUpTo reader.options reader.lookup leaf.is_cell text 0 (length text)
-          → Passes Says replacement reader (record { event = Text text; start = only.line.start; end = only.line.stop } ∷ []) mid (met-by mid walk lines out same-text budget)
+          → Passes Says replacement reader (record { event = Text text; start = only.line.start; end = only.line.content_end } ∷ []) mid (met-by mid walk lines out same-text budget)
       plain-passes budget leaf others text r is remains less only are plain = record { taken = []; answered = refl; read_by = read; back = back }
         where
           new : SpanWalk E F
@@ -285,21 +285,21 @@ module _ {E F : Type 0} (Says : F → BrokenLink → Option (CowStr × CowStr) �
           read = record { left = others; stands = behind-at mid walk lines out same-text budget r.left (Content leaf) others r.stands is remains less; placed = placed.1; same = met-same budget r.same }
 
           spans : List Ranged
-          spans = record { event = Text text; start = only.line.start; end = only.line.stop } ∷ []
+          spans = record { event = Text text; start = only.line.start; end = only.line.content_end } ∷ []
 
           between : Between
-          between = record { expansion = expansion_of mid; asked = [] }
+          between = record { expansion_left = expansion_left_of mid; asked = [] }
 
-          text-is : text ≡ slice reader.source only.line.start only.line.stop
-          text-is = only.is ∙ ap (λ (t : List ℕ). slice t only.line.start only.line.stop) (sym r.same.source)
+          text-is : text ≡ slice reader.source only.line.start only.line.content_end
+          text-is = only.is ∙ ap (λ (t : List ℕ). slice t only.line.start only.line.content_end) (sym r.same.source)
 
           leaf-read : ReadsGrammarLeaf reader (IsNext []) leaf between spans between
           leaf-read =
               let some = only.part.some in
               let whole = stand-whole reader.options reader.lookup leaf.is_cell text plain in
-              subst (λ (t : List ℕ). ReadsGrammarLeaf reader (IsNext []) leaf between (record { event = Text t; start = only.line.start; end = only.line.stop } ∷ []) between) (sym text-is)
-              (plain-leaf reader [] leaf between only.line.start only.line.stop (one-line leaf.stretches only.line (sym are ∙ only.alone)) some
-              (subst (λ (t : List ℕ). only.line.stop ≤ length t) (sym r.same.source) only.part.within)
+              subst (λ (t : List ℕ). ReadsGrammarLeaf reader (IsNext []) leaf between (record { event = Text t; start = only.line.start; end = only.line.content_end } ∷ []) between) (sym text-is)
+              (plain-leaf reader [] leaf between only.line.start only.line.content_end (one-line leaf.stretches only.line (sym are ∙ only.alone)) some
+              (subst (λ (t : List ℕ). only.line.content_end ≤ length t) (sym r.same.source) only.part.within)
               (subst (StandWhole reader.options reader.lookup leaf.is_cell) text-is whole))
 
           back : (rest : List Exchange) (events : List Ranged) → Remains replacement reader new rest events → Remains replacement reader mid rest (spans ++ events)

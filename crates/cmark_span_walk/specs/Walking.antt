@@ -55,8 +55,8 @@ HasRange source r = IsRange source r.start r.end
 pub record IsOnlyLine (source : List ℕ) (lines : List LeafLine) (text : List ℕ) : Type 0 where
   pub line : LeafLine
   pub alone : lines ≡ line ∷ []
-  pub part : IsPart source line.start line.stop
-  pub is : text ≡ slice source line.start line.stop
+  pub part : IsPart source line.start line.content_end
+  pub is : text ≡ slice source line.start line.content_end
 
 -- the bytes of a leaf have their places in the text, and no pipe stands between its lines
 pub record HasPlaces (reader : Reader) (leaf : Leaf) : Type 0 where
@@ -87,8 +87,8 @@ module _ {E F : Type 0} where
   callback_of walk = walk.callback
 
   -- how many bytes of destinations and titles references may still take
-  abbrev pub expansion_of : SpanWalk E F → ℕ
-  expansion_of walk = walk.inline.expansion
+  abbrev pub expansion_left_of : SpanWalk E F → ℕ
+  expansion_left_of walk = walk.inline.expansion_left
 
   -- the definitions of links
   abbrev pub definitions_of : SpanWalk E F → RefDefs
@@ -194,7 +194,7 @@ module _ {E F : Type 0} (replacement : E → Lookup) (reader : Reader) where
   pub record Remains (walk : SpanWalk E F) (exchanges : List Exchange) (events : List Ranged) : Type 0 where
     pub read_by : IsReadBy walk
     pub later : List Ranged
-    pub reads : Left reader read_by.left (expansion_of walk) exchanges later
+    pub reads : Left reader read_by.left (expansion_left_of walk) exchanges later
     pub are : events ≡ spans_to_come walk.in_leaf walk ++ later
 
   -- whatever is answered, the next event is not the end of an element
@@ -263,5 +263,5 @@ module _ {E F : Type 0} (Says : F → BrokenLink → Option (CowStr × CowStr) �
 
   -- the leaf is read as the spans that are still to come
   pub record ReadsLeaf (leaf : Leaf) (old new : SpanWalk E F) : Type 0 where
-    pub resolves : ResolvesAs Says new.leaf reader leaf (expansion_of old) new.inline (callback_of old) (callback_of new)
+    pub resolves : ResolvesAs Says new.leaf reader leaf (expansion_left_of old) new.inline (callback_of old) (callback_of new)
     pub same : ReadsSame replacement reader new

@@ -46,7 +46,7 @@ pub struct SpanWalk<'input, 'e, E, F> {
 }
 
 impl<'input, 'e, E: EntityLookup, F: BrokenLinkCallback<'input> + Drop> SpanWalk<'input, 'e, E, F> {
-    ghost use Rattle.cmark_span_walk.specs.Walking.{BeforeLeaf, KeepsAround, EntersLeaf, Gives, GivesInLeaf, GivesNext, GivesSpan, IsReadBy, KeepsBehindLeaf, KeepsLeft, LeavesFewer, LeavesLeaf, NoEndIsNext, ReadsLeaf, ReadsSame, Remains, Stands, callback_of, definitions_of, events_left, expansion_of, footnotes_of, options_of, source_of};
+    ghost use Rattle.cmark_span_walk.specs.Walking.{BeforeLeaf, KeepsAround, EntersLeaf, Gives, GivesInLeaf, GivesNext, GivesSpan, IsReadBy, KeepsBehindLeaf, KeepsLeft, LeavesFewer, LeavesLeaf, NoEndIsNext, ReadsLeaf, ReadsSame, Remains, Stands, callback_of, definitions_of, events_left, expansion_left_of, footnotes_of, options_of, source_of};
 
     /// A walk over what this walk over the text meets, which are fewer events and leaves than `budget`. `entities` says what the
     /// entity names stand for; `footnotes` are those that the text defines, of which each counts its references; `callback` is asked
@@ -69,12 +69,12 @@ impl<'input, 'e, E: EntityLookup, F: BrokenLinkCallback<'input> + Drop> SpanWalk
             → ArePlaced reader left
             → ReadsSame E.replacement reader result
             → IsReadBy E.replacement reader result
-            × ((exchanges : List Exchange) (events : List Shown) → Left reader left (expansion_of result) exchanges events → Remains E.replacement reader result exchanges events) }
+            × ((exchanges : List Exchange) (events : List Shown) → Left reader left (expansion_left_of result) exchanges events → Remains E.replacement reader result exchanges events) }
         ensures reads { (reader : GrammarReader) (left : List Segment) (exchanges : List Exchange) (events : List Shown)
             → BlocksRemain walk.entry left
             → Remains E.replacement reader result exchanges events
-            → Left reader left (expansion_of result) exchanges events }
-        ensures expansion { expansion_of result ≡ max (length text.entry.now) 100000 }
+            → Left reader left (expansion_left_of result) exchanges events }
+        ensures expansion_left { expansion_left_of result ≡ max (length text.entry.now) 100000 }
         ensures options { options_of result ≡ shown_options options }
         ensures entities { result.entities.now ≡ entities.entry.now }
         ensures callback { callback_of result ≡ callback }
@@ -241,10 +241,10 @@ impl<'input, 'e, E: EntityLookup, F: BrokenLinkCallback<'input> + Drop> SpanWalk
         let [line] = self.lines.as_slice() else {
             return None;
         };
-        if line.start >= line.stop || line.stop - line.start > LONGEST {
+        if line.start >= line.content_end || line.content_end - line.start > LONGEST {
             return None;
         }
-        let text = self.leaf.source_at(line.start, line.stop);
+        let text = self.leaf.source_at(line.start, line.content_end);
         if self.special.next(text.as_bytes(), 0) < text.len() {
             return None;
         }

@@ -95,7 +95,7 @@ module _ (walk : Walk) where
   more-at : (content : BlockDocument) (lines : List LeafLine) (line : TreeIndex) (item : Item) (next : Option TreeIndex) (rest : Forest (Placed Item)) (left : BlockDocument)
       → Stands (entry_at walk.tree) rest → Draws walk.text.now (texts_of walk) rest left
       → Some line ≡ focus_of rest → lines ++ lines_of (stretches_of left) ≡ lines_of (stretches_of content) → IsItemAt walk line item → IsNextAt walk line next
-      → Gathering walk content (lines ++ (record { start = item.start; stop = item.end; past = item.end } ∷ [])) next
+      → Gathering walk content (lines ++ (record { start = item.start; content_end = item.end; line_end = item.end } ∷ [])) next
   more-at content lines line item next Nil left st d e are i n = absurd (let q : Some line ≡ None = e in cc)
   more-at content lines line item next (Node p f g) document.Nil st d e are i n = absurd d
   more-at content lines line item next (Node p f g) (document.Node node inside after) st d e are i n =
@@ -104,19 +104,19 @@ module _ (walk : Walk) where
       let at : entry_at walk.tree line.ix ≡ Some entry = subst (λ k. entry_at walk.tree k ≡ Some entry) same st.0 in
       let is : item ≡ p.item = i entry at in
       let range = range-of-item walk.text.now (texts_of walk) item node (subst (λ k. Drawn walk.text.now (texts_of walk) k node) (sym is) d.0) in
-      let line-is : record { start = item.start; stop = item.end; past = item.end } ≡ record { start = node.start; stop = node.end; past = node.end } =
-      ap {A = ℕ} {B = LeafLine} (λ s. record { start = s; stop = item.end; past = item.end }) (sym range.0) ∙ ap {A = ℕ} {B = LeafLine} (λ s. record { start = node.start; stop = s; past = s }) (sym range.1) in
+      let line-is : record { start = item.start; content_end = item.end; line_end = item.end } ≡ record { start = node.start; content_end = node.end; line_end = node.end } =
+      ap {A = ℕ} {B = LeafLine} (λ s. record { start = s; content_end = item.end; line_end = item.end }) (sym range.0) ∙ ap {A = ℕ} {B = LeafLine} (λ s. record { start = node.start; content_end = s; line_end = s }) (sym range.1) in
       record {
         rest = g;
         left = after;
         stands = st.2;
         draws = d.2;
         next_is = n entry at ∙ focus_read walk.tree.nodes g st.2;
-        are = append_assoc lines (record { start = item.start; stop = item.end; past = item.end } ∷ []) (lines_of (stretches_of after)) ∙ ap (λ (l : LeafLine). lines ++ (l ∷ lines_of (stretches_of after))) line-is ∙ are;
+        are = append_assoc lines (record { start = item.start; content_end = item.end; line_end = item.end } ∷ []) (lines_of (stretches_of after)) ∙ ap (λ (l : LeafLine). lines ++ (l ∷ lines_of (stretches_of after))) line-is ∙ are;
       }
 
   pub gathers-line : (lines more : List LeafLine) (line : TreeIndex) (item : Item) (now next : Option TreeIndex) → Gathered walk lines now → now ≡ Some line → IsItemAt walk line item → IsNextAt walk line next
-      → more ≡ lines ++ (record { start = item.start; stop = item.end; past = item.end } ∷ []) → Gathered walk more next
+      → more ≡ lines ++ (record { start = item.start; content_end = item.end; line_end = item.end } ∷ []) → Gathered walk more next
   gathers-line lines more line item now next h e i n are z here above s =
       let k = h z here above s in
       subst (λ ls. Gathering walk (content_of here) ls next) (sym are) (more-at (content_of here) lines line item next k.rest k.left k.stands k.draws (sym e ∙ k.next_is) k.are i n)

@@ -94,7 +94,7 @@ innermost-item walk rest ix above item m i =
 
 -- whether what is inside an item stands in items or definitions of a tight list, or directly in one
 abbrev pub body_within : Bool → ItemBody → Bool
-body_within tight (body.List flags mark number) = is_tight flags
+body_within tight (body.List flags delimiter number) = is_tight flags
 body_within tight (body.ListItem width) = tight
 body_within tight (body.DefinitionList flags) = is_tight flags
 body_within tight (body.DefinitionListDefinition width) = tight
@@ -204,7 +204,7 @@ pub outermost : (walk : Walk) (rest : List TreeIndex) (above : List Outer) → l
 outermost walk rest above n t = t.same ∙ none-left walk above t.up t.outer (nothing-left rest n ∙ t.spine) t.draws
 
 -- what is neither a list nor an item decides against it
-pub not-within : (tight : Bool) (b : ItemBody) → ((flags : ListFlags) (mark number : ℕ) → b ≡ body.List flags mark number → ⊥) → ((flags : ListFlags) → b ≡ body.DefinitionList flags → ⊥) → ((width : ℕ) → b ≡ body.ListItem width → ⊥) → ((width : ℕ) → b ≡ body.DefinitionListDefinition width → ⊥) → body_within tight b ≡ false
+pub not-within : (tight : Bool) (b : ItemBody) → ((flags : ListFlags) (delimiter number : ℕ) → b ≡ body.List flags delimiter number → ⊥) → ((flags : ListFlags) → b ≡ body.DefinitionList flags → ⊥) → ((width : ℕ) → b ≡ body.ListItem width → ⊥) → ((width : ℕ) → b ≡ body.DefinitionListDefinition width → ⊥) → body_within tight b ≡ false
 not-within tight (body.MaybeEmphasis x0 x1 x2) l d i j = refl
 not-within tight (body.MaybeMath x0 x1 x2) l d i j = refl
 not-within tight (body.MaybeSmartQuote x0 x1 x2) l d i j = refl

@@ -253,7 +253,7 @@ shown_ranged r = record { event = shown r.event; start = r.range.start; end = r.
 -- a leaf's stretches as the lines that its text is read from
 abbrev pub lines_of : List Stretch → List LeafLine
 lines_of [] = []
-lines_of (s ∷ more) = record { start = s.start; stop = s.end; past = s.end } ∷ lines_of more
+lines_of (s ∷ more) = record { start = s.start; content_end = s.end; line_end = s.end } ∷ lines_of more
 
 -- these are the lines of a leaf, in order in the text, and they cut no character
 pub record AreLinesOf (text : List ℕ) (leaf : Leaf) (lines : List LeafLine) : Type 0 where

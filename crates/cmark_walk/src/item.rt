@@ -123,7 +123,9 @@ impl<'a> Walk<'a> {
             ItemBody::TableCell => Ok(Some(Tag::TableCell)),
             ItemBody::MetadataBlock(kind) => Ok(Some(Tag::MetadataBlock(kind))),
             ItemBody::BlockQuote(kind) => Ok(Some(Tag::BlockQuote(kind))),
-            ItemBody::List(_, mark, number) => Ok(Some(Tag::List(first_number(mark, number)))),
+            ItemBody::List(_, delimiter, number) => Ok(Some(Tag::List(first_number(
+                delimiter, number,
+            )))),
             ItemBody::ListItem(_) => Ok(Some(Tag::Item)),
             ItemBody::DefinitionList(_) => Ok(Some(Tag::DefinitionList)),
             ItemBody::DefinitionListTitle => Ok(Some(Tag::DefinitionListTitle)),
@@ -197,8 +199,8 @@ impl<'a> Walk<'a> {
             ItemBody::TableCell => Some(TagEnd::TableCell),
             ItemBody::MetadataBlock(kind) => Some(TagEnd::MetadataBlock(kind)),
             ItemBody::BlockQuote(kind) => Some(TagEnd::BlockQuote(kind)),
-            ItemBody::List(_, mark, number) => {
-                Some(TagEnd::List(first_number(mark, number).is_some()))
+            ItemBody::List(_, delimiter, number) => {
+                Some(TagEnd::List(first_number(delimiter, number).is_some()))
             }
             ItemBody::ListItem(_) => Some(TagEnd::Item),
             ItemBody::DefinitionList(_) => Some(TagEnd::DefinitionList),
@@ -254,10 +256,10 @@ fn table<'a>(alloc: Global, row: &str) -> Result<Tag<'a>, AllocError>
 
 // The number of the first item of a list with this character, if it is ordered (CommonMark 5.2).
 #[inline(always)]
-pub(crate) fn first_number(mark: u8, number: u64) -> Option<u64>
-    ensures { result ≡ list_number mark number }
+pub(crate) fn first_number(delimiter: u8, number: u64) -> Option<u64>
+    ensures { result ≡ list_number delimiter number }
 {
-    if mark == b'.' || mark == b')' {
+    if delimiter == b'.' || delimiter == b')' {
         Some(number)
     } else {
         None

@@ -54,8 +54,8 @@ impl<'a> Walk<'a> {
             let item = *self.tree.item(line);
             lines.push(LeafLine {
                 start: item.start,
-                stop: item.end,
-                past: item.end,
+                content_end: item.end,
+                line_end: item.end,
             })?;
             next = self.tree.next(line);
         }

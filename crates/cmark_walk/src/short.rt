@@ -168,8 +168,8 @@ impl<'a> Walk<'a> {
             ItemBody::TableCell => Glance::Around(PlainTag::TableCell),
             ItemBody::MetadataBlock(kind) => Glance::Around(PlainTag::MetadataBlock(kind)),
             ItemBody::BlockQuote(kind) => Glance::Around(PlainTag::BlockQuote(kind)),
-            ItemBody::List(_, mark, number) => {
-                Glance::Around(PlainTag::List(first_number(mark, number)))
+            ItemBody::List(_, delimiter, number) => {
+                Glance::Around(PlainTag::List(first_number(delimiter, number)))
             }
             ItemBody::ListItem(_) => Glance::Around(PlainTag::Item),
             ItemBody::DefinitionList(_) => Glance::Around(PlainTag::DefinitionList),

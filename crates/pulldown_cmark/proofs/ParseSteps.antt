@@ -124,7 +124,7 @@ module _ {E F : Type 0} (replacement : E → Lookup) where
   some-left : (parser : Parser E F) → parser.is_over ≡ false → walking.IsReadBy replacement (reader_for replacement parser) parser.spans → (plan : Plan) → SomeLeft (Remains replacement) plan parser
   some-left parser e r plan =
       let reader = reader_for replacement parser in
-      let l = left-planned reader r.left (walking.expansion_of parser.spans) plan (placed-turn reader r.left r.placed) in
+      let l = left-planned reader r.left (walking.expansion_left_of parser.spans) plan (placed-turn reader r.left r.placed) in
       let events = walking.spans_to_come parser.spans.in_leaf parser.spans ++ l.1 in
       (l.0, events, l.2, subst (λ b. Left replacement b parser l.0 events) (sym e) (record { read_by = r; later = l.1; reads = l.3; are = refl }))
 
@@ -294,13 +294,13 @@ module _ {E F : Type 0} (replacement : E → Lookup) (parser : Parser E F) (text
   begin-reader text_is options_is lookup_is =
       ap (λ t. reader_by t options lookup) (sym text_is) ∙ ap (λ o. reader_by (text_of parser) o lookup) (sym options_is) ∙ ap (reader_by (text_of parser) (options_of parser)) (sym lookup_is)
 
-  pub reads-from : parser.is_over ≡ false → reader ≡ reader_for replacement parser → walking.expansion_of parser.spans ≡ max (length text) 100000 → ArePlaced reader left
-      → ((exchanges : List Exchange) (events : List Ranged) → documents.Left reader left (walking.expansion_of parser.spans) exchanges events → walking.Remains replacement reader parser.spans exchanges events)
-      → ((exchanges : List Exchange) (events : List Ranged) → walking.Remains replacement reader parser.spans exchanges events → documents.Left reader left (walking.expansion_of parser.spans) exchanges events)
+  pub reads-from : parser.is_over ≡ false → reader ≡ reader_for replacement parser → walking.expansion_left_of parser.spans ≡ max (length text) 100000 → ArePlaced reader left
+      → ((exchanges : List Exchange) (events : List Ranged) → documents.Left reader left (walking.expansion_left_of parser.spans) exchanges events → walking.Remains replacement reader parser.spans exchanges events)
+      → ((exchanges : List Exchange) (events : List Ranged) → walking.Remains replacement reader parser.spans exchanges events → documents.Left reader left (walking.expansion_left_of parser.spans) exchanges events)
       → Reads replacement text options lookup parser
   reads-from e same limit placed begins reads = record {
     some = λ plan.
-        let l = left-planned reader left (walking.expansion_of parser.spans) plan (placed-turn reader left placed) in
+        let l = left-planned reader left (walking.expansion_left_of parser.spans) plan (placed-turn reader left placed) in
         (l.0, l.1, l.2, subst (λ b. Left replacement b parser l.0 l.1) (sym e) (subst (λ r. walking.Remains replacement r parser.spans l.0 l.1) same (begins l.0 l.1 l.3)));
     reads = λ exchanges events m.
         let h = subst (λ n. documents.Left reader left n exchanges events) limit (reads exchanges events (subst (λ r. walking.Remains replacement r parser.spans exchanges events) (sym same) (subst (λ b. Left replacement b parser exchanges events) e m))) in

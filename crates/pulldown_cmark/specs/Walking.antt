@@ -13,7 +13,7 @@ use Rattle.cmark_inline_model.specs.PlannedAnswers.{AreByPlan}
 
 -- what a text is read with: references take as many bytes of destinations and titles as the text has, or 100,000 where it has fewer
 abbrev pub profile : (text : List ℕ) → Options → Lookup → (has_callback : Bool) → Profile
-profile text options lookup has_callback = record { options = options; lookup = lookup; expansion_limit = max (length text) 100000; has_callback = has_callback }
+profile text options lookup has_callback = record { options = options; lookup = lookup; reference_expansion_limit = max (length text) 100000; has_callback = has_callback }
 
 -- what the leaves of its document are read with, where there is a callback
 abbrev pub reader_by : (text : List ℕ) → Options → Lookup → Reader

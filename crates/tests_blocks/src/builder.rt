@@ -19,9 +19,9 @@ fn nodes_are_closed_at_their_ends(rt: HostRuntime) -> Result<(), Fail> {
     assert_eq!(rt; tree.spine_len(), 0);
     assert!(rt; tree.cur().is_some());
     if let Some(ix) = tree.cur() {
-        let quote = *tree.item(ix);
-        assert_eq!(rt; (quote.start, quote.end), (0, 14));
-        assert!(rt; matches!(quote.body, ItemBody::BlockQuote(None)));
+        let block_quote = *tree.item(ix);
+        assert_eq!(rt; (block_quote.start, block_quote.end), (0, 14));
+        assert!(rt; matches!(block_quote.body, ItemBody::BlockQuote(None)));
         assert!(rt; tree.child(ix).is_some());
     }
     Ok(())

@@ -2,8 +2,8 @@
 
 use bitflags::Flags;
 use cmark_lines::{
-    Container, ContainerStart, FootnoteStart, Further, HtmlKind, LineRest, Opening, Verbatim,
-    ends_at_once, interrupts, underlines, what_opens,
+    CodeOrHtml, Container, ContainerStart, Continuation, FootnoteStart, HtmlKind, LineRest,
+    Opening, ends_at_once, interrupts, underlines, what_opens,
 };
 use cmark_text::{BlockQuoteKind, HeadingLevel, Options};
 use std::test::Fail;
@@ -11,7 +11,7 @@ use std::test::Fail;
 /// The line behind the marker of the container that it begins; the line itself, where it begins none.
 fn inside<'a>(rest: LineRest<'a>) -> LineRest<'a> {
     match what_opens(rest, Options::empty()) {
-        Opening::Nests(ContainerStart::Quote(inside)) => inside,
+        Opening::Nests(ContainerStart::BlockQuote(inside)) => inside,
         Opening::Nests(ContainerStart::Item(_, inside)) => inside,
         _ => rest,
     }
@@ -20,7 +20,11 @@ fn inside<'a>(rest: LineRest<'a>) -> LineRest<'a> {
 /// The character, the number and the width of the list item that the line begins, if it begins one.
 fn item(rest: LineRest<'_>) -> Option<(u8, Option<u64>, usize)> {
     match what_opens(rest, Options::empty()) {
-        Opening::Nests(ContainerStart::Item(item, _)) => Some((item.mark, item.number, item.width)),
+        Opening::Nests(ContainerStart::Item(item, _)) => Some((
+            item.delimiter,
+            item.number,
+            item.width,
+        )),
         _ => None,
     }
 }
@@ -41,23 +45,23 @@ fn begins_code(rest: LineRest<'_>) -> bool {
 fn a_line_ends_before_its_ending(rt: HostRuntime) -> Result<(), Fail> {
     let text = b"one\r\n  two \nlast";
     let first = LineRest::new(text, 0);
-    assert_eq!(rt; (first.stop(), first.past()), (3, 5));
+    assert_eq!(rt; (first.content_end(), first.line_end()), (3, 5));
     let second = LineRest::new(text, 5);
     assert_eq!(rt;
         (
             second.begin(),
             second.words_begin(),
-            second.stop(),
-            second.past()
+            second.content_end(),
+            second.line_end()
         ),
         (5, 7, 11, 12)
     );
     assert_eq!(rt; second.words(), b"two ".as_slice());
     assert_eq!(rt; second.bytes(), b"  two ".as_slice());
     let last = LineRest::new(text, 12);
-    assert_eq!(rt; (last.stop(), last.past()), (16, 16));
+    assert_eq!(rt; (last.content_end(), last.line_end()), (16, 16));
     let none = LineRest::new(text, 16);
-    assert_eq!(rt; (none.is_blank(), none.past()), (true, 16));
+    assert_eq!(rt; (none.is_blank(), none.line_end()), (true, 16));
     Ok(())
 }
 
@@ -91,8 +95,11 @@ fn a_tab_in_front_of_an_item_s_later_line(rt: HostRuntime) -> Result<(), Fail> {
 #[test]
 fn a_tab_behind_a_marker(rt: HostRuntime) -> Result<(), Fail> {
     // CommonMark 0.31.2, examples 6 and 7
-    let quote = inside(LineRest::new(b">\t\tfoo", 0));
-    assert_eq!(rt; (begins_code(quote), quote.indent_upto(9)), (true, 6));
+    let block_quote = inside(LineRest::new(b">\t\tfoo", 0));
+    assert_eq!(rt;
+        (begins_code(block_quote), block_quote.indent_upto(9)),
+        (true, 6)
+    );
     let line = LineRest::new(b"-\t\tfoo", 0);
     assert_eq!(rt; item(line), Some((b'-', None, 2)));
     assert_eq!(rt;
@@ -113,16 +120,16 @@ fn a_numbered_item_in_a_quote(rt: HostRuntime) -> Result<(), Fail> {
 
 #[test]
 fn a_quote_keeps_lines_with_its_marker(rt: HostRuntime) -> Result<(), Fail> {
-    let kept = Container::Quote.keeps(false, LineRest::new(b"  > bar", 0));
+    let kept = Container::BlockQuote.keeps(false, LineRest::new(b"  > bar", 0));
     assert_eq!(rt; kept.map(|rest| rest.begin()), Some(4));
     assert_eq!(rt;
-        Container::Quote
+        Container::BlockQuote
             .keeps(false, LineRest::new(b"bar", 0))
             .is_none(),
         true
     );
     assert_eq!(rt;
-        Container::Quote
+        Container::BlockQuote
             .keeps(false, LineRest::new(b"    > bar", 0))
             .is_none(),
         true
@@ -229,8 +236,8 @@ fn a_fence_with_an_info_string(rt: HostRuntime) -> Result<(), Fail> {
         Opening::FencedCode { indent, fence } => {
             Some((
                 indent,
-                fence.mark,
-                fence.size,
+                fence.delimiter,
+                fence.run_length,
                 fence.info_start,
                 fence.info_end,
             ))
@@ -305,43 +312,78 @@ fn setext_underlines(rt: HostRuntime) -> Result<(), Fail> {
 }
 
 #[test]
-fn further_lines_of_code(rt: HostRuntime) -> Result<(), Fail> {
-    let code = Verbatim::Indented;
-    assert!(rt; matches!(code.further(LineRest::new(b"    a", 0)), Further::GoesOn));
-    assert!(rt; matches!(code.further(LineRest::new(b"      ", 0)), Further::Waits));
-    assert!(rt; matches!(code.further(LineRest::new(b"  a", 0)), Further::Stops));
-    let fenced = Verbatim::Fenced {
-        mark: b'`',
-        size: 4,
-        indent: 0,
-    };
-    assert!(rt; matches!(fenced.further(LineRest::new(b"```", 0)), Further::GoesOn));
+fn continuation_lines_of_code(rt: HostRuntime) -> Result<(), Fail> {
+    let code = CodeOrHtml::Indented;
     assert!(rt;
         matches!(
-            fenced.further(LineRest::new(b"  ````` ", 0)),
-            Further::Closes
+            code.continuation(LineRest::new(b"    a", 0)),
+            Continuation::GoesOn
         )
     );
     assert!(rt;
         matches!(
-            fenced.further(LineRest::new(b"    ````", 0)),
-            Further::GoesOn
+            code.continuation(LineRest::new(b"      ", 0)),
+            Continuation::Waits
+        )
+    );
+    assert!(rt;
+        matches!(
+            code.continuation(LineRest::new(b"  a", 0)),
+            Continuation::Stops
+        )
+    );
+    let fenced = CodeOrHtml::Fenced {
+        delimiter: b'`',
+        run_length: 4,
+        indent: 0,
+    };
+    assert!(rt;
+        matches!(
+            fenced.continuation(LineRest::new(b"```", 0)),
+            Continuation::GoesOn
+        )
+    );
+    assert!(rt;
+        matches!(
+            fenced.continuation(LineRest::new(b"  ````` ", 0)),
+            Continuation::Closes
+        )
+    );
+    assert!(rt;
+        matches!(
+            fenced.continuation(LineRest::new(b"    ````", 0)),
+            Continuation::GoesOn
         )
     );
     Ok(())
 }
 
 #[test]
-fn further_lines_of_html(rt: HostRuntime) -> Result<(), Fail> {
-    let block = Verbatim::Html(HtmlKind::Block);
-    assert!(rt; matches!(block.further(LineRest::new(b"</div>", 0)), Further::GoesOn));
-    assert!(rt; matches!(block.further(LineRest::new(b" ", 0)), Further::Stops));
-    let comment = Verbatim::Html(HtmlKind::Comment);
-    assert!(rt; matches!(comment.further(LineRest::new(b"", 0)), Further::GoesOn));
+fn continuation_lines_of_html(rt: HostRuntime) -> Result<(), Fail> {
+    let block = CodeOrHtml::Html(HtmlKind::Block);
     assert!(rt;
         matches!(
-            comment.further(LineRest::new(b"a --> b", 0)),
-            Further::Closes
+            block.continuation(LineRest::new(b"</div>", 0)),
+            Continuation::GoesOn
+        )
+    );
+    assert!(rt;
+        matches!(
+            block.continuation(LineRest::new(b" ", 0)),
+            Continuation::Stops
+        )
+    );
+    let comment = CodeOrHtml::Html(HtmlKind::Comment);
+    assert!(rt;
+        matches!(
+            comment.continuation(LineRest::new(b"", 0)),
+            Continuation::GoesOn
+        )
+    );
+    assert!(rt;
+        matches!(
+            comment.continuation(LineRest::new(b"a --> b", 0)),
+            Continuation::Closes
         )
     );
     assert_eq!(rt;

@@ -70,7 +70,7 @@ fn a_tight_paragraph_is_met_as_its_lines(rt: HostRuntime) -> Result<(), Fail> {
     assert!(rt; matches!(walk.next(&mut lines)?, Met::Leaf { is_cell: false }));
     assert_eq!(rt; lines.len(), 1);
     let line = lines[0];
-    assert_eq!(rt; (line.start, line.stop, line.past), (0, 1, 1));
+    assert_eq!(rt; (line.start, line.content_end, line.line_end), (0, 1, 1));
     assert!(rt; gives(&mut walk, &mut lines, Event::End(TagEnd::Item))?);
     assert!(rt; gives(&mut walk, &mut lines, Event::End(TagEnd::List(false)))?);
     assert!(rt; matches!(walk.next(&mut lines)?, Met::Over));

@@ -167,8 +167,8 @@ fn a_fence_and_its_end(rt: HostRuntime) -> Result<(), Fail> {
         matches!(
             scan_code_fence(b"~~~~ rs "),
             Some(CodeFence {
-                mark: b'~',
-                size: 4,
+                delimiter: b'~',
+                run_length: 4,
                 info_start: 5,
                 info_end: 7,
             })
@@ -182,7 +182,7 @@ fn a_fence_and_its_end(rt: HostRuntime) -> Result<(), Fail> {
 fn html_blocks(rt: HostRuntime) -> Result<(), Fail> {
     assert!(rt; matches!(html_kind(b"<Table>"), Some(HtmlKind::Block)));
     assert!(rt; matches!(html_kind(b"<a b='c'>  "), Some(HtmlKind::Tag)));
-    assert_eq!(rt; holds_end(b"a</Script>", HtmlKind::Verbatim), true);
+    assert_eq!(rt; holds_end(b"a</Script>", HtmlKind::Raw), true);
     Ok(())
 }
 

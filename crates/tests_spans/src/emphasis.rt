@@ -12,24 +12,24 @@ use std::test::Fail;
 /// `***a** b*`
 const NESTED: [Run; 3] = [
     Run {
-        mark: b'*',
-        size: 3,
+        delimiter: b'*',
+        run_length: 3,
         at: 0,
         left: 3,
         opens: true,
         closes: false,
     },
     Run {
-        mark: b'*',
-        size: 2,
+        delimiter: b'*',
+        run_length: 2,
         at: 4,
         left: 2,
         opens: false,
         closes: true,
     },
     Run {
-        mark: b'*',
-        size: 1,
+        delimiter: b'*',
+        run_length: 1,
         at: 8,
         left: 1,
         opens: false,
@@ -37,27 +37,27 @@ const NESTED: [Run; 3] = [
     },
 ];
 
-/// `~~a~.~~`, where the single tilde shuts the double ones (this profile's own).
+/// `~~a~.~~`, where the single tilde makes the double ones inactive (this profile's own).
 const SHUT: [Run; 3] = [
     Run {
-        mark: b'~',
-        size: 2,
+        delimiter: b'~',
+        run_length: 2,
         at: 0,
         left: 2,
         opens: true,
         closes: false,
     },
     Run {
-        mark: b'~',
-        size: 1,
+        delimiter: b'~',
+        run_length: 1,
         at: 3,
         left: 1,
         opens: false,
         closes: true,
     },
     Run {
-        mark: b'~',
-        size: 2,
+        delimiter: b'~',
+        run_length: 2,
         at: 5,
         left: 2,
         opens: false,
@@ -71,7 +71,7 @@ fn nested_slots(alloc: Global, room: &mut PairingRoom) -> Result<Vec<Slot>, Allo
     Ok(slots)
 }
 
-fn shut_slots(alloc: Global, room: &mut PairingRoom) -> Result<Vec<Slot>, AllocError> {
+fn inactive_slots(alloc: Global, room: &mut PairingRoom) -> Result<Vec<Slot>, AllocError> {
     let mut slots = Vec::new(alloc);
     slots_of_runs(7, &SHUT, room, &mut slots)?;
     Ok(slots)
@@ -108,9 +108,9 @@ fn room_serves_again(rt: HostRuntime) -> Result<(), Fail> {
     let mut room = PairingRoom::new(rt.alloc());
     let first = nested_slots(rt.alloc(), &mut room)?;
     assert!(rt; are_nested(&first));
-    let shut = shut_slots(rt.alloc(), &mut room)?;
-    assert_eq!(rt; shut.len(), 7);
-    assert!(rt; shut.iter().all(|slot| matches!(slot, Slot::Single)));
+    let inactive = inactive_slots(rt.alloc(), &mut room)?;
+    assert_eq!(rt; inactive.len(), 7);
+    assert!(rt; inactive.iter().all(|slot| matches!(slot, Slot::Single)));
     let again = nested_slots(rt.alloc(), &mut room)?;
     assert!(rt; are_nested(&again));
     Ok(())

@@ -21,12 +21,12 @@ fn is_line(source: &str, from: usize, line: LeafLine) -> bool
     ensures { result ≡ true → IsLine source.now from line }
 {
     from <= line.start
-        && line.start <= line.stop
-        && line.stop <= line.past
-        && line.past <= source.len()
+        && line.start <= line.content_end
+        && line.content_end <= line.line_end
+        && line.line_end <= source.len()
         && source.is_char_boundary(line.start)
-        && source.is_char_boundary(line.stop)
-        && source.is_char_boundary(line.past)
+        && source.is_char_boundary(line.content_end)
+        && source.is_char_boundary(line.line_end)
 }
 
 /// A leaf of one line, which is the source.
@@ -35,8 +35,8 @@ pub fn whole<'a>(alloc: Global, source: &'a str) -> Result<Option<LeafText<'a>>,
 {
     let line = LeafLine {
         start: 0,
-        stop: source.len(),
-        past: source.len(),
+        content_end: source.len(),
+        line_end: source.len(),
     };
     if !is_line(source, 0, line) {
         return Ok(None);
@@ -56,15 +56,15 @@ fn quoted<'a>(
 {
     let first = LeafLine {
         start: 2,
-        stop: second.saturating_sub(3),
-        past: second.saturating_sub(2),
+        content_end: second.saturating_sub(3),
+        line_end: second.saturating_sub(2),
     };
     let last = LeafLine {
         start: second,
-        stop: source.len(),
-        past: source.len(),
+        content_end: source.len(),
+        line_end: source.len(),
     };
-    if !is_line(source, 0, first) || !is_line(source, first.past, last) {
+    if !is_line(source, 0, first) || !is_line(source, first.line_end, last) {
         return Ok(None);
     }
     let mut leaf = LeafText::new(alloc, source);
@@ -227,7 +227,7 @@ fn in_quote(alloc: Global, source: &str, second: usize, options: Options) -> Res
 }
 
 #[test]
-fn tilde_shuts_caret(rt: HostRuntime) -> Result<(), Fail> {
+fn tilde_deactivates_caret(rt: HostRuntime) -> Result<(), Fail> {
     let found = of(
         rt.alloc(),
         "^a b~ c^",
@@ -401,7 +401,7 @@ fn no_question_where_a_definition_is(rt: HostRuntime) -> Result<(), Fail> {
 }
 
 #[test]
-fn spent_expansion(rt: HostRuntime) -> Result<(), Fail> {
+fn spent_expansion_limit(rt: HostRuntime) -> Result<(), Fail> {
     let mut dest = String::new(rt.alloc());
     for _ in 0..60_000 {
         dest.push('u')?;
@@ -505,7 +505,7 @@ fn backticks_that_are_not_closed(rt: HostRuntime) -> Result<(), Fail> {
 }
 
 #[test]
-fn stars_stay_open_where_tildes_are_shut(rt: HostRuntime) -> Result<(), Fail> {
+fn stars_stay_open_where_tildes_are_inactive(rt: HostRuntime) -> Result<(), Fail> {
     let options = Options::ENABLE_STRIKETHROUGH;
     let found = of(rt.alloc(), "**a ~b~~ c~ d**", options)?;
     assert_eq!(rt;

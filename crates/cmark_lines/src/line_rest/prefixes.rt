@@ -9,7 +9,7 @@ ghost use Rattle.cmark_text.specs.Shown.{shown_block_quote_kind};
 ghost use Rattle.cmark_lines.specs.Boxes.{is_checked, IsBehindBox};
 ghost use Rattle.cmark_lines.specs.Definitions.{width_of, definition_behind, EntersDefinition};
 ghost use Rattle.cmark_lines.specs.Rests.{row_of};
-ghost use Rattle.cmark_lines.specs.Starts.{quote_entered, shown_begun, begun_item, EntersItem, label_shown, begun_label, EntersFootnote, IsMarkerClosed};
+ghost use Rattle.cmark_lines.specs.Starts.{block_quote_entered, shown_begun, begun_item, EntersItem, label_shown, begun_label, EntersFootnote, IsMarkerClosed};
 
 use crate::container::ItemStart;
 use crate::line_rest::LineRest;
@@ -18,8 +18,8 @@ use cmark_text::BlockQuoteKind;
 impl<'a> LineRest<'a> {
     /// The line behind a block quote's prefix, if it has one.
     #[inline]
-    pub(crate) fn behind_quote(self) -> Option<LineRest<'a>>
-        ensures { option_map row_of result ≡ quote_entered (row_of self.entry) }
+    pub(crate) fn behind_block_quote(self) -> Option<LineRest<'a>>
+        ensures { option_map row_of result ≡ block_quote_entered (row_of self.entry) }
     {
         let mut front = self.front;
         front.scan_space_upto(3);
@@ -61,7 +61,7 @@ impl<'a> LineRest<'a> {
     /// The line behind so many columns of spaces and tabs, or behind fewer if nothing follows them.
     #[inline]
     pub(crate) fn behind_width(self, width: usize) -> Option<LineRest<'a>>
-        ensures { (mark : ℕ) (number : Option ℕ) (task : Option Bool) → option_map row_of result ≡ keeps (Item mark number width task) false (row_of self.entry) }
+        ensures { (delimiter : ℕ) (number : Option ℕ) (task : Option Bool) → option_map row_of result ≡ keeps (Item delimiter number width task) false (row_of self.entry) }
     {
         let mut front = self.front;
         if !front.scan_space(width) && !front.is_at_eol() {
@@ -120,9 +120,9 @@ impl<'a> LineRest<'a> {
     {
         let mut front = self.front;
         let indent = front.scan_space_upto(3);
-        let (mark, number, width) = front.scan_list_marker_with_indent(indent)?;
+        let (delimiter, number, width) = front.scan_list_marker_with_indent(indent)?;
         let item = ItemStart {
-            mark,
+            delimiter,
             number,
             width,
         };

@@ -8,7 +8,7 @@ ghost use Rattle.cmark_scan_parts.specs.Footnotes.{marked, IsClosed};
 ghost use Rattle.cmark_grammar.specs.Containers.{padding};
 ghost use Rattle.cmark_text.specs.Shown.{shown_block_quote_kind};
 ghost use Rattle.cmark_scan.specs.LineStart.{columns_from, row_from};
-ghost use Rattle.cmark_scan.specs.LineMarkers.{begins_quote, behind_quote, alert_in, behind_alert, item_in, item_numbers, entered, definition_in, behind_definition, sum_up_to_most, task_in, behind_task, footnote_at, behind_footnote};
+ghost use Rattle.cmark_scan.specs.LineMarkers.{begins_block_quote, behind_block_quote, alert_in, behind_alert, item_in, item_numbers, entered, definition_in, behind_definition, sum_up_to_most, task_in, behind_task, footnote_at, behind_footnote};
 
 use crate::line_start::LineStart;
 use crate::marker::{scan_alert, scan_listitem, scan_task};
@@ -20,8 +20,8 @@ impl<'a> LineStart<'a> {
     /// does not go on with `>`, nothing is taken.
     #[inline]
     pub fn scan_blockquote_marker(&mut self) -> bool
-        ensures found { (at past : ℕ) → result ≡ begins_quote (row_from at past self.old) }
-        ensures rest { (at past : ℕ) → row_from at past self.new ≡ behind_quote (row_from at past self.old) }
+        ensures found { (at line_end : ℕ) → result ≡ begins_block_quote (row_from at line_end self.old) }
+        ensures rest { (at line_end : ℕ) → row_from at line_end self.new ≡ behind_block_quote (row_from at line_end self.old) }
         ensures stays { OnFalse result (self.new ≡ self.old) }
     {
         if !self.goes_on_with(b'>') {
@@ -35,8 +35,8 @@ impl<'a> LineStart<'a> {
     /// Takes the rest of the line, if it is the tag of an alert (this profile's own): exactly `[!NOTE]`, `[!TIP]`,
     /// `[!IMPORTANT]`, `[!WARNING]` or `[!CAUTION]`, in any case, and blanks. Else nothing is taken.
     pub fn scan_blockquote_tag(&mut self) -> Option<BlockQuoteKind>
-        ensures found { (at past : ℕ) → option_map shown_block_quote_kind result ≡ alert_in (row_from at past self.old) }
-        ensures rest { (at past : ℕ) → row_from at past self.new ≡ behind_alert (row_from at past self.old) }
+        ensures found { (at line_end : ℕ) → option_map shown_block_quote_kind result ≡ alert_in (row_from at line_end self.old) }
+        ensures rest { (at line_end : ℕ) → row_from at line_end self.new ≡ behind_alert (row_from at line_end self.old) }
         ensures stays { result ≡ None → self.new ≡ self.old }
     {
         let (kind, size) = scan_alert(self.ahead())?;
@@ -55,8 +55,8 @@ impl<'a> LineStart<'a> {
         &mut self,
         indent: usize,
     ) -> Option<(u8, Option<u64>, usize)>
-        ensures found { (at past : ℕ) → result ≡ item_numbers indent (item_in (row_from at past self.old)) }
-        ensures rest { (at past : ℕ) → row_from at past self.new ≡ entered (item_in (row_from at past self.old)) (row_from at past self.old) }
+        ensures found { (at line_end : ℕ) → result ≡ item_numbers indent (item_in (row_from at line_end self.old)) }
+        ensures rest { (at line_end : ℕ) → row_from at line_end self.new ≡ entered (item_in (row_from at line_end self.old)) (row_from at line_end self.old) }
         ensures stays { result ≡ None → self.new ≡ self.old }
     {
         let marker = scan_listitem(self.ahead())?;
@@ -65,7 +65,11 @@ impl<'a> LineStart<'a> {
         }
         self.take_bytes(marker.size);
         let width = marker.size + self.scan_padding();
-        Some((marker.mark, marker.number, indent.saturating_add(width)))
+        Some((
+            marker.delimiter,
+            marker.number,
+            indent.saturating_add(width),
+        ))
     }
 
     /// Takes the marker of a definition and the blanks behind it that count (this profile's own), and answers the
@@ -76,8 +80,8 @@ impl<'a> LineStart<'a> {
         &mut self,
         indent: usize,
     ) -> Option<usize>
-        ensures found { (at past : ℕ) → result ≡ option_map (sum_up_to_most indent) (definition_in (row_from at past self.old)) }
-        ensures rest { (at past : ℕ) → row_from at past self.new ≡ behind_definition (row_from at past self.old) }
+        ensures found { (at line_end : ℕ) → result ≡ option_map (sum_up_to_most indent) (definition_in (row_from at line_end self.old)) }
+        ensures rest { (at line_end : ℕ) → row_from at line_end self.new ≡ behind_definition (row_from at line_end self.old) }
         ensures stays { result ≡ None → self.new ≡ self.old }
     {
         if !self.goes_on_with(b':') {
@@ -92,8 +96,8 @@ impl<'a> LineStart<'a> {
     /// none, or no blank and text behind it, nothing is taken.
     #[inline]
     pub fn scan_task_list_marker(&mut self) -> Option<bool>
-        ensures found { (at past : ℕ) → result ≡ task_in (row_from at past self.old) }
-        ensures rest { (at past : ℕ) → row_from at past self.new ≡ behind_task (row_from at past self.old) }
+        ensures found { (at line_end : ℕ) → result ≡ task_in (row_from at line_end self.old) }
+        ensures rest { (at line_end : ℕ) → row_from at line_end self.new ≡ behind_task (row_from at line_end self.old) }
         ensures stays { result ≡ None → self.new ≡ self.old }
     {
         let checked = scan_task(self.ahead())?;
@@ -104,9 +108,9 @@ impl<'a> LineStart<'a> {
     /// Takes the marker of a footnote definition (this profile's own), `[^`, a label on one line and `]:`, and all blanks behind it. Answers how many bytes
     /// the label has, which stands behind the first two bytes. Where there is none, nothing is taken.
     pub fn scan_footnote_marker(&mut self) -> Option<usize>
-        ensures found { (at past : ℕ) → option_map (marked (words_of (row_from at past self.old))) result ≡ footnote_at (row_from at past self.old) }
-        ensures closed { (at past : ℕ) → IfSome result (IsClosed (words_of (row_from at past self.old))) }
-        ensures rest { (at past : ℕ) → row_from at past self.new ≡ behind_footnote (footnote_at (row_from at past self.old)) (row_from at past self.old) }
+        ensures found { (at line_end : ℕ) → option_map (marked (words_of (row_from at line_end self.old))) result ≡ footnote_at (row_from at line_end self.old) }
+        ensures closed { (at line_end : ℕ) → IfSome result (IsClosed (words_of (row_from at line_end self.old))) }
+        ensures rest { (at line_end : ℕ) → row_from at line_end self.new ≡ behind_footnote (footnote_at (row_from at line_end self.old)) (row_from at line_end self.old) }
         ensures stays { result ≡ None → self.new ≡ self.old }
     {
         let size = scan_footnote_marker(self.ahead())?;
@@ -120,7 +124,7 @@ impl<'a> LineStart<'a> {
     #[inline]
     fn scan_padding(&mut self) -> usize
         ensures count { (at : ℕ) → result ≡ padding (columns_from at self.old) }
-        ensures rest { (at past : ℕ) → row_from at past self.new ≡ without result (row_from at past self.old) }
+        ensures rest { (at line_end : ℕ) → row_from at line_end self.new ≡ without result (row_from at line_end self.old) }
         ensures few { result ≤ 4 }
     {
         let mut behind = *self;

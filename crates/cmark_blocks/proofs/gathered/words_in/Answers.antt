@@ -6,4 +6,4 @@ use Rattle.cmark_blocks.proofs.gathered.words_in.Goals as goal
 pub returns : goal.returns
 returns c =
     let text = c.args.text.now in
-    c.range.ensures.value ∙ ap (λ from. slice text from c.stop.result) c.words_begin.ensures.place ∙ ap (slice text _) c.stop.ensures.place ∙ sym (words-slice text c.args.rest c.requires.told)
+    c.range.ensures.value ∙ ap (λ from. slice text from c.content_end.result) c.words_begin.ensures.place ∙ ap (slice text _) c.content_end.ensures.place ∙ sym (words-slice text c.args.rest c.requires.in_text)

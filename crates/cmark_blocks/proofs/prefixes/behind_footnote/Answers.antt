@@ -6,19 +6,19 @@ use Rattle.cmark_lines.proofs.ContainerRows.{footnote-keeps, old-blank, old-keep
 use Rattle.cmark_blocks.proofs.prefixes.behind_footnote.Goals as goal
 
 pub returns-then-not-old : goal.returns-then-not-old
-returns-then-not-old c at past =
-    let row = row_from at past c.args.line in
-    c.behind_width.ensures at past 0 None None ∙ footnote-keeps [] 0 row ∙ ap (λ o. keeps (Footnote [] o 0) false row) (sym c.if-not-old.true)
+returns-then-not-old c at line_end =
+    let row = row_from at line_end c.args.line in
+    c.behind_width.ensures at line_end 0 None None ∙ footnote-keeps [] 0 row ∙ ap (λ o. keeps (Footnote [] o 0) false row) (sym c.if-not-old.true)
 
 pub returns-then-is_at_eol : goal.returns-then-is_at_eol
-returns-then-is_at_eol c at past =
-    let row = row_from at past c.args.line in
-    old-blank [] 0 row (sym (c.is_at_eol.ensures at ∙ ap (λ r. is_bare r.columns) (c.scan_all_space.ensures at past)) ∙ c.if-is_at_eol.true)
+returns-then-is_at_eol c at line_end =
+    let row = row_from at line_end c.args.line in
+    old-blank [] 0 row (sym (c.is_at_eol.ensures at ∙ ap (λ r. is_bare r.columns) (c.scan_all_space.ensures at line_end)) ∙ c.if-is_at_eol.true)
     ∙ ap (λ o. keeps (Footnote [] o 0) false row) (sym c.if-not-old.false)
 
 pub returns : goal.returns
-returns c at past =
-    let row = row_from at past c.args.line in
-    ap Some (c.hold.ensures at past)
-    ∙ old-keeps [] 0 row refl (sym (c.is_at_eol.ensures at ∙ ap (λ r. is_bare r.columns) (c.scan_all_space.ensures at past)) ∙ c.if-is_at_eol.false)
+returns c at line_end =
+    let row = row_from at line_end c.args.line in
+    ap Some (c.hold.ensures at line_end)
+    ∙ old-keeps [] 0 row refl (sym (c.is_at_eol.ensures at ∙ ap (λ r. is_bare r.columns) (c.scan_all_space.ensures at line_end)) ∙ c.if-is_at_eol.false)
     ∙ ap (λ o. keeps (Footnote [] o 0) false row) (sym c.if-not-old.false)

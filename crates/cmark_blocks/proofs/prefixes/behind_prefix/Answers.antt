@@ -6,6 +6,6 @@ use Rattle.cmark_blocks.specs.Prefixes.{shown_container}
 use Rattle.cmark_blocks.proofs.prefixes.behind_prefix.Goals as goal
 
 pub returns-in-Definition : goal.returns-in-Definition
-returns-in-Definition c at past =
-    let row = row_from at past c.args.line in
-    c.behind_width-in-Definition.ensures at past 0 None None ∙ definition-keeps c.in-Definition.width row ∙ ap (λ k. keeps (shown_container k) false row) (sym c.in-Definition.is)
+returns-in-Definition c at line_end =
+    let row = row_from at line_end c.args.line in
+    c.behind_width-in-Definition.ensures at line_end 0 None None ∙ definition-keeps c.in-Definition.width row ∙ ap (λ k. keeps (shown_container k) false row) (sym c.in-Definition.is)

@@ -7,18 +7,18 @@ use Rattle.cmark_blocks.proofs.prefixes.behind_width.Goals.{else-not-scan_space-
 use Rattle.cmark_blocks.proofs.prefixes.behind_width.Goals as goal
 
 pub returns-then-not-is_at_eol : goal.returns-then-not-is_at_eol
-returns-then-not-is_at_eol c = λ at past mark number task.
-    let row = row_from at past c.args.line in
-    let after = row_from at past c.scan_space.new.self in
-    let enough : nat_le c.args.width (indent_of row) ≡ false = sym (c.scan_space.ensures.enough at past) ∙ c.if-not-scan_space.true in
+returns-then-not-is_at_eol c = λ at line_end delimiter number task.
+    let row = row_from at line_end c.args.line in
+    let after = row_from at line_end c.scan_space.new.self in
+    let enough : nat_le c.args.width (indent_of row) ≡ false = sym (c.scan_space.ensures.enough at line_end) ∙ c.if-not-scan_space.true in
     let bare : is_bare after.columns ≡ false = sym (c.is_at_eol.ensures at) ∙ c.if-not-is_at_eol.true in
-    width-lacked row after c.args.width refl (c.scan_space.ensures.rest at past) (ap (λ z. z || is_bare after.columns) enough ∙ bare) mark number task
+    width-lacked row after c.args.width refl (c.scan_space.ensures.rest at line_end) (ap (λ z. z || is_bare after.columns) enough ∙ bare) delimiter number task
 
 pub returns : goal.returns
-returns c = λ at past mark number task.
-    let row = row_from at past c.args.line in
-    let after = row_from at past c.scan_space.new.self in
-    let enough = c.scan_space.ensures.enough at past in
+returns c = λ at line_end delimiter number task.
+    let row = row_from at line_end c.args.line in
+    let after = row_from at line_end c.scan_space.new.self in
+    let enough = c.scan_space.ensures.enough at line_end in
     let test : (nat_le c.args.width (indent_of row) || is_bare after.columns) ≡ true =
     elim c.else-not-scan_space.branch [
       | else-not-scan_space-via-then-not-scan_space+else-not-is_at_eol w ↦
@@ -26,4 +26,4 @@ returns c = λ at past mark number task.
       | else-not-scan_space-via-else-not-scan_space w ↦ ap (λ z. z || is_bare after.columns) (sym enough ∙ w.if-not-scan_space.false)
     ]
     in
-    width-kept row after c.args.width refl (c.scan_space.ensures.rest at past) test mark number task
+    width-kept row after c.args.width refl (c.scan_space.ensures.rest at line_end) test delimiter number task

@@ -1,10 +1,10 @@
 use Rattle.std.proofs.Common.{◌≡◌, ◌<◌, ℕ, suc, ◌+◌, List, Some, length, take, drop, get_or, true, false, ap, sym, subst, ◌∙◌, arith}
 use Rattle.std.proofs.lemmas.Str.{IsCharBoundary-after_ascii}
-use Rattle.cmark_grammar.specs.LinkDefinitions.{Found, up_to}
+use Rattle.cmark_grammar.specs.LinkDefinitions.{Parsed, up_to}
 use Rattle.cmark_definitions.proofs.part.closed_part.Goals as goal
 
 FindsPart : (size closer refused : ℕ) → List ℕ → Type 0
-FindsPart size closer refused bs = Some (let found : Found = record { bytes = take size bs; behind = drop (suc size) bs } in found) ≡ up_to false closer refused true bs
+FindsPart size closer refused bs = Some (let found : Parsed = record { bytes = take size bs; behind = drop (suc size) bs } in found) ≡ up_to false closer refused true bs
 
 pub range_from-requires : goal.range_from-requires
 range_from-requires c = λ some.
@@ -19,6 +19,6 @@ returns-clause-value c =
     let size : ℕ = c.in_ok-size.size in
     let front : c.range.result.now ≡ take size text = grind (arith, c.range.ensures.value) in
     let behind : c.range_from.result.now ≡ drop (suc size) text = c.range_from.ensures.value ∙ ap (λ n. drop n text) (let e : size + 1 ≡ suc size = omega arith in e) in
-    ap (λ bs. let found : Found = record { bytes = bs; behind = c.range_from.result.now } in Some found) front
-    ∙ ap (λ bs. let found : Found = record { bytes = take size text; behind = bs } in Some found) behind
+    ap (λ bs. let found : Parsed = record { bytes = bs; behind = c.range_from.result.now } in Some found) front
+    ∙ ap (λ bs. let found : Parsed = record { bytes = take size text; behind = bs } in Some found) behind
     ∙ subst (FindsPart size c.args.closer c.args.refused) c.as_bytes.ensures.value c.in_ok-size.ensures.value

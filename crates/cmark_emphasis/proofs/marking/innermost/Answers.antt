@@ -1,11 +1,11 @@
 use Rattle.cmark_emphasis.proofs.Innermost.{first_tilde, first_caret, first_emphasis}
 use Rattle.cmark_emphasis.proofs.marking.innermost.Goals as goal
 
-pub returns-then-mark-eq126-clause-kinds : goal.returns-then-mark-eq126-clause-kinds
-returns-then-mark-eq126-clause-kinds c = first_tilde _ _ _ c.if-mark-eq126.true c.innermost_tilde.ensures.kinds
+pub returns-then-delimiter-eq126-clause-kinds : goal.returns-then-delimiter-eq126-clause-kinds
+returns-then-delimiter-eq126-clause-kinds c = first_tilde _ _ _ c.if-delimiter-eq126.true c.innermost_tilde.ensures.kinds
 
-pub returns-then-mark-eq94-clause-kinds : goal.returns-then-mark-eq94-clause-kinds
-returns-then-mark-eq94-clause-kinds c = first_caret _ _ c.if-mark-eq126.false c.if-mark-eq94.true c.requires
+pub returns-then-delimiter-eq94-clause-kinds : goal.returns-then-delimiter-eq94-clause-kinds
+returns-then-delimiter-eq94-clause-kinds c = first_caret _ _ c.if-delimiter-eq126.false c.if-delimiter-eq94.true c.requires
 
 pub returns-clause-kinds : goal.returns-clause-kinds
-returns-clause-kinds c = first_emphasis _ _ _ c.if-mark-eq126.false c.if-mark-eq94.false c.innermost_emphasis.ensures.kinds
+returns-clause-kinds c = first_emphasis _ _ _ c.if-delimiter-eq126.false c.if-delimiter-eq94.false c.innermost_emphasis.ensures.kinds

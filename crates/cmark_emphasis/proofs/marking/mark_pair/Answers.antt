@@ -6,4 +6,4 @@ pub loop-left-init : goal.loop-left-init
 loop-left-init c = (c.requires.opens, c.requires.ordered, c.requires.closes, refl)
 
 pub returns : goal.returns
-returns c = sym (none_left c.args.pair.mark c.loop-left.left c.loop-left.from c.loop-left.to c.loop-left.slots (omega arith)) ∙ c.loop-left.invariant.3
+returns c = sym (none_left c.args.pair.delimiter c.loop-left.left c.loop-left.from c.loop-left.to c.loop-left.slots (omega arith)) ∙ c.loop-left.invariant.3

@@ -1,7 +1,7 @@
 use Rattle.std.proofs.Common.{◌≡◌, sym, ◌∙◌, subst, arith, ◌<◌, ◌+◌, length}
 use Rattle.cmark_grammar.specs.Emphasis as grammar
 use Rattle.cmark_emphasis.specs.Shown.{shown_run, open_runs}
-use Rattle.cmark_emphasis.specs.Bottoms.{AreBottoms, not_shut}
+use Rattle.cmark_emphasis.specs.Bottoms.{AreBottoms, active_runs}
 use Rattle.cmark_emphasis.specs.Nearest.{IsNearest}
 use Rattle.cmark_emphasis.specs.Stack.{NoneAgree, course_from, still_open}
 use Rattle.cmark_emphasis.proofs.Noted.{rest_bottoms}
@@ -16,19 +16,19 @@ cut_bottoms : (c : goal.After-rest_of_closer-closer) → AreBottoms c.lower.new.
 cut_bottoms c = subst (AreBottoms c.lower.new.self) (sym c.truncate.ensures.items) (c.lower.ensures.bottoms c.loop-found.stack.items c.loop-found.invariant.bottoms)
 
 next : (c : goal.After-rest_of_closer-closer)
-    → (course_from (shown_run c.rest_of_closer-closer.result) (not_shut c.lower.new.self.shut c.put_on.new.stack.items) c.push.new.self.items ≡ course_from (shown_run c.loop-found.closer) (not_shut c.loop-found.bottoms.shut c.loop-found.stack.items) c.loop-found.pairs.items)
+    → (course_from (shown_run c.rest_of_closer-closer.result) (active_runs c.lower.new.self.inactive_below c.put_on.new.stack.items) c.push.new.self.items ≡ course_from (shown_run c.loop-found.closer) (active_runs c.loop-found.bottoms.inactive_below c.loop-found.stack.items) c.loop-found.pairs.items)
     × (length c.put_on.new.stack.items + c.rest_of_closer-closer.result.left < length c.loop-found.stack.items + c.loop-found.closer.left)
 next c =
-    let near : IsNearest (shown_run c.loop-found.closer) c.loop-found.bottoms.shut c.loop-found.stack.items c.in-Some.found =
-    subst (λ l. IsNearest (shown_run c.loop-found.closer) c.loop-found.bottoms.shut l c.in-Some.found) c.deref.ensures.value c.in-Some.ensures in
-    let same : not_shut c.lower.new.self.shut c.truncate.new.self.items ≡ not_shut c.loop-found.bottoms.shut c.truncate.new.self.items =
-    subst (λ l. not_shut c.lower.new.self.shut l ≡ not_shut c.loop-found.bottoms.shut l) (sym c.truncate.ensures.items) (c.lower.ensures.opens c.loop-found.stack.items) in
+    let near : IsNearest (shown_run c.loop-found.closer) c.loop-found.bottoms.inactive_below c.loop-found.stack.items c.in-Some.found =
+    subst (λ l. IsNearest (shown_run c.loop-found.closer) c.loop-found.bottoms.inactive_below l c.in-Some.found) c.deref.ensures.value c.in-Some.ensures in
+    let same : active_runs c.lower.new.self.inactive_below c.truncate.new.self.items ≡ active_runs c.loop-found.bottoms.inactive_below c.truncate.new.self.items =
+    subst (λ l. active_runs c.lower.new.self.inactive_below l ≡ active_runs c.loop-found.bottoms.inactive_below l) (sym c.truncate.ensures.items) (c.lower.ensures.opens c.loop-found.stack.items) in
     let n =
     course_next (shown_run c.loop-found.closer) c.index-opener.result.now c.rest_of_opener.result c.loop-found.stack.items c.truncate.new.self.items c.put_on.new.stack.items c.loop-found.pairs.items c.push.new.self.items c.pair_up.result
-    c.in-Some.found c.loop-found.bottoms.shut c.lower.new.self.shut near (nearest_in _ _ _ _ near) c.index-opener.ensures c.truncate.ensures.items (cut_bottoms c).shut same c.in_ok-put_on.ensures.value c.rest_of_opener.ensures.value
+    c.in-Some.found c.loop-found.bottoms.inactive_below c.lower.new.self.inactive_below near (nearest_in _ _ _ _ near) c.index-opener.ensures c.truncate.ensures.items (cut_bottoms c).inactive_below same c.in_ok-put_on.ensures.value c.rest_of_opener.ensures.value
     c.in_ok-push.ensures.items c.pair_up.ensures in
     let e = sym c.rest_of_closer-closer.ensures.value in (
-      subst (λ r. course_from r (not_shut c.lower.new.self.shut c.put_on.new.stack.items) c.push.new.self.items ≡ course_from (shown_run c.loop-found.closer) (not_shut c.loop-found.bottoms.shut c.loop-found.stack.items) c.loop-found.pairs.items) e n.0,
+      subst (λ r. course_from r (active_runs c.lower.new.self.inactive_below c.put_on.new.stack.items) c.push.new.self.items ≡ course_from (shown_run c.loop-found.closer) (active_runs c.loop-found.bottoms.inactive_below c.loop-found.stack.items) c.loop-found.pairs.items) e n.0,
       subst (λ (r : grammar.Run). length c.put_on.new.stack.items + r.left < length c.loop-found.stack.items + c.loop-found.closer.left) e n.1,
     )
 
@@ -46,6 +46,6 @@ loop-found-smaller c = omega (arith, (next c).1, c.put_on.new.stack.ok.0, c.loop
 pub returns-clause-value : goal.returns-clause-value
 returns-clause-value c =
     sym c.loop-found.invariant.course
-    ∙ course_end (shown_run c.loop-found.closer) (not_shut c.loop-found.bottoms.shut c.loop-found.stack.items) (not_shut c.note.new.self.shut c.loop-found.stack.items) c.loop-found.pairs.items
-    (subst (λ l. NoneAgree (shown_run c.loop-found.closer) (open_runs (not_shut c.loop-found.bottoms.shut l))) c.deref.ensures.value c.in_default.ensures)
-    (subst (λ l. open_runs (not_shut c.note.new.self.shut l) ≡ still_open (shown_run c.loop-found.closer) (open_runs (not_shut c.loop-found.bottoms.shut l))) c.deref-2.ensures.value c.note.ensures.opens)
+    ∙ course_end (shown_run c.loop-found.closer) (active_runs c.loop-found.bottoms.inactive_below c.loop-found.stack.items) (active_runs c.note.new.self.inactive_below c.loop-found.stack.items) c.loop-found.pairs.items
+    (subst (λ l. NoneAgree (shown_run c.loop-found.closer) (open_runs (active_runs c.loop-found.bottoms.inactive_below l))) c.deref.ensures.value c.in_default.ensures)
+    (subst (λ l. open_runs (active_runs c.note.new.self.inactive_below l) ≡ still_open (shown_run c.loop-found.closer) (open_runs (active_runs c.loop-found.bottoms.inactive_below l))) c.deref-2.ensures.value c.note.ensures.opens)

@@ -27,16 +27,16 @@ pub loop-next-preserved : goal.loop-next-preserved
 loop-next-preserved c =
     let i = c.loop-next.invariant in
     let h = i.0 in
-    let n : code_run.Run = record { mark = c.in-Some.next.now.run.mark; size = c.in-Some.next.now.run.size; at = c.loop-next.count; left = c.in-Some.next.now.run.size; opens = c.in-Some.next.now.run.opens; closes = c.in-Some.next.now.run.closes } in
+    let n : code_run.Run = record { delimiter = c.in-Some.next.now.run.delimiter; run_length = c.in-Some.next.now.run.run_length; at = c.loop-next.count; left = c.in-Some.next.now.run.run_length; opens = c.in-Some.next.now.run.opens; closes = c.in-Some.next.now.run.closes } in
     let e : c.loop-next.rest.now ≡ c.in-Some.next.now ∷ c.in-Some.others.now = search rules in
     let b = ap (λ (ps : List PlacedRun). bytes_of ps) e ∙ first-bytes c.in-Some.next.now c.in-Some.others.now in (
-      (let l : c.loop-next.count + c.in-Some.next.now.run.size + bytes_of c.in-Some.others.now ≤ c.args.bound = omega (arith, h, b) in l),
+      (let l : c.loop-next.count + c.in-Some.next.now.run.run_length + bytes_of c.in-Some.others.now ≤ c.args.bound = omega (arith, h, b) in l),
       one-more c.loop-next.count c.loop-next.runs.items c.push.new.self.items n i.1 refl refl c.in_ok-push.ensures.items,
-      ap (λ (rs : List code_run.Run). map shown_run rs ++ runs_of (siblings_from (c.loop-next.count + c.in-Some.next.now.run.size) c.in-Some.others.now)) c.in_ok-push.ensures.items
+      ap (λ (rs : List code_run.Run). map shown_run rs ++ runs_of (siblings_from (c.loop-next.count + c.in-Some.next.now.run.run_length) c.in-Some.others.now)) c.in_ok-push.ensures.items
           ∙ gathered-more c.loop-next.runs.items n c.in-Some.next.now c.in-Some.others.now c.loop-next.count refl
           ∙ ap (λ (ps : List PlacedRun). map shown_run c.loop-next.runs.items ++ runs_of (siblings_from c.loop-next.count ps)) (sym e)
           ∙ i.2,
       (let t = ap (λ (ps : List PlacedRun). places_taken (siblings_from c.loop-next.count ps)) e in
           let all = i.3 in
-          let l : (c.loop-next.count + c.in-Some.next.now.run.size) + places_taken (siblings_from (c.loop-next.count + c.in-Some.next.now.run.size) c.in-Some.others.now) ≡ places_taken (siblings_from 0 (drop c.args.first c.args.placed.now)) = omega (arith, t, all) in l),
+          let l : (c.loop-next.count + c.in-Some.next.now.run.run_length) + places_taken (siblings_from (c.loop-next.count + c.in-Some.next.now.run.run_length) c.in-Some.others.now) ≡ places_taken (siblings_from 0 (drop c.args.first c.args.placed.now)) = omega (arith, t, all) in l),
     )

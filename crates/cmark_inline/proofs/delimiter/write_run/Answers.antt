@@ -12,17 +12,17 @@ use Rattle.cmark_inline.proofs.delimiter.write_run.Goals as goal
 
 pub loop-byte-init : goal.loop-byte-init
 loop-byte-init c =
-    let all : c.args.placed.run.size ≡ c.args.placed.run.size - 0 = omega arith in
+    let all : c.args.placed.run.run_length ≡ c.args.placed.run.run_length - 0 = omega arith in
     let first : c.args.placed.slot ≡ c.args.placed.slot + 0 = omega arith in (
       (λ text place h. h),
       refl,
       (λ from h. h),
       (λ behind r.
-          subst (λ m. AreReady c.args.slots.now.items (reverse c.args.begun.now.items) (run_places m (c.args.placed.run.size - 0) behind) c.args.marks.now) first
+          subst (λ m. AreReady c.args.slots.now.items (reverse c.args.begun.now.items) (run_places m (c.args.placed.run.run_length - 0) behind) c.args.marks.now) first
           (subst (λ n. AreReady c.args.slots.now.items (reverse c.args.begun.now.items) (run_places c.args.placed.slot n behind) c.args.marks.now) all r)),
       (λ leaf texts links behind r.
           ap (λ n. marked (shown_options c.args.options) (run_places c.args.placed.slot n behind) (map shown_mark c.args.marks.now) (shown_slots leaf texts links c.args.slots.now.items) (reverse c.args.begun.now.items)) all
-          ∙ ap (λ m. marked (shown_options c.args.options) (run_places m (c.args.placed.run.size - 0) behind) (map shown_mark c.args.marks.now) (shown_slots leaf texts links c.args.slots.now.items) (reverse c.args.begun.now.items)) first),
+          ∙ ap (λ m. marked (shown_options c.args.options) (run_places m (c.args.placed.run.run_length - 0) behind) (map shown_mark c.args.marks.now) (shown_slots leaf texts links c.args.slots.now.items) (reverse c.args.begun.now.items)) first),
       (λ low h le. ((λ k d lt. refl), h)),
       (λ h. h),
       no-more-same c.args.slots.now.items,
@@ -31,7 +31,7 @@ loop-byte-init c =
 pub write_mark-requires : goal.write_mark-requires
 write_mark-requires c =
     let slot : ℕ = c.args.placed.slot in
-    let size : ℕ = c.args.placed.run.size in
+    let size : ℕ = c.args.placed.run.run_length in
     let byte : ℕ = c.loop-byte.byte in
     let behind = c.requires.ready.0 in
     (run_places (slot + (byte + 1)) (size - (byte + 1)) behind, drop (byte + 1) c.args.marks.now, ready-next c.loop-byte.slots.items (reverse c.loop-byte.begun.items) slot size byte behind c.args.marks.now mark.Single c.loop-byte-test.true c.requires.marks (c.loop-byte.invariant.3 behind c.requires.ready.1))
@@ -40,7 +40,7 @@ pub loop-byte-preserved : goal.loop-byte-preserved
 loop-byte-preserved c =
     let i = c.loop-byte.invariant in
     let slot : ℕ = c.args.placed.slot in
-    let size : ℕ = c.args.placed.run.size in
+    let size : ℕ = c.args.placed.run.run_length in
     let byte : ℕ = c.loop-byte.byte in
     let marks : List code_mark.Slot = c.args.marks.now in
     let lt = c.loop-byte-test.true in
@@ -69,7 +69,7 @@ loop-byte-preserved c =
 
 pub returns-clause-ready : goal.returns-clause-ready
 returns-clause-ready c = λ behind r.
-    let size : ℕ = c.args.placed.run.size in
+    let size : ℕ = c.args.placed.run.run_length in
     let byte : ℕ = c.loop-byte.byte in
     let over = c.loop-byte-test.false in
     let most = c.loop-byte.auto.byte-end in
@@ -81,7 +81,7 @@ returns-clause-ready c = λ behind r.
 
 pub returns-clause-marks : goal.returns-clause-marks
 returns-clause-marks c = λ leaf texts links behind r.
-    let size : ℕ = c.args.placed.run.size in
+    let size : ℕ = c.args.placed.run.run_length in
     let byte : ℕ = c.loop-byte.byte in
     let over = c.loop-byte-test.false in
     let most = c.loop-byte.auto.byte-end in

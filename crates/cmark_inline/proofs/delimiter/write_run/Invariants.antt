@@ -16,12 +16,12 @@ invariant-loop-byte l =
     ((text : List ℕ) (place : ℕ) → AreSlots text place l.initial.slots.items → AreSlots text place l.slots.items)
     × (length l.slots.items ≡ length l.initial.slots.items)
     × NoNewLink l.initial.slots.items l.slots.items
-    × ((behind : List ℕ) → AreReady l.initial.slots.items (reverse l.initial.begun.items) (run_places l.placed.slot l.placed.run.size behind) l.marks
-    → AreReady l.slots.items (reverse l.begun.items) (run_places (l.placed.slot + l.byte) (l.placed.run.size - l.byte) behind) (drop l.byte l.marks))
+    × ((behind : List ℕ) → AreReady l.initial.slots.items (reverse l.initial.begun.items) (run_places l.placed.slot l.placed.run.run_length behind) l.marks
+    → AreReady l.slots.items (reverse l.begun.items) (run_places (l.placed.slot + l.byte) (l.placed.run.run_length - l.byte) behind) (drop l.byte l.marks))
     × ((leaf : LeafText) (texts : List CowStr) (links : List LinkParts) (behind : List ℕ)
-    → AreReady l.initial.slots.items (reverse l.initial.begun.items) (run_places l.placed.slot l.placed.run.size behind) l.marks
-    → marked (shown_options l.options) (run_places l.placed.slot l.placed.run.size behind) (map shown_mark l.marks) (shown_slots leaf texts links l.initial.slots.items) (reverse l.initial.begun.items)
-    ≡ marked (shown_options l.options) (run_places (l.placed.slot + l.byte) (l.placed.run.size - l.byte) behind) (map shown_mark (drop l.byte l.marks)) (shown_slots leaf texts links l.slots.items) (reverse l.begun.items))
+    → AreReady l.initial.slots.items (reverse l.initial.begun.items) (run_places l.placed.slot l.placed.run.run_length behind) l.marks
+    → marked (shown_options l.options) (run_places l.placed.slot l.placed.run.run_length behind) (map shown_mark l.marks) (shown_slots leaf texts links l.initial.slots.items) (reverse l.initial.begun.items)
+    ≡ marked (shown_options l.options) (run_places (l.placed.slot + l.byte) (l.placed.run.run_length - l.byte) behind) (map shown_mark (drop l.byte l.marks)) (shown_slots leaf texts links l.slots.items) (reverse l.begun.items))
     × ((low : ℕ) → BeganFrom low (reverse l.initial.begun.items) → low ≤ l.placed.slot → SameBefore low l.initial.slots.items l.slots.items × BeganFrom low (reverse l.begun.items))
     × (EndWithin l.initial.slots.items → EndWithin l.slots.items)
     × NamesNoMore l.initial.slots.items l.slots.items

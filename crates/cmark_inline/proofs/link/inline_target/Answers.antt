@@ -9,5 +9,5 @@ pub returns-then-not-opens_tail : goal.returns-then-not-opens_tail
 returns-then-not-opens_tail g c = record {
   value = sym (ap (option_map (inline_link (g.E.EntityLookup.replacement c.args.entities.now) (is_cell_of c.args.leaf.now))) (no_tail (drop c.args.at c.args.text.now) (sym c.opens_tail.ensures ∙ c.if-not-opens_tail.true)));
   target = tt;
-  past = tt;
+  resume = tt;
 }

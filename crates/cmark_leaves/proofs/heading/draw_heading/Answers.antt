@@ -14,17 +14,17 @@ use Rattle.cmark_leaves.proofs.heading.draw_heading.Goals as goal
 
 pub overflow_sub-from : goal.overflow_sub-from
 overflow_sub-from c =
-    (heading-from c.args.rest c.stop.result (length c.behind_opening-behind.result.now) c.stop.ensures.place (ap length (c.behind_opening-behind.ensures ∙ ap behind_opening c.words.ensures))).0
+    (heading-from c.args.rest c.content_end.result (length c.behind_opening-behind.result.now) c.content_end.ensures.place (ap length (c.behind_opening-behind.ensures ∙ ap behind_opening c.words.ensures))).0
 
 pub returns-clause-drawn : goal.returns-clause-drawn
 returns-clause-drawn c =
     let row = row_of c.args.rest in
-    let from : c.stop.result - length c.behind_opening-behind.result.now ≡ heading_place row =
-    (heading-from c.args.rest c.stop.result (length c.behind_opening-behind.result.now) c.stop.ensures.place (ap length (c.behind_opening-behind.ensures ∙ ap behind_opening c.words.ensures))).1 in
-    let to : c.stop.result - length c.behind_opening-behind.result.now + length c.without_closing-content.result.now ≡ end_place (heading_place row) (heading_columns c.args.attributes (run 35 (words_of row)) row) =
+    let from : c.content_end.result - length c.behind_opening-behind.result.now ≡ heading_place row =
+    (heading-from c.args.rest c.content_end.result (length c.behind_opening-behind.result.now) c.content_end.ensures.place (ap length (c.behind_opening-behind.ensures ∙ ap behind_opening c.words.ensures))).1 in
+    let to : c.content_end.result - length c.behind_opening-behind.result.now + length c.without_closing-content.result.now ≡ end_place (heading_place row) (heading_columns c.args.attributes (run 35 (words_of row)) row) =
     heading-to c.args.attributes c.args.rest _ (length c.without_closing-content.result.now) from
     (ap length (c.without_closing-content.ensures.value ∙ ap without_closing_bytes (c.without_attributes-text.ensures.value ∙ ap (without_attributes_bytes c.args.attributes) (c.without_trailing_blanks.ensures.value ∙ ap (drop_end is_blank_byte) (c.behind_opening-behind.ensures ∙ ap behind_opening c.words.ensures))))) in
     on_ok_weaker c.draw_words.result
     (λ draws text d before. subst (λ start. Draws text c.draw_words.new.builder (drawn (texts_of (piece_if text start (end_place (heading_place row) (heading_columns c.args.attributes (run 35 (words_of row)) row)) [])) d)) from
-    (subst (λ end. Draws text c.draw_words.new.builder (drawn (texts_of (piece_if text (c.stop.result - length c.behind_opening-behind.result.now) end [])) d)) to (draws text d before)))
+    (subst (λ end. Draws text c.draw_words.new.builder (drawn (texts_of (piece_if text (c.content_end.result - length c.behind_opening-behind.result.now) end [])) d)) to (draws text d before)))
     c.draw_words.ensures.drawn

@@ -16,13 +16,13 @@ returns-then-before-content c =
 
 pub overflow_sub-from : goal.overflow_sub-from
 overflow_sub-from c =
-    (heading-from c.args.rest c.stop.result (length c.behind_opening-behind.result.now) c.stop.ensures.place (ap length (c.behind_opening-behind.ensures ∙ ap behind_opening c.words.ensures))).0
+    (heading-from c.args.rest c.content_end.result (length c.behind_opening-behind.result.now) c.content_end.ensures.place (ap length (c.behind_opening-behind.ensures ∙ ap behind_opening c.words.ensures))).0
 
 pub returns : goal.returns
 returns c =
     let rest = c.args.rest in
     let behind = c.behind_opening-behind.ensures ∙ ap behind_opening c.words.ensures in
     let content = c.without_trailing_blanks-content.ensures.value ∙ ap (drop_end is_blank_byte) behind in
-    let from = (heading-from rest c.stop.result (length c.behind_opening-behind.result.now) c.stop.ensures.place (ap length behind)).1 in
-    λ text utf8 placed told. words-stand rest _ c.count_before_braces-before.result (length c.without_trailing_blanks-content.result.now) (row_of rest).stop from
-    (c.count_before_braces-before.ensures.value ∙ ap (λ bs. length (before_braces (λ b. b) bs)) content) (ap length content) c.if-before-content.false text utf8 told
+    let from = (heading-from rest c.content_end.result (length c.behind_opening-behind.result.now) c.content_end.ensures.place (ap length behind)).1 in
+    λ text utf8 placed in_text. words-stand rest _ c.count_before_braces-before.result (length c.without_trailing_blanks-content.result.now) (row_of rest).content_end from
+    (c.count_before_braces-before.ensures.value ∙ ap (λ bs. length (before_braces (λ b. b) bs)) content) (ap length content) c.if-before-content.false text utf8 in_text

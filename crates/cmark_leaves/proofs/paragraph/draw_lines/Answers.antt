@@ -9,4 +9,4 @@ use Rattle.cmark_leaves.proofs.paragraph.draw_lines.Goals as goal
 pub returns-clause-drawn : goal.returns-clause-drawn
 returns-clause-drawn c =
     on_ok_weaker c.draw_words.result
-    (λ draws text d before. subst (λ past. Draws text c.draw_words.new.builder (drawn (stretch_then text c.args.from past Nil) d)) c.past.ensures.place (draws text d before)) c.draw_words.ensures.drawn
+    (λ draws text d before. subst (λ line_end. Draws text c.draw_words.new.builder (drawn (stretch_then text c.args.from line_end Nil) d)) c.line_end.ensures.place (draws text d before)) c.draw_words.ensures.drawn

@@ -13,15 +13,15 @@ pub loop-left-init : goal.loop-left-init
 loop-left-init c =
     let row = row_of c.args.rest in
     let cells = c.cells_in_row-cells.result.now in
-    let stop = c.stop-stop.result in
-    let begins = cells-begin c.args.rest c.words.result.now cells stop c.words.ensures c.cells_in_row-cells.ensures.value c.cells_in_row-cells.ensures.within c.stop-stop.ensures.place in
+    let content_end = c.content_end-content_end.result in
+    let begins = cells-begin c.args.rest c.words.result.now cells content_end c.words.ensures c.cells_in_row-cells.ensures.value c.cells_in_row-cells.ensures.within c.content_end-content_end.ensures.place in
     record {
       placed = c.requires;
       within = begins.0;
       drawn = λ text d draws. (
         d,
         draws,
-        ap (λ cells. drawn cells d) (cells-of-line text c.args.columns row cells stop c.past-past.result (c.cells_in_row-cells.ensures.cells ∙ ap cells_of c.words.ensures) begins.1 c.past-past.ensures.place),
+        ap (λ cells. drawn cells d) (cells-of-line text c.args.columns row cells content_end c.line_end-line_end.result (c.cells_in_row-cells.ensures.cells ∙ ap cells_of c.words.ensures) begins.1 c.line_end-line_end.ensures.place),
       );
       filled = omega (arith, ap length (c.cells_in_row-cells.ensures.cells ∙ ap cells_of c.words.ensures));
       few = omega arith;
@@ -33,7 +33,7 @@ loop-left-preserved c =
     let before = c.loop-left.invariant in
     let left = c.loop-left.left in
     let cells = c.loop-left.cells.now in
-    let stop = c.stop-stop.result in
+    let content_end = c.content_end-content_end.result in
     let one : left ≡ suc (left - 1) = omega (arith, c.loop-left-test.true) in
     record {
       placed = c.in_ok-behind.ensures.placed;
@@ -43,7 +43,7 @@ loop-left-preserved c =
           let next = c.in_ok-behind.ensures.drawn text (left - 1) so_far.0 so_far.1 in (
             next.0,
             next.1,
-            so_far.2 ∙ ap (λ n. drawn (cells_then text n (stop - length cells) c.past-past.result (cells_behind cells)) so_far.0) one ∙ next.2,
+            so_far.2 ∙ ap (λ n. drawn (cells_then text n (content_end - length cells) c.line_end-line_end.result (cells_behind cells)) so_far.0) one ∙ next.2,
           );
       filled = omega (arith, c.in_ok-behind.ensures.filled (left - 1), before.filled, one);
       few = omega (arith, before.few, c.in_ok-behind.ensures.few, one);
@@ -55,7 +55,7 @@ returns-clause-drawn c text d draws =
     let so_far = c.loop-left.invariant.drawn text d draws in
     let none : c.loop-left.left ≡ 0 = omega (arith, c.loop-left-test.false) in
     subst (Draws text c.loop-left.builder)
-    (sym (so_far.2 ∙ ap (λ n. drawn (cells_then text n (c.stop-stop.result - length c.loop-left.cells.now) c.past-past.result (cells_behind c.loop-left.cells.now)) so_far.0) none ∙ drawn-Nil so_far.0)) so_far.1
+    (sym (so_far.2 ∙ ap (λ n. drawn (cells_then text n (c.content_end-content_end.result - length c.loop-left.cells.now) c.line_end-line_end.result (cells_behind c.loop-left.cells.now)) so_far.0) none ∙ drawn-Nil so_far.0)) so_far.1
 
 pub returns-clause-filled : goal.returns-clause-filled
 returns-clause-filled c = omega (arith, c.loop-left.invariant.filled, c.loop-left-test.false)

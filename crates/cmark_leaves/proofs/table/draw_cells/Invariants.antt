@@ -12,9 +12,9 @@ use Rattle.cmark_leaves.proofs.table.draw_cells.Given as goal
 abbrev pub invariant-loop-left : goal.invariant-loop-left
 invariant-loop-left l = record {
   placed : IsPlaced l.builder.tree;
-  within : length l.cells ≤ l.stop;
+  within : length l.cells ≤ l.content_end;
   drawn : (text : List ℕ) (d : Drawing) → Draws text l.fn.builder d → (e : Drawing) × Draws text l.builder e
-      × (drawn (row_cells text l.fn.columns (row_of l.fn.rest)) d ≡ drawn (cells_then text l.left (l.stop - length l.cells) l.past (cells_behind l.cells)) e);
+      × (drawn (row_cells text l.fn.columns (row_of l.fn.rest)) d ≡ drawn (cells_then text l.left (l.content_end - length l.cells) l.line_end (cells_behind l.cells)) e);
   filled : l.filled + (l.left - length (cells_behind l.cells)) ≡ count_missing l.fn.columns (row_of l.fn.rest);
   few : l.filled + l.left ≤ l.fn.columns;
   definitions : defined (tables l.builder.allocations) ≡ defined (tables l.fn.builder.allocations);

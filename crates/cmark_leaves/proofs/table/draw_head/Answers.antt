@@ -15,5 +15,5 @@ returns-clause-drawn c text d draws =
     let begun : Drawing = opened (start_of row) TableHead d in
     let first = subst (λ start. Draws text c.open.new.self (opened start TableHead d)) c.words_begin.ensures.place
     (draws-open text c.args.builder.now c.open.new.self c.words_begin.result _ TableHead d c.in_ok-open.ensures.ok c.in_ok-open.ensures.tables refl draws) in
-    subst (λ past. Draws text c.close.new.self (closed_at past (drawn cells begun))) c.past.ensures.place
-    (draws-close text c.draw_cells.new.builder c.close.new.self c.past.result (drawn cells begun) c.close.ensures.closed c.close.ensures.none c.close.ensures.tables (c.in_ok-draw_cells.ensures.drawn text begun first))
+    subst (λ line_end. Draws text c.close.new.self (closed_at line_end (drawn cells begun))) c.line_end.ensures.place
+    (draws-close text c.draw_cells.new.builder c.close.new.self c.line_end.result (drawn cells begun) c.close.ensures.closed c.close.ensures.none c.close.ensures.tables (c.in_ok-draw_cells.ensures.drawn text begun first))

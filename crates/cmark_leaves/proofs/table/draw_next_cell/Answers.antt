@@ -12,17 +12,17 @@ returns-in_ok-draw_cell-in-Some-clause-drawn c text left d draws =
     let cells = c.args.cells.now in
     let size = c.in-Some.size in
     let cell = take size cells in
-    let at = c.args.stop - length cells in (
+    let at = c.args.content_end - length cells in (
       drawn (Node (node TableCell at (at + length cell)) (cell_tokens text at cell) Nil) d,
       c.in_ok-draw_cell-in-Some.ensures.drawn text d draws,
-      cells-next text cells c.in-Some.behind.now cell size left c.args.stop c.args.past c.in-Some.ensures.cells refl (length-take-le size cells c.in-Some.ensures.within) c.requires.within c.in-Some.ensures.behind d,
+      cells-next text cells c.in-Some.behind.now cell size left c.args.content_end c.args.line_end c.in-Some.ensures.cells refl (length-take-le size cells c.in-Some.ensures.within) c.requires.within c.in-Some.ensures.behind d,
     )
 
 pub returns-in_ok-add-in-None-clause-drawn : goal.returns-in_ok-add-in-None-clause-drawn
 returns-in_ok-add-in-None-clause-drawn c text left d draws =
     let cells = c.args.cells.now in
-    let past = c.args.past in (
-      drawn (Node (node TableCell past past) Nil Nil) d,
-      draws-add text c.args.builder.now c.add.new.self _ (node TableCell past past) d c.in_ok-add-in-None.ensures.ok c.in_ok-add-in-None.ensures.tables refl draws,
-      cells-missing text cells left (c.args.stop - length cells) past c.in-None.ensures.cells d,
+    let line_end = c.args.line_end in (
+      drawn (Node (node TableCell line_end line_end) Nil Nil) d,
+      draws-add text c.args.builder.now c.add.new.self _ (node TableCell line_end line_end) d c.in_ok-add-in-None.ensures.ok c.in_ok-add-in-None.ensures.tables refl draws,
+      cells-missing text cells left (c.args.content_end - length cells) line_end c.in-None.ensures.cells d,
     )

@@ -9,5 +9,5 @@ returns-then-is_one c =
     let r = row_of c.args.rest in
     let item = c.in-Some.item in
     ap not c.is_blank.ensures
-    ∙ item-goes r (row_of c.in-Some.inside) c.args.same item.mark item.number item.width c.if-not-same.false (sym c.is_one.ensures ∙ c.if-is_one.true) c.in-Some.ensures.inside
+    ∙ item-goes r (row_of c.in-Some.inside) c.args.same item.delimiter item.number item.width c.if-not-same.false (sym c.is_one.ensures ∙ c.if-is_one.true) c.in-Some.ensures.inside
     ∙ ap (item_interrupts c.args.same r) c.in-Some.ensures.item

@@ -8,4 +8,4 @@ returns-clause-fence c indent =
     let line = c.args.line.now in
     let fence = c.in_ok-fence.fence in
     c.in_ok-fence.ensures.fence indent
-    ∙ backticks-found indent line fence.size _ c.memchr.result c.in_ok-fence.ensures.size (rest_of line fence.size) c.memchr.ensures (sym c.is_some.ensures ∙ c.if-is_some.false)
+    ∙ backticks-found indent line fence.run_length _ c.memchr.result c.in_ok-fence.ensures.run_length (rest_of line fence.run_length) c.memchr.ensures (sym c.is_some.ensures ∙ c.if-is_some.false)

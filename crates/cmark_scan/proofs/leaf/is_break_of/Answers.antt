@@ -7,6 +7,6 @@ use Rattle.cmark_scan.proofs.leaf.is_break_of.Goals as goal
 pub returns : goal.returns
 returns c =
     let line = c.args.line.now in
-    break-passes c.args.mark line c.loop-byte.count
-    (c.loop-byte.invariant.count ∙ ap (count_by (λ c'. c' == c.args.mark)) (take_all c.loop-byte.byte-index line (omega arith)))
+    break-passes c.args.character line c.loop-byte.count
+    (c.loop-byte.invariant.count ∙ ap (count_by (λ c'. c' == c.args.character)) (take_all c.loop-byte.byte-index line (omega arith)))
     (λ k lt. c.loop-byte.invariant.passed k (omega arith))

@@ -5,6 +5,6 @@ use Rattle.cmark_scan.proofs.leaf.is_break_of.Given as goal
 
 abbrev pub invariant-loop-byte : goal.invariant-loop-byte
 invariant-loop-byte l = record {
-  count : l.count ≡ count_by (λ c. c == l.mark) (take l.byte-index l.line);
-  passed : (k : ℕ) → k < l.byte-index → ((get_or l.line k 0 == l.mark) || is_blank_byte (get_or l.line k 0)) ≡ true;
+  count : l.count ≡ count_by (λ c. c == l.character) (take l.byte-index l.line);
+  passed : (k : ℕ) → k < l.byte-index → ((get_or l.line k 0 == l.character) || is_blank_byte (get_or l.line k 0)) ≡ true;
 }

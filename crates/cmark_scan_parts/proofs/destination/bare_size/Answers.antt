@@ -1,10 +1,10 @@
 use Rattle.std.proofs.Common.{[], Option, None, Some, Bool, if◌then◌else◌, eq-eqb, sym, ap, ◌∙◌, arith}
 use Rattle.std.proofs.lemmas.Bool.{ne_eqb}
-use Rattle.cmark_grammar.specs.LinkDefinitions.{Found, put, bare_in, depth_after}
+use Rattle.cmark_grammar.specs.LinkDefinitions.{Parsed, put, bare_in, depth_after}
 use Rattle.cmark_scan_parts.proofs.PartSteps.{reads_none, reads_more, reads_fail, reads_open, reads_end, no_bytes}
 use Rattle.cmark_scan_parts.proofs.destination.bare_size.Goals as goal
 
-abbrev at_end : Bool → Option Found
+abbrev at_end : Bool → Option Parsed
 at_end t = if t then Some (record { bytes = []; behind = [] }) else None
 
 pub loop-first-init : goal.loop-first-init
@@ -24,7 +24,7 @@ loop-first-preserved c =
 pub returns-in-Ends-clause-value : goal.returns-in-Ends-clause-value
 returns-in-Ends-clause-value c =
     let cut = c.in-Some.ensures.cases.0 in
-    reads_open _ _ c.args.bytes.now _ c.loop-first.invariant.reads (ap (bare_in c.loop-first.escaped c.loop-first.depth) cut ∙ c.in-Ends.ensures.value c.in-Some.others.now _ ∙ ap (λ bs. let found : Found = record { bytes = []; behind = bs } in Some found) (sym cut))
+    reads_open _ _ c.args.bytes.now _ c.loop-first.invariant.reads (ap (bare_in c.loop-first.escaped c.loop-first.depth) cut ∙ c.in-Ends.ensures.value c.in-Some.others.now _ ∙ ap (λ bs. let found : Parsed = record { bytes = []; behind = bs } in Some found) (sym cut))
 
 pub returns-in-Fails-clause-value : goal.returns-in-Fails-clause-value
 returns-in-Fails-clause-value c =

@@ -1,7 +1,7 @@
 use Rattle.std.proofs.Common.{◌≡◌, ℕ, suc, ◌+◌, ◌-◌, ◌<◌, List, Some, length, take, drop, false, ap, subst, ◌∙◌, arith, length-drop}
 use Rattle.std.specs.Prelude.{option_map}
 use Rattle.std.proofs.lemmas.Str.{IsCharBoundary-after_ascii}
-use Rattle.cmark_grammar.specs.LinkDefinitions.{Found, up_to}
+use Rattle.cmark_grammar.specs.LinkDefinitions.{Parsed, up_to}
 use Rattle.cmark_scan_parts.specs.Shown.{Part, cut_behind}
 use Rattle.cmark_scan_parts.proofs.Lists.{rest_of}
 use Rattle.cmark_scan_parts.proofs.Links.{cut_out}
@@ -9,7 +9,7 @@ use Rattle.cmark_scan_parts.proofs.Boundaries.{boundary_behind}
 use Rattle.cmark_scan_parts.proofs.destination.pointed_dest.Goals as goal
 
 FindsPointed : (size : ℕ) → List ℕ → Type 0
-FindsPointed size bs = Some (let found : Found = record { bytes = take size bs; behind = drop (suc size) bs } in found) ≡ up_to false 62 60 false bs
+FindsPointed size bs = Some (let found : Parsed = record { bytes = take size bs; behind = drop (suc size) bs } in found) ≡ up_to false 62 60 false bs
 
 pub range-requires-clause-start_boundary : goal.range-requires-clause-start_boundary
 range-requires-clause-start_boundary c = λ some. IsCharBoundary-after_ascii c.args.text.now c.args.start_ix c.utf8.text c.requires.within (let is = c.requires.opens in omega (arith, is))

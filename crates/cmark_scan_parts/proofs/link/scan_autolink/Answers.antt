@@ -1,6 +1,6 @@
 use Rattle.std.proofs.Common.{◌≡◌, ◌-◌, ◌<◌, ℕ, suc, List, Some, length, take, drop, ap, subst, ◌∙◌, arith}
 use Rattle.cmark_grammar.specs.Autolinks.{autolink_in}
-use Rattle.cmark_grammar.specs.LinkDefinitions.{Found}
+use Rattle.cmark_grammar.specs.LinkDefinitions.{Parsed}
 use Rattle.cmark_scan_parts.specs.Shown.{cut_at}
 use Rattle.cmark_scan_parts.proofs.Lists.{rest_of}
 use Rattle.cmark_scan_parts.proofs.Links.{part_is, cut_out}
@@ -8,7 +8,7 @@ use Rattle.cmark_scan_parts.proofs.Boundaries.{boundary_behind}
 use Rattle.cmark_scan_parts.proofs.link.scan_autolink.Goals as goal
 
 FindsUri : (size : ℕ) → List ℕ → Type 0
-FindsUri size bs = Some (let found : Found = record { bytes = take size bs; behind = drop (suc size) bs } in found) ≡ autolink_in bs
+FindsUri size bs = Some (let found : Parsed = record { bytes = take size bs; behind = drop (suc size) bs } in found) ≡ autolink_in bs
 
 pub returns-clause-value : goal.returns-clause-value
 unfolding FindsUri

@@ -5,12 +5,12 @@ use Rattle.tests_spans.proofs.emphasis.nested_slots.Goals as goal
 pub slots_of_runs-requires : goal.slots_of_runs-requires
 slots_of_runs-requires c = record {
   siblings =
-      Delimiter (record { mark = 42; size = 3; at = 0; left = 3; opens = true; closes = false })
+      Delimiter (record { delimiter = 42; run_length = 3; at = 0; left = 3; opens = true; closes = false })
       ∷ (Plain 3
-      ∷ (Delimiter (record { mark = 42; size = 2; at = 4; left = 2; opens = false; closes = true })
+      ∷ (Delimiter (record { delimiter = 42; run_length = 2; at = 4; left = 2; opens = false; closes = true })
       ∷ (Plain 6
       ∷ (Plain 7
-      ∷ (Delimiter (record { mark = 42; size = 1; at = 8; left = 1; opens = false; closes = true }) ∷ [])))));
+      ∷ (Delimiter (record { delimiter = 42; run_length = 1; at = 8; left = 1; opens = false; closes = true }) ∷ [])))));
   stand = (refl, refl, (refl, (refl, refl, (refl, (refl, (refl, refl, tt))))));
   taken = refl;
   are = refl;

@@ -23,8 +23,8 @@ returns-clause-runs g c text options lookup m runs =
     let is = subst (λ l. ShowsLeaf text l before.blank_lines.items m.leaf) c.requires.is runs.leaf in
     let waiting = subst (λ ls. DrawsLines text before.builder c.draw_blank_lines.new.builder (map row_of ls) c.args.waits c.in_ok-waits.waits) c.deref.ensures.value (c.in_ok-waits.ensures.lines text) in
     let lines = draws-line text row before.builder c.draw_blank_lines.new.builder new blank c.args.waits c.in_ok-waits.waits c.in_ok-left.left waiting (c.in_ok-left.ensures.drawn text) (c.in_ok-left.ensures.waits text) in
-    subst (λ p. Runs replacement text options lookup p (record before { builder = new; leaf = leaf.Indented c.in_ok-left.left c.past.result; blank_lines = c.clear.new.self }))
-    (sym (indented-goes-on text options lookup row (lines_at text row.past) m waits c.args.end blank is c.requires.goes_on))
-    (runs-waiting replacement text options lookup _ _ (leaf.Indented c.in_ok-left.left c.past.result) c.clear.new.self (model.InIndented (waits_behind text rows waits) row.past [])
+    subst (λ p. Runs replacement text options lookup p (record before { builder = new; leaf = leaf.Indented c.in_ok-left.left c.line_end.result; blank_lines = c.clear.new.self }))
+    (sym (indented-goes-on text options lookup row (lines_at text row.line_end) m waits c.args.end blank is c.requires.goes_on))
+    (runs-waiting replacement text options lookup _ _ (leaf.Indented c.in_ok-left.left c.line_end.result) c.clear.new.self (model.InIndented (waits_behind text rows waits) row.line_end [])
     (runs-builder replacement text options lookup m before new (lines_drawn text rows waits m.drawing) runs (lines.draws m.drawing runs.drawing) (c.in_ok-left.ensures.definitions ∙ c.in_ok-waits.ensures.definitions))
-    (indented-shown text c.in_ok-left.left (waits_behind text rows waits) c.past.result row.past c.clear.new.self.items [] lines.left_is c.past.ensures.place (ap (map row_of) c.clear.ensures.items)))
+    (indented-shown text c.in_ok-left.left (waits_behind text rows waits) c.line_end.result row.line_end c.clear.new.self.items [] lines.left_is c.line_end.ensures.place (ap (map row_of) c.clear.ensures.items)))

@@ -13,8 +13,8 @@ use Rattle.cmark_blocks.proofs.IndentedSteps.{runs-waiting}
 use Rattle.cmark_blocks.proofs.RunSteps.{runs-builder}
 use Rattle.cmark_blocks.proofs.state.Pass.add_to_paragraph.Goals as goal
 
-pub returns-then-begin-past-clause-runs : goal.returns-then-begin-past-clause-runs
-returns-then-begin-past-clause-runs g c text options lookup m runs =
+pub returns-then-begin-line_end-clause-runs : goal.returns-then-begin-line_end-clause-runs
+returns-then-begin-line_end-clause-runs g c text options lookup m runs =
     let replacement = g.E.EntityLookup.replacement in
     let before = c.args.self.now in
     let row = row_of c.args.rest in
@@ -23,7 +23,7 @@ returns-then-begin-past-clause-runs g c text options lookup m runs =
     let flag = c.reads_attributes-attributes.ensures ∙ ap (λ o. o.heading_attributes) runs.options_is in
     let kept : map row_of c.keep_line.new.lines.items ≡ kept_lines options.heading_attributes rows last = c.in_ok-keep_line.ensures.kept ∙ ap (λ z. kept_lines z rows last) flag in
     subst (λ p. Runs replacement text options lookup p (record before { blank_lines = c.keep_line.new.lines; leaf = leaf.Paragraph c.args.from c.args.rest }))
-    (sym (line-touches text options lookup row m rows c.args.from last (sym c.begin-begin.ensures.place ∙ c.if-begin-past.true ∙ c.past.ensures.place)))
+    (sym (line-touches text options lookup row m rows c.args.from last (sym c.begin-begin.ensures.place ∙ c.if-begin-line_end.true ∙ c.line_end.ensures.place)))
     (runs-waiting replacement text options lookup m before (leaf.Paragraph c.args.from c.args.rest) c.keep_line.new.lines (model.InParagraph (kept_lines options.heading_attributes rows last) c.args.from row) runs
     (ap (λ rs. model.InParagraph rs c.args.from row) (sym kept)))
 
@@ -40,7 +40,7 @@ returns-clause-runs g c text options lookup m runs =
     let lines = c.in_ok-draw_lines.ensures.drawn text m.drawing runs.drawing in
     let leaf_open = leaf.Paragraph c.begin-begin.result c.args.rest in
     subst (λ p. Runs replacement text options lookup p (record before { builder = new; blank_lines = c.keep_line.new.lines; leaf = leaf_open }))
-    (sym (line-apart text options lookup row m rows c.args.from last (λ e. c.if-begin-past.false (c.begin-begin.ensures.place ∙ e ∙ sym c.past.ensures.place))))
+    (sym (line-apart text options lookup row m rows c.args.from last (λ e. c.if-begin-line_end.false (c.begin-begin.ensures.place ∙ e ∙ sym c.line_end.ensures.place))))
     (runs-waiting replacement text options lookup _ (record before { builder = new }) leaf_open c.keep_line.new.lines (model.InParagraph (kept_lines options.heading_attributes rows last) (begin_of row) row)
-    (runs-builder replacement text options lookup m before new (drawn (stretch_then text c.args.from last.past Nil) m.drawing) runs lines c.in_ok-draw_lines.ensures.definitions)
+    (runs-builder replacement text options lookup m before new (drawn (stretch_then text c.args.from last.line_end Nil) m.drawing) runs lines c.in_ok-draw_lines.ensures.definitions)
     (ap (λ from. model.InParagraph (kept_lines options.heading_attributes rows last) from row) (sym c.begin-begin.ensures.place) ∙ ap (λ rs. model.InParagraph rs c.begin-begin.result row) (sym kept)))

@@ -16,13 +16,13 @@ pub returns-then-is_blank-clause-runs : goal.returns-then-is_blank-clause-runs
 returns-then-is_blank-clause-runs g c text options lookup m runs =
     let row = row_of c.args.line in
     subst (λ p. Runs g.E.EntityLookup.replacement text options lookup p c.pass_blank_line.new.self)
-    (sym (begins-blank text options lookup row (lines_at text row.past) m (whole c.args.line) (sym c.is_blank.ensures ∙ c.if-is_blank.true)))
+    (sym (begins-blank text options lookup row (lines_at text row.line_end) m (whole c.args.line) (sym c.is_blank.ensures ∙ c.if-is_blank.true)))
     (c.pass_blank_line.ensures.runs text options lookup m runs)
 
 pub returns-then-begins_with_text-clause-runs : goal.returns-then-begins_with_text-clause-runs
 returns-then-begins_with_text-clause-runs g c text options lookup m runs =
     let row = row_of c.args.line in
-    let next = lines_at text row.past in
+    let next = lines_at text row.line_end in
     let columns = length row.columns in
     let only : BeginsOnly options opening.Plain row = letter-begins options row (whole c.args.line) (sym c.is_blank.ensures ∙ c.if-is_blank.false) (sym c.begins_with_text.ensures ∙ c.if-begins_with_text.true) in
     subst (λ p. Runs g.E.EntityLookup.replacement text options lookup p c.begin_text.new.self)
@@ -32,7 +32,7 @@ returns-then-begins_with_text-clause-runs g c text options lookup m runs =
 pub returns-then-begins_with_label-clause-runs : goal.returns-then-begins_with_label-clause-runs
 returns-then-begins_with_label-clause-runs g c text options lookup m runs =
     let row = row_of c.args.line in
-    let next = lines_at text row.past in
+    let next = lines_at text row.line_end in
     let columns = length row.columns in
     let here : BeginsOnly (shown_options c.args.self.now.options) opening.Bracket row =
     bracket-begins (shown_options c.args.self.now.options) row (whole c.args.line) (sym c.is_blank.ensures ∙ c.if-is_blank.false) (sym c.begins_with_label.ensures ∙ c.if-begins_with_label.true) in

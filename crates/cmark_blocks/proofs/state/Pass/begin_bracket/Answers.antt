@@ -15,7 +15,7 @@ use Rattle.cmark_blocks.proofs.state.Pass.begin_bracket.Goals as goal
 pub returns-then-begins_no_definition-clause-runs : goal.returns-then-begins_no_definition-clause-runs
 returns-then-begins_no_definition-clause-runs g c text options lookup m inside bare runs =
     let r = row_of c.args.rest in
-    let ahead = ahead_in text options lookup m.outer (lines_at text r.past) in
+    let ahead = ahead_in text options lookup m.outer (lines_at text r.line_end) in
     let more = text_lines options ahead in
     let seen : begins_none (words_of r) ≡ true = ap begins_none (sym c.words.ensures) ∙ sym c.begins_no_definition.ensures ∙ c.if-begins_no_definition.true in
     subst (λ p. Runs g.E.EntityLookup.replacement text options lookup p c.begin_text.new.self)

@@ -29,7 +29,7 @@ returns-clause-runs g c more text options lookup m ahead runs =
     (draws-fenced text before.builder c.open.new.self c.allocate_cow.new.self c.in_ok-info.info c.in_ok-index.index c.words_begin.result (resolved lookup fence.info) d
     c.in_ok-index.ensures.index c.in_ok-index.ensures.kept info c.in_ok-open.ensures.ok c.in_ok-open.ensures.tables r.drawing) in
     let none = ap (λ b. b.items) c.begin_block.ensures.others.blank_lines ∙ none_behind_closed replacement text options lookup m c.args.self.now c.requires.closed runs in
-    runs-leaf replacement text options lookup _ _ (leaf.Fenced c.args.fence.mark c.args.fence.size c.args.indent None) (model.InFenced fence None)
+    runs-leaf replacement text options lookup _ _ (leaf.Fenced c.args.fence.delimiter c.args.fence.run_length c.args.indent None) (model.InFenced fence None)
     (runs-builder replacement text options lookup (block_begun m) before c.open.new.self begun r draws
     (ap (λ a. defined (tables a)) c.in_ok-open.ensures.tables ∙ ap defined c.in_ok-index.ensures.kept))
     (fence, (refl, refl, refl), refl, none)

@@ -13,7 +13,7 @@ pub returns-in_default-clause-runs : goal.returns-in_default-clause-runs
 returns-in_default-clause-runs g c text options lookup m inside bare runs =
     let replacement = g.E.EntityLookup.replacement in
     let r = row_of c.args.rest in
-    let ahead = ahead_in text options lookup m.outer (lines_at text r.past) in
+    let ahead = ahead_in text options lookup m.outer (lines_at text r.line_end) in
     let para = c.as_str-paragraph.result.now in
     let gathered = c.args.gathered.now in
     let holds = c.requires.holds text options lookup m runs in
@@ -28,7 +28,7 @@ pub returns-clause-runs : goal.returns-clause-runs
 returns-clause-runs g c text options lookup m inside bare runs =
     let replacement = g.E.EntityLookup.replacement in
     let r = row_of c.args.rest in
-    let ahead = ahead_in text options lookup m.outer (lines_at text r.past) in
+    let ahead = ahead_in text options lookup m.outer (lines_at text r.line_end) in
     let para = c.as_str-paragraph.result.now in
     let found = shown_definition para c.in-Some.definition in
     let gathered = c.args.gathered.now in
@@ -36,9 +36,9 @@ returns-clause-runs g c text options lookup m inside bare runs =
     let more = left_bytes text options lookup m c.args.rest gathered holds in
     let some : Some found ≡ definition_in para = ap (option_map (shown_definition para)) (sym c.in-Some.is) ∙ c.scan_definition.ensures.value in
     subst (λ p. Runs replacement text options lookup p c.begin_definition.new.self)
-    (begins-definition text options lookup m inside r ahead bare (defined_before more found) c.words_begin.result c.stop_behind-end.result c.saturating_sub-more.result
+    (begins-definition text options lookup m inside r ahead bare (defined_before more found) c.words_begin.result c.content_end_behind-end.result c.saturating_sub-more.result
     (ap (option_map (defined_before more)) some ∙ decided text options lookup m c.args.rest gathered holds para c.as_str-paragraph.ensures.value (c.requires.decides text options lookup m runs))
     c.words_begin.ensures.place
     (c.saturating_sub-more.ensures ∙ ap (λ n. gathered.lines - n) c.line_ends_behind-behind.ensures ∙ lines-taken text options lookup m c.args.rest gathered holds found.behind)
-    (c.stop_behind-end.ensures text options lookup m runs))
+    (c.content_end_behind-end.ensures text options lookup m runs))
     (c.in_ok-begin_definition.ensures.runs text options lookup m runs)

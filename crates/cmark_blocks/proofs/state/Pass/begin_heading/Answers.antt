@@ -38,7 +38,7 @@ returns-clause-runs g c text options lookup m ahead runs =
     let line = c.in_ok-draw_heading.ensures.drawn text begun open_one in
     let level = subst (λ l. Draws text c.draw_heading.new.builder (drawn (heading_tokens text on l row) begun)) (sym c.requires.level)
     (subst (λ a. Draws text c.draw_heading.new.builder (drawn (heading_tokens text a (run 35 (words_of row)) row) begun)) flag line) in
-    let draws = subst (λ past. Draws text c.close.new.self (closed_at past (drawn (heading_tokens text on n row) begun))) c.past.ensures.place
-    (draws-close text c.draw_heading.new.builder c.close.new.self c.past.result (drawn (heading_tokens text on n row) begun) c.close.ensures.closed c.close.ensures.none c.close.ensures.tables level) in
-    runs-builder replacement text options lookup (block_begun m) before c.close.new.self (drawn (Node (node kind (start_of row) row.past) (heading_tokens text on n row) Nil) d) r draws
+    let draws = subst (λ line_end. Draws text c.close.new.self (closed_at line_end (drawn (heading_tokens text on n row) begun))) c.line_end.ensures.place
+    (draws-close text c.draw_heading.new.builder c.close.new.self c.line_end.result (drawn (heading_tokens text on n row) begun) c.close.ensures.closed c.close.ensures.none c.close.ensures.tables level) in
+    runs-builder replacement text options lookup (block_begun m) before c.close.new.self (drawn (Node (node kind (start_of row) row.line_end) (heading_tokens text on n row) Nil) d) r draws
     (ap (λ a. defined (tables a)) c.close.ensures.tables ∙ c.in_ok-draw_heading.ensures.definitions ∙ ap (λ a. defined (tables a)) c.in_ok-open.ensures.tables ∙ c.in_ok-body.ensures.definitions)

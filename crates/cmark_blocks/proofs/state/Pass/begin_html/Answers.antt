@@ -27,12 +27,12 @@ returns-then-ends_at_once-clause-runs g c more text options lookup m ahead runs 
     let first = subst (λ start. Draws text c.open.new.self (opened start HtmlBlock d)) c.begin.ensures.place
     (draws-open text before.builder c.open.new.self c.begin.result _ HtmlBlock d c.in_ok-open.ensures.ok c.in_ok-open.ensures.tables refl r.drawing) in
     let line : Drawing = drawn (html_then (verbatim_line text row.columns row) Nil) begun in
-    let draws = subst (λ past. Draws text c.close.new.self (closed_at past line)) c.past.ensures.place
-    (draws-close text c.draw_html_line.new.builder c.close.new.self c.past.result line c.close.ensures.closed c.close.ensures.none c.close.ensures.tables (c.in_ok-draw_html_line.ensures.drawn text begun first)) in
-    subst (λ b. Runs replacement text options lookup (html_begun text options lookup b kind row.past (html_line text options lookup row (node_opened (begin_of row) HtmlBlock (block_begun m)))) (record before { builder = c.close.new.self; leaf = leaf.Closed }))
+    let draws = subst (λ line_end. Draws text c.close.new.self (closed_at line_end line)) c.line_end.ensures.place
+    (draws-close text c.draw_html_line.new.builder c.close.new.self c.line_end.result line c.close.ensures.closed c.close.ensures.none c.close.ensures.tables (c.in_ok-draw_html_line.ensures.drawn text begun first)) in
+    subst (λ b. Runs replacement text options lookup (html_begun text options lookup b kind row.line_end (html_line text options lookup row (node_opened (begin_of row) HtmlBlock (block_begun m)))) (record before { builder = c.close.new.self; leaf = leaf.Closed }))
     (sym c.if-ends_at_once.true ∙ c.ends_at_once.ensures)
     (runs-leaf replacement text options lookup _ _ leaf.Closed model.Closed
-    (runs-builder replacement text options lookup (block_begun m) before c.close.new.self (closed_at row.past line) r draws
+    (runs-builder replacement text options lookup (block_begun m) before c.close.new.self (closed_at row.line_end line) r draws
     (ap (λ a. defined (tables a)) c.close.ensures.tables ∙ c.in_ok-draw_html_line.ensures.definitions ∙ ap (λ a. defined (tables a)) c.in_ok-open.ensures.tables))
     (refl, ap (λ b. b.items) c.begin_block.ensures.others.blank_lines ∙ none_behind_closed replacement text options lookup m c.args.self.now c.requires.closed runs))
 
@@ -48,7 +48,7 @@ returns-else-ends_at_once-clause-runs g c more text options lookup m ahead runs 
     let first = subst (λ start. Draws text c.open.new.self (opened start HtmlBlock d)) c.begin.ensures.place
     (draws-open text before.builder c.open.new.self c.begin.result _ HtmlBlock d c.in_ok-open.ensures.ok c.in_ok-open.ensures.tables refl r.drawing) in
     let line : Drawing = drawn (html_then (verbatim_line text row.columns row) Nil) begun in
-    subst (λ b. Runs replacement text options lookup (html_begun text options lookup b kind row.past (html_line text options lookup row (node_opened (begin_of row) HtmlBlock (block_begun m)))) (record before { builder = c.draw_html_line.new.builder; leaf = leaf.Html c.args.kind }))
+    subst (λ b. Runs replacement text options lookup (html_begun text options lookup b kind row.line_end (html_line text options lookup row (node_opened (begin_of row) HtmlBlock (block_begun m)))) (record before { builder = c.draw_html_line.new.builder; leaf = leaf.Html c.args.kind }))
     (sym c.if-ends_at_once.false ∙ c.ends_at_once.ensures)
     (runs-leaf replacement text options lookup _ _ (leaf.Html c.args.kind) (model.InHtml kind)
     (runs-builder replacement text options lookup (block_begun m) before c.draw_html_line.new.builder line r (c.in_ok-draw_html_line.ensures.drawn text begun first)

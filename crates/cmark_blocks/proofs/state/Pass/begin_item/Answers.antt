@@ -12,8 +12,8 @@ pub returns-clause-runs : goal.returns-clause-runs
 returns-clause-runs g c task text options lookup m runs =
     let item = c.args.item in
     let before = c.join_list.new.self in
-    let p = item_begun item.mark item.number c.args.start m m.inner.list in
+    let p = item_begun item.delimiter item.number c.args.start m m.inner.list in
     let r = c.in_ok-join_list.ensures.runs text options lookup m runs in
     let draws = draws-open text before.builder c.open.new.self c.args.start _ ListItem p.drawing c.in_ok-open.ensures.ok c.in_ok-open.ensures.tables refl r.drawing in
-    c.in_ok-enter.ensures.runs (Item item.mark item.number item.width task) refl text options lookup _
+    c.in_ok-enter.ensures.runs (Item item.delimiter item.number item.width task) refl text options lookup _
     (runs-builder g.E.EntityLookup.replacement text options lookup p before c.open.new.self (opened c.args.start ListItem p.drawing) r draws (ap (λ a. defined (tables a)) c.in_ok-open.ensures.tables))

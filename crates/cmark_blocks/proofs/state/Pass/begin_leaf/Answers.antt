@@ -1,8 +1,8 @@
 use Rattle.std.proofs.Common.{sym, subst}
 use Rattle.std.proofs.lemmas.Result.{on_ok_weaker}
-use Rattle.cmark_grammar.specs.Leaves.{counted, code_further}
+use Rattle.cmark_grammar.specs.Leaves.{counted, code_continuation}
 use Rattle.cmark_grammar.specs.HtmlBlocks.{html_lines}
-use Rattle.cmark_grammar.specs.Leaves.{fence_further}
+use Rattle.cmark_grammar.specs.Leaves.{fence_continuation}
 use Rattle.cmark_grammar.specs.Rows.{words_of}
 use Rattle.cmark_text.specs.Shown.{shown_options}
 use Rattle.cmark_lines.specs.Rests.{row_of}
@@ -26,35 +26,35 @@ pub returns-in-IndentedCode-clause-runs : goal.returns-in-IndentedCode-clause-ru
 returns-in-IndentedCode-clause-runs g c =
     on_ok_weaker c.begin_indented.result
     (λ begins. subst (λ o. BeginsAs g.E.EntityLookup.replacement o c.args.bare c.args.rest c.args.self.now c.begin_indented.new.self) (sym c.in-IndentedCode.is)
-    (λ text options lookup m inside runs. begins (counted code_further (ahead_in text options lookup m.outer (lines_at text (row_of c.args.rest).past))) text options lookup m (ahead_in text options lookup m.outer (lines_at text (row_of c.args.rest).past)) runs))
+    (λ text options lookup m inside runs. begins (counted code_continuation (ahead_in text options lookup m.outer (lines_at text (row_of c.args.rest).line_end))) text options lookup m (ahead_in text options lookup m.outer (lines_at text (row_of c.args.rest).line_end)) runs))
     c.begin_indented.ensures.runs
 
 pub returns-in-Html-clause-runs : goal.returns-in-Html-clause-runs
 returns-in-Html-clause-runs g c =
     on_ok_weaker c.begin_html.result
     (λ begins. subst (λ o. BeginsAs g.E.EntityLookup.replacement o c.args.bare c.args.rest c.args.self.now c.begin_html.new.self) (sym c.in-Html.is)
-    (λ text options lookup m inside runs. begins (html_lines (kind_number c.in-Html.kind) (row_of c.args.rest) (ahead_in text options lookup m.outer (lines_at text (row_of c.args.rest).past))) text options lookup m (ahead_in text options lookup m.outer (lines_at text (row_of c.args.rest).past)) runs))
+    (λ text options lookup m inside runs. begins (html_lines (kind_number c.in-Html.kind) (row_of c.args.rest) (ahead_in text options lookup m.outer (lines_at text (row_of c.args.rest).line_end))) text options lookup m (ahead_in text options lookup m.outer (lines_at text (row_of c.args.rest).line_end)) runs))
     c.begin_html.ensures.runs
 
 pub returns-in-ThematicBreak-clause-runs : goal.returns-in-ThematicBreak-clause-runs
 returns-in-ThematicBreak-clause-runs g c =
     on_ok_weaker c.begin_thematic_break.result
     (λ begins. subst (λ o. BeginsAs g.E.EntityLookup.replacement o c.args.bare c.args.rest c.args.self.now c.begin_thematic_break.new.self) (sym c.in-ThematicBreak.is)
-    (λ text options lookup m inside runs. begins text options lookup m (ahead_in text options lookup m.outer (lines_at text (row_of c.args.rest).past)) runs))
+    (λ text options lookup m inside runs. begins text options lookup m (ahead_in text options lookup m.outer (lines_at text (row_of c.args.rest).line_end)) runs))
     c.begin_thematic_break.ensures.runs
 
 pub returns-in-AtxHeading-clause-runs : goal.returns-in-AtxHeading-clause-runs
 returns-in-AtxHeading-clause-runs g c =
     on_ok_weaker c.begin_heading.result
     (λ begins. subst (λ o. BeginsAs g.E.EntityLookup.replacement o c.args.bare c.args.rest c.args.self.now c.begin_heading.new.self) (sym c.in-AtxHeading.is)
-    (λ text options lookup m inside runs. begins text options lookup m (ahead_in text options lookup m.outer (lines_at text (row_of c.args.rest).past)) runs))
+    (λ text options lookup m inside runs. begins text options lookup m (ahead_in text options lookup m.outer (lines_at text (row_of c.args.rest).line_end)) runs))
     c.begin_heading.ensures.runs
 
 pub returns-in-FencedCode-clause-runs : goal.returns-in-FencedCode-clause-runs
 returns-in-FencedCode-clause-runs g c =
     on_ok_weaker c.begin_fenced.result
     (λ begins. subst (λ o. BeginsAs g.E.EntityLookup.replacement o c.args.bare c.args.rest c.args.self.now c.begin_fenced.new.self) (sym c.in-FencedCode.is)
-    (λ text options lookup m inside runs. begins (counted (fence_further (shown_fence c.in-FencedCode.indent (words_of (row_of c.args.rest)) c.in-FencedCode.fence)) (ahead_in text options lookup m.outer (lines_at text (row_of c.args.rest).past))) text options lookup m (ahead_in text options lookup m.outer (lines_at text (row_of c.args.rest).past)) runs))
+    (λ text options lookup m inside runs. begins (counted (fence_continuation (shown_fence c.in-FencedCode.indent (words_of (row_of c.args.rest)) c.in-FencedCode.fence)) (ahead_in text options lookup m.outer (lines_at text (row_of c.args.rest).line_end))) text options lookup m (ahead_in text options lookup m.outer (lines_at text (row_of c.args.rest).line_end)) runs))
     c.begin_fenced.ensures.runs
 
 pub returns-in-Plain-clause-runs : goal.returns-in-Plain-clause-runs

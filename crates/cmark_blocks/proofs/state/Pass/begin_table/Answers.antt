@@ -1,7 +1,7 @@
 use Rattle.std.proofs.Common.{◌+◌, suc, ◌∷◌, Some, option_map, ℕ, sym, ap, ◌∙◌, subst}
 use Rattle.cmark_grammar.specs.BlockDocument.{Table, TableHead, Nil, Node, node}
 use Rattle.cmark_grammar.specs.Openings.{count_rows}
-use Rattle.cmark_grammar.specs.Rows.{start_of, past_of, words_of}
+use Rattle.cmark_grammar.specs.Rows.{start_of, last_line_end, words_of}
 use Rattle.cmark_grammar.specs.TableRows.{most_filled}
 use Rattle.cmark_items.specs.Tables.{tables, defined}
 use Rattle.cmark_grammar.specs.Tables.{delimiter_row}
@@ -30,12 +30,12 @@ returns-clause-runs g c text options lookup m runs many =
     let columns = c.args.columns in
     let row = row_of c.args.rest in
     let next = row_of c.args.delimiter in
-    let behind = ahead_in text options lookup m.outer (lines_at text next.past) in
+    let behind = ahead_in text options lookup m.outer (lines_at text next.line_end) in
     let taken = rows_taken options columns most_filled behind in
     let kind = Table (columns_of (delimiter_row (words_of next))) in
     let d = (block_begun m).drawing in
     let begun : Drawing = opened (start_of row) kind d in
-    let head : Drawing = drawn (Node (node TableHead (start_of row) row.past) (row_cells text columns row) Nil) begun in
+    let head : Drawing = drawn (Node (node TableHead (start_of row) row.line_end) (row_cells text columns row) Nil) begun in
     let r = c.begin_block.ensures.runs text options lookup m runs in
     let is_table = c.in_ok-body.ensures.kind ∙ ap (λ ws. Some (Table (columns_of (delimiter_row ws)))) c.words_in-row.ensures in
     let first = subst (λ start. Draws text c.open.new.self (opened start kind d)) c.words_begin.ensures.place
@@ -44,10 +44,10 @@ returns-clause-runs g c text options lookup m runs many =
     (c.in_ok-draw_head.ensures.definitions ∙ ap (λ a. defined (tables a)) c.in_ok-open.ensures.tables ∙ c.in_ok-body.ensures.definitions) in
     let rows = c.in_ok-count.ensures.runs text options lookup _ mid in
     let none = none_behind_closed replacement text options lookup _ drew (c.in_ok-count.ensures.leaf ∙ c.begin_block.ensures.others.leaf ∙ c.requires.closed) rows.0 in
-    let whole : Drawing = drawn (Node (node kind (start_of row) (past_of next taken)) (table_tokens text columns row (next ∷ taken)) Nil) d in
-    let closed = subst (λ past. Draws text new (closed_at past (drawn (row_tokens text columns taken) head))) rows.2
-    (draws-close text drew.builder new c.in_ok-count.past _ c.close.ensures.closed c.close.ensures.none c.close.ensures.tables rows.0.drawing) in
-    subst (λ (k : ℕ). Runs replacement text options lookup (record (with_drawn (Node (node kind (start_of row) (past_of next taken)) (table_tokens text k row (next ∷ taken)) Nil) (block_begun m)) { leaf = model.InTable (suc (count_rows options columns most_filled behind)) }) (record drew { builder = new; leaf = leaf.Table (c.in_ok-count.count + 1) }))
+    let whole : Drawing = drawn (Node (node kind (start_of row) (last_line_end next taken)) (table_tokens text columns row (next ∷ taken)) Nil) d in
+    let closed = subst (λ line_end. Draws text new (closed_at line_end (drawn (row_tokens text columns taken) head))) rows.2
+    (draws-close text drew.builder new c.in_ok-count.line_end _ c.close.ensures.closed c.close.ensures.none c.close.ensures.tables rows.0.drawing) in
+    subst (λ (k : ℕ). Runs replacement text options lookup (record (with_drawn (Node (node kind (start_of row) (last_line_end next taken)) (table_tokens text k row (next ∷ taken)) Nil) (block_begun m)) { leaf = model.InTable (suc (count_rows options columns most_filled behind)) }) (record drew { builder = new; leaf = leaf.Table (c.in_ok-count.count + 1) }))
     (sym many)
     (runs-leaf replacement text options lookup _ _ (leaf.Table (c.in_ok-count.count + 1)) (model.InTable (suc (count_rows options columns most_filled behind)))
     (runs-builder replacement text options lookup _ drew new whole rows.0 closed (ap (λ a. defined (tables a)) c.close.ensures.tables))

@@ -19,9 +19,9 @@ returns-in-Some-clause-runs g c =
     let all : length cs ≤ c.len.result = omega (arith, c.len.ensures, c.args.self.now.outer.ok.0) in
     on_ok_weaker c.begin_table.result
     (λ begins. λ text options lookup m inside bare runs.
-    let ahead = ahead_in text options lookup m.outer (lines_at text row.past) in
-    let behind = ahead_in text options lookup m.outer (lines_at text next.past) in
-    let head = subst (λ (ms : List model.OpenContainer). IsHead options row (ahead_in text options lookup ms (lines_at text row.past)) c.in-Some.columns next (ahead_in text options lookup ms (lines_at text next.past)))
+    let ahead = ahead_in text options lookup m.outer (lines_at text row.line_end) in
+    let behind = ahead_in text options lookup m.outer (lines_at text next.line_end) in
+    let head = subst (λ (ms : List model.OpenContainer). IsHead options row (ahead_in text options lookup ms (lines_at text row.line_end)) c.in-Some.columns next (ahead_in text options lookup ms (lines_at text next.line_end)))
     (shows-all cs m.outer c.len.result runs.outer all).0 (c.in-Some.ensures.tells text options lookup m runs) in
     subst (λ p. Runs g.E.EntityLookup.replacement text options lookup p c.begin_table.new.self)
     (begins-table text options lookup m inside row ahead bare c.in-Some.columns next behind head) (begins text options lookup m runs head.many))
@@ -34,8 +34,8 @@ returns-in-None-clause-runs g c =
     let all : length cs ≤ c.len.result = omega (arith, c.len.ensures, c.args.self.now.outer.ok.0) in
     on_ok_weaker c.begin_paragraph.result
     (λ begins. λ text options lookup m inside bare runs.
-    let ahead = ahead_in text options lookup m.outer (lines_at text row.past) in
-    let none = subst (λ (ms : List model.OpenContainer). table_head options row (ahead_in text options lookup ms (lines_at text row.past)) ≡ None)
+    let ahead = ahead_in text options lookup m.outer (lines_at text row.line_end) in
+    let none = subst (λ (ms : List model.OpenContainer). table_head options row (ahead_in text options lookup ms (lines_at text row.line_end)) ≡ None)
     (shows-all cs m.outer c.len.result runs.outer all).0 (c.in-None.ensures.tells text options lookup m runs) in
     subst (λ p. Runs g.E.EntityLookup.replacement text options lookup p c.begin_paragraph.new.self)
     (begins-paragraph text options lookup m inside row ahead bare none) (begins text options lookup m runs))

@@ -17,14 +17,14 @@ returns-in-Some-clause-runs g c text options lookup m outer last split runs =
     let parts = shows-unsnoc c.pop.new.self.items outer c.in-Some.open last
     (subst (λ items. ShowsContainers items (outer ++ last ∷ [])) c.in-Some.ensures.items (subst (ShowsContainers before.outer.items) split r.outer)) in
     let drawing = ended m.inner m.drawing in
-    let draws = subst (λ end. Draws text c.close.new.self (closed_at end drawing)) r.past
-    (draws-close text before.builder c.close.new.self before.past drawing c.close.ensures.closed c.close.ensures.none c.close.ensures.tables r.drawing) in
-    runs-inner replacement text options lookup _ _ c.siblings_behind-self.result (behind_container last.container m.past m.inner last.around)
-    (runs-builder replacement text options lookup _ _ c.close.new.self (closed_at m.past drawing)
+    let draws = subst (λ end. Draws text c.close.new.self (closed_at end drawing)) r.line_end
+    (draws-close text before.builder c.close.new.self before.line_end drawing c.close.ensures.closed c.close.ensures.none c.close.ensures.tables r.drawing) in
+    runs-inner replacement text options lookup _ _ c.siblings_behind-self.result (behind_container last.container m.line_end m.inner last.around)
+    (runs-builder replacement text options lookup _ _ c.close.new.self (closed_at m.line_end drawing)
     (runs-outer replacement text options lookup _ before c.pop.new.self outer r parts.0) draws (ap (λ a. defined (tables a)) c.close.ensures.tables))
     (c.siblings_behind-self.ensures last parts.1
-    ∙ ap (λ end. behind_container last.container end (shown_siblings before.inner) last.around) r.past
-    ∙ ap (λ inside. behind_container last.container m.past inside last.around) r.inner)
+    ∙ ap (λ end. behind_container last.container end (shown_siblings before.inner) last.around) r.line_end
+    ∙ ap (λ inside. behind_container last.container m.line_end inside last.around) r.inner)
 
 pub returns-in-Some-clause-fewer : goal.returns-in-Some-clause-fewer
 returns-in-Some-clause-fewer g c =

@@ -20,9 +20,9 @@ returns-clause-runs g c text options lookup m runs =
     let shows = subst (λ l. ShowsLeaf text l before.blank_lines.items m.leaf) c.requires.is runs.leaf in
     let d : Drawing = drawn (stretch_then text c.args.from (words_end (row_of c.args.last)) Nil) m.drawing in
     let line = c.in_ok-draw_last_lines.ensures.drawn text m.drawing runs.drawing in
-    let draws = subst (λ e. Draws text c.close.new.self (closed_at e d)) runs.past
-    (draws-close text built c.close.new.self before.past d c.close.ensures.closed c.close.ensures.none c.close.ensures.tables line) in
+    let draws = subst (λ e. Draws text c.close.new.self (closed_at e d)) runs.line_end
+    (draws-close text built c.close.new.self before.line_end d c.close.ensures.closed c.close.ensures.none c.close.ensures.tables line) in
     subst (λ l. Runs replacement text options lookup (close_leaf text options lookup l m) (record before { builder = c.close.new.self; blank_lines = c.clear.new.self; leaf = leaf.Closed })) (sym shows)
     (runs-closed replacement text options lookup _ _ c.clear.new.self
-    (runs-builder replacement text options lookup m before c.close.new.self (closed_at m.past d) runs draws (ap (λ a. defined (tables a)) c.close.ensures.tables ∙ c.in_ok-draw_last_lines.ensures.definitions))
+    (runs-builder replacement text options lookup m before c.close.new.self (closed_at m.line_end d) runs draws (ap (λ a. defined (tables a)) c.close.ensures.tables ∙ c.in_ok-draw_last_lines.ensures.definitions))
     c.clear.ensures.items)

@@ -18,10 +18,10 @@ returns-clause-runs g c text options lookup m runs =
     let before = c.args.self.now in
     let built = c.draw_stretch.new.builder in
     let d : Drawing = drawn (texts_of (rest_of (shown_waits text c.args.waits))) m.drawing in
-    let draws = subst (λ e. Draws text c.close.new.self (closed_at e d)) runs.past
-    (draws-close text built c.close.new.self before.past d c.close.ensures.closed c.close.ensures.none c.close.ensures.tables (c.in_ok-draw_stretch.ensures.drawn text m.drawing runs.drawing)) in
+    let draws = subst (λ e. Draws text c.close.new.self (closed_at e d)) runs.line_end
+    (draws-close text built c.close.new.self before.line_end d c.close.ensures.closed c.close.ensures.none c.close.ensures.tables (c.in_ok-draw_stretch.ensures.drawn text m.drawing runs.drawing)) in
     let closes = verbatim-closes text options lookup before.leaf c.args.waits before.blank_lines.items m.leaf m c.requires.is runs.leaf in
     subst (λ p. Runs replacement text options lookup p (record before { builder = c.close.new.self; leaf = leaf.Closed })) (sym closes.1)
     (runs-leaf replacement text options lookup _ _ leaf.Closed model.Closed
-    (runs-builder replacement text options lookup m before c.close.new.self (closed_at m.past d) runs draws (ap (λ a. defined (tables a)) c.close.ensures.tables ∙ c.in_ok-draw_stretch.ensures.definitions))
+    (runs-builder replacement text options lookup m before c.close.new.self (closed_at m.line_end d) runs draws (ap (λ a. defined (tables a)) c.close.ensures.tables ∙ c.in_ok-draw_stretch.ensures.definitions))
     (refl, closes.0))

@@ -22,5 +22,5 @@ loop-row-preserved g c =
 pub returns-clause-runs : goal.returns-clause-runs
 returns-clause-runs g c text options lookup m runs =
     let so_far = c.loop-row.invariant.rows text options lookup m runs in
-    rows-drawn g.E.EntityLookup.replacement text options lookup m c.args.columns (row_of c.args.delimiter) c.loop-row.left c.loop-row.count c.past.result (row_of c.loop-row.last) c.loop-row.self so_far
-    (c.in_default.ensures.next text options lookup _ so_far.runs) c.past.ensures.place
+    rows-drawn g.E.EntityLookup.replacement text options lookup m c.args.columns (row_of c.args.delimiter) c.loop-row.left c.loop-row.count c.line_end.result (row_of c.loop-row.last) c.loop-row.self so_far
+    (c.in_default.ensures.next text options lookup _ so_far.runs) c.line_end.ensures.place

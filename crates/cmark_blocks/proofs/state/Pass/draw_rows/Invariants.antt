@@ -11,9 +11,9 @@ invariant-loop-row g l = record {
   bare : l.self.bare ≡ false;
   text : l.self.text ≡ l.fn.self.text;
   leaf : l.self.leaf ≡ l.fn.self.leaf;
-  few : l.count ≤ (row_of l.last).past;
+  few : l.count ≤ (row_of l.last).line_end;
   rows : DrawsRowsSoFar g.E.EntityLookup.replacement l.fn.columns l.left l.count l.fn.delimiter l.last l.fn.self l.self;
 }
 
 abbrev pub decreases-loop-row : goal.decreases-loop-row
-decreases-loop-row g l = length l.self.text.now - (row_of l.last).past
+decreases-loop-row g l = length l.self.text.now - (row_of l.last).line_end

@@ -3,7 +3,7 @@ use Rattle.cmark_lines.specs.Rests.{row_of}
 use Rattle.cmark_blocks.specs.Ahead.{lines_at}
 use Rattle.cmark_blocks.specs.Runs.{Runs}
 use Rattle.cmark_blocks.proofs.FeedSteps.{is-zero, fed-outside}
-use Rattle.cmark_blocks.proofs.RunSteps.{runs-bare, runs-past}
+use Rattle.cmark_blocks.proofs.RunSteps.{runs-bare, runs-line_end}
 use Rattle.cmark_blocks.proofs.state.Pass.feed.Goals as goal
 
 pub returns-then-is_empty-clause-runs : goal.returns-then-is_empty-clause-runs
@@ -13,6 +13,6 @@ returns-then-is_empty-clause-runs g c text options lookup m runs =
     let before = c.args.self.now in
     let none : vec_len before.outer ≡ 0 = is-zero (vec_len before.outer) (sym c.is_empty.ensures ∙ c.if-is_empty.true) in
     let fed = c.in_ok-feed_leaf.ensures.runs text options lookup (record m { bare = false }) (runs-bare replacement text options lookup m before false runs) in
-    subst (λ p. Runs replacement text options lookup p (record c.feed_leaf.new.self { past = c.past-self.result }))
-    (fed-outside text options lookup row (lines_at text row.past) m before.outer.items (omega (arith, none, before.outer.ok.0)) runs.outer)
-    (runs-past replacement text options lookup _ c.feed_leaf.new.self c.past-self.result row.past fed c.past-self.ensures.place)
+    subst (λ p. Runs replacement text options lookup p (record c.feed_leaf.new.self { line_end = c.line_end-self.result }))
+    (fed-outside text options lookup row (lines_at text row.line_end) m before.outer.items (omega (arith, none, before.outer.ok.0)) runs.outer)
+    (runs-line_end replacement text options lookup _ c.feed_leaf.new.self c.line_end-self.result row.line_end fed c.line_end-self.ensures.place)

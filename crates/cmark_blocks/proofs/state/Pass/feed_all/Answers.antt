@@ -2,8 +2,8 @@ use Rattle.std.proofs.Common.{◌<◌, ◌≤◌, refl, sym, ap, subst, ◌∙�
 use Rattle.std.specs.Str.{IsCharBoundary}
 use Rattle.cmark_grammar.specs.Rows.{Row}
 use Rattle.cmark_lines.specs.Rests.{row_of, IsIn}
-use Rattle.cmark_leaves.specs.TextColumns.{AreTold}
-use Rattle.cmark_leaves.proofs.TextColumnSteps.{line-told}
+use Rattle.cmark_leaves.specs.TextColumns.{StandInText}
+use Rattle.cmark_leaves.proofs.TextColumnSteps.{line-in_text}
 use Rattle.cmark_blocks.proofs.FeedSteps.{feeds-start, feeds-step, feeds-end}
 use Rattle.cmark_blocks.proofs.state.Pass.feed_all.Goals as goal
 
@@ -14,19 +14,19 @@ pub feed-requires-clause-line : goal.feed-requires-clause-line
 feed-requires-clause-line g c =
     let same = c.as_bytes.ensures.value in
     let now = c.loop-self.self in
-    let within : now.past ≤ length c.as_bytes.result.now = omega (arith, c.loop-self-test.true, ap length same) in
+    let within : now.line_end ≤ length c.as_bytes.result.now = omega (arith, c.loop-self-test.true, ap length same) in
     record {
       placed = subst (λ t. IsIn t c.new-line.result) same
-          (c.new-line.ensures.placed c.as_bytes.ensures.utf8 (subst (λ t. IsCharBoundary t now.past) (sym same) c.loop-self.invariant.0.begins));
-      told = subst (λ t. AreTold t (row_of c.new-line.result).columns) same
-          (line-told c.as_bytes.result.now now.past (row_of c.new-line.result) within c.new-line.ensures.line (λ at. ap (λ (r : Row). r.columns) (c.new-line.ensures.none at)));
+          (c.new-line.ensures.placed c.as_bytes.ensures.utf8 (subst (λ t. IsCharBoundary t now.line_end) (sym same) c.loop-self.invariant.0.begins));
+      in_text = subst (λ t. StandInText t (row_of c.new-line.result).columns) same
+          (line-in_text c.as_bytes.result.now now.line_end (row_of c.new-line.result) within c.new-line.ensures.line (λ at. ap (λ (r : Row). r.columns) (c.new-line.ensures.none at)));
     }
 
 pub loop-self-preserved : goal.loop-self-preserved
 loop-self-preserved g c =
     let same = c.as_bytes.ensures.value in
     let now = c.loop-self.self in
-    let within : now.past < length c.as_bytes.result.now = omega (arith, c.loop-self-test.true, ap length same) in (
+    let within : now.line_end < length c.as_bytes.result.now = omega (arith, c.loop-self-test.true, ap length same) in (
       c.feed.ensures.good,
       c.feed.ensures.text ∙ c.loop-self.invariant.1,
       feeds-step g.E.EntityLookup.replacement c.args.self.now c.new-line.result c.as_bytes.result.now now c.feed.new.self c.loop-self.invariant.2 c.in_ok-feed.ensures.runs same (c.new-line.ensures.further within),

@@ -7,4 +7,4 @@ abbrev pub invariant-loop-self : goal.invariant-loop-self
 invariant-loop-self g l = IsGood l.self × (l.self.text ≡ l.initial.self.text) × FeedsSoFar g.E.EntityLookup.replacement l.initial.self l.self
 
 abbrev pub decreases-loop-self : goal.decreases-loop-self
-decreases-loop-self g l = length l.self.text.now - l.self.past
+decreases-loop-self g l = length l.self.text.now - l.self.line_end

@@ -15,15 +15,15 @@ use Rattle.cmark_blocks.proofs.RunSteps.{runs-builder, runs-leaf}
 use Rattle.cmark_blocks.proofs.state.Pass.feed_html.Goals as goal
 use Rattle.cmark_items.specs.Tables.{tables, defined}
 
-pub returns-in_default-further-clause-runs : goal.returns-in_default-further-clause-runs
-returns-in_default-further-clause-runs g c text options lookup m runs =
+pub returns-in_default-continuation-clause-runs : goal.returns-in_default-continuation-clause-runs
+returns-in_default-continuation-clause-runs g c text options lookup m runs =
     let replacement = g.E.EntityLookup.replacement in
     let before = c.args.self.now in
     let new = c.draw_html_line.new.builder in
     let row = row_of c.args.rest in
     let shows = subst (λ l. ShowsLeaf text l before.blank_lines.items m.leaf) c.requires.is runs.leaf in
     let line : Drawing = drawn (html_then (verbatim_line text row.columns row) Nil) m.drawing in
-    let fed = html-goes-on text options lookup (kind_number c.args.kind) row (lines_at text row.past) m c.further-further.result shows.0 (c.further-further.ensures []) c.in_default.not-Stops c.in_default-further.not-Closes in
+    let fed = html-goes-on text options lookup (kind_number c.args.kind) row (lines_at text row.line_end) m c.continuation-continuation.result shows.0 (c.continuation-continuation.ensures []) c.in_default.not-Stops c.in_default-continuation.not-Closes in
     subst (λ p. Runs replacement text options lookup p (record before { builder = new })) (sym fed)
     (runs-builder replacement text options lookup m before new line runs (c.in_ok-draw_html_line.ensures.drawn text m.drawing runs.drawing) c.in_ok-draw_html_line.ensures.definitions)
 
@@ -34,12 +34,12 @@ returns-in-Closes-clause-runs g c text options lookup m runs =
     let row = row_of c.args.rest in
     let shows = subst (λ l. ShowsLeaf text l before.blank_lines.items m.leaf) c.requires.is runs.leaf in
     let line : Drawing = drawn (html_then (verbatim_line text row.columns row) Nil) m.drawing in
-    let fed = html-closes text options lookup (kind_number c.args.kind) row (lines_at text row.past) m c.further-further.result shows.0 (c.further-further.ensures []) c.in-Closes.is in
-    let draws = subst (λ past. Draws text c.close.new.self (closed_at past line)) c.past.ensures.place
-    (draws-close text c.draw_html_line.new.builder c.close.new.self c.past.result line c.close.ensures.closed c.close.ensures.none c.close.ensures.tables (c.in_ok-draw_html_line.ensures.drawn text m.drawing runs.drawing)) in
+    let fed = html-closes text options lookup (kind_number c.args.kind) row (lines_at text row.line_end) m c.continuation-continuation.result shows.0 (c.continuation-continuation.ensures []) c.in-Closes.is in
+    let draws = subst (λ line_end. Draws text c.close.new.self (closed_at line_end line)) c.line_end.ensures.place
+    (draws-close text c.draw_html_line.new.builder c.close.new.self c.line_end.result line c.close.ensures.closed c.close.ensures.none c.close.ensures.tables (c.in_ok-draw_html_line.ensures.drawn text m.drawing runs.drawing)) in
     subst (λ p. Runs replacement text options lookup p (record before { builder = c.close.new.self; leaf = leaf.Closed })) (sym fed)
     (runs-leaf replacement text options lookup _ _ leaf.Closed model.Closed
-    (runs-builder replacement text options lookup m before c.close.new.self (closed_at row.past line) runs draws
+    (runs-builder replacement text options lookup m before c.close.new.self (closed_at row.line_end line) runs draws
     (ap (λ a. defined (tables a)) c.close.ensures.tables ∙ c.in_ok-draw_html_line.ensures.definitions))
     (refl, shows.1))
 
@@ -49,5 +49,5 @@ returns-in-Stops-clause-runs g c text options lookup m runs =
     let row = row_of c.args.rest in
     let shows = subst (λ l. ShowsLeaf text l before.blank_lines.items m.leaf) c.requires.is runs.leaf in
     subst (λ p. Runs g.E.EntityLookup.replacement text options lookup p c.begin_anew.new.self)
-    (sym (html-stops text options lookup (kind_number c.args.kind) row (lines_at text row.past) m c.further-further.result shows.0 (c.further-further.ensures []) c.in-Stops.is))
+    (sym (html-stops text options lookup (kind_number c.args.kind) row (lines_at text row.line_end) m c.continuation-continuation.result shows.0 (c.continuation-continuation.ensures []) c.in-Stops.is))
     (c.in_ok-begin_anew.ensures.runs text options lookup m runs)

@@ -12,7 +12,7 @@ returns-in-Paragraph-clause-runs g c =
     let row = row_of c.args.rest in
     on_ok_weaker c.add_to_paragraph.result
     (λ adds. λ text options lookup m runs. subst (λ p. Runs replacement text options lookup p c.add_to_paragraph.new.self)
-    (sym (lazy-paragraph text options lookup row (lines_at text row.past) m (map row_of c.args.self.now.blank_lines.items) c.in-Paragraph.from (row_of c.in-Paragraph.last) (in_paragraph replacement text options lookup m c.args.self.now runs c.in-Paragraph.from c.in-Paragraph.last c.in-Paragraph.is)))
+    (sym (lazy-paragraph text options lookup row (lines_at text row.line_end) m (map row_of c.args.self.now.blank_lines.items) c.in-Paragraph.from (row_of c.in-Paragraph.last) (in_paragraph replacement text options lookup m c.args.self.now runs c.in-Paragraph.from c.in-Paragraph.last c.in-Paragraph.is)))
     (adds text options lookup m runs))
     c.add_to_paragraph.ensures.runs
 
@@ -22,7 +22,7 @@ returns-in_ok-begin_paragraph-in-Definition-clause-runs g c text options lookup 
     let row = row_of c.args.rest in
     subst (λ p. Runs replacement text options lookup p c.begin_paragraph.new.self)
     (sym (⊎_elim
-    (λ d. lazy-definition text options lookup row (lines_at text row.past) m d.0 (in_definition replacement text options lookup m c.args.self.now runs d.0 d.1))
-    (λ tag. lazy-behind text options lookup row (lines_at text row.past) m (behind_tag replacement text options lookup m c.args.self.now runs tag))
+    (λ d. lazy-definition text options lookup row (lines_at text row.line_end) m d.0 (in_definition replacement text options lookup m c.args.self.now runs d.0 d.1))
+    (λ tag. lazy-behind text options lookup row (lines_at text row.line_end) m (behind_tag replacement text options lookup m c.args.self.now runs tag))
     c.in-Definition.is))
     (c.in_ok-begin_paragraph-in-Definition.ensures.runs text options lookup _ (c.in_ok-close_leaf-in-Definition.ensures.runs text options lookup m runs))

@@ -8,7 +8,7 @@ use Rattle.cmark_block_model.specs.BlockPass.{ahead_in}
 use Rattle.cmark_blocks.specs.Ahead.{lines_at}
 use Rattle.cmark_blocks.specs.Runs.{Runs}
 use Rattle.cmark_blocks.proofs.FeedSteps.{in_paragraph, feeds-underline, feeds-interrupted, feeds-text, or-first, or-second}
-use Rattle.cmark_blocks.proofs.InsideSteps.{told-inside}
+use Rattle.cmark_blocks.proofs.InsideSteps.{in_text-inside}
 use Rattle.cmark_blocks.proofs.state.Pass.feed_marked.Goals as goal
 use Rattle.cmark_blocks.proofs.state.Pass.feed_marked.Goals.{then-interrupts, else-interrupts}
 
@@ -17,14 +17,14 @@ returns-in-Some-clause-runs g c text options lookup m runs =
     let replacement = g.E.EntityLookup.replacement in
     let row = row_of c.args.rest in
     subst (λ p. Runs replacement text options lookup p c.underline.new.self)
-    (sym (feeds-underline text options lookup row (lines_at text row.past) m (map row_of c.args.self.now.blank_lines.items) c.args.from (row_of c.args.last) (level_number c.in-Some.level) (ap (option_map level_number) (sym c.in-Some.is) ∙ c.underlines.ensures) (in_paragraph replacement text options lookup m c.args.self.now runs c.args.from c.args.last c.requires.behind.is)))
+    (sym (feeds-underline text options lookup row (lines_at text row.line_end) m (map row_of c.args.self.now.blank_lines.items) c.args.from (row_of c.args.last) (level_number c.in-Some.level) (ap (option_map level_number) (sym c.in-Some.is) ∙ c.underlines.ensures) (in_paragraph replacement text options lookup m c.args.self.now runs c.args.from c.args.last c.requires.behind.is)))
     (c.in_ok-underline.ensures.runs text options lookup m runs)
 
 pub returns-in_ok-begin_anew-clause-runs : goal.returns-in_ok-begin_anew-clause-runs
 returns-in_ok-begin_anew-clause-runs g c text options lookup m runs =
     let replacement = g.E.EntityLookup.replacement in
     let row = row_of c.args.rest in
-    let next = lines_at text row.past in
+    let next = lines_at text row.line_end in
     let ahead = ahead_in text options lookup m.outer next in
     let cs = c.args.self.now.outer.items in
     let ends : true ≡ (interrupts options true row ahead || block_interrupts options true row ahead) = elim c.if-interrupts.branch [
@@ -32,7 +32,7 @@ returns-in_ok-begin_anew-clause-runs g c text options lookup m runs =
       | else-interrupts w ↦
           (let all : length cs ≤ w.len.result = omega (arith, w.len.ensures, c.args.self.now.outer.ok.0) in
           or-second (interrupts options true row ahead) (block_interrupts options true row ahead) true (sym (c.interrupts.ensures ahead ∙ ap (λ o. interrupts o true row ahead) runs.options_is) ∙ w.if-interrupts.false)
-          (sym c.if-block_interrupts.true ∙ w.value-is ∙ told-inside text options lookup cs m.outer w.len.result row next w.block_interrupts.result runs.outer all (w.block_interrupts.ensures text options lookup m runs)))
+          (sym c.if-block_interrupts.true ∙ w.value-is ∙ in_text-inside text options lookup cs m.outer w.len.result row next w.block_interrupts.result runs.outer all (w.block_interrupts.ensures text options lookup m runs)))
     ] in
     subst (λ p. Runs replacement text options lookup p c.begin_anew.new.self)
     (sym (feeds-interrupted text options lookup row next m (map row_of c.args.self.now.blank_lines.items) c.args.from (row_of c.args.last) (ap (option_map level_number) (sym c.in_default.is) ∙ c.underlines.ensures) (whole c.args.rest)
@@ -43,7 +43,7 @@ pub returns-in_ok-add_to_paragraph-clause-runs : goal.returns-in_ok-add_to_parag
 returns-in_ok-add_to_paragraph-clause-runs g c text options lookup m runs =
     let replacement = g.E.EntityLookup.replacement in
     let row = row_of c.args.rest in
-    let next = lines_at text row.past in
+    let next = lines_at text row.line_end in
     let ahead = ahead_in text options lookup m.outer next in
     let cs = c.args.self.now.outer.items in
     let goes_on : false ≡ (interrupts options true row ahead || block_interrupts options true row ahead) = elim c.if-interrupts.branch [
@@ -51,7 +51,7 @@ returns-in_ok-add_to_paragraph-clause-runs g c text options lookup m runs =
       | else-interrupts w ↦
           (let all : length cs ≤ w.len.result = omega (arith, w.len.ensures, c.args.self.now.outer.ok.0) in
           or-second (interrupts options true row ahead) (block_interrupts options true row ahead) false (sym (c.interrupts.ensures ahead ∙ ap (λ o. interrupts o true row ahead) runs.options_is) ∙ w.if-interrupts.false)
-          (sym c.if-block_interrupts.false ∙ w.value-is ∙ told-inside text options lookup cs m.outer w.len.result row next w.block_interrupts.result runs.outer all (w.block_interrupts.ensures text options lookup m runs)))
+          (sym c.if-block_interrupts.false ∙ w.value-is ∙ in_text-inside text options lookup cs m.outer w.len.result row next w.block_interrupts.result runs.outer all (w.block_interrupts.ensures text options lookup m runs)))
     ] in
     subst (λ p. Runs replacement text options lookup p c.add_to_paragraph.new.self)
     (sym (feeds-text text options lookup row next m (map row_of c.args.self.now.blank_lines.items) c.args.from (row_of c.args.last) (ap (option_map level_number) (sym c.in_default.is) ∙ c.underlines.ensures) (whole c.args.rest)

@@ -24,12 +24,12 @@ returns-then-ends_metadata-clause-runs g c text options lookup m runs =
     let waits = shown_waits text c.args.waits in
     let shows = subst (λ l. ShowsLeaf text l before.blank_lines.items m.leaf) c.requires.is runs.leaf in
     let d : Drawing = drawn (texts_of (rest_of waits)) m.drawing in
-    let draws = subst (λ past. Draws text c.close.new.self (closed_at past d)) c.past.ensures.place
-    (draws-close text c.draw_stretch.new.builder c.close.new.self c.past.result d c.close.ensures.closed c.close.ensures.none c.close.ensures.tables (c.in_ok-draw_stretch.ensures.drawn text m.drawing runs.drawing)) in
-    let fed = metadata-closes text options lookup kind waits row (lines_at text row.past) m shows.0 (sym c.ends_metadata.ensures ∙ c.if-ends_metadata.true) in
+    let draws = subst (λ line_end. Draws text c.close.new.self (closed_at line_end d)) c.line_end.ensures.place
+    (draws-close text c.draw_stretch.new.builder c.close.new.self c.line_end.result d c.close.ensures.closed c.close.ensures.none c.close.ensures.tables (c.in_ok-draw_stretch.ensures.drawn text m.drawing runs.drawing)) in
+    let fed = metadata-closes text options lookup kind waits row (lines_at text row.line_end) m shows.0 (sym c.ends_metadata.ensures ∙ c.if-ends_metadata.true) in
     subst (λ p. Runs replacement text options lookup p (record before { builder = c.close.new.self; leaf = leaf.Closed })) (sym fed)
     (runs-leaf replacement text options lookup _ _ leaf.Closed model.Closed
-    (runs-builder replacement text options lookup m before c.close.new.self (closed_at row.past d) runs draws (ap (λ a. defined (tables a)) c.close.ensures.tables ∙ c.in_ok-draw_stretch.ensures.definitions))
+    (runs-builder replacement text options lookup m before c.close.new.self (closed_at row.line_end d) runs draws (ap (λ a. defined (tables a)) c.close.ensures.tables ∙ c.in_ok-draw_stretch.ensures.definitions))
     (refl, shows.1))
 
 pub returns-clause-runs : goal.returns-clause-runs
@@ -42,7 +42,7 @@ returns-clause-runs g c text options lookup m runs =
     let waits = shown_waits text c.args.waits in
     let shows = subst (λ l. ShowsLeaf text l before.blank_lines.items m.leaf) c.requires.is runs.leaf in
     let run = code_line text 0 row waits in
-    let fed = metadata-goes-on text options lookup kind waits row (lines_at text row.past) m shows.0 (sym c.ends_metadata.ensures ∙ c.if-ends_metadata.false) in
+    let fed = metadata-goes-on text options lookup kind waits row (lines_at text row.line_end) m shows.0 (sym c.ends_metadata.ensures ∙ c.if-ends_metadata.false) in
     subst (λ p. Runs replacement text options lookup p (record before { builder = new; leaf = leaf.Metadata c.args.kind c.in_ok-left.left })) (sym fed)
     (runs-leaf replacement text options lookup _ _ (leaf.Metadata c.args.kind c.in_ok-left.left) (model.InMetadata kind run.waits)
     (runs-builder replacement text options lookup m before new (drawn (texts_of run.done) m.drawing) runs (c.in_ok-left.ensures.drawn text m.drawing runs.drawing) c.in_ok-left.ensures.definitions)

@@ -18,16 +18,16 @@ returns-then-begins_with_letter-clause-runs g c text options lookup m runs =
     let row = row_of c.args.rest in
     let letter = sym c.begins_with_letter.ensures ∙ c.if-begins_with_letter.true in
     subst (λ p. Runs replacement text options lookup p c.add_to_paragraph.new.self)
-    (sym (feeds-text text options lookup row (lines_at text row.past) m (map row_of c.args.self.now.blank_lines.items) c.args.from (row_of c.args.last) (sym (letter-underlines-not row letter)) (whole c.args.rest)
-    (sym (ap (λ z. z || block_interrupts options true row (ahead_in text options lookup m.outer (lines_at text row.past))) (letter-interrupts-not options true row (ahead_in text options lookup m.outer (lines_at text row.past)) letter)
-    ∙ ap (λ z. z || begins_definition options row) (letter-table-not options row (ahead_in text options lookup m.outer (lines_at text row.past)) letter) ∙ letter-definition-not options row letter)) (in_paragraph replacement text options lookup m c.args.self.now runs c.args.from c.args.last c.requires.behind.is)))
+    (sym (feeds-text text options lookup row (lines_at text row.line_end) m (map row_of c.args.self.now.blank_lines.items) c.args.from (row_of c.args.last) (sym (letter-underlines-not row letter)) (whole c.args.rest)
+    (sym (ap (λ z. z || block_interrupts options true row (ahead_in text options lookup m.outer (lines_at text row.line_end))) (letter-interrupts-not options true row (ahead_in text options lookup m.outer (lines_at text row.line_end)) letter)
+    ∙ ap (λ z. z || begins_definition options row) (letter-table-not options row (ahead_in text options lookup m.outer (lines_at text row.line_end)) letter) ∙ letter-definition-not options row letter)) (in_paragraph replacement text options lookup m c.args.self.now runs c.args.from c.args.last c.requires.behind.is)))
     (c.in_ok-add_to_paragraph.ensures.runs text options lookup m runs)
 
 pub returns-then-is_blank-clause-runs : goal.returns-then-is_blank-clause-runs
 returns-then-is_blank-clause-runs g c text options lookup m runs =
     let replacement = g.E.EntityLookup.replacement in
     let row = row_of c.args.rest in
-    let next = lines_at text row.past in
+    let next = lines_at text row.line_end in
     let blank = sym c.is_blank.ensures ∙ c.if-is_blank.true in
     let closed = c.in_ok-close_paragraph.ensures.runs text options lookup m runs in
     subst (λ p. Runs replacement text options lookup p c.pass_blank_line.new.self)

@@ -15,14 +15,14 @@ returns-then-kept-len-clause-runs g c text options lookup m runs =
     let cs = c.args.self.now.outer.items in
     let all : length cs ≤ c.args.kept = omega (arith, c.if-kept-len.true, c.len.ensures, c.args.self.now.outer.ok.0) in
     subst (λ p. Runs g.E.EntityLookup.replacement text options lookup p c.feed_leaf.new.self)
-    (sym (rest-kept text options lookup row (lines_at text row.past) m c.args.kept (shows-all cs m.outer c.args.kept runs.outer all).1))
+    (sym (rest-kept text options lookup row (lines_at text row.line_end) m c.args.kept (shows-all cs m.outer c.args.kept runs.outer all).1))
     (c.in_ok-feed_leaf.ensures.runs text options lookup m runs)
 
 pub returns-then-is_lazy-clause-runs : goal.returns-then-is_lazy-clause-runs
 returns-then-is_lazy-clause-runs g c text options lookup m runs =
     let row = row_of c.args.rest in
     let kept = c.args.kept in
-    let next = lines_at text row.past in
+    let next = lines_at text row.line_end in
     let cs = c.args.self.now.outer.items in
     let some : kept < length cs = omega (arith, c.requires.few, c.if-kept-len.false, c.len.ensures, c.args.self.now.outer.ok.0) in
     let missed = shows-some cs m.outer kept runs.outer some in
@@ -34,7 +34,7 @@ pub returns-clause-runs : goal.returns-clause-runs
 returns-clause-runs g c text options lookup m runs =
     let row = row_of c.args.rest in
     let kept = c.args.kept in
-    let next = lines_at text row.past in
+    let next = lines_at text row.line_end in
     let cs = c.args.self.now.outer.items in
     let some : kept < length cs = omega (arith, c.requires.few, c.if-kept-len.false, c.len.ensures, c.args.self.now.outer.ok.0) in
     let missed = shows-some cs m.outer kept runs.outer some in

@@ -7,11 +7,11 @@ use Rattle.cmark_blocks.proofs.state.Pass.gather.Goals as goal
 pub returns-then-not-branch-clause-decides : goal.returns-then-not-branch-clause-decides
 returns-then-not-branch-clause-decides g c text options lookup m runs =
     let made = c.gather_line.new.gathered in
-    whole-decides (string_bytes made.text) (row_of made.last) (texts_at text options lookup m (row_of made.last).past)
+    whole-decides (string_bytes made.text) (row_of made.last) (texts_at text options lookup m (row_of made.last).line_end)
     (whole-of g.E.EntityLookup.replacement c.args.self.now c.in_ok-gathered.gathered made c.in_ok-gather_line.field-0 c.if-not-branch.true c.in_ok-gather_line.ensures.line text options lookup m runs)
 
 pub returns-then-not-branch-2-clause-decides : goal.returns-then-not-branch-2-clause-decides
 returns-then-not-branch-2-clause-decides g c text options lookup m runs =
     let made = c.gather_lines.new.gathered in
-    whole-decides (string_bytes made.text) (row_of made.last) (texts_at text options lookup m (row_of made.last).past)
+    whole-decides (string_bytes made.text) (row_of made.last) (texts_at text options lookup m (row_of made.last).line_end)
     (whole-of g.E.EntityLookup.replacement c.args.self.now c.loop-gathered.gathered made c.in_ok-gather_lines.field-0 c.if-not-branch-2.true c.in_ok-gather_lines.ensures.lines text options lookup m runs)

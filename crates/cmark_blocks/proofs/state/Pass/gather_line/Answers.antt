@@ -9,7 +9,7 @@ use Rattle.cmark_blocks.proofs.state.Pass.gather_line.Goals as goal
 pub returns-clause-gathered : goal.returns-clause-gathered
 returns-clause-gathered g c =
     record {
-      read = record { placed = c.in-Some.ensures.placed; told = c.in-Some.ensures.told };
+      read = record { placed = c.in-Some.ensures.placed; in_text = c.in-Some.ensures.in_text };
       few = omega (arith, c.in-Some.ensures.further, c.requires.gathered.few);
     }
 

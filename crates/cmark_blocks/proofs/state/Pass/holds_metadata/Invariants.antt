@@ -14,8 +14,8 @@ abbrev pub invariant-loop-next : goal.invariant-loop-next
 invariant-loop-next g l =
     IsIn l.self.text.now l.last
     × ((text : List ℕ) (options : Options) (lookup : Lookup) (m : model.Pass) → Runs g.E.EntityLookup.replacement text options lookup m l.self →
-    holds_metadata (shown_metadata_block_kind l.kind) (ahead_in text options lookup m.outer (lines_at text (row_of l.rest).past))
-    ≡ is_ended (shown_metadata_block_kind l.kind) (ahead_in text options lookup m.outer (lines_at text (row_of l.last).past)))
+    holds_metadata (shown_metadata_block_kind l.kind) (ahead_in text options lookup m.outer (lines_at text (row_of l.rest).line_end))
+    ≡ is_ended (shown_metadata_block_kind l.kind) (ahead_in text options lookup m.outer (lines_at text (row_of l.last).line_end)))
 
 abbrev pub decreases-loop-next : goal.decreases-loop-next
-decreases-loop-next g l = length l.self.text.now - (row_of l.last).past
+decreases-loop-next g l = length l.self.text.now - (row_of l.last).line_end

@@ -42,6 +42,6 @@ loop-at-preserved g c =
 
 pub returns-clause-seen : goal.returns-clause-seen
 returns-clause-seen g c text options lookup m more runs = (
-  ap (λ r. r.past) (sym c.loop-at.invariant.behind.1.1),
+  ap (λ r. r.line_end) (sym c.loop-at.invariant.behind.1.1),
   first-all text options lookup m.outer c.args.count c.loop-at.at (row_of c.args.line) more c.loop-at.rest c.loop-at-test.false (c.loop-at.invariant.seen text options lookup m more runs),
 )

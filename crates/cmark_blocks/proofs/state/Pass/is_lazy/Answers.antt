@@ -16,7 +16,7 @@ returns-then-not-interrupts g c text options lookup m last others split runs =
     let k = last.container in
     let row = row_of c.args.rest in
     let cs = c.args.self.now.outer.items in
-    let ahead = ahead_in text options lookup (take c.args.kept m.outer) (lines_at text row.past) in
+    let ahead = ahead_in text options lookup (take c.args.kept m.outer) (lines_at text row.line_end) in
     let takes = c.takes_lazy.ensures text _ m.leaf runs.leaf in
     elim c.if-takes_lazy.branch [
       | then-takes_lazy w ↦
@@ -31,7 +31,7 @@ pub returns-else-not-interrupts : goal.returns-else-not-interrupts
 returns-else-not-interrupts g c text options lookup m last others split runs =
     let k = last.container in
     let row = row_of c.args.rest in
-    let ahead = ahead_in text options lookup (take c.args.kept m.outer) (lines_at text row.past) in
+    let ahead = ahead_in text options lookup (take c.args.kept m.outer) (lines_at text row.line_end) in
     let takes = c.takes_lazy.ensures text _ m.leaf runs.leaf in
     elim c.if-takes_lazy.branch [
       | then-takes_lazy w ↦

@@ -31,7 +31,7 @@ returns-clause-runs g c text options lookup m runs =
     let is = subst (λ l. ShowsLeaf text l blanks m.leaf) c.requires.is.2 runs.leaf in
     let items = ap (map row_of) c.in_ok-push.ensures.items ∙ map-append row_of blanks (c.args.rest ∷ []) in
     subst (λ p. Runs replacement text options lookup p (record before { blank_lines = c.push.new.self }))
-    (sym (indented-waits text options lookup row (lines_at text row.past) m waits end (map row_of blanks) is c.requires.waits))
+    (sym (indented-waits text options lookup row (lines_at text row.line_end) m waits end (map row_of blanks) is c.requires.waits))
     (runs-waiting replacement text options lookup m before before.leaf c.push.new.self (model.InIndented waits end rows) runs
     (subst (λ l. ShowsLeaf text l c.push.new.self.items (model.InIndented waits end rows)) (sym c.requires.is.2)
     (indented-shown text stretch waits end end c.push.new.self.items rows refl refl items)))

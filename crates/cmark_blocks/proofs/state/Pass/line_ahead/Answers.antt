@@ -1,7 +1,7 @@
 use Rattle.std.proofs.Common.{Option, Some, None, ap, ◌∙◌, subst, length, arith}
 use Rattle.std.specs.Prelude.{IfSome}
-use Rattle.cmark_leaves.specs.TextColumns.{AreTold}
-use Rattle.cmark_leaves.proofs.TextColumnSteps.{line-told, without-told}
+use Rattle.cmark_leaves.specs.TextColumns.{StandInText}
+use Rattle.cmark_leaves.proofs.TextColumnSteps.{line-in_text, without-in_text}
 use Rattle.cmark_lines.specs.Rests.{row_of}
 use Rattle.cmark_lines.specs.declared.line_rest.LineRest.{LineRest}
 use Rattle.cmark_blocks.specs.KeepingContainers.{IsBehind}
@@ -10,28 +10,28 @@ use Rattle.cmark_blocks.proofs.state.Pass.line_ahead.Goals as goal
 
 pub returns-then-start-self-clause-next : goal.returns-then-start-self-clause-next
 returns-then-start-self-clause-next g c text options lookup m runs =
-    no-line text options lookup c.past-start.result _ m.outer c.past-start.ensures.place (c.if-start-self.true ∙ ap length runs.text_is)
+    no-line text options lookup c.line_end-start.result _ m.outer c.line_end-start.ensures.place (c.if-start-self.true ∙ ap length runs.text_is)
 
 pub returns-clause-next : goal.returns-clause-next
 returns-clause-next g c text options lookup m runs =
-    next-line text options lookup c.as_bytes.result.now c.past-start.result _ c.new-line.result m.outer c.inside.result (c.as_bytes.ensures.value ∙ runs.text_is) c.past-start.ensures.place
-    (c.new-line.ensures.further (omega (arith, c.past-start.ensures.within c.args.self.now.text.now c.requires.within, c.if-start-self.false, ap length c.as_bytes.ensures.value)))
+    next-line text options lookup c.as_bytes.result.now c.line_end-start.result _ c.new-line.result m.outer c.inside.result (c.as_bytes.ensures.value ∙ runs.text_is) c.line_end-start.ensures.place
+    (c.new-line.ensures.further (omega (arith, c.line_end-start.ensures.within c.args.self.now.text.now c.requires.within, c.if-start-self.false, ap length c.as_bytes.ensures.value)))
     (λ more. c.inside.ensures.seen text options lookup m more runs)
 
-pub returns-clause-told : goal.returns-clause-told
-returns-clause-told g c = go c.inside.result c.inside.ensures.behind
+pub returns-clause-in_text : goal.returns-clause-in_text
+returns-clause-in_text g c = go c.inside.result c.inside.ensures.behind
   where
-    told : AreTold c.args.self.now.text.now (row_of c.new-line.result).columns
-    told =
+    in_text : StandInText c.args.self.now.text.now (row_of c.new-line.result).columns
+    in_text =
         let text = c.args.self.now.text.now in
         let bytes = c.as_bytes.result.now in
         let line = row_of c.new-line.result in
-        let start = c.past-start.result in
+        let start = c.line_end-start.result in
         let new = c.new-line.ensures in
-        let whole_line : AreTold bytes line.columns =
-        line-told bytes start line (omega (arith, c.past-start.ensures.within text c.requires.within, ap length c.as_bytes.ensures.value)) new.line (λ e. ap (λ r. r.columns) (new.none e)) in
-        subst (λ t. AreTold t line.columns) c.as_bytes.ensures.value whole_line
+        let whole_line : StandInText bytes line.columns =
+        line-in_text bytes start line (omega (arith, c.line_end-start.ensures.within text c.requires.within, ap length c.as_bytes.ensures.value)) new.line (λ e. ap (λ r. r.columns) (new.none e)) in
+        subst (λ t. StandInText t line.columns) c.as_bytes.ensures.value whole_line
 
-    go : (o : Option LineRest) → IfSome o (IsBehind c.new-line.result) → IfSome o (λ rest. AreTold c.args.self.now.text.now (row_of rest).columns)
+    go : (o : Option LineRest) → IfSome o (IsBehind c.new-line.result) → IfSome o (λ rest. StandInText c.args.self.now.text.now (row_of rest).columns)
     go None behind = tt
-    go (Some rest) behind = subst (λ r. AreTold c.args.self.now.text.now r.columns) behind.1.1 (without-told c.args.self.now.text.now behind.0 (row_of c.new-line.result) told)
+    go (Some rest) behind = subst (λ r. StandInText c.args.self.now.text.now r.columns) behind.1.1 (without-in_text c.args.self.now.text.now behind.0 (row_of c.new-line.result) in_text)

@@ -10,11 +10,11 @@ use Rattle.cmark_blocks.proofs.state.Pass.metadata_begun.Goals as goal
 pub returns-then-holds_metadata : goal.returns-then-holds_metadata
 returns-then-holds_metadata g c text options lookup m runs =
     let row = row_of c.args.rest in
-    begun-as (shown_metadata_block_kind c.in_ok-kind.kind) (ahead_in text options lookup m.outer (lines_at text row.past)) (metadata_kind options row) true
+    begun-as (shown_metadata_block_kind c.in_ok-kind.kind) (ahead_in text options lookup m.outer (lines_at text row.line_end)) (metadata_kind options row) true
     (ap (λ o. metadata_kind o row) (sym runs.options_is) ∙ sym c.in_ok-kind.ensures) (sym c.if-holds_metadata.true ∙ c.holds_metadata.ensures text options lookup m runs)
 
 pub returns-else-holds_metadata : goal.returns-else-holds_metadata
 returns-else-holds_metadata g c text options lookup m runs =
     let row = row_of c.args.rest in
-    begun-as (shown_metadata_block_kind c.in_ok-kind.kind) (ahead_in text options lookup m.outer (lines_at text row.past)) (metadata_kind options row) false
+    begun-as (shown_metadata_block_kind c.in_ok-kind.kind) (ahead_in text options lookup m.outer (lines_at text row.line_end)) (metadata_kind options row) false
     (ap (λ o. metadata_kind o row) (sym runs.options_is) ∙ sym c.in_ok-kind.ensures) (sym c.if-holds_metadata.false ∙ c.holds_metadata.ensures text options lookup m runs)

@@ -15,7 +15,7 @@ returns-then-misses_too_many-clause-next g c text options lookup m runs =
     let columns = c.args.columns in
     let left = c.args.left in
     let row = row_of c.in_ok-row.row in
-    let ahead = ahead_in text options lookup m.outer (lines_at text row.past) in
+    let ahead = ahead_in text options lookup m.outer (lines_at text row.line_end) in
     ap (rows_taken options columns left) (c.in_ok-row.ensures.next text options lookup m runs)
     ∙ elim c.if-interrupts.branch [
       | then-interrupts w ↦ rows-interrupted options columns left row ahead (sym (c.interrupts.ensures ahead ∙ ap (λ o. interrupts o false row ahead) runs.options_is) ∙ w.if-interrupts.true)
@@ -27,7 +27,7 @@ returns-else-misses_too_many-clause-next g c text options lookup m runs =
     let columns = c.args.columns in
     let left = c.args.left in
     let row = row_of c.in_ok-row.row in
-    let ahead = ahead_in text options lookup m.outer (lines_at text row.past) in
+    let ahead = ahead_in text options lookup m.outer (lines_at text row.line_end) in
     ap (rows_taken options columns left) (c.in_ok-row.ensures.next text options lookup m runs)
     ∙ elim c.if-interrupts.branch [
       | then-interrupts w ↦ absurd (true≢false (sym w.if-interrupts.true ∙ sym w.value-is ∙ c.if-misses_too_many.false))

@@ -21,7 +21,7 @@ returns-then-is_delimiter_row-clause-tells g c text options lookup m runs =
     let row = row_of c.args.rest in
     let next = row_of c.in_ok-next.next in
     let cells = cells-some (holds_pipe (words_of row)) (count_cells row) c.in_ok-columns.columns c.in_ok-columns.ensures in
-    head-is options row _ c.in_ok-columns.columns next (ahead_in text options lookup (take c.args.count m.outer) (lines_at text next.past)) (c.in_ok-next.ensures.next text options lookup m runs)
+    head-is options row _ c.in_ok-columns.columns next (ahead_in text options lookup (take c.args.count m.outer) (lines_at text next.line_end)) (c.in_ok-next.ensures.next text options lookup m runs)
     (ap (λ (o : Options). o.tables) (sym runs.options_is) ∙ sym c.reads_tables.ensures ∙ c.if-not-reads_tables.false) (whole c.args.rest) cells.0 cells.1
     (sym (c.is_delimiter_row.ensures []) ∙ c.if-is_delimiter_row.true)
 
@@ -30,6 +30,6 @@ returns-else-is_delimiter_row-clause-tells g c text options lookup m runs =
     let row = row_of c.args.rest in
     let next = row_of c.in_ok-next.next in
     let cells = cells-some (holds_pipe (words_of row)) (count_cells row) c.in_ok-columns.columns c.in_ok-columns.ensures in
-    head-not options row _ c.in_ok-columns.columns next (ahead_in text options lookup (take c.args.count m.outer) (lines_at text next.past)) (c.in_ok-next.ensures.next text options lookup m runs)
+    head-not options row _ c.in_ok-columns.columns next (ahead_in text options lookup (take c.args.count m.outer) (lines_at text next.line_end)) (c.in_ok-next.ensures.next text options lookup m runs)
     (ap (λ (o : Options). o.tables) (sym runs.options_is) ∙ sym c.reads_tables.ensures ∙ c.if-not-reads_tables.false) (whole c.args.rest) cells.0 cells.1
     (sym (c.is_delimiter_row.ensures []) ∙ c.if-is_delimiter_row.false)

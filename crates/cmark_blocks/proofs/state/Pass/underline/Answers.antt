@@ -36,10 +36,10 @@ returns-clause-runs g c text options lookup m runs =
     let line = c.in_ok-draw_last_lines.ensures.drawn text m.drawing runs.drawing in
     let whole : Drawing = drawn (stretch_then text c.args.from (words_end (row_of last)) Nil) m.drawing in
     let d : Drawing = unbraced text on (content_columns items last) whole.here whole.up in
-    let draws = subst (λ past. Draws text c.close_as.new.self (closed_as kind past d)) c.past.ensures.place
-    (draws-close_as text built c.close_as.new.self c.past.result _ kind d c.close_as.ensures.closed c.close_as.ensures.none c.close_as.ensures.tables
+    let draws = subst (λ line_end. Draws text c.close_as.new.self (closed_as kind line_end d)) c.line_end.ensures.place
+    (draws-close_as text built c.close_as.new.self c.line_end.result _ kind d c.close_as.ensures.closed c.close_as.ensures.none c.close_as.ensures.tables
     (c.in_ok-body.ensures.kind on items last found) (c.in_ok-body.ensures.drawn on items last found text whole line)) in
-    let built_heading = runs-builder replacement text options lookup m roomy c.close_as.new.self (closed_as kind (row_of c.args.rest).past d)
+    let built_heading = runs-builder replacement text options lookup m roomy c.close_as.new.self (closed_as kind (row_of c.args.rest).line_end d)
     (runs-room replacement text options lookup m before c.setext_attributes.new.room runs) draws
     (ap (λ a. defined (tables a)) c.close_as.ensures.tables ∙ c.in_ok-body.ensures.definitions ∙ c.in_ok-draw_last_lines.ensures.definitions) in
     let r = c.release_title.ensures.runs text options lookup _ built_heading in

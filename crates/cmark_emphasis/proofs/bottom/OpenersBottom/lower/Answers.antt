@@ -5,7 +5,7 @@ use Rattle.cmark_emphasis.proofs.bottom.OpenersBottom.lower.Goals as goal
 
 pub returns-clause-bottoms : goal.returns-clause-bottoms
 returns-clause-bottoms c = λ stack h.
-    lowered c.args.self.now _ stack c.args.height h (λ class lt. c.loop-class.invariant.lowered class (omega (arith, lt, c.loop-class-test.false))) (c.min-self.ensures ∙ ap (λ n. min n c.args.height) c.loop-class.invariant.shut)
+    lowered c.args.self.now _ stack c.args.height h (λ class lt. c.loop-class.invariant.lowered class (omega (arith, lt, c.loop-class-test.false))) (c.min-self.ensures ∙ ap (λ n. min n c.args.height) c.loop-class.invariant.inactive_below)
 
 pub returns-clause-opens : goal.returns-clause-opens
-returns-clause-opens c = λ stack. lowered_open c.args.self.now.shut c.min-self.result c.args.height stack (c.min-self.ensures ∙ ap (λ n. min n c.args.height) c.loop-class.invariant.shut)
+returns-clause-opens c = λ stack. lowered_open c.args.self.now.inactive_below c.min-self.result c.args.height stack (c.min-self.ensures ∙ ap (λ n. min n c.args.height) c.loop-class.invariant.inactive_below)

@@ -4,7 +4,7 @@ use Rattle.cmark_emphasis.proofs.bottom.OpenersBottom.lower.Given as goal
 
 abbrev pub invariant-loop-class : goal.invariant-loop-class
 invariant-loop-class l = record {
-  shut : l.self.shut ≡ l.initial.self.shut;
+  inactive_below : l.self.inactive_below ≡ l.initial.self.inactive_below;
   lowered : (k : ℕ) → k < l.class → get_or l.self.heights k 0 ≡ min (get_or l.initial.self.heights k 0) l.height;
   others : (k : ℕ) → l.class ≤ k → get_or l.self.heights k 0 ≡ get_or l.initial.self.heights k 0;
 }

@@ -18,5 +18,5 @@ returns-in_ok-push-clause-brackets c = λ text at bs ds is.
 pub returns-in_ok-push-clause-free : goal.returns-in_ok-push-clause-free
 returns-in_ok-push-clause-free c = λ slots free doubled.
     let ds : List Bracket = c.args.self.now.standing.items in
-    subst (AreFree slots c.push.new.self.standing.items) (sym c.push.ensures.shut)
-    (free-push slots ds c.push.new.self.standing.items (record c.in-Some.first { inside = c.args.second.inside }) c.args.self.now.shut doubled (c.in-Some.ensures.free slots free) c.in_ok-push.ensures.brackets)
+    subst (AreFree slots c.push.new.self.standing.items) (sym c.push.ensures.inactive_below)
+    (free-push slots ds c.push.new.self.standing.items (record c.in-Some.first { inside = c.args.second.inside }) c.args.self.now.inactive_below doubled (c.in-Some.ensures.free slots free) c.in_ok-push.ensures.brackets)

@@ -42,10 +42,10 @@ write_run-requires c =
     let begun = reverse c.loop-placed.self.1.1.1.1.1.0.items in
     let i = c.loop-placed.invariant in
     let e : c.loop-placed.rest.now ≡ c.in-Some.placed.now ∷ c.in-Some.others.now = search rules in
-    let all = i.8 ∙ ap (λ ps. length (places_of ps)) e ∙ length-run c.in-Some.placed.now.slot c.in-Some.placed.now.run.size (places_of c.in-Some.others.now) in
+    let all = i.8 ∙ ap (λ ps. length (places_of ps)) e ∙ length-run c.in-Some.placed.now.slot c.in-Some.placed.now.run.run_length (places_of c.in-Some.others.now) in
     record {
       ready = (places_of c.in-Some.others.now, subst (λ ps. AreReady c.loop-placed.slots.items begun (places_of ps) c.loop-placed.marks.now) e i.3);
-      marks = (let q : c.in-Some.placed.now.run.size ≤ length c.loop-placed.marks.now = omega (arith, all) in q);
+      marks = (let q : c.in-Some.placed.now.run.run_length ≤ length c.loop-placed.marks.now = omega (arith, all) in q);
     }
 
 pub loop-placed-preserved : goal.loop-placed-preserved
@@ -54,7 +54,7 @@ loop-placed-preserved c =
     let begun = reverse c.loop-placed.self.1.1.1.1.1.0.items in
     let e : c.loop-placed.rest.now ≡ c.in-Some.placed.now ∷ c.in-Some.others.now = search rules in
     let ready : AreReady c.loop-placed.slots.items begun (places_of (c.in-Some.placed.now ∷ c.in-Some.others.now)) c.loop-placed.marks.now = subst (λ ps. AreReady c.loop-placed.slots.items begun (places_of ps) c.loop-placed.marks.now) e i.3 in
-    let size : ℕ = c.in-Some.placed.now.run.size in
+    let size : ℕ = c.in-Some.placed.now.run.run_length in
     let all = i.8 ∙ ap (λ ps. length (places_of ps)) e ∙ length-run c.in-Some.placed.now.slot size (places_of c.in-Some.others.now) in
     let less = ap length c.in_ok-marks.ensures.rest ∙ length-drop size c.loop-placed.marks.now in (
       (λ text place h. c.in_ok-marks.ensures.slots text place (i.0 text place h)),

@@ -34,7 +34,7 @@ returns-in-Some-clause-closes g c = λ reader read place closer s bs r at shows.
     g.F.BrokenLinkCallback.answers c.in-Some.next new c.args.callback.now c.args.callback.now c.args.here.pending took i.view
     (ap is_some (sym c.in-Some.is) ∙ c.in_ok-next.ensures.forms)
     (subst (λ (x : Option Cursor). IfSome x (λ next. IfSome (nearest took.doubled) (λ tried. LeavesWikilink tried.0.start took new))) c.in-Some.is c.in_ok-next.ensures.leaves)
-    (remembers-on o l refs notes c.args.leaf.now c.args.text.now c.requires.same reader read place closer s bs c.args.here.at r at c.args.self.now shows took new i.remembers c.wikilink.ensures.expansion c.wikilink.ensures.shut)
+    (remembers-on o l refs notes c.args.leaf.now c.args.text.now c.requires.same reader read place closer s bs c.args.here.at r at c.args.self.now shows took new i.remembers c.wikilink.ensures.expansion_left c.wikilink.ensures.label_close)
     next.1 (next.0 ∙ sym next.1) refl
     c.flush.new.self (record { pushes = c.in_ok-flush.ensures.slots; others = c.in_ok-flush.ensures.others }) (rows-brackets c.flush.new.self took c.take_bracket-taken.ensures.others) c.take_bracket-taken.ensures.sound c.take_bracket-taken.ensures.stands
     (subst (λ (x : Option Cursor). IfSome x (λ next. IfSome (nearest took.doubled) (λ tried. WritesWikilink o c.args.leaf.now c.args.text.now tried.0 c.args.here.at took new))) c.in-Some.is c.in_ok-next.ensures.writes)
@@ -56,11 +56,11 @@ returns-in-Some-2-clause-closes g c = λ reader read place closer s bs r at show
     (ap is_some (sym c.in-Some-2.is) ∙ c.in_ok-next-2.ensures.forms)
     (inside-up c.args.text.now c.args.here.at c.take_bracket-taken.result c.take_bracket-taken.ensures.bracket)
     (subst (λ (x : Option Cursor). IfSome x (λ next. IfSome c.take_bracket-taken.result (λ (bracket : Bracket). LeavesFootnote bracket.start st new))) c.in-Some-2.is c.in_ok-next-2.ensures.leaves)
-    (remembers-on o l refs notes c.args.leaf.now c.args.text.now c.requires.same reader read place closer s bs c.args.here.at r at c.args.self.now shows st new j.remembers c.footnote.ensures.expansion c.footnote.ensures.shut)
-    next.1 (next.0 ∙ sym next.1) refl (subst (λ (x : Option Cursor). IfSome x (λ next. IfSome (footnote_of o (is_cell_of c.args.leaf.now) (is_there c.args.here.at st.shut_close) c.args.text.now c.args.here.at c.take_bracket-taken.result) (λ label. KeepsLabel label st.texts.items new.texts.items))) c.in-Some-2.is c.in_ok-next-2.ensures.label) j.texts
+    (remembers-on o l refs notes c.args.leaf.now c.args.text.now c.requires.same reader read place closer s bs c.args.here.at r at c.args.self.now shows st new j.remembers c.footnote.ensures.expansion_left c.footnote.ensures.label_close)
+    next.1 (next.0 ∙ sym next.1) refl (subst (λ (x : Option Cursor). IfSome x (λ next. IfSome (footnote_of o (is_cell_of c.args.leaf.now) (is_there c.args.here.at st.label_close) c.args.text.now c.args.here.at c.take_bracket-taken.result) (λ label. KeepsLabel label st.texts.items new.texts.items))) c.in-Some-2.is c.in_ok-next-2.ensures.label) j.texts
     c.flush.new.self (record { pushes = c.in_ok-flush.ensures.slots; others = c.in_ok-flush.ensures.others })
     (rows-on c.flush.new.self took st (rows-brackets c.flush.new.self took c.take_bracket-taken.ensures.others) (rows-doubled took st (c.in_ok-next.ensures.others c.in_default.is)))
-    (subst (λ (x : Option Cursor). IfSome x (λ next. IfSome c.take_bracket-taken.result (λ (bracket : Bracket). IfSome (footnote_of o (is_cell_of c.args.leaf.now) (is_there c.args.here.at st.shut_close) c.args.text.now c.args.here.at c.take_bracket-taken.result) (λ label. WritesReference bracket (normal_form label) (c.args.here.at + 1) st new)))) c.in-Some-2.is c.in_ok-next-2.ensures.writes)
+    (subst (λ (x : Option Cursor). IfSome x (λ next. IfSome c.take_bracket-taken.result (λ (bracket : Bracket). IfSome (footnote_of o (is_cell_of c.args.leaf.now) (is_there c.args.here.at st.label_close) c.args.text.now c.args.here.at c.take_bracket-taken.result) (λ label. WritesReference bracket (normal_form label) (c.args.here.at + 1) st new)))) c.in-Some-2.is c.in_ok-next-2.ensures.writes)
 
 pub returns-in-Some-3-clause-closes : goal.returns-in-Some-3-clause-closes
 returns-in-Some-3-clause-closes g c = λ reader read place closer s bs r at shows.
@@ -77,7 +77,7 @@ returns-in-Some-3-clause-closes g c = λ reader read place closer s bs r at show
     let moves = subst (λ (x : Option Cursor). IfSome x (Moves c.args.text.now c.args.here.at c.link.new.self)) c.in-Some-3.is c.in_ok-next-3.ensures.moves in
     linked-closes o l refs notes c.args.leaf.now c.args.text.now c.requires.same reader read place closer s bs c.args.here.at r at c.args.self.now shows
     g.F.BrokenLinkCallback.answers c.in-Some-3.next c.link.new.self c.args.callback.now c.link.new.callback c.args.here.pending c.footnote.new.self c.take_bracket-taken.result k.ready k.taken_as k.remembers
-    (subst (λ (x : InlineState). false ≡ forms_footnote o notes (footnote_of o (is_cell_of c.args.leaf.now) (is_there c.args.here.at x.shut_close) c.args.text.now c.args.here.at c.take_bracket-taken.result)) (sym same) (ap is_some (sym c.in_default-2.is) ∙ c.in_ok-next-2.ensures.forms))
+    (subst (λ (x : InlineState). false ≡ forms_footnote o notes (footnote_of o (is_cell_of c.args.leaf.now) (is_there c.args.here.at x.label_close) c.args.text.now c.args.here.at c.take_bracket-taken.result)) (sym same) (ap is_some (sym c.in_default-2.is) ∙ c.in_ok-next-2.ensures.forms))
     (subst (λ (x : Option Cursor). LinksTaken g.F.BrokenLinkCallback.answers o l refs c.args.leaf.now c.args.text.now c.take_bracket-taken.result c.args.here.at c.footnote.new.self c.link.new.self x c.args.callback.now c.link.new.callback) c.in-Some-3.is c.in_ok-next-3.ensures.links)
     moves.further moves.cursor.at.0 k.table c.flush.new.self (record { pushes = c.in_ok-flush.ensures.slots; others = c.in_ok-flush.ensures.others })
     (rows-on c.flush.new.self took c.footnote.new.self (rows-brackets c.flush.new.self took c.take_bracket-taken.ensures.others) (rows-on took st c.footnote.new.self (rows-doubled took st (c.in_ok-next.ensures.others c.in_default.is)) (rows-same st c.footnote.new.self same)))
@@ -98,9 +98,9 @@ returns-clause-closes g c = λ reader read place closer s bs r at shows.
     let put = c.in_ok-next-4.ensures.others in
     text-closes o l refs notes c.args.leaf.now c.args.text.now c.requires.same reader read place closer s bs c.args.here.at r at c.args.self.now shows
     g.F.BrokenLinkCallback.answers c.in_ok-next-4.next c.put.new.self c.args.callback.now c.link.new.callback c.args.here.pending c.footnote.new.self c.link.new.self c.take_bracket-taken.result k.ready k.taken_as k.remembers
-    (subst (λ (x : InlineState). false ≡ forms_footnote o notes (footnote_of o (is_cell_of c.args.leaf.now) (is_there c.args.here.at x.shut_close) c.args.text.now c.args.here.at c.take_bracket-taken.result)) (sym same) (ap is_some (sym c.in_default-2.is) ∙ c.in_ok-next-2.ensures.forms))
+    (subst (λ (x : InlineState). false ≡ forms_footnote o notes (footnote_of o (is_cell_of c.args.leaf.now) (is_there c.args.here.at x.label_close) c.args.text.now c.args.here.at c.take_bracket-taken.result)) (sym same) (ap is_some (sym c.in_default-2.is) ∙ c.in_ok-next-2.ensures.forms))
     (subst (λ (x : Option Cursor). LinksTaken g.F.BrokenLinkCallback.answers o l refs c.args.leaf.now c.args.text.now c.take_bracket-taken.result c.args.here.at c.footnote.new.self c.link.new.self x c.args.callback.now c.link.new.callback) c.in_default-3.is c.in_ok-next-3.ensures.links)
-    (ap (λ (x : InlineState). x.brackets) put) (ap (λ (x : InlineState). x.doubled) put) (ap (λ (x : InlineState). x.expansion) put) (ap (λ (x : InlineState). x.shut_close) put)
+    (ap (λ (x : InlineState). x.brackets) put) (ap (λ (x : InlineState). x.doubled) put) (ap (λ (x : InlineState). x.expansion_left) put) (ap (λ (x : InlineState). x.label_close) put)
     (c.in_ok-next-4.ensures.at ∙ c.behind-behind_it.ensures.value) (c.in_ok-next-4.ensures.end ∙ sym c.in_ok-next-4.ensures.at) (ap (λ (x : InlineState). x.links) put) k.table
     (λ after comes.
     let links = subst (λ (x : Option Cursor). LinksTaken g.F.BrokenLinkCallback.answers o l refs c.args.leaf.now c.args.text.now c.take_bracket-taken.result c.args.here.at c.footnote.new.self c.link.new.self x c.args.callback.now c.link.new.callback) c.in_default-3.is c.in_ok-next-3.ensures.links in

@@ -10,5 +10,5 @@ returns-clause-stands c =
     let v : Brackets = c.args.self.now.brackets in
     let w : Brackets = c.args.self.now.doubled in
     let n : ℕ = bytes_of c.args.self.now.delimiters.placed.items in
-    let k : Keeps c.args.text.now c.args.stop c.push_text.new.slots.items v w n = keeps-text c.args.text.now c.args.here.pending c.args.stop c.args.self.now.slots.items c.push_text.new.slots.items v w n (record { slots = h.slots; brackets = h.brackets; few = h.few; free = h.free; doubled = h.doubled; doubled_free = h.doubled_free; runs = h.runs }) c.requires.ordered c.requires.starts c.requires.stops c.in_ok-push_text.ensures.pushes in
+    let k : Keeps c.args.text.now c.args.text_end c.push_text.new.slots.items v w n = keeps-text c.args.text.now c.args.here.pending c.args.text_end c.args.self.now.slots.items c.push_text.new.slots.items v w n (record { slots = h.slots; brackets = h.brackets; few = h.few; free = h.free; doubled = h.doubled; doubled_free = h.doubled_free; runs = h.runs }) c.requires.ordered c.requires.starts c.requires.stops c.in_ok-push_text.ensures.pushes in
     record { slots = k.slots; brackets = k.brackets; few = k.few; free = k.free; doubled = k.doubled; doubled_free = k.doubled_free; runs = k.runs }

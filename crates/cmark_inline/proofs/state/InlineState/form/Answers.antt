@@ -20,7 +20,7 @@ use Rattle.cmark_inline.proofs.Marks.{no-slot}
 use Rattle.cmark_inline.proofs.Soundness.{sound-settles}
 use Rattle.cmark_inline.proofs.state.InlineState.form.Goals as goal
 
-last-slot : (text : List ℕ) (close : ℕ) (target : Target) → IsPart text close (close + 1) → IsTarget text close target → IsSlot text target.past (record { kind = kind.End; start = close; end = target.end })
+last-slot : (text : List ℕ) (close : ℕ) (target : Target) → IsPart text close (close + 1) → IsTarget text close target → IsSlot text target.resume (record { kind = kind.End; start = close; end = target.end })
 last-slot text close target p t = record { part = part-from text close target.end p.starts t.ends t.behind; before = t.ordered; content = tt }
 
 pub returns-then-bracket-clause-stands : goal.returns-then-bracket-clause-stands
@@ -28,27 +28,27 @@ returns-then-bracket-clause-stands c =
     let t = c.requires.target in
     let s = c.requires.stands in
     let text : List ℕ = c.args.text.now in
-    let past : ℕ = c.args.target.past in
+    let resume : ℕ = c.args.target.resume in
     let b = t.behind in
     let o = t.ordered in
     let few = s.few in
     let fewer = s.runs in
-    let lt : c.args.close < past = omega (arith, b, o) in
-    let le : c.args.close ≤ past = omega (arith, lt) in
+    let lt : c.args.close < resume = omega (arith, b, o) in
+    let le : c.args.close ≤ resume = omega (arith, lt) in
     let ss : List Slot = c.args.self.now.slots.items in
     let i = c.begin.ensures.length in
     let j = c.in_ok-finish.ensures.length in
     let r = c.in_ok-finish.ensures.runs in
     record {
-      slots = c.in_ok-finish.ensures.slots text past (c.begin.ensures.slots text past (slots-on text c.args.close past ss s.slots le) t.ends o) (last-slot text c.args.close c.args.target c.requires.close t);
-      brackets = subst (λ (v : Brackets). AreBrackets text past v.standing.items) (sym c.finish.ensures.brackets) (brackets-on text c.args.close past c.args.self.now.brackets.standing.items s.brackets le);
-      few = (let q : length c.finish.new.self.slots.items ≤ past = omega (arith, i, j, few, lt) in q);
-      free = subst (λ (v : Brackets). AreFree c.finish.new.self.slots.items v.standing.items v.shut) (sym c.finish.ensures.brackets)
-          (free-on ss c.finish.new.self.slots.items c.args.self.now.brackets.standing.items c.args.self.now.brackets.shut s.free (λ from h. c.in_ok-finish.ensures.links from (c.begin.ensures.links refl from h)));
-      doubled = subst (λ (w : Brackets). AreBrackets text past w.standing.items) (sym c.finish.ensures.doubled)
-          (c.drop_behind.ensures.brackets text past (brackets-on text c.args.close past c.args.self.now.doubled.standing.items s.doubled le));
-      doubled_free = subst (λ (w : Brackets). AreFree c.finish.new.self.slots.items w.standing.items w.shut) (sym c.finish.ensures.doubled)
-          (free-on ss c.finish.new.self.slots.items c.drop_behind.new.self.standing.items c.drop_behind.new.self.shut (c.drop_behind.ensures.free ss s.doubled_free) (λ from h. c.in_ok-finish.ensures.links from (c.begin.ensures.links refl from h)));
+      slots = c.in_ok-finish.ensures.slots text resume (c.begin.ensures.slots text resume (slots-on text c.args.close resume ss s.slots le) t.ends o) (last-slot text c.args.close c.args.target c.requires.close t);
+      brackets = subst (λ (v : Brackets). AreBrackets text resume v.standing.items) (sym c.finish.ensures.brackets) (brackets-on text c.args.close resume c.args.self.now.brackets.standing.items s.brackets le);
+      few = (let q : length c.finish.new.self.slots.items ≤ resume = omega (arith, i, j, few, lt) in q);
+      free = subst (λ (v : Brackets). AreFree c.finish.new.self.slots.items v.standing.items v.inactive_below) (sym c.finish.ensures.brackets)
+          (free-on ss c.finish.new.self.slots.items c.args.self.now.brackets.standing.items c.args.self.now.brackets.inactive_below s.free (λ from h. c.in_ok-finish.ensures.links from (c.begin.ensures.links refl from h)));
+      doubled = subst (λ (w : Brackets). AreBrackets text resume w.standing.items) (sym c.finish.ensures.doubled)
+          (c.drop_behind.ensures.brackets text resume (brackets-on text c.args.close resume c.args.self.now.doubled.standing.items s.doubled le));
+      doubled_free = subst (λ (w : Brackets). AreFree c.finish.new.self.slots.items w.standing.items w.inactive_below) (sym c.finish.ensures.doubled)
+          (free-on ss c.finish.new.self.slots.items c.drop_behind.new.self.standing.items c.drop_behind.new.self.inactive_below (c.drop_behind.ensures.free ss s.doubled_free) (λ from h. c.in_ok-finish.ensures.links from (c.begin.ensures.links refl from h)));
       runs = (let q : bytes_of c.finish.new.self.delimiters.placed.items ≤ length c.finish.new.self.slots.items = omega (arith, i, j, r, fewer) in q);
     }
 
@@ -57,25 +57,25 @@ returns-clause-stands c =
     let t = c.requires.target in
     let s = c.requires.stands in
     let text : List ℕ = c.args.text.now in
-    let past : ℕ = c.args.target.past in
+    let resume : ℕ = c.args.target.resume in
     let b = t.behind in
     let o = t.ordered in
     let few = s.few in
     let fewer = s.runs in
-    let lt : c.args.close < past = omega (arith, b, o) in
-    let le : c.args.close ≤ past = omega (arith, lt) in
+    let lt : c.args.close < resume = omega (arith, b, o) in
+    let le : c.args.close ≤ resume = omega (arith, lt) in
     let ss : List Slot = c.args.self.now.slots.items in
     let i = c.begin-2.ensures.length in
     let j = c.in_ok-finish-2.ensures.length in
     let r = c.in_ok-finish-2.ensures.runs in
     record {
-      slots = c.in_ok-finish-2.ensures.slots text past (c.begin-2.ensures.slots text past (slots-on text c.args.close past ss s.slots le) t.ends o) (last-slot text c.args.close c.args.target c.requires.close t);
-      brackets = subst (AreBrackets text past) (sym (ap (λ v. v.items) c.shut_all.ensures.standing)) (subst (λ (v : Brackets). AreBrackets text past v.standing.items) (sym c.finish-2.ensures.brackets) (brackets-on text c.args.close past c.args.self.now.brackets.standing.items s.brackets le));
-      few = (let q : length c.finish-2.new.self.slots.items ≤ past = omega (arith, i, j, few, lt) in q);
-      free = c.shut_all.ensures.free c.finish-2.new.self.slots.items;
-      doubled = subst (AreBrackets text past) (sym (ap (λ v. v.items) c.shut_all-2.ensures.standing)) (subst (λ (w : Brackets). AreBrackets text past w.standing.items) (sym c.finish-2.ensures.doubled)
-          (c.drop_behind.ensures.brackets text past (brackets-on text c.args.close past c.args.self.now.doubled.standing.items s.doubled le)));
-      doubled_free = c.shut_all-2.ensures.free c.finish-2.new.self.slots.items;
+      slots = c.in_ok-finish-2.ensures.slots text resume (c.begin-2.ensures.slots text resume (slots-on text c.args.close resume ss s.slots le) t.ends o) (last-slot text c.args.close c.args.target c.requires.close t);
+      brackets = subst (AreBrackets text resume) (sym (ap (λ v. v.items) c.deactivate_all.ensures.standing)) (subst (λ (v : Brackets). AreBrackets text resume v.standing.items) (sym c.finish-2.ensures.brackets) (brackets-on text c.args.close resume c.args.self.now.brackets.standing.items s.brackets le));
+      few = (let q : length c.finish-2.new.self.slots.items ≤ resume = omega (arith, i, j, few, lt) in q);
+      free = c.deactivate_all.ensures.free c.finish-2.new.self.slots.items;
+      doubled = subst (AreBrackets text resume) (sym (ap (λ v. v.items) c.deactivate_all-2.ensures.standing)) (subst (λ (w : Brackets). AreBrackets text resume w.standing.items) (sym c.finish-2.ensures.doubled)
+          (c.drop_behind.ensures.brackets text resume (brackets-on text c.args.close resume c.args.self.now.doubled.standing.items s.doubled le)));
+      doubled_free = c.deactivate_all-2.ensures.free c.finish-2.new.self.slots.items;
       runs = (let q : bytes_of c.finish-2.new.self.delimiters.placed.items ≤ length c.finish-2.new.self.slots.items = omega (arith, i, j, r, fewer) in q);
     }
 
@@ -86,11 +86,11 @@ pub returns-clause-leaves : goal.returns-clause-leaves
 returns-clause-leaves c =
     let before : c.finish-2.new.self.brackets ≡ c.args.self.now.brackets = c.finish-2.ensures.brackets in
     let pairs : c.finish-2.new.self.doubled ≡ c.drop_behind.new.self = c.finish-2.ensures.doubled in
-    subst (λ z. LeavesElement z c.args.bracket.start c.args.self.now (record c.finish-2.new.self { brackets = c.shut_all.new.self; doubled = c.shut_all-2.new.self })) (sym c.if-bracket.false) (record {
-      shuts = record { standing = c.shut_all.ensures.standing ∙ ap (λ (v : Brackets). v.standing) before; shut = c.shut_all.ensures.shut ∙ ap (λ (v : Brackets). length v.standing.items) before };
+    subst (λ z. LeavesElement z c.args.bracket.start c.args.self.now (record c.finish-2.new.self { brackets = c.deactivate_all.new.self; doubled = c.deactivate_all-2.new.self })) (sym c.if-bracket.false) (record {
+      deactivates = record { standing = c.deactivate_all.ensures.standing ∙ ap (λ (v : Brackets). v.standing) before; inactive_below = c.deactivate_all.ensures.inactive_below ∙ ap (λ (v : Brackets). length v.standing.items) before };
       between = c.drop_behind.new.self;
-      drops = record { drops = c.drop_behind.ensures.drops; shut = c.drop_behind.ensures.shut };
-      shuts_doubled = record { standing = c.shut_all-2.ensures.standing ∙ ap (λ (v : Brackets). v.standing) pairs; shut = c.shut_all-2.ensures.shut ∙ ap (λ (v : Brackets). length v.standing.items) pairs };
+      drops = record { drops = c.drop_behind.ensures.drops; inactive_below = c.drop_behind.ensures.inactive_below };
+      deactivates_doubled = record { standing = c.deactivate_all-2.ensures.standing ∙ ap (λ (v : Brackets). v.standing) pairs; inactive_below = c.deactivate_all-2.ensures.inactive_below ∙ ap (λ (v : Brackets). length v.standing.items) pairs };
     })
 
 pub finish-requires-clause-there : goal.finish-requires-clause-there
@@ -166,7 +166,7 @@ returns-clause-sound c =
     let n = c.begin-2.ensures.length in
     let more = ap (λ v. length v.items) c.finish-2.ensures.table ∙ ap length c.in_ok-push.ensures.items ∙ length_push old.links.items c.args.target.parts in
     sound-same (length old.texts.items) (length new.texts.items) (length old.links.items + 1) (length new.links.items) new.slots.items _ new.delimiters.placed.items _ new.quotes.placed.items old.brackets.standing.items _ c.drop_behind.new.self.standing.items _
-    (ap (λ v. length v.items) c.finish-2.ensures.texts) (let q : length new.links.items ≡ length old.links.items + 1 = omega (arith, more) in q) f.placed f.quotes (ap (λ v. v.items) c.shut_all.ensures.standing ∙ ap (λ (v : Brackets). v.standing.items) c.finish-2.ensures.brackets) (ap (λ v. v.items) c.shut_all-2.ensures.standing ∙ ap (λ (v : Brackets). v.standing.items) c.finish-2.ensures.doubled)
+    (ap (λ v. length v.items) c.finish-2.ensures.texts) (let q : length new.links.items ≡ length old.links.items + 1 = omega (arith, more) in q) f.placed f.quotes (ap (λ v. v.items) c.deactivate_all.ensures.standing ∙ ap (λ (v : Brackets). v.standing.items) c.finish-2.ensures.brackets) (ap (λ v. v.items) c.deactivate_all-2.ensures.standing ∙ ap (λ (v : Brackets). v.standing.items) c.finish-2.ensures.doubled)
     (link-formed (length old.texts.items) (length old.links.items) old.slots.items old.delimiters.placed.items old.quotes.placed.items old.brackets.standing.items old.doubled.standing.items c.requires.sound b c.requires.taken c.args.text.now c.args.close c.requires.stands.doubled
     c.drop_behind.new.self.standing.items c.drop_behind.ensures.drops s refl (ap (λ k. link_named (kind.Begin (element.Link k))) (let q : c.len-index.result ≡ length old.links.items = search rules in q)) new.slots.items (let q : length old.slots.items ≤ length new.slots.items = omega (arith, m, n) in q) settled)
 
@@ -210,7 +210,7 @@ returns-clause-writes c =
     let texts = ap (λ v. v.items) c.finish-2.ensures.texts in
     let links = ap (λ v. v.items) c.finish-2.ensures.table ∙ c.in_ok-push.ensures.items in
     let can = sound-settles (length old.texts.items) (length old.links.items) old.slots.items old.delimiters.placed.items old.quotes.placed.items old.brackets.standing.items old.doubled.standing.items c.requires.sound b p in
-    subst (λ z. WritesElement (shown_options c.args.options) (record b { is_image = z }) c.args.target old (record new { brackets = c.shut_all.new.self; doubled = c.shut_all-2.new.self })) (sym c.if-bracket.false)
-    (writes-element (shown_options c.args.options) (record b { is_image = false }) c.args.target old (record new { brackets = c.shut_all.new.self; doubled = c.shut_all-2.new.self }) (element.Link c.len-index.result) p.there c.args.close c.args.text.now c.requires.stands.slots t.behind c.requires.sound.named can texts links
+    subst (λ z. WritesElement (shown_options c.args.options) (record b { is_image = z }) c.args.target old (record new { brackets = c.deactivate_all.new.self; doubled = c.deactivate_all-2.new.self })) (sym c.if-bracket.false)
+    (writes-element (shown_options c.args.options) (record b { is_image = false }) c.args.target old (record new { brackets = c.deactivate_all.new.self; doubled = c.deactivate_all-2.new.self }) (element.Link c.len-index.result) p.there c.args.close c.args.text.now c.requires.stands.slots t.behind c.requires.sound.named can texts links
     (link-shown old.links.items c.args.target.parts c.len-index.result index) f.placed f.quotes
     (λ leaf pairs spans emphasis. f.dressed leaf new.texts.items new.links.items pairs spans emphasis ∙ ap (λ l. dressed_behind (shown_options c.args.options) b pairs old.delimiters.placed.items old.quotes.placed.items (shown_slots leaf new.texts.items new.links.items (l ++ (end_slot c.args.close c.args.target.end ∷ [])))) begins))

@@ -25,7 +25,7 @@ returns-clause-stands c =
     let s = c.requires.stands in
     let text : List ℕ = c.args.text.now in
     let close : ℕ = c.args.close in
-    let past : ℕ = close + 2 in
+    let resume : ℕ = close + 2 in
     let e = c.requires.end in
     let few = s.few in
     let fewer = s.runs in
@@ -38,15 +38,15 @@ returns-clause-stands c =
     let kept = ap (λ (s : InlineState). bytes_of s.delimiters.placed.items) c.show.ensures.others in
     let same = c.finish.ensures.brackets ∙ ap (λ (s : InlineState). s.brackets) c.show.ensures.others in
     let ss : List Slot = c.finish.new.self.slots.items in
-    let last : IsEnd text past close past = record { part = e; before = omega arith; content = tt } in
+    let last : IsEnd text resume close resume = record { part = e; before = omega arith; content = tt } in
     record {
-      slots = c.in_ok-finish.ensures.slots text past (c.begin.ensures.slots text past (c.in_ok-inside.ensures.slots past s.slots (let q : close < past = omega arith in q)) e.ends (let q : past ≤ past = omega arith in q)) last;
-      brackets = subst (AreBrackets text past) (sym (ap (λ v. v.items) c.shut_all.ensures.standing))
-          (c.drop_behind.ensures.brackets text past (subst (λ (v : Brackets). AreBrackets text past v.standing.items) (sym same) (brackets-on text close past c.args.self.now.brackets.standing.items s.brackets (let q : close ≤ past = omega arith in q))));
-      few = (let q : length ss ≤ past = omega (arith, a, i, j, few) in q);
-      free = c.shut_all.ensures.free ss;
-      doubled = subst (AreBrackets text past) (sym c.clear.ensures.standing) (λ k d lt. absurd (omega (arith, lt)));
-      doubled_free = subst (λ (l : List Bracket). AreFree ss l c.clear.new.self.shut) (sym c.clear.ensures.standing) (λ k d le lt. absurd (omega (arith, lt)));
+      slots = c.in_ok-finish.ensures.slots text resume (c.begin.ensures.slots text resume (c.in_ok-inside.ensures.slots resume s.slots (let q : close < resume = omega arith in q)) e.ends (let q : resume ≤ resume = omega arith in q)) last;
+      brackets = subst (AreBrackets text resume) (sym (ap (λ v. v.items) c.deactivate_all.ensures.standing))
+          (c.drop_behind.ensures.brackets text resume (subst (λ (v : Brackets). AreBrackets text resume v.standing.items) (sym same) (brackets-on text close resume c.args.self.now.brackets.standing.items s.brackets (let q : close ≤ resume = omega arith in q))));
+      few = (let q : length ss ≤ resume = omega (arith, a, i, j, few) in q);
+      free = c.deactivate_all.ensures.free ss;
+      doubled = subst (AreBrackets text resume) (sym c.clear.ensures.standing) (λ k d lt. absurd (omega (arith, lt)));
+      doubled_free = subst (λ (l : List Bracket). AreFree ss l c.clear.new.self.inactive_below) (sym c.clear.ensures.standing) (λ k d le lt. absurd (omega (arith, lt)));
       runs = (let q : bytes_of c.truncate-2.new.self.placed.items ≤ length ss = omega (arith, b, i, j, r, t, kept, fewer) in q);
     }
 
@@ -123,7 +123,7 @@ returns-clause-sound c =
     (let q : length new.links.items ≡ length old.links.items + 1 = omega (arith, kept, more) in q)
     (c.truncate-2.ensures.placed ∙ ap (take d.runs) f.placed ∙ take-fewer d.runs c.in_ok-inside.inside.runs shown.delimiters.placed.items i.runs ∙ ap (λ (x : InlineState). take d.runs x.delimiters.placed.items) o)
     (c.truncate.ensures ∙ ap (take d.quotes) f.quotes ∙ take-fewer d.quotes c.in_ok-inside.inside.quotes shown.quotes.placed.items i.quotes ∙ ap (λ (x : InlineState). take d.quotes x.quotes.placed.items) o)
-    (ap (λ v. v.items) c.shut_all.ensures.standing) c.clear.ensures.standing
+    (ap (λ v. v.items) c.deactivate_all.ensures.standing) c.clear.ensures.standing
     (wikilink-formed (length old.texts.items) (length old.links.items) old.slots.items old.delimiters.placed.items old.quotes.placed.items old.brackets.standing.items old.doubled.standing.items h d c.requires.taken c.args.text.now c.args.close c.requires.stands.brackets
     c.drop_behind.new.self.standing.items drops s refl (c.linked_element-element.ensures.names ∙ ap Some index) shown.slots.items new.slots.items size (let q : length shown.slots.items ≤ length new.slots.items = omega (arith, n, l) in q) i.before (i.names (length old.texts.items) (length old.links.items) h.named) settled)
 

@@ -32,7 +32,7 @@ loop-self-preserved c =
           ∙ events-behind c.args.leaf.now old.texts.items new.texts.items old.links.items new.links.items old.slots.items new.slots.items old.walk.opened.items new.walk.opened.items old.walk.next new.walk.next slots place c.index-slot.result.now None lt c.index-slot.ensures i.4
           (λ behind can. subst (λ given. events_of c.args.leaf.now old.texts.items old.links.items (c.index-slot.result.now ∷ behind) old.walk.opened.items ≡ with_given given (events_of c.args.leaf.now new.texts.items new.links.items behind new.walk.opened.items)) c.in_default.is (e.events behind can))),
       (left-next c.args.leaf.now old.texts.items new.texts.items old.links.items new.links.items old.slots.items new.slots.items old.walk.opened.items new.walk.opened.items old.walk.next new.walk.next slots place c.index-slot.result.now lt c.index-slot.ensures i.4 e.left),
-      e.expansion ∙ i.5,
+      e.expansion_left ∙ i.5,
     )
 
 pub returns-clause-opened : goal.returns-clause-opened
@@ -81,14 +81,14 @@ returns-in-Some-clause-left c =
     let lt : old.walk.next < length old.slots.items = omega (arith, t, n) in
     left-next c.args.leaf.now old.texts.items new.texts.items old.links.items new.links.items old.slots.items new.slots.items old.walk.opened.items new.walk.opened.items old.walk.next new.walk.next (ap (λ v. v.items) e.slots) e.place c.index-slot.result.now lt c.index-slot.ensures i.4 e.left
 
-pub returns-clause-expansion : goal.returns-clause-expansion
-returns-clause-expansion c = c.end_last.ensures.expansion ∙ c.loop-self.invariant.5
+pub returns-clause-expansion_left : goal.returns-clause-expansion_left
+returns-clause-expansion_left c = c.end_last.ensures.expansion_left ∙ c.loop-self.invariant.5
 
-pub returns-in-Some-clause-expansion : goal.returns-in-Some-clause-expansion
-returns-in-Some-clause-expansion c = c.in_ok-given.ensures.expansion ∙ c.loop-self.invariant.5
+pub returns-in-Some-clause-expansion_left : goal.returns-in-Some-clause-expansion_left
+returns-in-Some-clause-expansion_left c = c.in_ok-given.ensures.expansion_left ∙ c.loop-self.invariant.5
 
-pub returns-in_err-given-clause-expansion : goal.returns-in_err-given-clause-expansion
-returns-in_err-given-clause-expansion c = c.give.ensures.expansion ∙ c.loop-self.invariant.5
+pub returns-in_err-given-clause-expansion_left : goal.returns-in_err-given-clause-expansion_left
+returns-in_err-given-clause-expansion_left c = c.give.ensures.expansion_left ∙ c.loop-self.invariant.5
 
 pub give-requires-clause-text : goal.give-requires-clause-text
 give-requires-clause-text c =

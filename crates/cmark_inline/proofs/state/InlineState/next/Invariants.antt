@@ -9,7 +9,7 @@ invariant-loop-self l =
     × (l.initial.self.walk.next ≤ l.self.walk.next)
     × (events_to_come l.leaf l.initial.self ≡ events_to_come l.leaf l.self)
     × AreLeft l.leaf l.self
-    × (l.self.expansion ≡ l.initial.self.expansion)
+    × (l.self.expansion_left ≡ l.initial.self.expansion_left)
 
 abbrev pub decreases-loop-self : goal.decreases-loop-self
 decreases-loop-self l = length l.self.slots.items - l.self.walk.next

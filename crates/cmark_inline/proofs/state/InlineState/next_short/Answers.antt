@@ -57,17 +57,17 @@ returns-clause-left c = λ left.
     let place = g.place in
     left-later c.args.leaf.now old new (g.texts ∙ i.3) (g.links ∙ i.4) (g.slots ∙ i.0) (let q : old.walk.next ≤ new.walk.next = omega (arith, low, place) in q) left
 
-pub returns-clause-expansion : goal.returns-clause-expansion
-returns-clause-expansion c = c.end_short.ensures.expansion ∙ c.loop-self.invariant.6
+pub returns-clause-expansion_left : goal.returns-clause-expansion_left
+returns-clause-expansion_left c = c.end_short.ensures.expansion_left ∙ c.loop-self.invariant.6
 
-pub returns-in-Short-clause-expansion : goal.returns-in-Short-clause-expansion
-returns-in-Short-clause-expansion c = c.give_short.ensures.expansion ∙ c.loop-self.invariant.6
+pub returns-in-Short-clause-expansion_left : goal.returns-in-Short-clause-expansion_left
+returns-in-Short-clause-expansion_left c = c.give_short.ensures.expansion_left ∙ c.loop-self.invariant.6
 
-pub returns-in-Long-clause-expansion : goal.returns-in-Long-clause-expansion
-returns-in-Long-clause-expansion c = c.give_short.ensures.expansion ∙ c.loop-self.invariant.6
+pub returns-in-Long-clause-expansion_left : goal.returns-in-Long-clause-expansion_left
+returns-in-Long-clause-expansion_left c = c.give_short.ensures.expansion_left ∙ c.loop-self.invariant.6
 
-pub returns-in_err-short-clause-expansion : goal.returns-in_err-short-clause-expansion
-returns-in_err-short-clause-expansion c = c.give_short.ensures.expansion ∙ c.loop-self.invariant.6
+pub returns-in_err-short-clause-expansion_left : goal.returns-in_err-short-clause-expansion_left
+returns-in_err-short-clause-expansion_left c = c.give_short.ensures.expansion_left ∙ c.loop-self.invariant.6
 
 pub returns-in_err-short-clause-ends : goal.returns-in_err-short-clause-ends
 returns-in_err-short-clause-ends c =

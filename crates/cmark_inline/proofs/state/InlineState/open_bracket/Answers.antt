@@ -39,8 +39,8 @@ returns-clause-moves c =
         slots = k.slots;
         brackets = subst (AreBrackets text inside) (sym c.in_ok-push.ensures.brackets) (All-push (IsBracket text inside) v.standing.items _ k.brackets is);
         few = k.few;
-        free = subst (AreFree ts c.push.new.self.standing.items) (sym c.push.ensures.shut)
-            (free-push ts v.standing.items c.push.new.self.standing.items (record { slot = c.len.result; runs = c.len-2.result; quotes = c.len-3.result; start = at; inside = inside; is_image = c.args.is_image }) v.shut k.free
+        free = subst (AreFree ts c.push.new.self.standing.items) (sym c.push.ensures.inactive_below)
+            (free-push ts v.standing.items c.push.new.self.standing.items (record { slot = c.len.result; runs = c.len-2.result; quotes = c.len-3.result; start = at; inside = inside; is_image = c.args.is_image }) v.inactive_below k.free
             (subst (HoldNoLink ts) (let q : length c.flush.new.self.slots.items ≡ c.len.result = search rules in q) (last-holds-none c.flush.new.self.slots.items ts slot refl c.in_ok-push_slot.ensures)) c.in_ok-push.ensures.brackets);
         doubled = c.in_ok-double.ensures.brackets text inside k.brackets k.doubled is;
         doubled_free = c.in_ok-double.ensures.free ts k.free k.doubled_free;
@@ -59,11 +59,11 @@ returns-clause-opens c =
     let pairs : c.flush.new.self.doubled ≡ c.args.self.now.doubled = ap (λ (s : InlineState). s.doubled) kept in
     opens-as o.wikilinks c.args.is_image c.args.text.now c.args.here.at c.args.inside c.args.self.now (record c.flush.new.self { slots = c.push_slot.new.slots; brackets = c.push.new.self; doubled = c.double.new.self }) b refl refl refl
     (c.in_ok-push.ensures.brackets ∙ ap (λ (v : Brackets). v.standing.items ++ (b ∷ [])) before)
-    (c.push.ensures.shut ∙ ap (λ (v : Brackets). v.shut) before)
+    (c.push.ensures.inactive_below ∙ ap (λ (v : Brackets). v.inactive_below) before)
     (c.in_ok-double.ensures.doubled ∙ ap (λ (v : Brackets). doubles o v c.args.is_image c.args.here.at c.args.inside c.flush.new.self.doubled.standing.items) before ∙ ap (λ (v : Brackets). doubles o c.args.self.now.brackets c.args.is_image c.args.here.at c.args.inside v.standing.items) pairs)
-    (c.double.ensures.shut ∙ ap (λ (v : Brackets). v.shut) pairs)
-    c.flush.ensures.expansion
-    (ap (λ (s : InlineState). s.shut_close) kept)
+    (c.double.ensures.inactive_below ∙ ap (λ (v : Brackets). v.inactive_below) pairs)
+    c.flush.ensures.expansion_left
+    (ap (λ (s : InlineState). s.label_close) kept)
 
 pub returns-clause-keeps : goal.returns-clause-keeps
 returns-clause-keeps c =

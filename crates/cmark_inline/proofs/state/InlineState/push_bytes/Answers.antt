@@ -32,7 +32,7 @@ loop-at-preserved c =
       slots = slots-push text at (at + 1) ss ts slot i.slots (let q : at ≤ at + 1 = omega arith in q) (byte-slot text at i.place c.utf8.text within small) e;
       brackets = i.brackets;
       links = (λ from h. no-new ss ts slot refl e from (i.links from h));
-      expansion = i.expansion;
+      expansion_left = i.expansion_left;
       delimiters = i.delimiters;
       bytes = push-byte c.args.self.now.slots.items ss ts c.args.start at b i.bytes e;
       others = ap (λ (s : InlineState). record s { slots = c.push_slot.new.slots }) i.others;

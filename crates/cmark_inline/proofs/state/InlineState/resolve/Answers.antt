@@ -55,7 +55,7 @@ loop-cursor-preserved g c =
       (λ folded. c.step.ensures.footnotes folded ∙ i.7 folded),
       c.in_ok-cursor.ensures.sound,
       c.in_ok-cursor.ensures.ends i.9,
-      (λ set. comes-further g.F.BrokenLinkCallback.answers (shown_options c.args.reader.now.options) (g.E.EntityLookup.replacement c.args.reader.now.entities.now) c.args.reader.now.references.now c.args.footnotes.now c.loop-cursor.footnotes c.args.leaf.now c.clear.new.self.expansion c.args.callback.now
+      (λ set. comes-further g.F.BrokenLinkCallback.answers (shown_options c.args.reader.now.options) (g.E.EntityLookup.replacement c.args.reader.now.entities.now) c.args.reader.now.references.now c.args.footnotes.now c.loop-cursor.footnotes c.args.leaf.now c.clear.new.self.expansion_left c.args.callback.now
           c.loop-cursor.cursor c.in_ok-cursor.cursor c.loop-cursor.self c.step.new.self c.loop-cursor.callback c.step.new.callback i.7 (i.10 set) (c.in_ok-cursor.ensures.come set) i.9),
       (λ none. absurd (let size = ap length none in let more = c.loop-cursor-test.true in let d : ⊥ = omega (arith, size, more) in d)),
     )
@@ -133,8 +133,8 @@ returns-clause-reads g c = λ set reader read place same places.
     let over = c.loop-cursor-test.false in
     let size = ap length c.as_str-text.ensures in
     let at : cursor.at ≡ length (text_of leaf) = omega (arith, le, over, size) in
-    end-reads leaf reader read place places g.F.BrokenLinkCallback.answers c.args.self.now.expansion c.args.callback.now c.loop-cursor.callback cursor c.loop-cursor.self mid
-    (subst (λ n. HasCome g.F.BrokenLinkCallback.answers leaf reader read place (record { expansion = n; asked = [] }) c.args.callback.now cursor c.loop-cursor.self c.loop-cursor.callback) c.clear.ensures.expansion (c.loop-cursor.invariant.10 set reader read place same places))
+    end-reads leaf reader read place places g.F.BrokenLinkCallback.answers c.args.self.now.expansion_left c.args.callback.now c.loop-cursor.callback cursor c.loop-cursor.self mid
+    (subst (λ n. HasCome g.F.BrokenLinkCallback.answers leaf reader read place (record { expansion_left = n; asked = [] }) c.args.callback.now cursor c.loop-cursor.self c.loop-cursor.callback) c.clear.ensures.expansion_left (c.loop-cursor.invariant.10 set reader read place same places))
     at (subst (λ n. PushesText cursor.pending n c.loop-cursor.self.slots.items mid.slots.items) size c.in_ok-flush.ensures.slots) c.in_ok-flush.ensures.others same.source _
     (marks ∙ ap (λ l. marked (shown_options c.args.reader.now.options) (places_of runs) (marks_by (length (places_of runs)) (pairs_of (siblings_from 0 runs))) l []) letters
     ∙ ap (λ o. marked o (places_of runs) (marks_by (length (places_of runs)) (pairs_of (siblings_from 0 runs))) (quoted (map (λ (q : PlacedQuote). q.slot) quotes) (characters_of quotes) (shown_slots leaf mid.texts.items mid.links.items one)) []) (sym same.options_are))

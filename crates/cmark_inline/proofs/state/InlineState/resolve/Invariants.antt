@@ -16,7 +16,7 @@ invariant-loop-cursor g l =
     Stands l.text l.cursor.pending l.self
     × IsCursor l.text l.cursor
     × AsksUpTo g.F.BrokenLinkCallback.answers (closing_brackets (take l.cursor.at l.text)) l.initial.callback l.callback
-    × (l.initial.self.expansion ≡ 0 → (l.callback ≡ l.initial.callback) × (l.self.expansion ≡ 0))
+    × (l.initial.self.expansion_left ≡ 0 → (l.callback ≡ l.initial.callback) × (l.self.expansion_left ≡ 0))
     × AreRunsOf l.text l.sought.runs
     × AreUnclosed l.leaf l.cursor.at l.sought.unclosed
     × AreDollarsOf l.text l.sought.dollars
@@ -24,7 +24,7 @@ invariant-loop-cursor g l =
     × IsSound l.self
     × AreEnded l.leaf l.self.slots.items
     × (IsSetOf (shown_options l.reader.options) l.reader.special.now
-    → ComesTo g.F.BrokenLinkCallback.answers (shown_options l.reader.options) (g.E.EntityLookup.replacement l.reader.entities.now) l.reader.references.now l.initial.footnotes l.leaf l.initial.self.expansion l.initial.callback l.cursor l.self l.callback)
+    → ComesTo g.F.BrokenLinkCallback.answers (shown_options l.reader.options) (g.E.EntityLookup.replacement l.reader.entities.now) l.reader.references.now l.initial.footnotes l.leaf l.initial.self.expansion_left l.initial.callback l.cursor l.self l.callback)
     × (l.text ≡ [] → (l.cursor.pending ≡ 0) × (l.self.quotes.placed.items ≡ []) × (l.self.delimiters.placed.items ≡ []))
 
 abbrev pub decreases-loop-cursor : goal.decreases-loop-cursor

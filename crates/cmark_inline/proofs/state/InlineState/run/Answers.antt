@@ -13,13 +13,13 @@ use Rattle.cmark_inline.proofs.state.InlineState.run.Goals as goal
 use Rattle.cmark_inline.proofs.state.InlineState.run.Goals.{else-not-flanking-via-then-not-flanking+else-not-flanking-2, else-not-flanking-via-else-not-flanking}
 
 pub returns-then-not-flanking-2-clause-token : goal.returns-then-not-flanking-2-clause-token
-returns-then-not-flanking-2-clause-token c = λ l cell is mark.
+returns-then-not-flanking-2-clause-token c = λ l cell is delimiter.
     inl (record {
-      token = run-stays (shown_options c.args.options) l cell c.args.text.now c.args.here.at c.requires.byte.within c.args.mark c.run_end-end.result (c.run_end-end.result - c.args.here.at) c.character_before-before.result c.character_at-after.result
+      token = run-stays (shown_options c.args.options) l cell c.args.text.now c.args.here.at c.requires.byte.within c.args.delimiter c.run_end-end.result (c.run_end-end.result - c.args.here.at) c.character_before-before.result c.character_at-after.result
           (shown_flanking c.flanking_of-flanking.result)
           (record {
             byte = is;
-            mark = mark;
+            delimiter = delimiter;
             ends = c.run_end-end.ensures.value;
             some = c.run_end-end.ensures.further;
             sized = refl;
@@ -36,20 +36,20 @@ not-no true e = refl
 not-no false e = absurd (true≢false e)
 
 pub returns-clause-token : goal.returns-clause-token
-returns-clause-token c = λ l cell is mark.
+returns-clause-token c = λ l cell is delimiter.
     let some : (c.flanking_of-flanking.result.opens || c.flanking_of-flanking.result.closes) ≡ true = elim c.else-not-flanking.branch [
       | else-not-flanking-via-then-not-flanking+else-not-flanking-2 w ↦ or_right c.flanking_of-flanking.result.opens c.flanking_of-flanking.result.closes (not-no c.flanking_of-flanking.result.closes w.if-not-flanking-2.false)
       | else-not-flanking-via-else-not-flanking w ↦ or_left c.flanking_of-flanking.result.opens c.flanking_of-flanking.result.closes (not-no c.flanking_of-flanking.result.opens w.if-not-flanking.false)
     ] in
     let same : length c.flush.new.self.slots.items ≡ c.len-first.result = search rules in
-    let run : Run = record { mark = c.args.mark; size = c.run_end-end.result - c.args.here.at; at = 0; left = c.run_end-end.result - c.args.here.at; opens = c.flanking_of-flanking.result.opens; closes = c.flanking_of-flanking.result.closes } in
+    let run : Run = record { delimiter = c.args.delimiter; run_length = c.run_end-end.result - c.args.here.at; at = 0; left = c.run_end-end.result - c.args.here.at; opens = c.flanking_of-flanking.result.opens; closes = c.flanking_of-flanking.result.closes } in
     inr (record {
       run = run;
-      token = run-begins-there (shown_options c.args.options) l cell c.args.text.now c.args.here.at c.requires.byte.within c.args.mark c.run_end-end.result (c.run_end-end.result - c.args.here.at) c.character_before-before.result c.character_at-after.result
+      token = run-begins-there (shown_options c.args.options) l cell c.args.text.now c.args.here.at c.requires.byte.within c.args.delimiter c.run_end-end.result (c.run_end-end.result - c.args.here.at) c.character_before-before.result c.character_at-after.result
           (shown_flanking c.flanking_of-flanking.result)
           (record {
             byte = is;
-            mark = mark;
+            delimiter = delimiter;
             ends = c.run_end-end.ensures.value;
             some = c.run_end-end.ensures.further;
             sized = refl;
@@ -58,7 +58,7 @@ returns-clause-token c = λ l cell is mark.
             flanks = c.flanking_of-flanking.ensures;
           }) some;
       size = (let f = c.run_end-end.ensures.further in omega (arith, f));
-      bytes = run-content c.args.text.now c.args.here.at c.run_end-end.result c.args.mark is mark c.run_end-end.ensures.value;
+      bytes = run-content c.args.text.now c.args.here.at c.run_end-end.result c.args.delimiter is delimiter c.run_end-end.ensures.value;
       pending = refl;
       before = c.flush.new.self.slots.items;
       text_is = c.in_ok-flush.ensures.slots;
@@ -74,15 +74,15 @@ pub returns-then-not-flanking-2-clause-others : goal.returns-then-not-flanking-2
 returns-then-not-flanking-2-clause-others c = λ l cell is other.
     record {
       further = c.run_end-end.ensures.further;
-      plain = others-stand (shown_options c.args.options) l cell c.args.text.now c.args.here.at c.args.mark c.run_end-end.result is other c.run_end-end.ensures.value;
-      last = others-last c.args.text.now c.args.here.at c.args.mark c.run_end-end.result is other c.run_end-end.ensures.value c.run_end-end.ensures.further;
+      plain = others-stand (shown_options c.args.options) l cell c.args.text.now c.args.here.at c.args.delimiter c.run_end-end.result is other c.run_end-end.ensures.value;
+      last = others-last c.args.text.now c.args.here.at c.args.delimiter c.run_end-end.result is other c.run_end-end.ensures.value c.run_end-end.ensures.further;
       pending = refl;
       same = refl;
     }
 
 pub returns-clause-others : goal.returns-clause-others
 returns-clause-others c = λ l cell is other.
-    let none = c.flanking_of-flanking.ensures ∙ others-flank (shown_options c.args.options) c.args.mark (c.run_end-end.result - c.args.here.at) c.character_before-before.result c.character_at-after.result other in
+    let none = c.flanking_of-flanking.ensures ∙ others-flank (shown_options c.args.options) c.args.delimiter (c.run_end-end.result - c.args.here.at) c.character_before-before.result c.character_at-after.result other in
     let opens : c.flanking_of-flanking.result.opens ≡ false = ap (λ (f : Flanking). f.opens) none in
     let closes : c.flanking_of-flanking.result.closes ≡ false = ap (λ (f : Flanking). f.closes) none in
     absurd (elim c.else-not-flanking.branch [
@@ -96,7 +96,7 @@ returns-then-not-flanking-2-clause-keeps c = keeps-same c.args.self.now
 pub returns-clause-keeps : goal.returns-clause-keeps
 returns-clause-keeps c =
     let same : length c.flush.new.self.slots.items ≡ c.len-first.result = search rules in
-    let run : Run = record { mark = c.args.mark; size = c.run_end-end.result - c.args.here.at; at = 0; left = c.run_end-end.result - c.args.here.at; opens = c.flanking_of-flanking.result.opens; closes = c.flanking_of-flanking.result.closes } in
+    let run : Run = record { delimiter = c.args.delimiter; run_length = c.run_end-end.result - c.args.here.at; at = 0; left = c.run_end-end.result - c.args.here.at; opens = c.flanking_of-flanking.result.opens; closes = c.flanking_of-flanking.result.closes } in
     let further = c.run_end-end.ensures.further in
     keeps-run c.args.self.now (record c.push_bytes.new.self { delimiters = c.push.new.self }) c.flush.new.self.slots.items c.args.here.pending c.args.here.at (record { slot = c.len-first.result; run = run }) c.args.text.now
     c.in_ok-flush.ensures.slots c.in_ok-push_bytes.ensures.bytes

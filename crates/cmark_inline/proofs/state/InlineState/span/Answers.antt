@@ -19,8 +19,8 @@ pub returns-in-10-clause-token : goal.returns-in-10-clause-token
 returns-in-10-clause-token g c = λ special other.
     let o : Options = shown_options c.args.reader.now.options in
     let l : Lookup = g.E.EntityLookup.replacement c.args.reader.now.entities.now in
-    IfOk-weaker c.line_end.result _ _ (appends o l c.args.leaf.now c.args.text.now c.requires.same c.args.here c.args.self.now c.line_end.new.self)
-    (c.line_end.ensures.token o l (is_cell_of c.args.leaf.now) (subst (λ (bs : List ℕ). (get_or bs c.args.here.at 0 ≡ 10) ⊎ (get_or bs c.args.here.at 0 ≡ 13)) c.as_bytes.ensures.value c.in-10.is))
+    IfOk-weaker c.line_ending.result _ _ (appends o l c.args.leaf.now c.args.text.now c.requires.same c.args.here c.args.self.now c.line_ending.new.self)
+    (c.line_ending.ensures.token o l (is_cell_of c.args.leaf.now) (subst (λ (bs : List ℕ). (get_or bs c.args.here.at 0 ≡ 10) ⊎ (get_or bs c.args.here.at 0 ≡ 13)) c.as_bytes.ensures.value c.in-10.is))
 
 pub returns-in-92-clause-token : goal.returns-in-92-clause-token
 returns-in-92-clause-token g c = λ special other.
@@ -122,7 +122,7 @@ returns-in_default-clause-token g c = λ special other.
     (other-special o b uncalled (sym (ap (is_special o) same) ∙ special))
 
 pub returns-in-10-clause-sound : goal.returns-in-10-clause-sound
-returns-in-10-clause-sound g c = λ h. IfOk-weaker c.line_end.result _ _ (λ next k. k.sound h) c.line_end.ensures.keeps
+returns-in-10-clause-sound g c = λ h. IfOk-weaker c.line_ending.result _ _ (λ next k. k.sound h) c.line_ending.ensures.keeps
 
 pub returns-in-92-clause-sound : goal.returns-in-92-clause-sound
 returns-in-92-clause-sound g c = λ h. IfOk-weaker c.backslash.result _ _ (λ next k. k.sound h) c.backslash.ensures.keeps
@@ -162,7 +162,7 @@ pub returns-in_ok-next-in-91-clause-sound : goal.returns-in_ok-next-in-91-clause
 returns-in_ok-next-in-91-clause-sound g c = λ h. c.in_ok-next-in-91.ensures.keeps.sound h
 
 pub returns-in-10-clause-ends : goal.returns-in-10-clause-ends
-returns-in-10-clause-ends g c = IfOk-weaker c.line_end.result _ _ (λ next k. k.ends c.args.leaf.now) c.line_end.ensures.keeps
+returns-in-10-clause-ends g c = IfOk-weaker c.line_ending.result _ _ (λ next k. k.ends c.args.leaf.now) c.line_ending.ensures.keeps
 
 pub returns-in-92-clause-ends : goal.returns-in-92-clause-ends
 returns-in-92-clause-ends g c = IfOk-weaker c.backslash.result _ _ (λ next k. k.ends c.args.leaf.now) c.backslash.ensures.keeps

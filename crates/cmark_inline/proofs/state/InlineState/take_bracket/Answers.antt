@@ -21,18 +21,18 @@ returns-else-forms-clause-stands c = record { slots = c.requires.stands.slots; b
 
 pub returns-in_err-bracket-clause-takes : goal.returns-in_err-bracket-clause-takes
 returns-in_err-bracket-clause-takes c = λ wikilinks place openers bs h.
-    let r = took wikilinks place c.args.at openers bs c.args.self.now.brackets c.take.new.self c.args.self.now.doubled h (record { others = c.take.ensures.others; shut = c.take.ensures.shut }) in
+    let r = took wikilinks place c.args.at openers bs c.args.self.now.brackets c.take.new.self c.args.self.now.doubled h (record { others = c.take.ensures.others; inactive_below = c.take.ensures.inactive_below }) in
     let e = ap taken_if (sym c.take.ensures.value ∙ c.in_err-bracket.was) in
     (r.0, subst (TakenAs place bs (nearest openers)) (let q : taken_if _ ≡ c.from_residual.result = search (rules, e) in q) r.1)
 
 pub returns-then-forms-clause-takes : goal.returns-then-forms-clause-takes
 returns-then-forms-clause-takes c = λ wikilinks place openers bs h.
-    let r = took wikilinks place c.args.at openers bs c.args.self.now.brackets c.take.new.self c.args.self.now.doubled h (record { others = c.take.ensures.others; shut = c.take.ensures.shut }) in
+    let r = took wikilinks place c.args.at openers bs c.args.self.now.brackets c.take.new.self c.args.self.now.doubled h (record { others = c.take.ensures.others; inactive_below = c.take.ensures.inactive_below }) in
     (r.0, subst (TakenAs place bs (nearest openers)) (ap taken_if (sym c.take.ensures.value ∙ c.in_ok-bracket.was) ∙ ap (λ z. if z then Some c.in_ok-bracket.bracket else None) c.if-forms.true) r.1)
 
 pub returns-else-forms-clause-takes : goal.returns-else-forms-clause-takes
 returns-else-forms-clause-takes c = λ wikilinks place openers bs h.
-    let r = took wikilinks place c.args.at openers bs c.args.self.now.brackets c.take.new.self c.args.self.now.doubled h (record { others = c.take.ensures.others; shut = c.take.ensures.shut }) in
+    let r = took wikilinks place c.args.at openers bs c.args.self.now.brackets c.take.new.self c.args.self.now.doubled h (record { others = c.take.ensures.others; inactive_below = c.take.ensures.inactive_below }) in
     (r.0, subst (TakenAs place bs (nearest openers)) (ap taken_if (sym c.take.ensures.value ∙ c.in_ok-bracket.was) ∙ ap (λ z. if z then Some c.in_ok-bracket.bracket else None) c.if-forms.false) r.1)
 
 pub returns-in_err-bracket-clause-sound : goal.returns-in_err-bracket-clause-sound

@@ -1,6 +1,6 @@
 use Rattle.std.proofs.Common.{◌≡◌, ◌+◌, ◌-◌, [], ◌∷◌, ◌++◌, ◌∙◌, ℕ, List, ap, length, length-append, refl, rules, sym, subst}
 use Rattle.cmark_grammar.specs.Tokens.{slice}
-use Rattle.cmark_leaf_text.specs.Stretches.{AreLines, IsOpen, PlacesMore, joined, line_end}
+use Rattle.cmark_leaf_text.specs.Stretches.{AreLines, IsOpen, PlacesMore, joined, end_in_leaf}
 use Rattle.cmark_leaf_text.specs.declared.stretch.LeafLine.{LeafLine}
 use Rattle.cmark_leaf_text.specs.declared.stretch.Stretch.{Stretch}
 use Rattle.cmark_leaf_text.proofs.PlaceSteps.{begin-lines, stand-more}
@@ -22,19 +22,19 @@ loop-line-preserved c =
     let next = c.in_ok-opened.opened in
     let old : List Stretch = c.loop-line.self.stretches.items ++ (c.loop-line.opened ∷ []) in
     let new : List Stretch = c.push_part.new.self.stretches.items ++ (next ∷ []) in
-    let stop = line_end line others in
+    let content_end = end_in_leaf line others in
     let is : rest ≡ line ∷ others = search rules in
     let are : AreLines source c.loop-line.opened.end (line ∷ others) = subst (AreLines source c.loop-line.opened.end) is i.lines in
     let h = c.in_ok-opened.ensures in
-    let told : joined source new ≡ joined source old ++ slice source line.start stop =
-    subst (λ (n : ℕ). joined source new ≡ joined source old ++ slice source line.start n) c.line_end.ensures (subst (λ (t : List ℕ). joined t new ≡ joined t old ++ slice t line.start c.line_end.result) i.source h.text) in
-    let more : PlacesMore source old line.start (stop - line.start) new =
-    subst (λ (n : ℕ). PlacesMore source old line.start (n - line.start) new) c.line_end.ensures (subst (λ (t : List ℕ). PlacesMore t old line.start (c.line_end.result - line.start) new) i.source h.places) in
+    let told : joined source new ≡ joined source old ++ slice source line.start content_end =
+    subst (λ (n : ℕ). joined source new ≡ joined source old ++ slice source line.start n) c.end_in_leaf.ensures (subst (λ (t : List ℕ). joined t new ≡ joined t old ++ slice t line.start c.end_in_leaf.result) i.source h.text) in
+    let more : PlacesMore source old line.start (content_end - line.start) new =
+    subst (λ (n : ℕ). PlacesMore source old line.start (n - line.start) new) c.end_in_leaf.ensures (subst (λ (t : List ℕ). PlacesMore t old line.start (c.end_in_leaf.result - line.start) new) i.source h.places) in
     record {
       source = h.source ∙ i.source;
-      lines = subst (λ (n : ℕ). AreLines source n others) (sym (h.end ∙ c.line_end.ensures)) (lines-behind source c.loop-line.opened.end line others are);
+      lines = subst (λ (n : ℕ). AreLines source n others) (sym (h.end ∙ c.end_in_leaf.ensures)) (lines-behind source c.loop-line.opened.end line others are);
       now = subst (λ (t : List ℕ). IsOpen t c.push_part.new.self.stretches.items next) i.source h.«open»;
       text = line-bytes source (joined source old) c.args.lines.now rest line others (joined source new) is i.text told;
       places = stand-more source c.args.lines.now rest others line old new is i.places more
-          (ap length told ∙ length-append (joined source old) (slice source line.start stop) ∙ ap (λ n. length (joined source old) + n) (slice-length source line.start stop (line-part source c.loop-line.opened.end line others are).within));
+          (ap length told ∙ length-append (joined source old) (slice source line.start content_end) ∙ ap (λ n. length (joined source old) + n) (slice-length source line.start content_end (line-part source c.loop-line.opened.end line others are).within));
     }

@@ -2,7 +2,7 @@ use Rattle.std.proofs.Common.{◌≡◌, ◌<◌, ◌≤◌, ◌+◌, ℕ, List,
 use Rattle.std.specs.Prelude.{slice_get}
 use Rattle.std.proofs.lemmas.Option.{slice_get-get_or}
 use Rattle.cmark_leaf_text.specs.declared.stretch.Stretch.{Stretch}
-use Rattle.cmark_leaf_text.proofs.StretchSteps.{first-begins, some-stretch, nothing-past}
+use Rattle.cmark_leaf_text.proofs.StretchSteps.{first-begins, some-stretch, nothing-line_end}
 use Rattle.cmark_leaf_text.proofs.leaf_text.LeafText.stretch_at.Goals as goal
 
 pub loop-high-init : goal.loop-high-init
@@ -15,7 +15,7 @@ loop-high-init c =
       some = (let l : 0 < c.len-high.result = omega (arith, n, k) in l);
       within = (let l : c.len-high.result ≤ length items = omega (arith, n) in l);
       before = (λ s e. let b = first-begins source items s c.requires.read.stretches e in (let l : s.at ≤ c.args.at = omega (arith, b) in l));
-      next = (λ s e. absurd (nothing-past source items c.len-high.result s (let l : length items ≤ c.len-high.result = omega (arith, n) in l) e));
+      next = (λ s e. absurd (nothing-line_end source items c.len-high.result s (let l : length items ≤ c.len-high.result = omega (arith, n) in l) e));
     }
 
 pub returns : goal.returns

@@ -4,7 +4,7 @@ use Rattle.cmark_grammar.specs.Containers as grammar
 use Rattle.cmark_grammar.specs.Containers.{keeps}
 use Rattle.cmark_lines.specs.Rests.{row_of}
 use Rattle.cmark_lines.proofs.RestSteps.{whole}
-use Rattle.cmark_lines.proofs.ContainerRows.{blank-ends, bare-kept, quote-keeps, shows-quote, shows-item, shows-footnote, shows-definition, definition-keeps, kept-in}
+use Rattle.cmark_lines.proofs.ContainerRows.{blank-ends, bare-kept, block_quote-keeps, shows-block_quote, shows-item, shows-footnote, shows-definition, definition-keeps, kept-in}
 use Rattle.cmark_lines.proofs.container.Container.keeps.Goals.{else-bare-via-then-bare+else-is_blank, else-bare-via-else-bare}
 use Rattle.cmark_lines.proofs.container.Container.keeps.Goals as goal
 
@@ -13,8 +13,8 @@ returns-then-is_blank-clause-row c k shows =
     let r = row_of c.args.rest in
     blank-ends k r (whole c.args.rest) (sym c.is_blank.ensures ∙ c.if-is_blank.true) ∙ ap (λ b. keeps k b r) (sym c.if-bare.true)
 
-pub returns-in-Quote-clause-row : goal.returns-in-Quote-clause-row
-returns-in-Quote-clause-row c k shows =
+pub returns-in-BlockQuote-clause-row : goal.returns-in-BlockQuote-clause-row
+returns-in-BlockQuote-clause-row c k shows =
     let r = row_of c.args.rest in
     let test : (c.args.bare && is_blank_line r) ≡ false =
     elim c.else-bare.branch [
@@ -22,11 +22,11 @@ returns-in-Quote-clause-row c k shows =
       | else-bare-via-else-bare w ↦ ap (λ z. z && is_blank_line r) w.if-bare.false
     ]
     in
-    let quote = shows-quote c.args.self k c.in-Quote.is shows in
-    c.behind_quote.ensures ∙ quote-keeps quote.0 r (whole c.args.rest) ∙ bare-kept (grammar.Quote quote.0) c.args.bare r test ∙ ap (λ x. keeps x c.args.bare r) (sym quote.1)
+    let block_quote = shows-block_quote c.args.self k c.in-BlockQuote.is shows in
+    c.behind_block_quote.ensures ∙ block_quote-keeps block_quote.0 r (whole c.args.rest) ∙ bare-kept (grammar.BlockQuote block_quote.0) c.args.bare r test ∙ ap (λ x. keeps x c.args.bare r) (sym block_quote.1)
 
-pub returns-in-Quote-clause-placed : goal.returns-in-Quote-clause-placed
-returns-in-Quote-clause-placed c text = kept-in text c.args.rest (grammar.Quote None) c.behind_quote.result (c.behind_quote.ensures ∙ quote-keeps None (row_of c.args.rest) (whole c.args.rest))
+pub returns-in-BlockQuote-clause-placed : goal.returns-in-BlockQuote-clause-placed
+returns-in-BlockQuote-clause-placed c text = kept-in text c.args.rest (grammar.BlockQuote None) c.behind_block_quote.result (c.behind_block_quote.ensures ∙ block_quote-keeps None (row_of c.args.rest) (whole c.args.rest))
 
 pub returns-in-Item-clause-row : goal.returns-in-Item-clause-row
 returns-in-Item-clause-row c k shows =

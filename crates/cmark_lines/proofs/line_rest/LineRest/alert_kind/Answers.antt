@@ -9,5 +9,5 @@ pub returns : goal.returns
 unfolding row_of
 returns c options same =
     let rest = c.args.self.now in
-    c.scan_blockquote_tag.ensures.found rest.start rest.past
+    c.scan_blockquote_tag.ensures.found rest.start rest.line_end
     ∙ ap (λ z. if z && (indent_of (row_of rest) == 0) then alert_of (words_of (row_of rest)) else None) (sym (same ∙ c.if-not-gfm.false))

@@ -17,12 +17,12 @@ returns-then-is_blank c label size =
 
 pub with_front-requires : goal.with_front-requires
 unfolding row_of
-with_front-requires c = let rest = c.args.self in ap (λ r. r.stop) (c.hold.ensures rest.start rest.past)
+with_front-requires c = let rest = c.args.self in ap (λ r. r.content_end) (c.hold.ensures rest.start rest.line_end)
 
 pub returns : goal.returns
 unfolding row_of
 returns c label size =
     let rest = c.args.self in
-    ap Some (c.with_front.ensures ∙ c.hold.ensures rest.start rest.past)
+    ap Some (c.with_front.ensures ∙ c.hold.ensures rest.start rest.line_end)
     ∙ old-keeps label size (row_of rest) (whole rest) (sym c.is_blank.ensures ∙ c.if-is_blank.false)
     ∙ ap (λ o. keeps (Footnote label o size) false (row_of rest)) (sym c.if-not-old.false)

@@ -6,14 +6,14 @@ use Rattle.cmark_lines.proofs.line_rest.LineRest.behind_indent.Goals as goal
 
 pub with_front-requires : goal.with_front-requires
 unfolding row_of
-with_front-requires c = let rest = c.args.self in ap (λ r. r.stop) (c.scan_all_space.ensures rest.start rest.past)
+with_front-requires c = let rest = c.args.self in ap (λ r. r.content_end) (c.scan_all_space.ensures rest.start rest.line_end)
 
 pub returns-clause-row : goal.returns-clause-row
 unfolding row_of
-returns-clause-row c = let rest = c.args.self in c.with_front.ensures ∙ c.scan_all_space.ensures rest.start rest.past
+returns-clause-row c = let rest = c.args.self in c.with_front.ensures ∙ c.scan_all_space.ensures rest.start rest.line_end
 
 pub returns-clause-placed : goal.returns-clause-placed
 unfolding row_of
 returns-clause-placed c text =
     let rest = c.args.self in
-    in-behind text (indent_of (row_of rest)) rest c.with_front.result (c.with_front.ensures ∙ c.scan_all_space.ensures rest.start rest.past) (omega arith)
+    in-behind text (indent_of (row_of rest)) rest c.with_front.result (c.with_front.ensures ∙ c.scan_all_space.ensures rest.start rest.line_end) (omega arith)

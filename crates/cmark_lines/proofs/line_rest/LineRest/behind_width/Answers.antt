@@ -11,21 +11,21 @@ pub returns-then-not-is_at_eol : goal.returns-then-not-is_at_eol
 unfolding row_of
 returns-then-not-is_at_eol c =
     let rest = c.args.self in
-    let enough : nat_le c.args.width (indent_of (row_of rest)) ≡ false = sym (c.scan_space.ensures.enough rest.start rest.past) ∙ c.if-not-scan_space.true in
-    let bare : is_bare (row_from rest.start rest.past c.scan_space.new.self).columns ≡ false = sym (c.is_at_eol.ensures rest.start) ∙ c.if-not-is_at_eol.true in
-    width-lacked (row_of rest) (row_from rest.start rest.past c.scan_space.new.self) c.args.width refl (c.scan_space.ensures.rest rest.start rest.past)
-    (ap (λ z. z || is_bare (row_from rest.start rest.past c.scan_space.new.self).columns) enough ∙ bare)
+    let enough : nat_le c.args.width (indent_of (row_of rest)) ≡ false = sym (c.scan_space.ensures.enough rest.start rest.line_end) ∙ c.if-not-scan_space.true in
+    let bare : is_bare (row_from rest.start rest.line_end c.scan_space.new.self).columns ≡ false = sym (c.is_at_eol.ensures rest.start) ∙ c.if-not-is_at_eol.true in
+    width-lacked (row_of rest) (row_from rest.start rest.line_end c.scan_space.new.self) c.args.width refl (c.scan_space.ensures.rest rest.start rest.line_end)
+    (ap (λ z. z || is_bare (row_from rest.start rest.line_end c.scan_space.new.self).columns) enough ∙ bare)
 
 pub with_front-requires : goal.with_front-requires
 unfolding row_of
-with_front-requires c = let rest = c.args.self in ap (λ r. r.stop) (c.scan_space.ensures.rest rest.start rest.past)
+with_front-requires c = let rest = c.args.self in ap (λ r. r.content_end) (c.scan_space.ensures.rest rest.start rest.line_end)
 
 pub returns : goal.returns
 unfolding row_of
 returns c =
     let rest = c.args.self in
-    let after = row_from rest.start rest.past c.scan_space.new.self in
-    let enough = c.scan_space.ensures.enough rest.start rest.past in
+    let after = row_from rest.start rest.line_end c.scan_space.new.self in
+    let enough = c.scan_space.ensures.enough rest.start rest.line_end in
     let test : (nat_le c.args.width (indent_of (row_of rest)) || is_bare after.columns) ≡ true =
     elim c.else-not-scan_space.branch [
       | else-not-scan_space-via-then-not-scan_space+else-not-is_at_eol w ↦
@@ -33,4 +33,4 @@ returns c =
       | else-not-scan_space-via-else-not-scan_space w ↦ ap (λ z. z || is_bare after.columns) (sym enough ∙ w.if-not-scan_space.false)
     ]
     in
-    λ mark number task. ap Some c.with_front.ensures ∙ width-kept (row_of rest) after c.args.width refl (c.scan_space.ensures.rest rest.start rest.past) test mark number task
+    λ delimiter number task. ap Some c.with_front.ensures ∙ width-kept (row_of rest) after c.args.width refl (c.scan_space.ensures.rest rest.start rest.line_end) test delimiter number task

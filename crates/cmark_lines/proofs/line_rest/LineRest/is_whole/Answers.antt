@@ -10,5 +10,5 @@ pub returns-then-begin-self : goal.returns-then-begin-self
 unfolding row_of
 returns-then-begin-self c =
     let rest = c.args.self.now in
-    ap not (c.is_held.ensures rest.start rest.past)
+    ap not (c.is_held.ensures rest.start rest.line_end)
     ∙ ap (λ z. z && not (row_of rest).held) (sym (same_place (begin_of (row_of rest)) rest.start (sym c.begin.ensures.place ∙ c.if-begin-self.true)))

@@ -30,8 +30,8 @@ invariant_of-result c =
     let text = c.args.text.now in
     let start = c.args.start in
     let len = line-len text start c.new-front.result c.new-front.ensures c.remaining_bytes-len.result.now c.remaining_bytes-len.ensures in
-    let stop = ap (λ r. r.stop) (whole-line text start c.new-front.result c.new-front.ensures start 0) in
-    record { ends = omega (arith, len, stop) }
+    let content_end = ap (λ r. r.content_end) (whole-line text start c.new-front.result c.new-front.ensures start 0) in
+    record { ends = omega (arith, len, content_end) }
 
 -- the bytes from the line's beginning on
 abbrev line_bytes : goal.After-result-1 → List ℕ
@@ -55,12 +55,12 @@ the_within c =
     let len = length c.remaining_bytes-len.result.now in
     omega (arith, c.ending_len.ensures.within, ap length (rest_of (line_bytes c) len), length-drop len (line_bytes c), ap length (rest_of text start), length-drop start text, c.requires, the_len c, content-len (drop start text))
 
-abbrev the_past : goal.After-result-1 → ℕ
-the_past c = c.args.start + length c.remaining_bytes-len.result.now + c.ending_len.result
+abbrev the_line_end : goal.After-result-1 → ℕ
+the_line_end c = c.args.start + length c.remaining_bytes-len.result.now + c.ending_len.result
 
-the_row : (c : goal.After-result-1) → row_from c.args.start (the_past c) c.new-front.result ≡ line_of c.args.start (the_past c) (drop c.args.start c.args.text.now)
+the_row : (c : goal.After-result-1) → row_from c.args.start (the_line_end c) c.new-front.result ≡ line_of c.args.start (the_line_end c) (drop c.args.start c.args.text.now)
 unfolding row_of
-the_row c = whole-line c.args.text.now c.args.start c.new-front.result c.new-front.ensures c.args.start (the_past c)
+the_row c = whole-line c.args.text.now c.args.start c.new-front.result c.new-front.ensures c.args.start (the_line_end c)
 
 pub returns-clause-line : goal.returns-clause-line
 unfolding row_of
@@ -71,7 +71,7 @@ pub returns-clause-further : goal.returns-clause-further
 unfolding row_of
 returns-clause-further c lt =
     rows-further c.args.text.now c.args.start (length c.remaining_bytes-len.result.now) c.ending_len.result (the_len c) (the_ending c) lt
-    ∙ ap (λ r. r ∷ rows_from (the_past c) (lines (drop (the_past c) c.args.text.now))) (sym (the_row c))
+    ∙ ap (λ r. r ∷ rows_from (the_line_end c) (lines (drop (the_line_end c) c.args.text.now))) (sym (the_row c))
 
 pub returns-clause-none : goal.returns-clause-none
 unfolding row_of
@@ -94,10 +94,10 @@ returns-clause-placed c utf8 boundary = record {
     start : ℕ
     start = c.args.start
 
-    at_end : start ≡ length text → GoodRow (IsCharBoundary text) (line_of start (the_past c) (drop start text))
+    at_end : start ≡ length text → GoodRow (IsCharBoundary text) (line_of start (the_line_end c) (drop start text))
     at_end end =
         subst (GoodRow (IsCharBoundary text)) (sym (row-none text start (length c.remaining_bytes-len.result.now) c.ending_len.result (the_len c) (the_ending c) end))
         (none-good (IsCharBoundary text) start boundary)
 
-    within : start < length text → GoodRow (IsCharBoundary text) (line_of start (the_past c) (drop start text))
+    within : start < length text → GoodRow (IsCharBoundary text) (line_of start (the_line_end c) (drop start text))
     within lt = line-good text start (length c.remaining_bytes-len.result.now) c.ending_len.result (the_len c) (the_ending c) lt utf8 boundary

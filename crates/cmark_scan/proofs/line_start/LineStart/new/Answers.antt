@@ -6,7 +6,7 @@ use Rattle.cmark_scan.proofs.ContentSteps.{content-once}
 use Rattle.cmark_scan.proofs.line_start.LineStart.new.Goals as goal
 
 pub returns : goal.returns
-returns c at past = ap (λ cs. record { columns = expand 0 at cs; at = at; stop = at + length cs; past = past; lazy = false; held = false }) c.content_len-len.ensures.content
+returns c at line_end = ap (λ cs. record { columns = expand 0 at cs; at = at; content_end = at + length cs; line_end = line_end; lazy = false; held = false }) c.content_len-len.ensures.content
 
 pub invariant_of-result-clause-plain : goal.invariant_of-result-clause-plain
 invariant_of-result-clause-plain c =

@@ -18,10 +18,10 @@ loop-preserved c =
     }
 
 pub returns : goal.returns
-returns c at past =
+returns c at line_end =
     let inv = c.loop.invariant in
     let step = c.take_blank.ensures in
     let none : c.take_blank.result ≡ 0 = let z = c.loop-test.false in omega arith in
-    row-behind at past c.args.self.now c.take_blank.new.self (step.line ∙ inv.line) (step.held ∙ inv.held)
+    row-behind at line_end c.args.self.now c.take_blank.new.self (step.line ∙ inv.line) (step.held ∙ inv.held)
     (same-behind at c.take_blank.result c.loop.self c.take_blank.new.self step.line step.taken (step.blank at) ∙ inv.same at)
     (ap indent (columns-further at c.take_blank.result c.loop.self c.take_blank.new.self step.line step.taken ∙ ap (λ n. drop n (columns_from at c.loop.self)) none) ∙ step.none at none)

@@ -8,27 +8,27 @@ use Rattle.cmark_scan.proofs.LineStartSteps.{row-emptied}
 use Rattle.cmark_scan.proofs.line_start.LineStart.scan_blockquote_tag.Goals as goal
 
 pub returns-in_err-kind-clause-found : goal.returns-in_err-kind-clause-found
-returns-in_err-kind-clause-found c at past =
-    let r = row_from at past c.args.self.now in
+returns-in_err-kind-clause-found c at line_end =
+    let r = row_from at line_end c.args.self.now in
     ap (option_map shown_block_quote_kind) c.from_residual.ensures ∙ c.in_err-kind.ensures.value
-    ∙ sym (found-is r c.ahead.result.now (c.ahead.ensures.words at past) (c.ahead.ensures.blank at past) alert_of alert-none)
+    ∙ sym (found-is r c.ahead.result.now (c.ahead.ensures.words at line_end) (c.ahead.ensures.blank at line_end) alert_of alert-none)
 
 pub returns-in_err-kind-clause-rest : goal.returns-in_err-kind-clause-rest
-returns-in_err-kind-clause-rest c at past =
-    let r = row_from at past c.args.self.now in
+returns-in_err-kind-clause-rest c at line_end =
+    let r = row_from at line_end c.args.self.now in
     ap (λ o. if is_some o then record r { columns = [] } else r)
-    (c.in_err-kind.ensures.value ∙ sym (found-is r c.ahead.result.now (c.ahead.ensures.words at past) (c.ahead.ensures.blank at past) alert_of alert-none))
+    (c.in_err-kind.ensures.value ∙ sym (found-is r c.ahead.result.now (c.ahead.ensures.words at line_end) (c.ahead.ensures.blank at line_end) alert_of alert-none))
 
 pub returns-clause-found : goal.returns-clause-found
-returns-clause-found c at past =
-    let r = row_from at past c.args.self.now in
-    c.in_ok-kind.ensures.value ∙ sym (found-is r c.ahead.result.now (c.ahead.ensures.words at past) (c.ahead.ensures.blank at past) alert_of alert-none)
+returns-clause-found c at line_end =
+    let r = row_from at line_end c.args.self.now in
+    c.in_ok-kind.ensures.value ∙ sym (found-is r c.ahead.result.now (c.ahead.ensures.words at line_end) (c.ahead.ensures.blank at line_end) alert_of alert-none)
 
 pub returns-clause-rest : goal.returns-clause-rest
-returns-clause-rest c at past =
+returns-clause-rest c at line_end =
     let line = c.args.self.now in
-    let r = row_from at past line in
-    row-emptied at past line c.take_bytes.new.self c.scan_all_space.new.self c.in_ok-kind.size c.ahead.result.now c.take_bytes.ensures.line (ap (λ r. r.held) (c.take_bytes.ensures.rest at past)) c.take_bytes.ensures.taken c.take_bytes.ensures.whole (c.ahead.ensures.rest (let some = c.in_ok-kind.ensures.some in let within = c.in_ok-kind.ensures.within in omega arith))
-    c.in_ok-kind.ensures.blank (c.scan_all_space.ensures at past)
+    let r = row_from at line_end line in
+    row-emptied at line_end line c.take_bytes.new.self c.scan_all_space.new.self c.in_ok-kind.size c.ahead.result.now c.take_bytes.ensures.line (ap (λ r. r.held) (c.take_bytes.ensures.rest at line_end)) c.take_bytes.ensures.taken c.take_bytes.ensures.whole (c.ahead.ensures.rest (let some = c.in_ok-kind.ensures.some in let within = c.in_ok-kind.ensures.within in omega arith))
+    c.in_ok-kind.ensures.blank (c.scan_all_space.ensures at line_end)
     ∙ ap (λ o. if is_some o then record r { columns = [] } else r)
-    (c.in_ok-kind.ensures.value ∙ sym (found-is r c.ahead.result.now (c.ahead.ensures.words at past) (c.ahead.ensures.blank at past) alert_of alert-none))
+    (c.in_ok-kind.ensures.value ∙ sym (found-is r c.ahead.result.now (c.ahead.ensures.words at line_end) (c.ahead.ensures.blank at line_end) alert_of alert-none))

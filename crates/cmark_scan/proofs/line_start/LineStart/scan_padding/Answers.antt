@@ -17,16 +17,16 @@ returns-then-blanks-eq5-clause-count c at =
     ]
 
 pub returns-then-blanks-eq5-clause-rest : goal.returns-then-blanks-eq5-clause-rest
-returns-then-blanks-eq5-clause-rest c at past =
-    let r = row_from at past c.args.self.now in
+returns-then-blanks-eq5-clause-rest c at line_end =
+    let r = row_from at line_end c.args.self.now in
     let n = c.scan_space_upto-blanks.result in
     let why : (n ≡ 5) ⊎ (is_bare (drop n r.columns) ≡ true) =
     elim c.then-blanks-eq5.branch [
       | then-blanks-eq5-via-then-blanks-eq5 w ↦ inl w.if-blanks-eq5.true
-      | then-blanks-eq5-via-else-blanks-eq5+then-is_at_eol w ↦ inr (ap (λ r. is_bare r.columns) (sym (c.scan_space_upto-blanks.ensures.rest at past)) ∙ sym (w.is_at_eol.ensures at) ∙ w.if-is_at_eol.true)
+      | then-blanks-eq5-via-else-blanks-eq5+then-is_at_eol w ↦ inr (ap (λ r. is_bare r.columns) (sym (c.scan_space_upto-blanks.ensures.rest at line_end)) ∙ sym (w.is_at_eol.ensures at) ∙ w.if-is_at_eol.true)
     ]
     in
-    c.scan_space_upto.ensures.rest at past ∙ ap (λ k. without k r) (c.scan_space_upto.ensures.count at)
+    c.scan_space_upto.ensures.rest at line_end ∙ ap (λ k. without k r) (c.scan_space_upto.ensures.count at)
     ∙ ap (λ cs. record r { columns = cs }) (pad-one r.columns n (c.scan_space_upto-blanks.ensures.count at) why)
 
 pub returns-clause-count : goal.returns-clause-count

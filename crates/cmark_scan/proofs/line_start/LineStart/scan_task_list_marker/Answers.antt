@@ -7,22 +7,22 @@ use Rattle.cmark_scan.proofs.RowSteps.{found-is, task-none}
 use Rattle.cmark_scan.proofs.line_start.LineStart.scan_task_list_marker.Goals as goal
 
 pub returns-in_err-checked-clause-found : goal.returns-in_err-checked-clause-found
-returns-in_err-checked-clause-found c at past =
-    let r = row_from at past c.args.self.now in
-    c.from_residual.ensures ∙ c.in_err-checked.ensures.value ∙ sym (found-is r c.ahead.result.now (c.ahead.ensures.words at past) (c.ahead.ensures.blank at past) task_of task-none)
+returns-in_err-checked-clause-found c at line_end =
+    let r = row_from at line_end c.args.self.now in
+    c.from_residual.ensures ∙ c.in_err-checked.ensures.value ∙ sym (found-is r c.ahead.result.now (c.ahead.ensures.words at line_end) (c.ahead.ensures.blank at line_end) task_of task-none)
 
 pub returns-in_err-checked-clause-rest : goal.returns-in_err-checked-clause-rest
-returns-in_err-checked-clause-rest c at past =
-    let r = row_from at past c.args.self.now in
-    ap (λ o. if is_some o then without 3 r else r) (c.in_err-checked.ensures.value ∙ sym (found-is r c.ahead.result.now (c.ahead.ensures.words at past) (c.ahead.ensures.blank at past) task_of task-none))
+returns-in_err-checked-clause-rest c at line_end =
+    let r = row_from at line_end c.args.self.now in
+    ap (λ o. if is_some o then without 3 r else r) (c.in_err-checked.ensures.value ∙ sym (found-is r c.ahead.result.now (c.ahead.ensures.words at line_end) (c.ahead.ensures.blank at line_end) task_of task-none))
 
 pub returns-clause-found : goal.returns-clause-found
-returns-clause-found c at past =
-    let r = row_from at past c.args.self.now in
-    c.in_ok-checked.ensures.value ∙ sym (found-is r c.ahead.result.now (c.ahead.ensures.words at past) (c.ahead.ensures.blank at past) task_of task-none)
+returns-clause-found c at line_end =
+    let r = row_from at line_end c.args.self.now in
+    c.in_ok-checked.ensures.value ∙ sym (found-is r c.ahead.result.now (c.ahead.ensures.words at line_end) (c.ahead.ensures.blank at line_end) task_of task-none)
 
 pub returns-clause-rest : goal.returns-clause-rest
-returns-clause-rest c at past =
-    let r = row_from at past c.args.self.now in
-    c.take_bytes.ensures.rest at past
-    ∙ ap (λ o. if is_some o then without 3 r else r) (c.in_ok-checked.ensures.value ∙ sym (found-is r c.ahead.result.now (c.ahead.ensures.words at past) (c.ahead.ensures.blank at past) task_of task-none))
+returns-clause-rest c at line_end =
+    let r = row_from at line_end c.args.self.now in
+    c.take_bytes.ensures.rest at line_end
+    ∙ ap (λ o. if is_some o then without 3 r else r) (c.in_ok-checked.ensures.value ∙ sym (found-is r c.ahead.result.now (c.ahead.ensures.words at line_end) (c.ahead.ensures.blank at line_end) task_of task-none))

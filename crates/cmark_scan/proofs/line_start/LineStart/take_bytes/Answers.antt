@@ -19,6 +19,6 @@ invariant_of-self c =
     }
 
 pub returns-clause-rest : goal.returns-clause-rest
-returns-clause-rest c at past =
+returns-clause-rest c at line_end =
     let line = c.args.self.now in
-    row-on at past c.args.n line (line.taken + c.args.n) line.pending (let e = plain-behind line.bytes.now line.taken c.args.n c.requires.within c.requires.plain in let w = c.requires.whole in omega arith)
+    row-on at line_end c.args.n line (line.taken + c.args.n) line.pending (let e = plain-behind line.bytes.now line.taken c.args.n c.requires.within c.requires.plain in let w = c.requires.whole in omega arith)

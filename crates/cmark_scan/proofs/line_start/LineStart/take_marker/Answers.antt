@@ -6,10 +6,10 @@ use Rattle.cmark_scan.proofs.FootnoteColumns.{marker-taken}
 use Rattle.cmark_scan.proofs.line_start.LineStart.take_marker.Goals as goal
 
 pub returns-clause-rest : goal.returns-clause-rest
-returns-clause-rest c at past =
+returns-clause-rest c at line_end =
     let line = c.args.self.now in
     let n = c.args.n in
     let inv = c.loop-self.invariant in
     let further : c.loop-self.self.taken ≡ line.taken + n = let w = inv.within in let t = c.loop-self-test.false in omega (arith, w, t) in
-    row-further at past (columns_over n (columns_from at line)) line c.loop-self.self inv.line inv.held
+    row-further at line_end (columns_over n (columns_from at line)) line c.loop-self.self inv.line inv.held
     (marker-taken at n line c.loop-self.self c.requires.whole inv.whole inv.line further c.requires.some c.requires.within c.requires.last)

@@ -17,5 +17,5 @@ returns-clause-begins g c = λ reader left remains same few placed read.
 
 pub returns-clause-reads : goal.returns-clause-reads
 returns-clause-reads g c = λ reader left exchanges events remains m.
-    subst (λ l. Left reader l c.new-3.result.expansion exchanges events) (one-remainder c.args.walk m.read_by.left left m.read_by.stands.blocks.remains remains)
+    subst (λ l. Left reader l c.new-3.result.expansion_left exchanges events) (one-remainder c.args.walk m.read_by.left left m.read_by.stands.blocks.remains remains)
     (remains-outside g.E.EntityLookup.replacement reader _ m.read_by refl exchanges events m)

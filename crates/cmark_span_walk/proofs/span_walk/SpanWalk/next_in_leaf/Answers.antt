@@ -32,7 +32,7 @@ returns-in-Short-clause-given g c = λ reader r.
       is = h.is;
       range = h.follows.range;
       lent = h.lent;
-      passes = spanned g.F.BrokenLinkCallback.answers g.E.EntityLookup.replacement reader walk c.next_short.new.self (h.given ∷ []) r inside (spanned-at walk c.next_short.new.self r.left r.stands inside e.slots e.opened (e.left given)) e.expansion h.first;
+      passes = spanned g.F.BrokenLinkCallback.answers g.E.EntityLookup.replacement reader walk c.next_short.new.self (h.given ∷ []) r inside (spanned-at walk c.next_short.new.self r.left r.stands inside e.slots e.opened (e.left given)) e.expansion_left h.first;
     }
 
 pub returns-in-Long-clause-given : goal.returns-in-Long-clause-given
@@ -42,7 +42,7 @@ returns-in-Long-clause-given g c = λ reader r.
     let e = c.in_ok-short.ensures in
     let given = given-left walk r.left r.stands inside in
     let h = subst (λ (n : Next). IsNextFirst (source_of walk) (opened_of walk) n c.next_short.new.self.walk.opened.items (events_to_come walk.leaf walk.inline) (events_to_come walk.leaf c.next_short.new.self)) c.in-Long.is e.events in
-    spanned g.F.BrokenLinkCallback.answers g.E.EntityLookup.replacement reader walk c.next_short.new.self [] r inside (spanned-at walk c.next_short.new.self r.left r.stands inside e.slots e.opened (e.left given)) e.expansion (sym h.1)
+    spanned g.F.BrokenLinkCallback.answers g.E.EntityLookup.replacement reader walk c.next_short.new.self [] r inside (spanned-at walk c.next_short.new.self r.left r.stands inside e.slots e.opened (e.left given)) e.expansion_left (sym h.1)
 
 pub returns-in-Over-clause-given : goal.returns-in-Over-clause-given
 returns-in-Over-clause-given g c = λ reader r.
@@ -50,7 +50,7 @@ returns-in-Over-clause-given g c = λ reader r.
     let inside = c.if-not-self.false in
     let e = c.in_ok-short.ensures in
     let h = subst (λ (n : Next). IsNextFirst (source_of walk) (opened_of walk) n c.next_short.new.self.walk.opened.items (events_to_come walk.leaf walk.inline) (events_to_come walk.leaf c.next_short.new.self)) c.in-Over.is e.events in
-    closed-passes g.F.BrokenLinkCallback.answers g.E.EntityLookup.replacement reader walk c.next_short.new.self r inside e.expansion h.0
+    closed-passes g.F.BrokenLinkCallback.answers g.E.EntityLookup.replacement reader walk c.next_short.new.self r inside e.expansion_left h.0
 
 pub returns-in-Over-clause-kept : goal.returns-in-Over-clause-kept
 returns-in-Over-clause-kept g c = λ reader.
@@ -58,7 +58,7 @@ returns-in-Over-clause-kept g c = λ reader.
     let inside = c.if-not-self.false in
     let e = c.in_ok-short.ensures in
     let h = subst (λ (n : Next). IsNextFirst (source_of walk) (opened_of walk) n c.next_short.new.self.walk.opened.items (events_to_come walk.leaf walk.inline) (events_to_come walk.leaf c.next_short.new.self)) c.in-Over.is e.events in
-    closed-keeps g.E.EntityLookup.replacement reader walk c.next_short.new.self inside e.expansion h.0
+    closed-keeps g.E.EntityLookup.replacement reader walk c.next_short.new.self inside e.expansion_left h.0
 
 pub returns-in_err-short-clause-ends : goal.returns-in_err-short-clause-ends
 returns-in_err-short-clause-ends g c = on-err c.from_residual.result _ (λ reader. spans-begin g.E.EntityLookup.replacement reader c.args.self.now c.if-not-self.false c.in_err-short.ensures.ends)

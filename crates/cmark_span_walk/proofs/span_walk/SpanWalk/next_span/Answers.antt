@@ -28,7 +28,7 @@ returns-in-Some-clause-given g c = λ reader r.
     let follows = subst (λ o. GivesSlot (source_of walk) (opened_of walk) o c.next.new.self.walk.opened.items) c.in-Some.is e.gives in
     let first = subst (λ o. IsFirst o (events_to_come walk.leaf walk.inline) (events_to_come walk.leaf c.next.new.self)) c.in-Some.is e.events in
     subst (λ x. HasRange (source_of walk) x × Passes g.F.BrokenLinkCallback.answers g.E.EntityLookup.replacement reader (x ∷ []) walk new) (sym c.ranged.ensures.value)
-    (follows.range, spanned g.F.BrokenLinkCallback.answers g.E.EntityLookup.replacement reader walk c.next.new.self _ r inside (spanned-at walk c.next.new.self r.left r.stands inside e.slots e.opened e.left) e.expansion first)
+    (follows.range, spanned g.F.BrokenLinkCallback.answers g.E.EntityLookup.replacement reader walk c.next.new.self _ r inside (spanned-at walk c.next.new.self r.left r.stands inside e.slots e.opened e.left) e.expansion_left first)
 
 pub returns-in-None-clause-stands : goal.returns-in-None-clause-stands
 returns-in-None-clause-stands g c = let s = c.requires in (s.0, closed-at c.args.self.now c.next.new.self s.0 s.1)
@@ -39,7 +39,7 @@ returns-in-None-clause-given g c = λ reader r.
     let inside = c.if-not-self.false in
     let e = c.in_ok-given.ensures in
     let first = subst (λ o. IsFirst o (events_to_come walk.leaf walk.inline) (events_to_come walk.leaf c.next.new.self)) c.in-None.is e.events in
-    closed-passes g.F.BrokenLinkCallback.answers g.E.EntityLookup.replacement reader walk c.next.new.self r inside e.expansion first.0
+    closed-passes g.F.BrokenLinkCallback.answers g.E.EntityLookup.replacement reader walk c.next.new.self r inside e.expansion_left first.0
 
 pub returns-in-None-clause-kept : goal.returns-in-None-clause-kept
 returns-in-None-clause-kept g c = λ reader none.
@@ -47,7 +47,7 @@ returns-in-None-clause-kept g c = λ reader none.
     let inside = c.if-not-self.false in
     let e = c.in_ok-given.ensures in
     let first = subst (λ o. IsFirst o (events_to_come walk.leaf walk.inline) (events_to_come walk.leaf c.next.new.self)) c.in-None.is e.events in
-    closed-keeps g.E.EntityLookup.replacement reader walk c.next.new.self inside e.expansion first.0
+    closed-keeps g.E.EntityLookup.replacement reader walk c.next.new.self inside e.expansion_left first.0
 
 pub returns-in_err-given-clause-ends : goal.returns-in_err-given-clause-ends
 returns-in_err-given-clause-ends g c = on-err c.from_residual.result _ (λ reader.

@@ -55,7 +55,7 @@ returns-clause-reads g c =
     let placed = begin-placed replacement parser text options lookup c.utf8.text in
     let same = begin-same replacement parser text options lookup n.source n.options entities (returns-clause-definitions g c d (derived text options lookup)) (returns-clause-footnotes g c d (derived text options lookup)) in
     let begins = n.begins (reader_by text options lookup) left remains c.new-walk.ensures.text (begin-few text options lookup) placed same in
-    reads-from replacement parser text options lookup refl (begin-reader replacement parser text options lookup n.source n.options entities) n.expansion placed begins.1
+    reads-from replacement parser text options lookup refl (begin-reader replacement parser text options lookup n.source n.options entities) n.expansion_left placed begins.1
     (λ exchanges events m. n.reads (reader_by text options lookup) left exchanges events remains m)
 
 pub returns-clause-goes : goal.returns-clause-goes
