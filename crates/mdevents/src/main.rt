@@ -14,12 +14,12 @@ fn main(rt: HostRuntime) -> ExitCode {
     let mut reader = Watched::new(rt.stdin());
     let mut writer = Watched::new(rt.stdout());
     let ended = match start(&rt, "mdevents", ABOUT) {
-        Ok(told) => run(
+        Ok(settings) => run(
             rt.alloc(),
             &mut reader,
             &mut writer,
-            told.options,
-            &told.entities,
+            settings.options,
+            &settings.entities,
         ),
         Err(Stop::Help(text)) => write_text(&mut writer, text.as_bytes()),
         Err(Stop::BadLine) => {
