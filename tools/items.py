@@ -103,6 +103,18 @@ def implemented(front):
     return names[-1] if names else "", is_of_trait
 
 
+def without_derives(front):
+    """What stands in front of a type's keyword, without the attributes that derive traits for it: what is derived is a function of its own."""
+    kept, at = [], 0
+    while at < len(front):
+        if [it.text for it in front[at : at + 3]] == ["#", "[", "derive"]:
+            at += 1 + next(place for place, token in enumerate(front[at:]) if token.text == "]")
+        else:
+            kept.append(front[at])
+            at += 1
+    return kept
+
+
 def split(file, tokens, outer=None):
     """The items of a file, or of the inside of an impl block or a module, those within them included."""
     at, items = 0, []
@@ -124,6 +136,8 @@ def split(file, tokens, outer=None):
         else:
             kind = "ghost use" if kind == "ghost" and tokens[key + 1].text == "use" else kind
             name = next((it.text for it in tokens[key + 1 : past] if WORD.fullmatch(it.text)), "")
+            if kind in ("struct", "enum"):
+                own = shown = [*without_derives(tokens[at:key]), *tokens[key:past]]
             items.append(Item(file, kind, name, outer, own, shown))
         at = past
     return items

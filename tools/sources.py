@@ -11,6 +11,7 @@ import pathlib
 import re
 import subprocess
 
+import definitions
 import items
 
 IMPORT = re.compile(r"\bRattle\.(\w+)\.(specs|proofs)\.([\w.]+)|\b(\w+)::(specs|proofs)::([\w:]+)")
@@ -98,20 +99,26 @@ class Sources:
 
     @functools.cache
     def imports(self, file):
-        """The files of definitions and lemmas that one stands on, itself among them, and the items of source files that they import."""
-        files, declared, left = set(), set(), [file]
+        """The files of definitions and lemmas that one stands on, itself among them."""
+        files, left = set(), [file]
         while left:
             path = left.pop()
             if path not in files:
                 files.add(path)
-                more, found = self.named_in(path.relative_to(self.crates).parts[0], self.text(path))
-                left += more - files
-                declared |= found
-        return files, declared
+                left += self.imported_in(path)[0] - files
+        return files
+
+    def imported_in(self, path):
+        """The files that one of definitions or lemmas imports itself, and the items of source files."""
+        return self.named_in(path.relative_to(self.crates).parts[0], self.text(path))
 
     @functools.cache
     def digest(self, path):
-        return hashlib.sha256(f"{path.relative_to(self.crates)}\0{COMMENT_LINE.sub('', self.text(path))}".encode()).digest()
+        return hashlib.sha256(COMMENT_LINE.sub("", self.text(path)).encode()).digest()
+
+    @functools.cache
+    def definitions(self, path):
+        return definitions.read(self.text(path))
 
     def text_of(self, item):
         return self.text(item.file).encode()[item.start : item.end].decode()
@@ -120,11 +127,7 @@ class Sources:
     def imported_by(self, item):
         """What an item names by its path: files of definitions and lemmas with all that they stand on, and items."""
         named, found = self.named_in(item.file.relative_to(self.crates).parts[0], self.text_of(item))
-        files = set()
-        for file in named:
-            more, declared = self.imports(file)
-            files, found = files | more, found | declared
-        return files, found
+        return set().union(*(self.imports(it) for it in named)), found
 
     @functools.cache
     def used_by(self, ghost_use):
@@ -172,6 +175,8 @@ class Stands:
     def __init__(self, sources, crate):
         self.sources, self.crate, self.scope = sources, crate, sources.scope(crate)
         self.files, self.pieces, self.words, self.functions, self.called = set(), set(), set(), set(), set()
+        # Files of which all counts: the proofs of the function, and what the edit changes.
+        self.whole = set()
         # Pieces of which it was not seen yet what they name.
         self.left = []
         for file in ("lib.rt", "main.rt"):
@@ -186,10 +191,8 @@ class Stands:
             self.left.append((item, piece))
 
     def add_file(self, path):
-        files, declared = self.sources.imports(path)
-        self.files |= files
-        for item in declared:
-            self.add(item, item.whole)
+        self.files |= self.sources.imports(path)
+        self.whole.add(path)
 
     def add_place(self, file, change):
         """The items of a file that an edit changes."""
@@ -229,17 +232,25 @@ class Stands:
             self.add(item, item.shown)
 
     def close(self):
-        while self.left:
-            item, piece = self.left.pop()
-            files, found, other_names = self.sources.named_by(item, piece)
-            self.files |= files
-            for named in found:
-                self.add(named, named.whole)
-            self.add_named(piece.words | other_names, piece.functions | other_names, piece.methods | other_names)
-        return self
+        while True:
+            while self.left:
+                item, piece = self.left.pop()
+                files, found, other_names = self.sources.named_by(item, piece)
+                self.files |= files
+                for named in found:
+                    self.add(named, named.whole)
+                self.add_named(piece.words | other_names, piece.functions | other_names, piece.methods | other_names)
+            words = {word for _, piece in self.pieces for word in piece.words}
+            words = words.union(*(definitions.words_of(self.sources.text(it)) for it in self.whole))
+            self.reached, words = definitions.reached([self.sources.definitions(it) for it in self.files - self.whole], words)
+            # of the types that a file imports those count that a definition names which is reached
+            for item in {it for file in self.files for it in self.sources.imported_in(file)[1] if it.name in words}:
+                self.add(item, item.whole)
+            if not self.left:
+                return self
 
     def number(self, edit):
         sum_of = hashlib.sha256(f"{self.sources.logic}\0{edit}".encode())
-        for digest in sorted({piece.digest for _, piece in self.pieces} | {self.sources.digest(it) for it in self.files}):
+        for digest in sorted({piece.digest for _, piece in self.pieces} | {self.sources.digest(it) for it in self.whole} | self.reached):
             sum_of.update(digest)
         return sum_of.hexdigest()[:16]
