@@ -1,8 +1,8 @@
 """What the verdict on a wrong edit stands on, as one number for each edit.
 
 A function is proved by itself. Its goals come from its own text and contract, the contracts of what it calls, the declarations that all
-these name, and the definitions and lemmas that they and its proof import. The number of an edit covers that, found by names and rather
-too much than too little; it covers no comment, no body of another function, and of the toolchain the logic alone.
+these name, and the definitions and lemmas that they and its proof import and name. The number of an edit covers that, found by names and
+rather too much than too little; it covers no comment, no body of another function, no derived trait, and of the toolchain the logic alone.
 """
 import collections
 import functools
