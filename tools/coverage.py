@@ -52,7 +52,8 @@ def left_out(stands, found, function):
     """What the check of a function read and the edit's number does not cover, as a sorted list."""
     own, left = function.split("::")[1:], set()
     for crate, kind, name in imports_of(found, function):
-        parts = name.split(".")
+        # a closure's modules stand below `fn` and the name of its function
+        parts = [it for it in name.split(".") if it != "fn"]
         parts = parts[1:] if parts[0] in ("contracts", "declared") else parts
         if (stands.sources.crates / crate).is_dir() and parts[: len(own)] != own and not is_covered(stands, crate, kind, parts):
             left.add(f"{crate}.{kind}.{name}")
