@@ -17,8 +17,8 @@ focus-node tree Nil ix stands e = absurd (let q : Some ix ≡ None = e in cc)
 focus-node tree (Node p inside after) ix stands e =
     subst (λ k. HasNode tree k) (ap (λ i. i.ix) (sym (same_Some ix (record { ix = p.ix }) e))) (node_at-within tree.nodes p.ix _ stands.0)
 
-pub item-requires : goal.item-requires
-item-requires g c =
+pub item-heading-requires : goal.item-heading-requires
+item-heading-requires g c =
     let is = c.in_ok-pass.ensures.document.tree_is in
     let tree = c.in_ok-pass.pass.tree in
     focus-node tree is.z.right c.in-Some.ix (Stands-right (entry_at tree) is.z.left is.z.right (Stands-inner (entry_at tree) is.z.up (siblings is.z) is.holds.forest.stands))
