@@ -1,11 +1,11 @@
 -- The pairs of one run, and of two, that are all of a list.
-use Rattle.std.proofs.Common.{◌≡◌, Bool, true, false, ◌&&◌, arith, get_or, length, nat_lt, if◌then◌else◌, List, [], ◌∷◌, ◌++◌, refl, sym, ap, ◌∙◌, append-nil}
+use Rattle.std.proofs.Common.{◌≡◌, Bool, true, false, ◌&&◌, arith, get_or, length, nat_lt, if◌then◌else◌, List, [], ◌∷◌, ◌++◌, refl, sym, ap, ◌∙◌}
 use Rattle.std.specs.Prelude.{map, filter}
 use Rattle.cmark_emphasis.specs.Shown.{shown_run}
 use Rattle.cmark_emphasis.specs.declared.run.Run as code_run
 use Rattle.cmark_grammar.specs.Emphasis.{Run, Pair, Sibling, agrees, pair_of, deactivates, runs_of}
 use Rattle.cmark_grammar.specs.EmphasisModel.{pairs_of}
-use Rattle.cmark_emphasis.specs.Stack.{chased, pair_all, rest_on, run_pairs, stays_open}
+use Rattle.cmark_emphasis.specs.Stack.{chased, rest_on, run_pairs, stays_open}
 use Rattle.cmark_emphasis.proofs.Bridge.{run_pairs-are}
 
 none_inactive : (b : Bool) → (if b then filter stays_open [] else []) ≡ []

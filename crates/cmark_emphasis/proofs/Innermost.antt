@@ -31,7 +31,7 @@ carets (suc n) lt = let e : n ≡ suc n - 1 = omega arith in ap (λ k. Caret ∷
 pub first_caret : (m n : ℕ) → m ≢ 126 → m ≡ 94 → 0 < n → kinds_of m n ≡ Caret ∷ kinds_of m (n - 1)
 first_caret m n d e lt = kinds-caret m n d e ∙ carets n lt ∙ ap (λ l. Caret ∷ l) (sym (kinds-caret m (n - 1) d e))
 
-kinds-none : (m : ℕ) → kinds_of m 0 ≡ []
+pub kinds-none : (m : ℕ) → kinds_of m 0 ≡ []
 unfolding kinds_of
 kinds-none m = go (m == 126) (m == 94)
   where

@@ -12,3 +12,4 @@ pub mod Agreeing
 pub mod Deactivates
 pub mod Noted
 pub mod FewRuns
+pub mod TwoRuns

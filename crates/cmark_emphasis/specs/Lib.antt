@@ -6,3 +6,4 @@ pub mod QuoteSteps
 pub mod Shown
 pub mod Slots
 pub mod Stack
+pub mod TwoRuns

@@ -10,6 +10,7 @@ mod quotes;
 mod room;
 mod run;
 mod slot;
+mod two;
 
 pub use flanking::{Flanking, flanking_of};
 pub use marking::write_slots;
@@ -18,3 +19,4 @@ pub use quotes::{Quote, quote_characters, quote_of};
 pub use room::{PairingRoom, slots_of_runs};
 pub use run::{Pair, Run};
 pub use slot::{Slot, SpanKind};
+pub use two::slots_of_two;

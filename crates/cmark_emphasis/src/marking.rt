@@ -38,7 +38,7 @@ fn innermost_tilde(left: usize) -> SpanKind
 }
 
 /// The innermost span of so many bytes a side.
-fn innermost(delimiter: u8, left: usize) -> SpanKind
+pub(crate) fn innermost(delimiter: u8, left: usize) -> SpanKind
     requires { 0 < left }
     ensures kinds { kinds_of delimiter left ≡ shown_kind result ∷ kinds_of delimiter (left - span_width (shown_kind result)) }
     ensures fits { span_width (shown_kind result) ≤ left }

@@ -157,7 +157,7 @@ fn close(
 }
 
 /// Whether two runs that are all of a list make a pair.
-fn makes_a_pair(first: Run, second: Run) -> bool
+pub(crate) fn makes_a_pair(first: Run, second: Run) -> bool
     ensures { result ≡ (first.opens && (nat_lt 0 first.left && agrees (shown_run first) (shown_run second))) }
 {
     first.opens && first.left > 0 && can_close(first, second)

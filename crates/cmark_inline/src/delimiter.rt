@@ -2,9 +2,10 @@
 
 ghost use Rattle.std.specs.Prelude.{◌≡◌, ◌+◌, ◌<◌, ◌≤◌, ◌++◌, ◌∷◌, ℕ, false, List, [], None, Some, drop, get_or, length, map, reverse, set, take, IsOk, OnOk, IfOk, IfSome};
 ghost use Rattle.cmark_emphasis.specs.Shown.{shown_kind, shown_run};
-ghost use Rattle.cmark_emphasis.specs.Slots.{AreRuns};
+ghost use Rattle.cmark_emphasis.specs.Slots.{AreBalanced, AreRuns, slots_of};
 ghost use Rattle.cmark_emphasis.specs.declared.slot.Slot.{Slot as Marks};
 ghost use Rattle.cmark_grammar.specs.Emphasis.{IsEmphasis, Pair, places_taken, runs_of};
+ghost use Rattle.cmark_grammar.specs.EmphasisModel.{spans_of};
 ghost use Rattle.cmark_grammar.specs.Spans.{Spans, span_tag};
 ghost use Rattle.cmark_inline_model.specs.SlotRows.{marked, marks_by, run_places};
 ghost use Rattle.cmark_leaf_text.specs.declared.leaf_text.LeafText.{LeafText};
@@ -22,7 +23,7 @@ ghost use Rattle.cmark_inline.specs.declared.slot.SlotKind.TheVariants as kind;
 
 use crate::slot::{Element, Slot, begin, merge, use_up};
 use bitflags::Flags;
-use cmark_emphasis::{PairingRoom, Run, Slot as Mark, SpanKind, slots_of_runs};
+use cmark_emphasis::{PairingRoom, Run, Slot as Mark, SpanKind, slots_of_runs, slots_of_two};
 use cmark_text::Options;
 use std::alloc::{AllocError, Global};
 
@@ -134,9 +135,7 @@ impl Delimiters {
             self.placed.truncate(first);
             return Ok(());
         }
-        let bound = slots.len();
-        let count = gather(&mut self.runs, self.placed.as_slice(), first, bound)?;
-        slots_of_runs(count, &self.runs, &mut self.room, &mut self.marks)?;
+        self.mark(first, slots.len())?;
         self.begun.clear();
         let mut marks = self.marks.as_slice();
         let mut rest = runs_from(self.placed.as_slice(), first);
@@ -146,6 +145,37 @@ impl Delimiters {
         }
         self.placed.truncate(first);
         Ok(())
+    }
+
+    // Puts into `marks` what becomes of each byte of the runs from this one on, which are those of one list of siblings and have no more
+    // bytes than `bound`. Most lists have two runs, of which one span is made.
+    fn mark(&mut self, first: usize, bound: usize) -> Result<(), AllocError>
+        requires first { first ≤ length self.old.placed.items }
+        requires bytes { bytes_of self.old.placed.items ≤ bound }
+        ensures marks { OnOk result (self.new.marks.items ≡ slots_of (spans_of (siblings_from 0 (drop first self.old.placed.items)))) }
+        ensures balanced { OnOk result (AreBalanced [] self.new.marks.items) }
+        ensures placed { self.new.placed ≡ self.old.placed }
+    {
+        if let [one, other] = runs_from(self.placed.as_slice(), first) {
+            let behind = counted_from(other.run, one.run.run_length);
+            if slots_of_two(counted_from(one.run, 0), behind, &mut self.marks)? {
+                return Ok(());
+            }
+        }
+        let count = gather(&mut self.runs, self.placed.as_slice(), first, bound)?;
+        slots_of_runs(count, &self.runs, &mut self.room, &mut self.marks)?;
+        Ok(())
+    }
+}
+
+/// The run with all its bytes, counted from this place on.
+fn counted_from(run: Run, at: usize) -> Run
+    ensures { shown_run result ≡ record { delimiter = run.delimiter; run_length = run.run_length; at = at; left = run.run_length; opens = run.opens; closes = run.closes } }
+{
+    Run {
+        at,
+        left: run.run_length,
+        ..run
     }
 }
 

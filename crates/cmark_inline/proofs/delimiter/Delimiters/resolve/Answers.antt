@@ -1,16 +1,14 @@
 use Rattle.std.proofs.Common.{rules, ◌≡◌, ◌∷◌, ◌≤◌, ℕ, List, [], length, drop, refl, sym, ap, subst, ◌∙◌, arith}
 use Rattle.std.specs.Prelude.{map, reverse}
-use Rattle.cmark_emphasis.specs.Shown.{shown_run}
 use Rattle.cmark_emphasis.specs.Slots.{AreBalanced}
-use Rattle.cmark_grammar.specs.Emphasis.{places_taken, runs_of}
 use Rattle.cmark_inline_model.specs.SlotRows.{marked, marks_by}
 use Rattle.cmark_text.specs.Shown.{shown_options}
-use Rattle.cmark_inline.specs.MarkedSlots.{AreReady, BeganFrom, places_of, shown_mark, siblings_from}
+use Rattle.cmark_inline.specs.MarkedSlots.{AreReady, BeganFrom, places_of, shown_mark}
 use Rattle.cmark_inline.specs.SlotViews.{shown_slots}
 use Rattle.cmark_inline.specs.declared.delimiter.PlacedRun.{PlacedRun}
 use Rattle.cmark_inline.proofs.Naming.{no-more-on, no-more-same}
 use Rattle.std.proofs.lemmas.List.{length-drop}
-use Rattle.cmark_inline.proofs.RunPlaces.{RunsFrom, as-many, length-run, lone-marked, runs-from, same-on, marks-are, none-left, ready-first, stand-so}
+use Rattle.cmark_inline.proofs.RunPlaces.{RunsFrom, as-many, length-run, lone-marked, runs-from, same-on, marks-are, none-left, ready-first}
 use Rattle.cmark_inline.proofs.delimiter.Delimiters.resolve.Goals as goal
 
 pub loop-placed-init : goal.loop-placed-init
@@ -18,10 +16,8 @@ loop-placed-init c =
     let slots = c.args.slots.now.items in
     let marks = c.as_slice-marks.result.now in
     let mine : List PlacedRun = drop c.args.first c.args.self.now.placed.items in
-    let v = c.runs_from-rest.ensures.value ∙ ap (drop c.args.first) c.as_slice-2.ensures.value in
-    let same : AreBalanced [] marks = subst (AreBalanced []) (sym c.as_slice-marks.ensures.value) c.in_ok-slots_of_runs.ensures.balanced in
-    let count : c.in_ok-count.count ≡ places_taken (siblings_from 0 mine) = c.in_ok-count.ensures.value.0 ∙ ap (λ ps. places_taken (siblings_from 0 (drop c.args.first ps))) c.as_slice.ensures.value in
-    let runs : map shown_run c.gather.new.runs.items ≡ runs_of (siblings_from 0 mine) = c.in_ok-count.ensures.value.1 ∙ ap (λ ps. runs_of (siblings_from 0 (drop c.args.first ps))) c.as_slice.ensures.value in (
+    let v = c.runs_from-rest.ensures.value ∙ ap (drop c.args.first) (c.as_slice.ensures.value ∙ ap (λ ps. ps.items) c.in_ok-mark.ensures.placed) in
+    let same : AreBalanced [] marks = subst (AreBalanced []) (sym c.as_slice-marks.ensures.value) c.in_ok-mark.ensures.balanced in (
       (λ text place h. h),
       refl,
       (λ from h. h),
@@ -34,7 +30,7 @@ loop-placed-init c =
           ((λ k d lt. refl), subst (λ b. BeganFrom from (reverse b)) (sym c.clear.ensures.items) tt, subst (RunsFrom from) (sym v) (runs-from from slots from place mine (omega arith) h))),
       (λ within. within),
       no-more-same slots,
-      as-many mine marks (c.as_slice-marks.ensures.value ∙ c.in_ok-slots_of_runs.ensures.spans (siblings_from 0 mine) (stand-so 0 mine) (sym count) (sym (ap (map shown_run) c.deref.ensures.value ∙ runs))) ∙ ap (λ ps. length (places_of ps)) (sym v),
+      as-many mine marks (c.as_slice-marks.ensures.value ∙ c.in_ok-mark.ensures.marks) ∙ ap (λ ps. length (places_of ps)) (sym v),
     )
 
 pub write_run-requires : goal.write_run-requires
@@ -78,11 +74,9 @@ loop-placed-preserved c =
 pub returns-clause-marks : goal.returns-clause-marks
 returns-clause-marks c = λ leaf texts links pairs spans e.
     let mine : List PlacedRun = drop c.args.first c.args.self.now.placed.items in
-    let count : c.in_ok-count.count ≡ places_taken (siblings_from 0 mine) = c.in_ok-count.ensures.value.0 ∙ ap (λ ps. places_taken (siblings_from 0 (drop c.args.first ps))) c.as_slice.ensures.value in
-    let runs : map shown_run c.gather.new.runs.items ≡ runs_of (siblings_from 0 mine) = c.in_ok-count.ensures.value.1 ∙ ap (λ ps. runs_of (siblings_from 0 (drop c.args.first ps))) c.as_slice.ensures.value in
     let marks : map shown_mark c.as_slice-marks.result.now ≡ marks_by (length (places_of mine)) pairs =
     ap (map shown_mark) c.as_slice-marks.ensures.value
-    ∙ marks-are mine c.slots_of_runs.new.slots.items pairs spans e (c.in_ok-slots_of_runs.ensures.spans (siblings_from 0 mine) (stand-so 0 mine) (sym count) (sym (ap (map shown_run) c.deref.ensures.value ∙ runs))) in
+    ∙ marks-are mine c.mark.new.self.marks.items pairs spans e c.in_ok-mark.ensures.marks in
     let over : c.loop-placed.rest.now ≡ [] = none-left c.loop-placed.rest.now c.in_default.ensures.cases in
     sym (ap (λ ms. marked (shown_options c.args.options) (places_of mine) ms (shown_slots leaf texts links c.args.slots.now.items) []) (sym marks)
     ∙ c.loop-placed.invariant.4 leaf texts links
