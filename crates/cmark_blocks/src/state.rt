@@ -34,6 +34,9 @@ pub(crate) enum OpenLeaf<'a> {
     Metadata(MetadataBlockKind, Option<Stretch>),
 }
 
+/// How many open containers there is room for at once: few texts nest deeper.
+const USUAL_DEPTH: usize = 16;
+
 /// An open container, with the siblings that it stands behind.
 #[derive(Clone, Copy)]
 pub(crate) struct OpenContainer {
@@ -87,7 +90,7 @@ impl<'a, E: EntityLookup> Pass<'a, E> {
             entities,
             builder: Builder::new(alloc)?,
             inner: Siblings::none(),
-            outer: Vec::new(alloc),
+            outer: Vec::with_capacity(alloc, USUAL_DEPTH)?,
             bare: false,
             leaf: OpenLeaf::Closed,
             blank_lines: Vec::new(alloc),

@@ -30,7 +30,8 @@ pub fn read_all<R: Read>(
     ensures fault { IfErr result (ReadStops limit (watched_notes reader.new)) }
 {
     reader.reset();
-    let mut bytes = Vec::new(alloc);
+    // There is room at once for a short text.
+    let mut bytes = Vec::with_capacity(alloc, CHUNK)?;
     let mut chunk = [0u8; CHUNK];
     loop {
         match reader.read(&mut chunk) {
