@@ -9,6 +9,6 @@ pub returns-clause-good : goal.returns-clause-good
 returns-clause-good g c = record {
   placed = at-place c.in_ok-new.field-0.tree Nil [] c.in_ok-new.ensures.tree;
   begins = IsCharBoundary-start c.args.text.now c.utf8.text;
-  lines = subst (AreRead c.args.text.now) (sym c.new-3.ensures.items) tt;
+  lines = subst (AreRead c.args.text.now) (sym c.new-2.ensures.items) tt;
   last = tt;
 }
