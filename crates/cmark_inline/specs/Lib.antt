@@ -1,6 +1,7 @@
 pub mod Asking
 pub mod BracketViews
 pub mod Closers
+pub mod Contents
 pub mod CursorProgress
 pub mod Decided
 pub mod Doubled
