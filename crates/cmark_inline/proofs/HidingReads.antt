@@ -41,7 +41,6 @@ use Rattle.cmark_inline.specs.Stands.{Stands}
 use Rattle.cmark_inline.specs.Wikilinks.{ShowsFrom, display_place, has_pothole, shown_name, wiki_start, wiki_text}
 use Rattle.cmark_inline.specs.declared.bracket.Bracket.{Bracket}
 use Rattle.cmark_inline.specs.declared.link.LinkParts.{LinkParts}
-use Rattle.cmark_inline.specs.declared.slot.Slot.{Slot}
 use Rattle.cmark_inline.specs.declared.slot.SlotKind.TheVariants as kind
 use Rattle.cmark_inline.specs.declared.state.InlineState.{InlineState}
 use Rattle.cmark_inline.specs.declared.wikilink.Wikilink.{Wikilink}

@@ -17,6 +17,7 @@ pub mod Opens
 pub mod PlainStretches
 pub mod QuoteSlots
 pub mod Reached
+pub mod ReadsOn
 pub mod Resolved
 pub mod Shorts
 pub mod SlotViews

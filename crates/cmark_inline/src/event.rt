@@ -1,18 +1,18 @@
 //! The events of a leaf's slots, one after the other.
 
-ghost use Rattle.std.specs.Prelude.{◌≡◌, ◌⊎◌, ◌<◌, ◌≤◌, ◌+◌, ◌-◌, ◌∷◌, ℕ, false, List, [], Some, IfOk, IfSome, OnErr, OnOk, OnSome, length};
+ghost use Rattle.std.specs.Prelude.{◌≡◌, ◌⊎◌, ◌<◌, ◌≤◌, ◌+◌, ◌-◌, ◌∷◌, ℕ, List, [], Some, IfOk, IfSome, OnErr, OnOk, OnSome, length};
 ghost use Rattle.std.specs.Str.{IsCharBoundary};
 ghost use Rattle.cmark_grammar.specs.Event.{Start, End, Text};
 ghost use Rattle.cmark_grammar.specs.InlineReading.{over};
 ghost use Rattle.cmark_grammar.specs.LeafSpans.{IsInline, IsRange, IsSpan};
 ghost use Rattle.cmark_grammar.specs.Tokens.{slice};
 ghost use Rattle.cmark_inline_model.specs.FirstEvents.{BeginWithoutEnd};
-ghost use Rattle.cmark_leaf_text.specs.Reads.{IsRead, IsPart, is_cell_of, place_of, text_of, source_of};
+ghost use Rattle.cmark_leaf_text.specs.Reads.{IsRead, IsPart, place_of, text_of, source_of};
 ghost use Rattle.cmark_scan_parts.specs.Shown.{IsBorrowed};
 ghost use Rattle.cmark_grammar.specs.Tag as grammar_tag;
 ghost use Rattle.cmark_grammar.specs.TagEnd.{end_of, Image, Link};
 ghost use Rattle.cmark_text.specs.Shown.{shown, shown_end, shown_tag, text_bytes, IsBoxed, IsInlined};
-ghost use Rattle.cmark_text.specs.ZeroCopy.{IsLentBy, IsPartIfBorrowed, IsZeroCopy};
+ghost use Rattle.cmark_text.specs.ZeroCopy.{IsLentBy, IsZeroCopy};
 ghost use Rattle.cmark_inline.specs.Opens.{element_end, Follows, Gives, GivesZeroCopy, Passes, events_left, shown_given};
 ghost use Rattle.cmark_inline.specs.SlotViews.{AreLeft, CanBeGiven, IsFirst, IsThere, KeepsOthers, event_in, events_of, events_to_come, link_named, link_of, linked_at, shown_element, shown_opened, shown_parts, text_at, text_named, with_given};
 ghost use Rattle.cmark_inline.specs.Stands.{AreOpened, AreSlots, IsSlot};

@@ -1,4 +1,4 @@
-use Rattle.std.proofs.Common.{◌≡◌, ◌∷◌, ◌≤◌, ◌-◌, ◌+◌, ℕ, List, drop, get_or, length, refl, sym, ap, subst, ◌∙◌, arith}
+use Rattle.std.proofs.Common.{◌≡◌, ◌∷◌, ◌≤◌, ◌-◌, ◌+◌, ℕ, List, drop, get_or, refl, sym, ap, subst, ◌∙◌, arith}
 use Rattle.std.specs.Prelude.{map, reverse}
 use Rattle.cmark_inline_model.specs.SlotRows.{marked, run_places}
 use Rattle.cmark_text.specs.Shown.{shown_options}

@@ -1,4 +1,4 @@
-use Rattle.std.proofs.Common.{◌+◌, List, length, drop, sym, ap, ◌∙◌, arith}
+use Rattle.std.proofs.Common.{◌+◌, List, drop, sym, ap, ◌∙◌, arith}
 use Rattle.cmark_inline.specs.QuoteSlots.{with_characters}
 use Rattle.cmark_inline.specs.declared.slot.Slot.{Slot}
 use Rattle.cmark_inline.proofs.Quotes.{all-written, one-more}

@@ -1,4 +1,4 @@
-use Rattle.std.proofs.Common.{◌≡◌, ◌≤◌, ◌+◌, length, refl, ap, subst, ◌∙◌, arith}
+use Rattle.std.proofs.Common.{◌≡◌, ◌≤◌, ◌+◌, refl, ap, subst, ◌∙◌, arith}
 use Rattle.cmark_inline.specs.MarkedSlots.{last_in}
 use Rattle.cmark_inline.specs.Wikilinks.{Hides}
 use Rattle.cmark_inline.specs.declared.slot.Slot.{Slot}
