@@ -1,6 +1,7 @@
 pub mod Asking
 pub mod BracketViews
 pub mod Closers
+pub mod Contents
 pub mod CursorProgress
 pub mod Decided
 pub mod Doubled
@@ -16,6 +17,7 @@ pub mod Opens
 pub mod PlainStretches
 pub mod QuoteSlots
 pub mod Reached
+pub mod ReadsOn
 pub mod Resolved
 pub mod Shorts
 pub mod SlotViews

@@ -3,10 +3,10 @@
 ghost use Rattle.std.specs.Prelude.{◌≡◌, ◌≤◌, min, true, false, ◌-◌, ◌++◌, ◌∷◌, [], ℕ, List, length, take, OnOk, IfSome, ◌⊎◌, Bool, slice_index, IfOk, ◌+◌};
 ghost use Rattle.cmark_inline.specs.Doubled.{DropsBehind, doubles, nearest, touching};
 ghost use Rattle.cmark_text.specs.Shown.{shown_options};
-ghost use Rattle.cmark_inline.specs.Stands.{IsAtByte, AreBrackets, AreFree, HoldNoLink, IsBracket, IsCursor, Moves, Stands};
+ghost use Rattle.cmark_inline.specs.ReadsOn.{ReadsOn};
+ghost use Rattle.cmark_inline.specs.Stands.{IsAtByte, AreBrackets, AreFree, HoldNoLink, IsBracket, IsCursor, Stands};
 ghost use Rattle.cmark_inline.specs.declared.slot.Slot.{Slot};
 ghost use Rattle.cmark_grammar.specs.Answers.{Lookup};
-ghost use Rattle.cmark_inline.specs.Sound.{KeepsSound};
 ghost use Rattle.cmark_inline.specs.SpecialReads.{OpensBracket};
 ghost use Rattle.cmark_inline.specs.Tokens.{Passes, PutsBracket};
 ghost use Rattle.std.specs.Str.{IsCharBoundary};
@@ -165,9 +165,7 @@ impl<'a> InlineState<'a> {
         here: Cursor,
     ) -> Result<Cursor, AllocError>
         requires byte { IsAtByte text.now here self.old }
-        ensures expansion_left { self.new.expansion_left ≡ self.old.expansion_left }
-        ensures keeps { OnOk result (KeepsSound self.old self.new) }
-        ensures moves { IfOk result (Moves text.now here.at self.new) }
+        ensures reads_on { ReadsOn text.now here self.old self.new result }
         ensures token { (lookup : Lookup) (is_cell : Bool) → slice_index text.now here.at ≡ 33 → IfOk result (λ next. Passes (shown_options options) lookup is_cell text.now here self.old self.new next ⊎ OpensBracket (shown_options options) lookup is_cell text.now here self.old self.new next) }
     {
         if is_followed_by(text, here.at, b'[') {
@@ -192,9 +190,7 @@ impl<'a> InlineState<'a> {
         requires cursor { IsCursor text.now here }
         requires part { IsPart text.now here.at inside }
         requires mark { is_image ≡ true → IsCharBoundary text.now (here.at + 1) }
-        ensures expansion_left { self.new.expansion_left ≡ self.old.expansion_left }
-        ensures keeps { OnOk result (KeepsSound self.old self.new) }
-        ensures moves { IfOk result (Moves text.now here.at self.new) }
+        ensures reads_on { ReadsOn text.now here self.old self.new result }
         ensures at { IfOk result (λ next. (next.pending ≡ inside) × (next.at ≡ inside)) }
         ensures doubles { OnOk result (self.new.doubled.standing.items ≡ doubles (shown_options options) self.old.brackets is_image here.at inside self.old.doubled.standing.items) }
         ensures puts { OnOk result (PutsBracket is_image here.pending here.at inside self.old self.new) }

@@ -1,32 +1,28 @@
 //! The events of a leaf's slots, one after the other.
 
-ghost use Rattle.std.specs.Prelude.{◌≡◌, ◌⊎◌, ◌<◌, ◌≤◌, ◌+◌, ◌-◌, ◌∷◌, ℕ, false, List, [], Some, IfOk, IfSome, OnErr, OnOk, OnSome, length};
+ghost use Rattle.std.specs.Prelude.{◌≡◌, ◌⊎◌, ◌<◌, ◌≤◌, ◌+◌, ◌-◌, ◌∷◌, ℕ, List, [], Some, IfOk, IfSome, OnErr, OnOk, OnSome, length};
 ghost use Rattle.std.specs.Str.{IsCharBoundary};
-ghost use Rattle.cmark_grammar.specs.CodeSpans.{code_text};
 ghost use Rattle.cmark_grammar.specs.Event.{Start, End, Text};
-ghost use Rattle.cmark_grammar.specs.InlineHtml.{takes_lines};
-ghost use Rattle.cmark_grammar.specs.InlineTokens.{as_in, without_pipe_escapes};
 ghost use Rattle.cmark_grammar.specs.InlineReading.{over};
 ghost use Rattle.cmark_grammar.specs.LeafSpans.{IsInline, IsRange, IsSpan};
 ghost use Rattle.cmark_grammar.specs.Tokens.{slice};
 ghost use Rattle.cmark_inline_model.specs.FirstEvents.{BeginWithoutEnd};
-ghost use Rattle.cmark_leaf_text.specs.Reads.{IsRead, IsPart, is_cell_of, place_of, text_of, source_of};
+ghost use Rattle.cmark_leaf_text.specs.Reads.{IsRead, IsPart, place_of, text_of, source_of};
 ghost use Rattle.cmark_scan_parts.specs.Shown.{IsBorrowed};
 ghost use Rattle.cmark_grammar.specs.Tag as grammar_tag;
 ghost use Rattle.cmark_grammar.specs.TagEnd.{end_of, Image, Link};
 ghost use Rattle.cmark_text.specs.Shown.{shown, shown_end, shown_tag, text_bytes, IsBoxed, IsInlined};
-ghost use Rattle.cmark_text.specs.ZeroCopy.{IsLentBy, IsPartIfBorrowed, IsZeroCopy};
+ghost use Rattle.cmark_text.specs.ZeroCopy.{IsLentBy, IsZeroCopy};
 ghost use Rattle.cmark_inline.specs.Opens.{element_end, Follows, Gives, GivesZeroCopy, Passes, events_left, shown_given};
 ghost use Rattle.cmark_inline.specs.SlotViews.{AreLeft, CanBeGiven, IsFirst, IsThere, KeepsOthers, event_in, events_of, events_to_come, link_named, link_of, linked_at, shown_element, shown_opened, shown_parts, text_at, text_named, with_given};
 ghost use Rattle.cmark_inline.specs.Stands.{AreOpened, AreSlots, IsSlot};
 ghost use Rattle.cmark_inline.specs.declared.slot.Slot.{Slot as Slots};
 
+use crate::content::Content;
 use crate::link::LinkParts;
 use crate::slot::{Element, Slot, SlotKind};
 use crate::state::InlineState;
-use cmark_finds::code_text;
 use cmark_leaf_text::LeafText;
-use cmark_scan_parts::without_pipe_escapes;
 use cmark_text::{CowStr, Event, Tag, TagEnd};
 use std::alloc::{AllocError, Global};
 use std::ops::Range;
@@ -282,12 +278,14 @@ impl<'a> InlineState<'a> {
             }
             SlotKind::SoftBreak => Ok(Event::SoftBreak),
             SlotKind::HardBreak => Ok(Event::HardBreak),
-            SlotKind::Code(from, to) => Ok(Event::Code(code_of(self.alloc, leaf, from, to)?)),
+            SlotKind::Code(from, to) => Ok(Event::Code(Content { leaf, from, to }.code(
+                self.alloc,
+            )?)),
             SlotKind::InlineMath(from, to) => {
-                Ok(Event::InlineMath(formula_of(self.alloc, leaf, from, to)?))
+                Ok(Event::InlineMath(Content { leaf, from, to }.formula(self.alloc)?))
             }
             SlotKind::DisplayMath(from, to) => {
-                Ok(Event::DisplayMath(formula_of(self.alloc, leaf, from, to)?))
+                Ok(Event::DisplayMath(Content { leaf, from, to }.formula(self.alloc)?))
             }
             SlotKind::CutHtml(from) => {
                 Ok(Event::InlineHtml(cut_html(self.alloc, leaf, slot, from)?))
@@ -450,78 +448,4 @@ fn cut_html<'a>(
     }
     let tag = copied(alloc, &leaf.as_str()[from..slot.end])?;
     written(alloc, leaf, slot, tag)
-}
-
-// What a code span holds: borrowed where it stands in the source without a gap and no line ends in it. In the cell of a table a pipe
-// stands in the place of each escaped one, and it is a text of its own then (GFM 4.10).
-fn code_of<'a>(
-    alloc: Global,
-    leaf: &LeafText<'a>,
-    from: usize,
-    to: usize,
-) -> Result<CowStr<'a>, AllocError>
-    requires read { IsRead leaf.now }
-    requires starts { IsCharBoundary (text_of leaf.now) from }
-    requires ends { IsCharBoundary (text_of leaf.now) to }
-    ensures value { IfOk result (λ text. text_bytes text ≡ code_text (as_in (is_cell_of leaf.now) (slice (text_of leaf.now) from to))) }
-    ensures lent { place_of leaf.now (to - 1) + 1 ≡ place_of leaf.now from + (to - from) → takes_lines (slice (text_of leaf.now) from to) ≡ false → as_in (is_cell_of leaf.now) (slice (text_of leaf.now) from to) ≡ slice (text_of leaf.now) from to → IfOk result IsBorrowed }
-    ensures part { IfOk result (IsPartIfBorrowed (source_of leaf.now)) }
-{
-    if from >= to {
-        return Ok(CowStr::Borrowed(""));
-    }
-    if leaf.is_cell() {
-        return code_of_cell(alloc, leaf, from, to);
-    }
-    match leaf.slice(from, to) {
-        Some(content) => code_text(alloc, content),
-        None => code_text(alloc, &leaf.as_str()[from..to])?.into_static(alloc),
-    }
-}
-
-// What a code span in the cell of a table holds.
-#[inline(never)]
-fn code_of_cell<'a>(
-    alloc: Global,
-    leaf: &LeafText<'a>,
-    from: usize,
-    to: usize,
-) -> Result<CowStr<'a>, AllocError>
-    requires read { IsRead leaf.now }
-    requires part { IsPart (text_of leaf.now) from to }
-    ensures value { IfOk result (λ text. text_bytes text ≡ code_text (without_pipe_escapes (slice (text_of leaf.now) from to))) }
-    ensures lent { place_of leaf.now (to - 1) + 1 ≡ place_of leaf.now from + (to - from) → takes_lines (slice (text_of leaf.now) from to) ≡ false → without_pipe_escapes (slice (text_of leaf.now) from to) ≡ slice (text_of leaf.now) from to → IfOk result IsBorrowed }
-    ensures part { IfOk result (IsPartIfBorrowed (source_of leaf.now)) }
-{
-    let written = text_between(alloc, leaf, from, to)?;
-    let content = without_pipe_escapes(alloc, written)?;
-    if let CowStr::Borrowed(part) = &content {
-        return code_text(alloc, *part);
-    }
-    code_text(alloc, content.as_str())?.into_static(alloc)
-}
-
-// What a formula holds, with its line endings and blanks: borrowed where it stands in the source without a gap. In the cell of a table
-// a pipe stands in the place of each escaped one, and it is a text of its own then (GFM 4.10).
-fn formula_of<'a>(
-    alloc: Global,
-    leaf: &LeafText<'a>,
-    from: usize,
-    to: usize,
-) -> Result<CowStr<'a>, AllocError>
-    requires read { IsRead leaf.now }
-    requires starts { IsCharBoundary (text_of leaf.now) from }
-    requires ends { IsCharBoundary (text_of leaf.now) to }
-    ensures value { IfOk result (λ text. text_bytes text ≡ as_in (is_cell_of leaf.now) (slice (text_of leaf.now) from to)) }
-    ensures lent { place_of leaf.now (to - 1) + 1 ≡ place_of leaf.now from + (to - from) → as_in (is_cell_of leaf.now) (slice (text_of leaf.now) from to) ≡ slice (text_of leaf.now) from to → IfOk result IsBorrowed }
-    ensures part { IfOk result (IsPartIfBorrowed (source_of leaf.now)) }
-{
-    if from >= to {
-        return Ok(CowStr::Borrowed(""));
-    }
-    let text = text_between(alloc, leaf, from, to)?;
-    if leaf.is_cell() {
-        return without_pipe_escapes(alloc, text);
-    }
-    Ok(text)
 }

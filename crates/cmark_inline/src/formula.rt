@@ -1,13 +1,13 @@
 //! Formulas between dollar signs (this profile's own).
 
-ghost use Rattle.std.specs.Prelude.{◌≡◌, ◌<◌, true, false, if◌then◌else◌, Bool, length, slice_index, IfOk, OnOk};
+ghost use Rattle.std.specs.Prelude.{◌≡◌, ◌<◌, true, false, if◌then◌else◌, Bool, length, slice_index, IfOk};
 ghost use Rattle.cmark_grammar.specs.Answers.{Lookup};
 ghost use Rattle.cmark_grammar.specs.Options.{Options};
 ghost use Rattle.cmark_finds.specs.Dollars.{AreDollarsOf};
-ghost use Rattle.cmark_inline.specs.Stands.{IsCursor, Moves, Stands, begins_link};
+ghost use Rattle.cmark_inline.specs.ReadsOn.{ReadsOn};
+ghost use Rattle.cmark_inline.specs.Stands.{IsCursor, Stands, begins_link};
 ghost use Rattle.cmark_inline.specs.Tokens.{Appends};
 ghost use Rattle.cmark_inline.specs.declared.slot.SlotKind.TheVariants as slot_kind;
-ghost use Rattle.cmark_inline.specs.Sound.{KeepsSound};
 
 use crate::place::behind;
 use crate::slot::{Slot, SlotKind};
@@ -30,9 +30,7 @@ impl<'a> InlineState<'a> {
         requires here { here.at < length text.now }
         requires dollar { slice_index text.now here.at ≡ 36 }
         ensures dollars { AreDollarsOf text.now dollars.new }
-        ensures expansion_left { self.new.expansion_left ≡ self.old.expansion_left }
-        ensures keeps { OnOk result (KeepsSound self.old self.new) }
-        ensures moves { IfOk result (Moves text.now here.at self.new) }
+        ensures reads_on { ReadsOn text.now here self.old self.new result }
         ensures token { (options : Options) (lookup : Lookup) (is_cell : Bool) → options.math ≡ true → IfOk result (Appends options lookup is_cell text.now here self.old self.new) }
     {
         if let Some(formula) = dollars.formula(text, here.at)? {

@@ -5,6 +5,7 @@
 mod bracket;
 mod callback;
 mod closing;
+mod content;
 mod delimiter;
 pub mod display_laws;
 mod event;

@@ -4,9 +4,9 @@ ghost use Rattle.std.specs.Prelude.{◌≡◌, ◌⊎◌, true, ◌<◌, ◌≤�
 ghost use Rattle.cmark_grammar.specs.Answers.{Lookup};
 ghost use Rattle.cmark_text.specs.Shown.{shown_options};
 ghost use Rattle.cmark_leaf_text.specs.Reads.{IsPart};
-ghost use Rattle.cmark_inline.specs.Stands.{IsAtByte, AreSlots, Moves, NoNewLink, Stands};
+ghost use Rattle.cmark_inline.specs.ReadsOn.{ReadsOn};
+ghost use Rattle.cmark_inline.specs.Stands.{IsAtByte, AreSlots, NoNewLink, Stands};
 ghost use Rattle.cmark_inline.specs.Tokens.{AppendsRun, Passes, PassesOver, byte_slots, is_run_delimiter, is_other};
-ghost use Rattle.cmark_inline.specs.Sound.{KeepsSound};
 
 use crate::place::{character_at, character_before, run_end};
 use crate::slot::{SlotKind, push_slot};
@@ -25,9 +25,7 @@ impl<'a> InlineState<'a> {
         here: Cursor,
     ) -> Result<Cursor, AllocError>
         requires byte { IsAtByte text.now here self.old }
-        ensures expansion_left { self.new.expansion_left ≡ self.old.expansion_left }
-        ensures keeps { OnOk result (KeepsSound self.old self.new) }
-        ensures moves { IfOk result (Moves text.now here.at self.new) }
+        ensures reads_on { ReadsOn text.now here self.old self.new result }
         ensures token { (lookup : Lookup) (is_cell : Bool) → slice_index text.now here.at ≡ delimiter → is_run_delimiter delimiter ≡ true → IfOk result (λ next. Passes (shown_options options) lookup is_cell text.now here self.old self.new next ⊎ AppendsRun (shown_options options) lookup is_cell text.now here self.old self.new next) }
         ensures others { (lookup : Lookup) (is_cell : Bool) → slice_index text.now here.at ≡ delimiter → is_other delimiter ≡ true → IfOk result (PassesOver (shown_options options) lookup is_cell text.now here self.old self.new) }
     {

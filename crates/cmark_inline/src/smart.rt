@@ -4,9 +4,9 @@ ghost use Rattle.std.specs.Prelude.{◌≡◌, ◌⊎◌, true, ◌≤◌, ◌+�
 ghost use Rattle.cmark_grammar.specs.Answers.{Lookup};
 ghost use Rattle.cmark_grammar.specs.Dashes as grammar;
 ghost use Rattle.cmark_grammar.specs.Options.{Options};
+ghost use Rattle.cmark_inline.specs.ReadsOn.{ReadsOn};
 ghost use Rattle.cmark_inline.specs.Stands.{IsAtByte, Moves};
 ghost use Rattle.cmark_inline.specs.Tokens.{Appends, AppendsQuote, Passes};
-ghost use Rattle.cmark_inline.specs.Sound.{KeepsSound};
 
 use crate::place::{behind, character_at, character_before, pass, run_end};
 use crate::slot::{Slot, SlotKind};
@@ -20,9 +20,7 @@ impl<'a> InlineState<'a> {
     // A dot: three of them are an ellipsis.
     pub(crate) fn dots(&mut self, text: &str, here: Cursor) -> Result<Cursor, AllocError>
         requires byte { IsAtByte text.now here self.old }
-        ensures expansion_left { self.new.expansion_left ≡ self.old.expansion_left }
-        ensures keeps { OnOk result (KeepsSound self.old self.new) }
-        ensures moves { IfOk result (Moves text.now here.at self.new) }
+        ensures reads_on { ReadsOn text.now here self.old self.new result }
         ensures token { (options : Options) (lookup : Lookup) (is_cell : Bool) → options.smart_punctuation ≡ true → slice_index text.now here.at ≡ 46 → IfOk result (λ next. Passes options lookup is_cell text.now here self.old self.new next ⊎ Appends options lookup is_cell text.now here self.old self.new next) }
     {
         if !text[here.at..].starts_with("...") {
@@ -40,9 +38,7 @@ impl<'a> InlineState<'a> {
     // A run of hyphens: two and more are dashes.
     pub(crate) fn hyphens(&mut self, text: &str, here: Cursor) -> Result<Cursor, AllocError>
         requires byte { IsAtByte text.now here self.old }
-        ensures expansion_left { self.new.expansion_left ≡ self.old.expansion_left }
-        ensures keeps { OnOk result (KeepsSound self.old self.new) }
-        ensures moves { IfOk result (Moves text.now here.at self.new) }
+        ensures reads_on { ReadsOn text.now here self.old self.new result }
         ensures token { (options : Options) (lookup : Lookup) (is_cell : Bool) → options.smart_punctuation ≡ true → slice_index text.now here.at ≡ 45 → IfOk result (λ next. Passes options lookup is_cell text.now here self.old self.new next ⊎ Appends options lookup is_cell text.now here self.old self.new next) }
     {
         let end = run_end(text, here.at);

@@ -7,10 +7,11 @@ ghost use Rattle.cmark_finds.specs.Backticks.{AreRunsOf};
 ghost use Rattle.cmark_leaf_text.specs.Reads.{IsRead, IsPart, text_of};
 ghost use Rattle.cmark_inline.specs.Linked.{IsAutolink};
 ghost use Rattle.cmark_inline.specs.declared.link.LinkParts.{LinkParts as Parts};
+ghost use Rattle.cmark_inline.specs.ReadsOn.{ReadsOn};
 ghost use Rattle.cmark_inline.specs.Stands.{IsAtByte, IsCursor, Moves, Stands};
 ghost use Rattle.cmark_inline.specs.Tokens.{Appends, PutsAutolink, TakesEscaped};
 ghost use Rattle.cmark_inline.specs.MarkupInSource.{AreUnclosed, ReadsLess};
-ghost use Rattle.cmark_inline.specs.Sound.{AreEnded, IsSound, KeepsSound};
+ghost use Rattle.cmark_inline.specs.Sound.{AreEnded, IsSound};
 
 use crate::event::text_between;
 use crate::link::LinkParts;
@@ -35,9 +36,7 @@ impl<'a> InlineState<'a> {
         requires runs { AreRunsOf text.now runs.old }
         requires byte { IsAtByte text.now here self.old }
         ensures runs { AreRunsOf text.now runs.new }
-        ensures expansion_left { self.new.expansion_left ≡ self.old.expansion_left }
-        ensures keeps { OnOk result (KeepsSound self.old self.new) }
-        ensures moves { IfOk result (Moves text.now here.at self.new) }
+        ensures reads_on { ReadsOn text.now here self.old self.new result }
         ensures token { (options : Options) (lookup : Lookup) (is_cell : Bool) → slice_index text.now here.at ≡ 96 → IfOk result (λ next. Appends options lookup is_cell text.now here self.old self.new next ⊎ TakesEscaped options lookup is_cell text.now here self.old self.new next) }
     {
         if let Some(span) = runs.code_span(text, here.at)? {

@@ -1,13 +1,13 @@
 //! Line breaks, escapes and entities (CommonMark 2.4, 2.5, 6.7 and 6.8).
 
-ghost use Rattle.std.specs.Prelude.{◌≡◌, ◌⊎◌, if◌then◌else◌, Bool, slice_index, IfOk, OnOk};
+ghost use Rattle.std.specs.Prelude.{◌≡◌, ◌⊎◌, if◌then◌else◌, Bool, slice_index, IfOk};
 ghost use Rattle.cmark_grammar.specs.Answers.{Lookup};
 ghost use Rattle.cmark_grammar.specs.LineBreaks.{ends_with_two_spaces};
 ghost use Rattle.cmark_grammar.specs.Options.{Options};
-ghost use Rattle.cmark_inline.specs.Stands.{IsAtByte, Moves};
+ghost use Rattle.cmark_inline.specs.ReadsOn.{ReadsOn};
+ghost use Rattle.cmark_inline.specs.Stands.{IsAtByte};
 ghost use Rattle.cmark_inline.specs.Tokens.{Appends, Escapes, EscapesPipe, Passes};
 ghost use Rattle.cmark_inline.specs.declared.slot.SlotKind.TheVariants as slot_kind;
-ghost use Rattle.cmark_inline.specs.Sound.{KeepsSound};
 
 use crate::place::{
     before_blanks, behind, end_behind, is_escape, is_lone_backtick, is_pipe_escape, onto_words,
@@ -26,9 +26,7 @@ impl<'a> InlineState<'a> {
     // the next line go with it.
     pub(crate) fn line_ending(&mut self, text: &str, here: Cursor) -> Result<Cursor, AllocError>
         requires byte { IsAtByte text.now here self.old }
-        ensures expansion_left { self.new.expansion_left ≡ self.old.expansion_left }
-        ensures keeps { OnOk result (KeepsSound self.old self.new) }
-        ensures moves { IfOk result (Moves text.now here.at self.new) }
+        ensures reads_on { ReadsOn text.now here self.old self.new result }
         ensures token { (options : Options) (lookup : Lookup) (is_cell : Bool) → (slice_index text.now here.at ≡ 10) ⊎ (slice_index text.now here.at ≡ 13) → IfOk result (Appends options lookup is_cell text.now here self.old self.new) }
     {
         let text_end = before_blanks(text, here);
@@ -51,9 +49,7 @@ impl<'a> InlineState<'a> {
         here: Cursor,
     ) -> Result<Cursor, AllocError>
         requires byte { IsAtByte text.now here self.old }
-        ensures expansion_left { self.new.expansion_left ≡ self.old.expansion_left }
-        ensures keeps { OnOk result (KeepsSound self.old self.new) }
-        ensures moves { IfOk result (Moves text.now here.at self.new) }
+        ensures reads_on { ReadsOn text.now here self.old self.new result }
         ensures token { (options : Options) (lookup : Lookup) → slice_index text.now here.at ≡ 92 → IfOk result (λ next. Passes options lookup is_cell text.now here self.old self.new next ⊎ (Appends options lookup is_cell text.now here self.old self.new next ⊎ (Escapes options lookup is_cell text.now here self.old self.new next ⊎ EscapesPipe options lookup is_cell text.now here self.old self.new next))) }
     {
         if let Some(found) = line_break(text, here.at) {
@@ -100,9 +96,7 @@ impl<'a> InlineState<'a> {
         here: Cursor,
     ) -> Result<Cursor, AllocError>
         requires byte { IsAtByte text.now here self.old }
-        ensures expansion_left { self.new.expansion_left ≡ self.old.expansion_left }
-        ensures keeps { OnOk result (KeepsSound self.old self.new) }
-        ensures moves { IfOk result (Moves text.now here.at self.new) }
+        ensures reads_on { ReadsOn text.now here self.old self.new result }
         ensures token { (options : Options) (is_cell : Bool) → slice_index text.now here.at ≡ 38 → IfOk result (λ next. Passes options (E.replacement entities.now) is_cell text.now here self.old self.new next ⊎ Appends options (E.replacement entities.now) is_cell text.now here self.old self.new next) }
     {
         let Some(entity) = scan_entity(text[here.at..].as_bytes(), entities) else {

@@ -1,7 +1,11 @@
-//! A caller's room for an answer, and what a call answers about it.
+//! What a call from C answers: a caller's room with the answer in it, and a status that tells of both.
 #![tactic(auto)]
 
 ghost use Rattle.std.specs.Prelude.{◌≡◌, ◌<◌, ◌≤◌, ◌++◌, ◌⊎◌, drop, length};
+ghost use Rattle.cmark_room.specs.Statuses.{Answers};
+
+use mdhtml_parts::Render;
+use std::alloc::Global;
 
 /// The answer was written.
 pub const DONE: u32 = 0;
@@ -13,7 +17,7 @@ pub const NOT_UTF8: u32 = 2;
 pub const NO_MEMORY: u32 = 3;
 
 /// Writes an answer at the beginning of the room, if it is large enough for all of it, and its size in any case.
-pub fn hand_over(answer: &str, room: &mut [u8], size: &mut usize) -> u32
+fn hand_over(answer: &str, room: &mut [u8], size: &mut usize) -> u32
     ensures either { (result ≡ 0) ⊎ (result ≡ 1) }
     ensures size { size.new ≡ length answer.now }
     ensures done { result ≡ 0 → (length answer.now ≤ length room.old) × (room.new ≡ answer.now ++ drop (length answer.now) room.old) }
@@ -26,4 +30,27 @@ pub fn hand_over(answer: &str, room: &mut [u8], size: &mut usize) -> u32
     }
     room[..answer.len()].copy_from_slice(answer);
     DONE
+}
+
+/// Answers a call from C: writes what a text is rendered as at the beginning of `room`, and into `size` how many bytes it has,
+/// also where the room is too small. Where there is no answer, `size` is 0.
+///
+/// The status is [`DONE`] or [`TOO_LONG`], or [`NOT_UTF8`] where the bytes are no text, or [`NO_MEMORY`].
+pub fn answer<P: Render>(
+    alloc: Global,
+    renderer: &P,
+    text: &[u8],
+    room: &mut [u8],
+    size: &mut usize,
+) -> u32
+    ensures { Answers (P.renders renderer.now text.now) text.now room.old room.new size.new result }
+{
+    *size = 0;
+    let Ok(text) = str::from_utf8(text) else {
+        return NOT_UTF8;
+    };
+    let Ok(answer) = renderer.render(alloc, text) else {
+        return NO_MEMORY;
+    };
+    hand_over(answer.as_str(), room, size)
 }

@@ -1,9 +1,9 @@
 //! Markdown on standard input, HTML on standard output.
 #![tactic(auto)]
 
-use mdhtml_parts::{Watched, status, write_text};
+use mdhtml_parts::Watched;
 use mdhtml_run::run;
-use mdhtml_settings::{BAD_LINE_STATUS, Stop, start};
+use mdhtml_settings::{Stop, finish, start};
 use std::process::ExitCode;
 
 /// What the program does, as its help says it.
@@ -12,27 +12,9 @@ const ABOUT: &str = "Reads Markdown on standard input and writes HTML on standar
 fn main(rt: HostRuntime) -> ExitCode {
     let mut reader = Watched::new(rt.stdin());
     let mut writer = Watched::new(rt.stdout());
-    let ended = match start(&rt, "mdhtml", ABOUT) {
-        Ok(settings) => run(
-            rt.alloc(),
-            &mut reader,
-            &mut writer,
-            settings.options,
-            &settings.entities,
-        ),
-        Err(Stop::Help(text)) => write_text(&mut writer, text.as_bytes()),
-        Err(Stop::BadLine) => {
-            let _ = eprintln!(rt; "mdhtml: bad command line");
-            return ExitCode::from(BAD_LINE_STATUS);
-        }
-        Err(Stop::Fault(fault)) => Err(fault),
-    };
-    match ended {
-        Ok(()) => ExitCode::SUCCESS,
-        Err(fault) => {
-            // Where standard error is closed too, the status alone tells of the fault.
-            let _ = eprintln!(rt; "mdhtml: {fault}");
-            ExitCode::from(status(&fault))
-        }
-    }
+    let ended = start(&rt, "mdhtml", ABOUT).and_then(|settings| {
+        let options = settings.options;
+        run(rt.alloc(), &mut reader, &mut writer, options, &settings.entities).map_err(Stop::Fault)
+    });
+    finish(&rt, "mdhtml", &mut writer, ended)
 }

@@ -12,11 +12,13 @@ use pulldown_cmark::{EntityLookup, Options};
 use std::alloc::{AllocError, Global};
 use std::io::{Read, Write};
 
-/// Renders a text as HTML, with these options. `entities` says what the entity names stand for.
+/// Renders a text as HTML.
 #[derive(Drop)]
-struct Html<'a, E> {
-    options: Options,
-    entities: &'a E,
+pub struct Html<'a, E> {
+    /// The options that the text is read with.
+    pub options: Options,
+    /// What the entity names stand for.
+    pub entities: &'a E,
 }
 
 impl<'a, E: EntityLookup> Render for Html<'a, E> {

@@ -1,3 +1,4 @@
+pub mod Endings
 pub mod Entities
 pub mod Line
 pub mod LookUp

@@ -1,11 +1,14 @@
-//! What the programs are told beside the text: the words of the command line, and the file of entities that they name.
+//! What the programs are told beside the text: the words of the command line, and the file of entities that they name; and
+//! what they end with.
 #![tactic(auto)]
 
+mod ending;
 mod entities;
 mod flags;
 mod line;
 mod starting;
 
+pub use ending::finish;
 pub use entities::{NamedEntities, read_entities};
 pub use line::{LineFault, Settings, parse_line};
-pub use starting::{BAD_LINE_STATUS, RunSettings, Stop, read_entity_file, start};
+pub use starting::{RunSettings, Stop, read_entity_file, start};

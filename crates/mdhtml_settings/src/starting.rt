@@ -22,9 +22,6 @@ use std::io::{ErrorKind, Read};
 use std::rt::Files;
 use std::{env, fs, io};
 
-/// The status that a program ends with where the words are not the command's.
-pub const BAD_LINE_STATUS: u8 = 2;
-
 /// What a run is told beside the text.
 #[derive(Drop)]
 pub struct RunSettings {
@@ -52,6 +49,16 @@ impl From<AllocError> for Stop {
 
     fn from(_error: AllocError) -> Self {
         Self::Fault(RunFault::Memory)
+    }
+}
+
+impl From<RunFault> for Stop {
+    ghost use Rattle.mdhtml_settings.specs.declared.starting.Stop.TheVariants.{Fault};
+
+    ghost from_gives = { λ fault stop. stop ≡ Fault fault };
+
+    fn from(fault: RunFault) -> Self {
+        Self::Fault(fault)
     }
 }
 
@@ -128,12 +135,8 @@ pub fn start<H: Env + Files + AllocGlobal>(
 {
     let words = started_with(host)?;
     let settings = parse_line(host.alloc(), name, about, words.as_slice())?;
-    let entities = match look_up(host, settings.entities) {
-        Ok(entities) => entities,
-        Err(fault) => return Err(Stop::Fault(fault)),
-    };
     Ok(RunSettings {
         options: settings.options,
-        entities,
+        entities: look_up(host, settings.entities)?,
     })
 }

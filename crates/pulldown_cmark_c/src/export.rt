@@ -1,15 +1,16 @@
 //! What C calls.
 
-ghost use Rattle.std.specs.Prelude.{◌≡◌, ◌≢◌, ◌≤◌, IsUtf8};
+ghost use Rattle.std.specs.Prelude.{◌≡◌};
 ghost use Rattle.cmark_grammar.specs.Entities.{basic_entity};
+ghost use Rattle.cmark_room.specs.Statuses.{Answers};
 ghost use Rattle.mdevents_lines.specs.Renders.{AreLinesOf};
 ghost use Rattle.pulldown_cmark.specs.Rendering.{IsHtmlOf};
-ghost use Rattle.pulldown_cmark_c.specs.Answers.{Wrote, IsTooLong, Refused, options_of, version_number};
+ghost use Rattle.pulldown_cmark_c.specs.Calls.{options_of, version_number};
 
 use bitflags::Flags;
-use cmark_room::{NO_MEMORY, NOT_UTF8, hand_over};
-use mdevents_lines::to_json_lines;
-use pulldown_cmark::html::to_html;
+use cmark_room::answer;
+use mdevents_run::EventLines;
+use mdhtml_run::Html;
 use pulldown_cmark::{BasicEntities, Options};
 use std::alloc::Global;
 
@@ -25,22 +26,13 @@ pub extern "C" fn pcm_html(
     room: &mut [u8],
     size: &mut usize,
 ) -> u32
-    ensures status { result ≤ 3 }
-    ensures done { result ≡ 0 → Wrote (IsHtmlOf text.now (options_of options) basic_entity) room.old room.new size.new }
-    ensures too_long { result ≡ 1 → IsTooLong (IsHtmlOf text.now (options_of options) basic_entity) room.old room.new size.new }
-    ensures not_utf8 { result ≡ 2 → ¬ (IsUtf8 text.now) × Refused room.old room.new size.new }
-    ensures no_memory { result ≡ 3 → Refused room.old room.new size.new }
-    ensures utf8 { result ≢ 2 → IsUtf8 text.now }
+    ensures { Answers (IsHtmlOf text.now (options_of options) basic_entity) text.now room.old room.new size.new result }
 {
-    *size = 0;
-    let Ok(text) = str::from_utf8(text) else {
-        return NOT_UTF8;
+    let html = Html {
+        options: Options::from_bits_retain(options),
+        entities: &BasicEntities,
     };
-    let options = Options::from_bits_retain(options);
-    let Ok(html) = to_html(alloc, text, options, &BasicEntities) else {
-        return NO_MEMORY;
-    };
-    hand_over(html.as_str(), room, size)
+    answer(alloc, &html, text, room, size)
 }
 
 /// Writes a line of JSON for each event of a text, as `mdevents` does, and else what `pcm_html` says.
@@ -52,22 +44,13 @@ pub extern "C" fn pcm_events_json(
     room: &mut [u8],
     size: &mut usize,
 ) -> u32
-    ensures status { result ≤ 3 }
-    ensures done { result ≡ 0 → Wrote (AreLinesOf text.now (options_of options) basic_entity) room.old room.new size.new }
-    ensures too_long { result ≡ 1 → IsTooLong (AreLinesOf text.now (options_of options) basic_entity) room.old room.new size.new }
-    ensures not_utf8 { result ≡ 2 → ¬ (IsUtf8 text.now) × Refused room.old room.new size.new }
-    ensures no_memory { result ≡ 3 → Refused room.old room.new size.new }
-    ensures utf8 { result ≢ 2 → IsUtf8 text.now }
+    ensures { Answers (AreLinesOf text.now (options_of options) basic_entity) text.now room.old room.new size.new result }
 {
-    *size = 0;
-    let Ok(text) = str::from_utf8(text) else {
-        return NOT_UTF8;
+    let lines = EventLines {
+        options: Options::from_bits_retain(options),
+        entities: &BasicEntities,
     };
-    let options = Options::from_bits_retain(options);
-    let Ok(lines) = to_json_lines(alloc, text, options, &BasicEntities) else {
-        return NO_MEMORY;
-    };
-    hand_over(lines.as_str(), room, size)
+    answer(alloc, &lines, text, room, size)
 }
 
 /// The version of the library, as the header's `PCM_VERSION`.

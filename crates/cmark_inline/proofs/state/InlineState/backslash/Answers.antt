@@ -1,4 +1,4 @@
-use Rattle.std.proofs.Common.{◌≡◌, ◌+◌, ◌&&◌, inl, inr, ℕ, Bool, true, false, List, refl, sym, ap, ◌∙◌, arith, drop, eqb-true}
+use Rattle.std.proofs.Common.{◌≡◌, ◌+◌, ◌&&◌, inl, inr, ℕ, Bool, true, false, List, refl, sym, ap, ◌∙◌, arith, drop, eqb-true, rules}
 use Rattle.cmark_grammar.specs.CodeSpans.{backticks}
 use Rattle.cmark_grammar.specs.InlineTokens.{item_at}
 use Rattle.cmark_grammar.specs.Items.{Plain, Own}
@@ -59,20 +59,37 @@ returns-clause-token c = λ o l is.
     inr (inr (inl (slash-makes o l c.args.is_cell c.args.text.now c.args.here c.args.self.now c.flush.new.self c.behind-escaped.result c.behind-end.result c.requires.byte.within is c.in_default.ensures.value
     c.if-not-is_escape.ensures.value c.behind-escaped.ensures.value c.behind-end.ensures.value c.if-is_lone_backtick.ensures no-pipe c.in_ok-flush.ensures.slots c.in_ok-flush.ensures.others)))
 
-pub returns-in-Some-clause-keeps : goal.returns-in-Some-clause-keeps
-returns-in-Some-clause-keeps c = keeps-puts c.args.self.now c.put.new.self c.in_ok-next.ensures.others c.args.here.pending c.args.here.at _ c.in_ok-next.ensures.slots ((refl, refl, refl), λ i. refl)
+pub returns-in-Some-clause-reads_on : goal.returns-in-Some-clause-reads_on
+returns-in-Some-clause-reads_on c = record {
+  expansion_left = search rules;
+  keeps = keeps-puts c.args.self.now c.put.new.self c.in_ok-next.ensures.others c.args.here.pending c.args.here.at _ c.in_ok-next.ensures.slots ((refl, refl, refl), λ i. refl);
+  moves = c.onto_words.ensures.moves c.args.here.at c.put.new.self c.in_ok-next.ensures.moves;
+}
 
-pub returns-then-not-is_escape-clause-keeps : goal.returns-then-not-is_escape-clause-keeps
-returns-then-not-is_escape-clause-keeps c = keeps-same c.args.self.now
+pub returns-then-not-is_escape-clause-reads_on : goal.returns-then-not-is_escape-clause-reads_on
+returns-then-not-is_escape-clause-reads_on c = record {
+  expansion_left = search rules;
+  keeps = keeps-same c.args.self.now;
+  moves = search rules;
+}
 
-pub returns-then-is_lone_backtick-clause-keeps : goal.returns-then-is_lone_backtick-clause-keeps
-returns-then-is_lone_backtick-clause-keeps c = keeps-puts c.args.self.now c.put-then-is_lone_backtick.new.self c.in_ok-next-2.ensures.others c.args.here.pending c.args.here.at _ c.in_ok-next-2.ensures.slots ((refl, refl, refl), λ i. refl)
+pub returns-then-is_lone_backtick-clause-reads_on : goal.returns-then-is_lone_backtick-clause-reads_on
+returns-then-is_lone_backtick-clause-reads_on c = record {
+  expansion_left = search rules;
+  keeps = keeps-puts c.args.self.now c.put-then-is_lone_backtick.new.self c.in_ok-next-2.ensures.others c.args.here.pending c.args.here.at _ c.in_ok-next-2.ensures.slots ((refl, refl, refl), λ i. refl);
+  moves = search rules;
+}
 
-pub returns-then-is_pipe_escape-clause-keeps : goal.returns-then-is_pipe_escape-clause-keeps
-returns-then-is_pipe_escape-clause-keeps c = keeps-pending c.args.self.now c.flush.new.self c.in_ok-flush.ensures.others c.args.here.pending c.args.here.at c.in_ok-flush.ensures.slots
+pub returns-then-is_pipe_escape-clause-reads_on : goal.returns-then-is_pipe_escape-clause-reads_on
+returns-then-is_pipe_escape-clause-reads_on c = record {
+  expansion_left = search rules;
+  keeps = keeps-pending c.args.self.now c.flush.new.self c.in_ok-flush.ensures.others c.args.here.pending c.args.here.at c.in_ok-flush.ensures.slots;
+  moves = search rules;
+}
 
-pub returns-clause-keeps : goal.returns-clause-keeps
-returns-clause-keeps c = keeps-pending c.args.self.now c.flush.new.self c.in_ok-flush.ensures.others c.args.here.pending c.args.here.at c.in_ok-flush.ensures.slots
-
-pub returns-in-Some-clause-moves : goal.returns-in-Some-clause-moves
-returns-in-Some-clause-moves c = c.onto_words.ensures.moves c.args.here.at c.put.new.self c.in_ok-next.ensures.moves
+pub returns-clause-reads_on : goal.returns-clause-reads_on
+returns-clause-reads_on c = record {
+  expansion_left = search rules;
+  keeps = keeps-pending c.args.self.now c.flush.new.self c.in_ok-flush.ensures.others c.args.here.pending c.args.here.at c.in_ok-flush.ensures.slots;
+  moves = search rules;
+}

@@ -1,6 +1,6 @@
 use Rattle.std.specs.Option.{IfSome}
 use Rattle.std.specs.Prelude.{option_map}
-use Rattle.std.proofs.Common.{◌≡◌, ◌+◌, refl, sym, ap, subst, ◌∙◌, drop}
+use Rattle.std.proofs.Common.{◌≡◌, ◌+◌, refl, sym, ap, subst, ◌∙◌, drop, rules}
 use Rattle.cmark_grammar.specs.Formulas.{is_dollar}
 use Rattle.cmark_grammar.specs.Letters.{first_is}
 use Rattle.cmark_finds.specs.Dollars.{IsFormulaAt, shown_formula}
@@ -26,8 +26,16 @@ returns-clause-token c = λ o l cell math.
     (ap (option_map (shown_formula c.args.text.now)) (sym c.in_default.is) ∙ c.in_ok-formula.ensures.value) c.behind.ensures.value
     next.at (next.end ∙ sym next.at) next.slots next.others
 
-pub returns-in-Some-clause-keeps : goal.returns-in-Some-clause-keeps
-returns-in-Some-clause-keeps c = keeps-puts c.args.self.now c.put.new.self c.in_ok-next.ensures.others c.args.here.pending c.args.here.at _ c.in_ok-next.ensures.slots (subst (λ k. StandsAlone k) (sym c.kind_of.ensures.value) (formula-alone c.in-Some.formula.is_display c.in-Some.formula.content_start c.in-Some.formula.content_end))
+pub returns-in-Some-clause-reads_on : goal.returns-in-Some-clause-reads_on
+returns-in-Some-clause-reads_on c = record {
+  expansion_left = search rules;
+  keeps = keeps-puts c.args.self.now c.put.new.self c.in_ok-next.ensures.others c.args.here.pending c.args.here.at _ c.in_ok-next.ensures.slots (subst (λ k. StandsAlone k) (sym c.kind_of.ensures.value) (formula-alone c.in-Some.formula.is_display c.in-Some.formula.content_start c.in-Some.formula.content_end));
+  moves = search rules;
+}
 
-pub returns-clause-keeps : goal.returns-clause-keeps
-returns-clause-keeps c = keeps-puts c.args.self.now c.put-2.new.self c.in_ok-next-2.ensures.others c.args.here.pending c.args.here.at _ c.in_ok-next-2.ensures.slots ((refl, refl, refl), λ i. refl)
+pub returns-clause-reads_on : goal.returns-clause-reads_on
+returns-clause-reads_on c = record {
+  expansion_left = search rules;
+  keeps = keeps-puts c.args.self.now c.put-2.new.self c.in_ok-next-2.ensures.others c.args.here.pending c.args.here.at _ c.in_ok-next-2.ensures.slots ((refl, refl, refl), λ i. refl);
+  moves = search rules;
+}

@@ -1,4 +1,4 @@
-use Rattle.std.proofs.Common.{inl, inr, refl, sym, ap, ◌∙◌, drop}
+use Rattle.std.proofs.Common.{inl, inr, refl, sym, ap, ◌∙◌, drop, rules}
 use Rattle.cmark_grammar.specs.InlineTokens.{item_at}
 use Rattle.cmark_grammar.specs.Items.{Plain}
 use Rattle.cmark_inline.proofs.Appended.{at-byte, character-appends}
@@ -22,8 +22,16 @@ returns-clause-token c = λ o l cell smart is.
     (ellipsis-begins o l cell c.args.text.now c.args.here.at c.requires.byte.within smart (drop cases.0 c.range_from.result.now) is (sym c.range_from.ensures.value ∙ cases.1.1))
     next.at (next.end ∙ sym next.at) next.slots next.others ellipsis-bytes)
 
-pub returns-then-not-starts_with-clause-keeps : goal.returns-then-not-starts_with-clause-keeps
-returns-then-not-starts_with-clause-keeps c = keeps-same c.args.self.now
+pub returns-then-not-starts_with-clause-reads_on : goal.returns-then-not-starts_with-clause-reads_on
+returns-then-not-starts_with-clause-reads_on c = record {
+  expansion_left = search rules;
+  keeps = keeps-same c.args.self.now;
+  moves = search rules;
+}
 
-pub returns-clause-keeps : goal.returns-clause-keeps
-returns-clause-keeps c = keeps-puts c.args.self.now c.put.new.self c.in_ok-next.ensures.others c.args.here.pending c.args.here.at _ c.in_ok-next.ensures.slots ((refl, refl, refl), λ i. refl)
+pub returns-clause-reads_on : goal.returns-clause-reads_on
+returns-clause-reads_on c = record {
+  expansion_left = search rules;
+  keeps = keeps-puts c.args.self.now c.put.new.self c.in_ok-next.ensures.others c.args.here.pending c.args.here.at _ c.in_ok-next.ensures.slots ((refl, refl, refl), λ i. refl);
+  moves = search rules;
+}

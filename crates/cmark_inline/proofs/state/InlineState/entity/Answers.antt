@@ -35,11 +35,23 @@ returns-clause-token g c = λ o cell is.
     (entity-token o l cell c.args.text.now c.args.here c.args.self.now c.put.new.self c.in_ok-next.next (shown_entity c.in-Some.entity) c.in-Some-end_behind.end c.requires.byte.within is found c.in-Some-end_behind.ensures.value)
     next.at (next.end ∙ sym next.at) next.slots (ap (λ (s : InlineState). s.texts.items) next.others ∙ c.in_ok-push.ensures.items) (let q : c.len.result ≡ length c.args.self.now.texts.items = search rules in q) c.in_ok-owned.ensures.value (kept c.args.self.now c.put.new.self _ next.others refl))
 
-pub returns-in_default-clause-keeps : goal.returns-in_default-clause-keeps
-returns-in_default-clause-keeps g c = keeps-same c.args.self.now
+pub returns-in_default-clause-reads_on : goal.returns-in_default-clause-reads_on
+returns-in_default-clause-reads_on g c = record {
+  expansion_left = search rules;
+  keeps = keeps-same c.args.self.now;
+  moves = search rules;
+}
 
-pub returns-in_default-end_behind-clause-keeps : goal.returns-in_default-end_behind-clause-keeps
-returns-in_default-end_behind-clause-keeps g c = keeps-same c.args.self.now
+pub returns-in_default-end_behind-clause-reads_on : goal.returns-in_default-end_behind-clause-reads_on
+returns-in_default-end_behind-clause-reads_on g c = record {
+  expansion_left = search rules;
+  keeps = keeps-same c.args.self.now;
+  moves = search rules;
+}
 
-pub returns-clause-keeps : goal.returns-clause-keeps
-returns-clause-keeps g c = keeps-owned c.args.self.now (record c.args.self.now { texts = c.push.new.self }) c.put.new.self c.args.here.pending c.args.here.at _ c.in_ok-next.ensures.slots c.in_ok-owned.owned c.in_ok-push.ensures.items c.in_ok-next.ensures.others refl (ap Some (let q : c.len.result ≡ length c.args.self.now.texts.items = search rules in q)) refl refl (λ i. refl)
+pub returns-clause-reads_on : goal.returns-clause-reads_on
+returns-clause-reads_on g c = record {
+  expansion_left = search rules;
+  keeps = keeps-owned c.args.self.now (record c.args.self.now { texts = c.push.new.self }) c.put.new.self c.args.here.pending c.args.here.at _ c.in_ok-next.ensures.slots c.in_ok-owned.owned c.in_ok-push.ensures.items c.in_ok-next.ensures.others refl (ap Some (let q : c.len.result ≡ length c.args.self.now.texts.items = search rules in q)) refl refl (λ i. refl);
+  moves = search rules;
+}

@@ -1,4 +1,4 @@
-use Rattle.std.proofs.Common.{◌≡◌, ◌⊎◌, ◌+◌, ◌<◌, ◌≤◌, ℕ, List, get_or, inl, inr, true, refl, sym, ap, subst, ◌∙◌, arith}
+use Rattle.std.proofs.Common.{◌≡◌, ◌⊎◌, ◌+◌, ◌<◌, ◌≤◌, ℕ, List, get_or, inl, inr, true, refl, sym, ap, subst, ◌∙◌, arith, rules}
 use Rattle.cmark_grammar.specs.InlineTokens.{bracket, item_at}
 use Rattle.cmark_grammar.specs.Items.{Plain, Opens}
 use Rattle.cmark_grammar.specs.Lines.{is_content}
@@ -42,5 +42,9 @@ returns-then-is_followed_by-clause-token c = λ l cell is.
       opens = subst (λ k. OpensAs (shown_options c.args.options).wikilinks true c.args.text.now c.args.here.at k c.args.self.now c.open_bracket.new.self) (sym next.at.1) next.opens;
     })
 
-pub returns-clause-keeps : goal.returns-clause-keeps
-returns-clause-keeps c = keeps-same c.args.self.now
+pub returns-clause-reads_on : goal.returns-clause-reads_on
+returns-clause-reads_on c = record {
+  expansion_left = search rules;
+  keeps = keeps-same c.args.self.now;
+  moves = search rules;
+}

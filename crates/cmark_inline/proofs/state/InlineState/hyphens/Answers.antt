@@ -23,8 +23,16 @@ returns-clause-token c = λ o l cell smart is.
     next.at (next.end ∙ sym next.at) next.slots (ap (λ (s : InlineState). s.texts.items) next.others ∙ c.in_ok-push.ensures.items) (let q : c.len.result ≡ length c.args.self.now.texts.items = search rules in q)
     (c.in_ok-owned.ensures.value ∙ c.in_ok-dash_text.ensures) (kept c.args.self.now c.put.new.self _ next.others refl))
 
-pub returns-then-size-lt2-clause-keeps : goal.returns-then-size-lt2-clause-keeps
-returns-then-size-lt2-clause-keeps c = keeps-same c.args.self.now
+pub returns-then-size-lt2-clause-reads_on : goal.returns-then-size-lt2-clause-reads_on
+returns-then-size-lt2-clause-reads_on c = record {
+  expansion_left = search rules;
+  keeps = keeps-same c.args.self.now;
+  moves = search rules;
+}
 
-pub returns-clause-keeps : goal.returns-clause-keeps
-returns-clause-keeps c = keeps-owned c.args.self.now (record c.args.self.now { texts = c.push.new.self }) c.put.new.self c.args.here.pending c.args.here.at _ c.in_ok-next.ensures.slots c.in_ok-owned.owned c.in_ok-push.ensures.items c.in_ok-next.ensures.others refl (ap Some (let q : c.len.result ≡ length c.args.self.now.texts.items = search rules in q)) refl refl (λ i. refl)
+pub returns-clause-reads_on : goal.returns-clause-reads_on
+returns-clause-reads_on c = record {
+  expansion_left = search rules;
+  keeps = keeps-owned c.args.self.now (record c.args.self.now { texts = c.push.new.self }) c.put.new.self c.args.here.pending c.args.here.at _ c.in_ok-next.ensures.slots c.in_ok-owned.owned c.in_ok-push.ensures.items c.in_ok-next.ensures.others refl (ap Some (let q : c.len.result ≡ length c.args.self.now.texts.items = search rules in q)) refl refl (λ i. refl);
+  moves = search rules;
+}

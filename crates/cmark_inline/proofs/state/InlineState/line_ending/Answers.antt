@@ -1,4 +1,4 @@
-use Rattle.std.proofs.Common.{◌-◌, ℕ, List, sym, ap, subst, ◌∙◌, take, drop}
+use Rattle.std.proofs.Common.{◌-◌, ℕ, List, sym, ap, subst, ◌∙◌, take, drop, rules}
 use Rattle.cmark_grammar.specs.LineBreaks.{ends_with_two_spaces}
 use Rattle.cmark_inline.proofs.Appended.{break-appends}
 use Rattle.cmark_inline.proofs.Keeping.{break-alone, keeps-puts, keeps-same}
@@ -15,11 +15,16 @@ returns-clause-token c = λ o l cell ends.
     before.behind before.before c.requires.byte.within before.first before.blanks ends c.in-Some.ensures.value c.in-Some.ensures.places
     (c.ends_with_two_spaces-is_hard.ensures ∙ ap (λ (bs : List ℕ). ends_with_two_spaces (take (c.args.here.at - c.before_blanks-text_end.result) (drop c.before_blanks-text_end.result bs))) c.as_bytes.ensures.value) c.break_slot-slot.ensures (c.onto_words.ensures.at ∙ ap (read_on c.args.text.now) next.at) c.onto_words.ensures.pending next.slots next.others
 
-pub returns-in_default-clause-keeps : goal.returns-in_default-clause-keeps
-returns-in_default-clause-keeps c = keeps-same c.args.self.now
+pub returns-in_default-clause-reads_on : goal.returns-in_default-clause-reads_on
+returns-in_default-clause-reads_on c = record {
+  expansion_left = search rules;
+  keeps = keeps-same c.args.self.now;
+  moves = search rules;
+}
 
-pub returns-clause-keeps : goal.returns-clause-keeps
-returns-clause-keeps c = keeps-puts c.args.self.now c.put.new.self c.in_ok-next.ensures.others c.args.here.pending c.before_blanks-text_end.result c.break_slot-slot.result c.in_ok-next.ensures.slots (subst (λ (s : Slot). StandsAlone s.kind) (sym c.break_slot-slot.ensures) (break-alone c.ends_with_two_spaces-is_hard.result))
-
-pub returns-clause-moves : goal.returns-clause-moves
-returns-clause-moves c = c.onto_words.ensures.moves c.args.here.at c.put.new.self c.in_ok-next.ensures.moves
+pub returns-clause-reads_on : goal.returns-clause-reads_on
+returns-clause-reads_on c = record {
+  expansion_left = search rules;
+  keeps = keeps-puts c.args.self.now c.put.new.self c.in_ok-next.ensures.others c.args.here.pending c.before_blanks-text_end.result c.break_slot-slot.result c.in_ok-next.ensures.slots (subst (λ (s : Slot). StandsAlone s.kind) (sym c.break_slot-slot.ensures) (break-alone c.ends_with_two_spaces-is_hard.result));
+  moves = c.onto_words.ensures.moves c.args.here.at c.put.new.self c.in_ok-next.ensures.moves;
+}

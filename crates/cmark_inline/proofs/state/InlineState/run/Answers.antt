@@ -90,16 +90,23 @@ returns-clause-others c = λ l cell is other.
       | else-not-flanking-via-else-not-flanking w ↦ true≢false (sym (ap not opens) ∙ w.if-not-flanking.false)
     ])
 
-pub returns-then-not-flanking-2-clause-keeps : goal.returns-then-not-flanking-2-clause-keeps
-returns-then-not-flanking-2-clause-keeps c = keeps-same c.args.self.now
+pub returns-then-not-flanking-2-clause-reads_on : goal.returns-then-not-flanking-2-clause-reads_on
+returns-then-not-flanking-2-clause-reads_on c = record {
+  expansion_left = search rules;
+  keeps = keeps-same c.args.self.now;
+  moves = search rules;
+}
 
-pub returns-clause-keeps : goal.returns-clause-keeps
-returns-clause-keeps c =
-    let same : length c.flush.new.self.slots.items ≡ c.len-first.result = search rules in
-    let run : Run = record { delimiter = c.args.delimiter; run_length = c.run_end-end.result - c.args.here.at; at = 0; left = c.run_end-end.result - c.args.here.at; opens = c.flanking_of-flanking.result.opens; closes = c.flanking_of-flanking.result.closes } in
-    let further = c.run_end-end.ensures.further in
-    keeps-run c.args.self.now (record c.push_bytes.new.self { delimiters = c.push.new.self }) c.flush.new.self.slots.items c.args.here.pending c.args.here.at (record { slot = c.len-first.result; run = run }) c.args.text.now
-    c.in_ok-flush.ensures.slots c.in_ok-push_bytes.ensures.bytes
-    (c.in_ok-push.ensures.placed ∙ ap (λ (d : Delimiters). d.placed.items ++ (record { slot = c.len-first.result; run = run } ∷ [])) (c.in_ok-push_bytes.ensures.delimiters ∙ ap (λ (s : InlineState). s.delimiters) c.in_ok-flush.ensures.others))
-    (ap (λ (s : InlineState). record s { slots = c.push_bytes.new.self.slots; delimiters = c.push.new.self }) (c.in_ok-push_bytes.ensures.others ∙ ap (λ (s : InlineState). record s { slots = c.push_bytes.new.self.slots }) c.in_ok-flush.ensures.others))
-    (omega (arith, further)) (sym same) c.in_ok-flush.ensures.stands.slots
+pub returns-clause-reads_on : goal.returns-clause-reads_on
+returns-clause-reads_on c = record {
+  expansion_left = search rules;
+  keeps = (let same : length c.flush.new.self.slots.items ≡ c.len-first.result = search rules in
+      let run : Run = record { delimiter = c.args.delimiter; run_length = c.run_end-end.result - c.args.here.at; at = 0; left = c.run_end-end.result - c.args.here.at; opens = c.flanking_of-flanking.result.opens; closes = c.flanking_of-flanking.result.closes } in
+      let further = c.run_end-end.ensures.further in
+      keeps-run c.args.self.now (record c.push_bytes.new.self { delimiters = c.push.new.self }) c.flush.new.self.slots.items c.args.here.pending c.args.here.at (record { slot = c.len-first.result; run = run }) c.args.text.now
+      c.in_ok-flush.ensures.slots c.in_ok-push_bytes.ensures.bytes
+      (c.in_ok-push.ensures.placed ∙ ap (λ (d : Delimiters). d.placed.items ++ (record { slot = c.len-first.result; run = run } ∷ [])) (c.in_ok-push_bytes.ensures.delimiters ∙ ap (λ (s : InlineState). s.delimiters) c.in_ok-flush.ensures.others))
+      (ap (λ (s : InlineState). record s { slots = c.push_bytes.new.self.slots; delimiters = c.push.new.self }) (c.in_ok-push_bytes.ensures.others ∙ ap (λ (s : InlineState). record s { slots = c.push_bytes.new.self.slots }) c.in_ok-flush.ensures.others))
+      (omega (arith, further)) (sym same) c.in_ok-flush.ensures.stands.slots);
+  moves = search rules;
+}

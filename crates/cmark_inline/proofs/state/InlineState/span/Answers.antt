@@ -122,31 +122,31 @@ returns-in_default-clause-token g c = λ special other.
     (other-special o b uncalled (sym (ap (is_special o) same) ∙ special))
 
 pub returns-in-10-clause-sound : goal.returns-in-10-clause-sound
-returns-in-10-clause-sound g c = λ h. IfOk-weaker c.line_ending.result _ _ (λ next k. k.sound h) c.line_ending.ensures.keeps
+returns-in-10-clause-sound g c = λ h. IfOk-weaker c.line_ending.result _ _ (λ next k. k.sound h) c.line_ending.ensures.reads_on.keeps
 
 pub returns-in-92-clause-sound : goal.returns-in-92-clause-sound
-returns-in-92-clause-sound g c = λ h. IfOk-weaker c.backslash.result _ _ (λ next k. k.sound h) c.backslash.ensures.keeps
+returns-in-92-clause-sound g c = λ h. IfOk-weaker c.backslash.result _ _ (λ next k. k.sound h) c.backslash.ensures.reads_on.keeps
 
 pub returns-in-38-clause-sound : goal.returns-in-38-clause-sound
-returns-in-38-clause-sound g c = λ h. IfOk-weaker c.entity.result _ _ (λ next k. k.sound h) c.entity.ensures.keeps
+returns-in-38-clause-sound g c = λ h. IfOk-weaker c.entity.result _ _ (λ next k. k.sound h) c.entity.ensures.reads_on.keeps
 
 pub returns-in-96-clause-sound : goal.returns-in-96-clause-sound
-returns-in-96-clause-sound g c = λ h. IfOk-weaker c.backticks.result _ _ (λ next k. k.sound h) c.backticks.ensures.keeps
+returns-in-96-clause-sound g c = λ h. IfOk-weaker c.backticks.result _ _ (λ next k. k.sound h) c.backticks.ensures.reads_on.keeps
 
 pub returns-in-33-clause-sound : goal.returns-in-33-clause-sound
-returns-in-33-clause-sound g c = λ h. IfOk-weaker c.exclamation.result _ _ (λ next k. k.sound h) c.exclamation.ensures.keeps
+returns-in-33-clause-sound g c = λ h. IfOk-weaker c.exclamation.result _ _ (λ next k. k.sound h) c.exclamation.ensures.reads_on.keeps
 
 pub returns-in-36-clause-sound : goal.returns-in-36-clause-sound
-returns-in-36-clause-sound g c = λ h. IfOk-weaker c.dollar.result _ _ (λ next k. k.sound h) c.dollar.ensures.keeps
+returns-in-36-clause-sound g c = λ h. IfOk-weaker c.dollar.result _ _ (λ next k. k.sound h) c.dollar.ensures.reads_on.keeps
 
 pub returns-in-46-clause-sound : goal.returns-in-46-clause-sound
-returns-in-46-clause-sound g c = λ h. IfOk-weaker c.dots.result _ _ (λ next k. k.sound h) c.dots.ensures.keeps
+returns-in-46-clause-sound g c = λ h. IfOk-weaker c.dots.result _ _ (λ next k. k.sound h) c.dots.ensures.reads_on.keeps
 
 pub returns-in-45-clause-sound : goal.returns-in-45-clause-sound
-returns-in-45-clause-sound g c = λ h. IfOk-weaker c.hyphens.result _ _ (λ next k. k.sound h) c.hyphens.ensures.keeps
+returns-in-45-clause-sound g c = λ h. IfOk-weaker c.hyphens.result _ _ (λ next k. k.sound h) c.hyphens.ensures.reads_on.keeps
 
 pub returns-in_default-clause-sound : goal.returns-in_default-clause-sound
-returns-in_default-clause-sound g c = λ h. IfOk-weaker c.run.result _ _ (λ next k. k.sound h) c.run.ensures.keeps
+returns-in_default-clause-sound g c = λ h. IfOk-weaker c.run.result _ _ (λ next k. k.sound h) c.run.ensures.reads_on.keeps
 
 pub returns-in-60-clause-sound : goal.returns-in-60-clause-sound
 returns-in-60-clause-sound g c = λ h. c.less_than.ensures.sound h
@@ -159,34 +159,34 @@ returns-in-34-clause-sound g c = λ h.
     IfOk-weaker c.quote.result _ _ (λ next a. (keeps-quote o l false c.args.text.now c.args.here c.args.self.now c.quote.new.self next a).sound h) (c.quote.ensures.token o l false refl is)
 
 pub returns-in_ok-next-in-91-clause-sound : goal.returns-in_ok-next-in-91-clause-sound
-returns-in_ok-next-in-91-clause-sound g c = λ h. c.in_ok-next-in-91.ensures.keeps.sound h
+returns-in_ok-next-in-91-clause-sound g c = λ h. c.in_ok-next-in-91.ensures.reads_on.keeps.sound h
 
 pub returns-in-10-clause-ends : goal.returns-in-10-clause-ends
-returns-in-10-clause-ends g c = IfOk-weaker c.line_ending.result _ _ (λ next k. k.ends c.args.leaf.now) c.line_ending.ensures.keeps
+returns-in-10-clause-ends g c = IfOk-weaker c.line_ending.result _ _ (λ next k. k.ends c.args.leaf.now) c.line_ending.ensures.reads_on.keeps
 
 pub returns-in-92-clause-ends : goal.returns-in-92-clause-ends
-returns-in-92-clause-ends g c = IfOk-weaker c.backslash.result _ _ (λ next k. k.ends c.args.leaf.now) c.backslash.ensures.keeps
+returns-in-92-clause-ends g c = IfOk-weaker c.backslash.result _ _ (λ next k. k.ends c.args.leaf.now) c.backslash.ensures.reads_on.keeps
 
 pub returns-in-38-clause-ends : goal.returns-in-38-clause-ends
-returns-in-38-clause-ends g c = IfOk-weaker c.entity.result _ _ (λ next k. k.ends c.args.leaf.now) c.entity.ensures.keeps
+returns-in-38-clause-ends g c = IfOk-weaker c.entity.result _ _ (λ next k. k.ends c.args.leaf.now) c.entity.ensures.reads_on.keeps
 
 pub returns-in-96-clause-ends : goal.returns-in-96-clause-ends
-returns-in-96-clause-ends g c = IfOk-weaker c.backticks.result _ _ (λ next k. k.ends c.args.leaf.now) c.backticks.ensures.keeps
+returns-in-96-clause-ends g c = IfOk-weaker c.backticks.result _ _ (λ next k. k.ends c.args.leaf.now) c.backticks.ensures.reads_on.keeps
 
 pub returns-in-33-clause-ends : goal.returns-in-33-clause-ends
-returns-in-33-clause-ends g c = IfOk-weaker c.exclamation.result _ _ (λ next k. k.ends c.args.leaf.now) c.exclamation.ensures.keeps
+returns-in-33-clause-ends g c = IfOk-weaker c.exclamation.result _ _ (λ next k. k.ends c.args.leaf.now) c.exclamation.ensures.reads_on.keeps
 
 pub returns-in-36-clause-ends : goal.returns-in-36-clause-ends
-returns-in-36-clause-ends g c = IfOk-weaker c.dollar.result _ _ (λ next k. k.ends c.args.leaf.now) c.dollar.ensures.keeps
+returns-in-36-clause-ends g c = IfOk-weaker c.dollar.result _ _ (λ next k. k.ends c.args.leaf.now) c.dollar.ensures.reads_on.keeps
 
 pub returns-in-46-clause-ends : goal.returns-in-46-clause-ends
-returns-in-46-clause-ends g c = IfOk-weaker c.dots.result _ _ (λ next k. k.ends c.args.leaf.now) c.dots.ensures.keeps
+returns-in-46-clause-ends g c = IfOk-weaker c.dots.result _ _ (λ next k. k.ends c.args.leaf.now) c.dots.ensures.reads_on.keeps
 
 pub returns-in-45-clause-ends : goal.returns-in-45-clause-ends
-returns-in-45-clause-ends g c = IfOk-weaker c.hyphens.result _ _ (λ next k. k.ends c.args.leaf.now) c.hyphens.ensures.keeps
+returns-in-45-clause-ends g c = IfOk-weaker c.hyphens.result _ _ (λ next k. k.ends c.args.leaf.now) c.hyphens.ensures.reads_on.keeps
 
 pub returns-in_default-clause-ends : goal.returns-in_default-clause-ends
-returns-in_default-clause-ends g c = IfOk-weaker c.run.result _ _ (λ next k. k.ends c.args.leaf.now) c.run.ensures.keeps
+returns-in_default-clause-ends g c = IfOk-weaker c.run.result _ _ (λ next k. k.ends c.args.leaf.now) c.run.ensures.reads_on.keeps
 
 pub returns-in-60-clause-ends : goal.returns-in-60-clause-ends
 returns-in-60-clause-ends g c = c.less_than.ensures.ends
@@ -199,4 +199,4 @@ returns-in-34-clause-ends g c =
     IfOk-weaker c.quote.result _ _ (λ next a. (keeps-quote o l false c.args.text.now c.args.here c.args.self.now c.quote.new.self next a).ends c.args.leaf.now) (c.quote.ensures.token o l false refl is)
 
 pub returns-in_ok-next-in-91-clause-ends : goal.returns-in_ok-next-in-91-clause-ends
-returns-in_ok-next-in-91-clause-ends g c = c.in_ok-next-in-91.ensures.keeps.ends c.args.leaf.now
+returns-in_ok-next-in-91-clause-ends g c = c.in_ok-next-in-91.ensures.reads_on.keeps.ends c.args.leaf.now

@@ -2,12 +2,12 @@ use Rattle.std.proofs.Common.{rules, ap, ◌∙◌}
 use Rattle.cmark_grammar.specs.InlineHtml.{takes_lines}
 use Rattle.cmark_leaf_text.specs.Reads.{IsPart, text_of}
 use Rattle.cmark_inline.proofs.Lending.{code-part}
-use Rattle.cmark_inline.proofs.event.code_of.Goals as goal
+use Rattle.cmark_inline.proofs.content.Content.code.Goals as goal
 
 pub returns-in-Some-clause-part : goal.returns-in-Some-clause-part
 returns-in-Some-clause-part c =
-    let part : IsPart (text_of c.args.leaf.now) c.args.from c.args.to = search rules in
-    code-part c.code_text.result c.in-Some.content.now c.args.leaf.now c.args.from c.args.to c.requires.read part c.in-Some.ensures.source c.code_text.ensures.part
+    let part : IsPart (text_of c.args.self.now.leaf.now) c.args.self.now.from c.args.self.now.to = search rules in
+    code-part c.code_text.result c.in-Some.content.now c.args.self.now.leaf.now c.args.self.now.from c.args.self.now.to c.requires.read part c.in-Some.ensures.source c.code_text.ensures.part
 
 pub returns-in-Some-clause-lent : goal.returns-in-Some-clause-lent
 returns-in-Some-clause-lent c = λ same none plain. c.code_text.ensures.lent (ap takes_lines c.in-Some.ensures.text ∙ none)

@@ -1,0 +1,13 @@
+-- What a call keeps that reads at a special byte, whatever it finds there.
+use Rattle.std.specs.Prelude.{◌≡◌, ℕ, List, Result, IfOk, OnOk}
+use Rattle.std.specs.declared.alloc.AllocError.{AllocError}
+use Rattle.cmark_inline.specs.Sound.{KeepsSound}
+use Rattle.cmark_inline.specs.Stands.{Moves}
+use Rattle.cmark_inline.specs.declared.state.InlineState.{InlineState}
+use Rattle.cmark_inline.specs.declared.step.Cursor.{Cursor}
+
+-- what is left of the reference expansion limit stays; where memory is not refused, slots stay sound, and the text was read further
+pub record ReadsOn (text : List ℕ) (here : Cursor) (old new : InlineState) (result : Result Cursor AllocError) : Type 0 where
+  pub expansion_left : new.expansion_left ≡ old.expansion_left
+  pub keeps : OnOk result (KeepsSound old new)
+  pub moves : IfOk result (Moves text here.at new)

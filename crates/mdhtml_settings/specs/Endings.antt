@@ -1,0 +1,25 @@
+-- The exit status of a program, by what it came to.
+use Rattle.std.specs.Prelude.{◌≡◌, ◌⊎◌, ℕ, List, Option, Result, Ok, Err, string_bytes}
+use Rattle.std.specs.Io.KnownBytes.{Appends, Keeps}
+use Rattle.mdhtml_parts.specs.Faults.{WriteStops, status_of}
+use Rattle.mdhtml_parts.specs.Runs.{AppendsFrontOf}
+use Rattle.mdhtml_parts.specs.declared.fault.RunFault.TheVariants.{Write}
+use Rattle.mdhtml_parts.specs.declared.watched.Notes.{Notes}
+use Rattle.mdhtml_settings.specs.declared.starting.Stop.{Stop}
+use Rattle.mdhtml_settings.specs.declared.starting.Stop.TheVariants.{Help, BadLine, Fault}
+
+-- what the writer held before and after the program was ended, and its notes then
+module _ (held_old held_new : Option (List ℕ)) (writer : Notes) where
+  -- the text was written, and the status says so; or a write failed behind a beginning of it
+  abbrev pub Shows : List ℕ → ℕ → Type 0
+  Shows text status =
+      (Appends held_old held_new text × (status ≡ 0))
+      ⊎ (AppendsFrontOf held_old held_new text × WriteStops writer Write × (status ≡ status_of Write))
+
+  -- the status is 0 where the program came to its end, and where it wrote the text that was asked for; else that of what
+  -- stopped it. Nothing more is written but such a text.
+  abbrev pub EndsWith : Result (Unit {0}) Stop → ℕ → Type 0
+  EndsWith (Ok u) status = Keeps held_old held_new × (status ≡ 0)
+  EndsWith (Err (Help text)) status = Shows (string_bytes text) status
+  EndsWith (Err BadLine) status = Keeps held_old held_new × (status ≡ 2)
+  EndsWith (Err (Fault fault)) status = Keeps held_old held_new × (status ≡ status_of fault)
