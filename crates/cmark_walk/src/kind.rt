@@ -62,11 +62,10 @@ pub(crate) fn is_list(item: Item) -> bool
 pub(crate) fn is_title(item: Item) -> bool
     ensures { (text : List ℕ) (texts : List CowStr) (node : BlockNode) → Drawn text texts item node → result ≡ is_title node.kind }
 {
-    match item.body {
-        ItemBody::DefinitionListTitle => true,
-        ItemBody::DefinitionListTitleOf(_) => true,
-        _ => false,
-    }
+    matches!(
+        item.body,
+        ItemBody::DefinitionListTitle | ItemBody::DefinitionListTitleOf(_)
+    )
 }
 
 // Where the text of a paragraph or a title ends that is one node with its only text: a byte offset of the source.

@@ -1,4 +1,4 @@
-use Rattle.std.proofs.Common.{◌≡◌, ℕ, List, sym, ap, ◌∙◌, subst}
+use Rattle.std.proofs.Common.{sym, ap, ◌∙◌, subst}
 use Rattle.cmark_grammar.specs.BlockDocument.{Nil}
 use Rattle.cmark_grammar.specs.Tokens.{stretch_then}
 use Rattle.cmark_items.specs.Tables.{tables}
