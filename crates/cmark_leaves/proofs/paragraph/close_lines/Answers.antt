@@ -25,7 +25,7 @@ returns-clause-drawn c text d draws =
     let mid = c.else-from-text_end.builder in
     let same : Draws text mid d = elim c.else-from-text_end.branch [
       | else-from-text_end-via-then-from-text_end+else-close_whole w ↦
-        subst (λ b. Draws text b d) (sym w.builder-is) (draws-same text old w.close_whole.new.self d (w.close_whole.ensures.unchanged w.if-close_whole.false) (ap (λ a. (tables a).texts) w.close_whole.ensures.tables) draws)
+          subst (λ b. Draws text b d) (sym w.builder-is) (draws-same text old w.close_whole.new.self d (w.close_whole.ensures.unchanged w.if-close_whole.false) (ap (λ a. (tables a).texts) w.close_whole.ensures.tables) draws)
       | else-from-text_end-via-else-from-text_end w ↦ subst (λ b. Draws text b d) (sym w.builder-is) draws
     ] in
     let line : Drawing = drawn (stretch_then text c.args.from c.words_end-text_end.result Nil) d in
