@@ -1,10 +1,10 @@
 -- The tree that the pass over a text leaves has at most four nodes a byte of the text, the cells aside that are filled in.
-use Rattle.std.proofs.Common.{◌≡◌, ℕ, suc, ◌+◌, ◌*◌, ◌≤◌, Bool, true, false, List, length, refl, sym, ap, ◌∙◌, arith}
+use Rattle.std.proofs.Common.{◌≡◌, ℕ, suc, ◌+◌, ◌*◌, ◌≤◌, Bool, true, false, List, Option, length, refl, sym, ap, ◌∙◌, arith}
 use Rattle.cmark_tree.specs.Forest as forest
 use Rattle.cmark_tree.specs.Forest.{Forest, size}
 use Rattle.cmark_text.specs.declared.text.CowStr.{CowStr}
 use Rattle.cmark_grammar.specs.Answers.{Lookup}
-use Rattle.cmark_grammar.specs.BlockDocument.{BlockDocument, Nil, Node}
+use Rattle.cmark_grammar.specs.BlockDocument.{BlockNode, BlockDocument, Nil, Node}
 use Rattle.cmark_grammar.specs.Derivation.{document}
 use Rattle.cmark_grammar.specs.DrawnDocument.{is_definition, node_unless, settled, without_definitions}
 use Rattle.cmark_grammar.specs.Options.{Options}
@@ -12,14 +12,25 @@ use Rattle.cmark_grammar.specs.Ranges.{count_nodes, count_tables}
 use Rattle.cmark_grammar.specs.Tightness.{tight_within}
 use Rattle.cmark_grammar.proofs.CountLaws.{derived-count}
 use Rattle.cmark_items.specs.declared.item.Item.{Item}
-use Rattle.cmark_items.specs.ItemNodes.{shown_forest, nodes_of}
+use Rattle.cmark_items.specs.ItemNodes.{Shape, ParagraphOf, TitleOf, shape, shown_inside, shown_forest, nodes_of}
 use Rattle.cmark_block_model.specs.BlockPass.{pass_over}
 use Rattle.cmark_block_model.proofs.Drawings.{derived}
 use Rattle.cmark_block_model.proofs.Theorem.{pass-draws}
 
-shown-size : (text : List ℕ) (texts : List CowStr) (f : Forest Item) → size (shown_forest text texts f) ≡ size f
-shown-size text texts forest.Nil = refl
-shown-size text texts (forest.Node item inside after) = let i = shown-size text texts inside in let a = shown-size text texts after in omega (arith, i, a)
+-- a text that stands in its paragraph's node is a node of the document
+inside-size : (text : List ℕ) (start : ℕ) (s : Shape) (below : Forest (Option BlockNode)) → size below ≤ size (shown_inside text start s below)
+inside-size text start (ParagraphOf text_end) forest.Nil = omega arith
+inside-size text start (ParagraphOf text_end) (forest.Node n i a) = omega arith
+inside-size text start (TitleOf text_end) forest.Nil = omega arith
+inside-size text start (TitleOf text_end) (forest.Node n i a) = omega arith
+inside-size text start _ below = omega arith
+
+shown-size : (text : List ℕ) (texts : List CowStr) (f : Forest Item) → size f ≤ size (shown_forest text texts f)
+shown-size text texts forest.Nil = omega arith
+shown-size text texts (forest.Node item inside after) =
+    let i = shown-size text texts inside in
+    let o = inside-size text item.start (shape item.body) (shown_forest text texts inside) in
+    let a = shown-size text texts after in omega (arith, i, o, a)
 
 nodes-count : (d : BlockDocument) → size (nodes_of d) ≡ count_nodes d
 nodes-count Nil = refl
@@ -42,8 +53,9 @@ left-count (Node node inside after) = go (is_definition node.kind) (left-count i
 pub drawn-few : (text : List ℕ) (options : Options) (lookup : Lookup) (texts : List CowStr) (f : Forest Item) → shown_forest text texts f ≡ nodes_of (pass_over text options lookup).drawing.here → size f ≤ 4 * length text + 262144 * count_tables (document text options lookup)
 drawn-few text options lookup texts f is =
     let d : BlockDocument = (pass_over text options lookup).drawing.here in
-    let shown : size f ≡ count_nodes d = sym (shown-size text texts f) ∙ ap size is ∙ nodes-count d in
+    let shown = shown-size text texts f in
+    let nodes : size (shown_forest text texts f) ≡ count_nodes d = ap size is ∙ nodes-count d in
     let drawn : count_nodes d ≡ count_nodes (without_definitions (document text options lookup)) = sym (settled-count false d) ∙ ap count_nodes (pass-draws text options lookup).0 in
     let left = left-count (document text options lookup) in
     let few = derived-count text options lookup (document text options lookup) (derived text options lookup) in
-    omega (arith, shown, drawn, left, few)
+    omega (arith, shown, nodes, drawn, left, few)

@@ -193,13 +193,12 @@ impl<'a, E: EntityLookup> Pass<'a, E> {
         ensures bare { self.new.bare ≡ self.old.bare }
     {
         if title.list.is_some() {
-            self.builder.turn_last(ItemBody::DefinitionListTitle);
+            self.builder.title_last();
             self.inner = self.inner.behind_title(title, start);
             return Ok(());
         }
         let around = ItemBody::DefinitionList(list_flags(true));
-        self.builder
-            .enclose_last(around, ItemBody::DefinitionListTitle)?;
+        self.builder.enclose_title(around)?;
         self.inner = self.inner.behind_title(title, start);
         Ok(())
     }

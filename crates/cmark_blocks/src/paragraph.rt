@@ -9,7 +9,7 @@ ghost use Rattle.cmark_lines.specs.Rests.{row_of};
 use crate::heading::reads_attributes;
 use crate::state::{OpenLeaf, Pass};
 use cmark_items::ItemBody;
-use cmark_leaves::{draw_last_lines, draw_lines};
+use cmark_leaves::{close_lines, draw_lines};
 use cmark_lines::{LineRest, interrupts, underlines};
 use cmark_text::EntityLookup;
 use std::alloc::AllocError;
@@ -151,8 +151,7 @@ impl<'a, E: EntityLookup> Pass<'a, E> {
         ensures text { self.new.text ≡ self.old.text }
         ensures bare { self.new.bare ≡ self.old.bare }
     {
-        draw_last_lines(&mut self.builder, from, last)?;
-        self.builder.close(self.line_end);
+        close_lines(&mut self.builder, from, last, self.line_end)?;
         self.blank_lines.clear();
         self.leaf = OpenLeaf::Closed;
         Ok(())

@@ -89,7 +89,7 @@ module _ {T : Type 0} where
       go Nil e c st = let q : None ≡ Some i = e in cc
       go (Node p a b) e c st = omega (arith, none_at t up is, c, place_above t.nodes p a b st)
 
-  last_or_none : (f : Forest T) → ((before : Forest T) × (x : T) × (inside : Forest T) × (f ≡ join before (one x inside))) ⊎ (f ≡ Nil)
+  pub last_or_none : (f : Forest T) → ((before : Forest T) × (x : T) × (inside : Forest T) × (f ≡ join before (one x inside))) ⊎ (f ≡ Nil)
   last_or_none Nil = inr refl
   last_or_none (Node x inside after) = elim (last_or_none after) [
     | inl l ↦ inl (Node x inside l.0, l.1, l.2, ap (Node x inside) l.3)

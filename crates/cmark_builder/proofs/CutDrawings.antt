@@ -11,7 +11,7 @@ use Rattle.cmark_grammar.specs.SetextAttributes.{texts_before}
 use Rattle.cmark_grammar.specs.Tokens.{stretch_then}
 use Rattle.cmark_items.specs.declared.item.Item.{Item}
 use Rattle.cmark_items.specs.Spans.{spans}
-use Rattle.cmark_items.specs.ItemNodes.{shown_item, shown_forest, nodes_of}
+use Rattle.cmark_items.specs.ItemNodes.{shape, shown_inside, shown_item, shown_forest, nodes_of}
 use Rattle.cmark_items.specs.Tables.{tables}
 use Rattle.cmark_block_model.specs.Drawing.{OpenNode, Drawing, drawn, cut_at, texts_cut}
 use Rattle.cmark_builder.specs.declared.builder.Builder.{Builder}
@@ -73,12 +73,12 @@ module _ (text : List ℕ) (t : List CowStr) (place : ℕ) where
   -- the items of a node, in the form of the grammar
   record Same (item : Item) (inside after : Forest Item) (n : BlockNode) (i a : BlockDocument) : Type 0 where
     item_is : shown_item text t item ≡ Some n
-    inside_is : shown_forest text t inside ≡ nodes_of i
+    inside_is : shown_inside text item.start (shape item.body) (shown_forest text t inside) ≡ nodes_of i
     after_is : shown_forest text t after ≡ nodes_of a
 
   same-node : (item : Item) (inside after : Forest Item) (n : BlockNode) (i a : BlockDocument) → shown_forest text t (forest.Node item inside after) ≡ nodes_of (Node n i a) → Same item inside after n i a
   same-node item inside after n i a e =
-      let q : forest.Node (shown_item text t item) (shown_forest text t inside) (shown_forest text t after) ≡ forest.Node (Some n) (nodes_of i) (nodes_of a) = e in record { item_is = cc; inside_is = cc; after_is = cc }
+      let q : forest.Node (shown_item text t item) (shown_inside text item.start (shape item.body) (shown_forest text t inside)) (shown_forest text t after) ≡ forest.Node (Some n) (nodes_of i) (nodes_of a) = e in record { item_is = cc; inside_is = cc; after_is = cc }
 
   -- what is left of items is shown as what is left of nodes
   shown-before : (here : Forest Item) (d : BlockDocument) → shown_forest text t here ≡ nodes_of d → shown_forest text t (ending_before spans place here) ≡ nodes_of (ended_before place d)
@@ -93,7 +93,7 @@ module _ (text : List ℕ) (t : List CowStr) (place : ℕ) where
       go : (z : Bool) → Same item inside after n i a → shown_forest text t (ending_before spans place after) ≡ nodes_of (ended_before place a)
           → shown_forest text t (if z then forest.Node item inside (ending_before spans place after) else forest.Nil) ≡ nodes_of (if z then Node n i (ended_before place a) else Nil)
       go true s ih =
-          ap (λ x. forest.Node x (shown_forest text t inside) (shown_forest text t (ending_before spans place after))) s.item_is
+          ap (λ x. forest.Node x (shown_inside text item.start (shape item.body) (shown_forest text t inside)) (shown_forest text t (ending_before spans place after))) s.item_is
           ∙ ap (λ x. forest.Node (Some n) x (shown_forest text t (ending_before spans place after))) s.inside_is
           ∙ ap (forest.Node (Some n) (nodes_of i)) ih
       go false s ih = refl

@@ -1,3 +1,4 @@
 pub mod BuilderSteps
 pub mod CutDrawings
 pub mod DrawnSteps
+pub mod WholeParagraphs

@@ -1,12 +1,13 @@
 //! The tree and the tables of a document, of which the end grows.
 
-ghost use Rattle.std.specs.Prelude.{◌≡◌, IfOk, OnOk, List, [], ◌∷◌, None};
+ghost use Rattle.std.specs.Prelude.{◌≡◌, ◌==◌, ◌&&◌, true, false, IfOk, OnOk, List, [], ◌∷◌, None};
 ghost use Rattle.cmark_tree.specs.Forest.{Forest, Nil, join, one};
 ghost use Rattle.cmark_tree.specs.Building.{Opened, Is, IsPlaced, closed};
 ghost use Rattle.cmark_tree.specs.Cut.{ending_before, reaching_start};
 ghost use Rattle.cmark_items.specs.Spans.{spans};
 ghost use Rattle.cmark_items.specs.Tables.{tables, with_text};
-ghost use Rattle.cmark_builder.specs.Ended.{ended, item_at, IsEmpty};
+ghost use Rattle.cmark_builder.specs.Ended.{ended, item_at, titled, is_paragraph, is_empty_paragraph, IsEmpty};
+ghost use Rattle.cmark_items.specs.declared.item.ItemBody.TheVariants as body;
 
 use cmark_items::{Allocations, Item, ItemBody};
 use cmark_text::CowStr;
@@ -20,6 +21,24 @@ pub struct Builder<'a> {
     tree: Tree<Item>,
     /// The tables that the items point into, and the definitions of links.
     pub allocations: Allocations<'a>,
+}
+
+/// What this becomes as the title of a definition. A text that stands in the same node stays there.
+fn titled(body: ItemBody) -> ItemBody
+    ensures { result ≡ titled body }
+{
+    match body {
+        ItemBody::ParagraphOf(text_end) => ItemBody::DefinitionListTitleOf(text_end),
+        ItemBody::DefinitionListTitleOf(text_end) => ItemBody::DefinitionListTitleOf(text_end),
+        _ => ItemBody::DefinitionListTitle,
+    }
+}
+
+/// Whether an item is a paragraph that begins at this byte offset of the text, of which nothing is said of its text yet.
+fn is_paragraph_from(item: Item, start: usize) -> bool
+    ensures { result ≡ ((item.start == start) && is_paragraph item.body) }
+{
+    item.start == start && matches!(item.body, ItemBody::Paragraph)
 }
 
 impl<'a> Builder<'a> {
@@ -95,27 +114,56 @@ impl<'a> Builder<'a> {
         }
     }
 
-    /// The last sibling becomes something else. Where there is none, nothing changes.
-    pub fn turn_last(&mut self, body: ItemBody)
+    /// Closes the innermost open node at this byte offset of the text, as a paragraph with one text inside, from `start` to before
+    /// `text_end`: both are the one node. Only an empty paragraph that begins at `start` becomes that. Where there is none nothing changes.
+    /// Answers whether there is.
+    pub fn close_whole(&mut self, start: usize, text_end: usize, end: usize) -> bool
+        requires { IsPlaced self.old.tree }
+        ensures placed { IsPlaced self.new.tree }
+        ensures answer { (here : Forest Item) (up : List (Opened Item)) → Is self.old.tree here up → result ≡ is_empty_paragraph start here up }
+        ensures closed { result ≡ true → (here : Forest Item) (v : Opened Item) (up : List (Opened Item)) → Is self.old.tree here (v ∷ up)
+            → Is self.new.tree (closed (ended end (body.ParagraphOf text_end) v) here) up }
+        ensures unchanged { result ≡ false → self.new.tree ≡ self.old.tree }
+        ensures tables { self.new.allocations ≡ self.old.allocations }
+    {
+        if self.tree.cur().is_some() {
+            return false;
+        }
+        let Some(parent) = self.tree.peek_up() else {
+            return false;
+        };
+        if !is_paragraph_from(*self.tree.item(parent), start) {
+            return false;
+        }
+        let item = self.tree.item_mut(parent);
+        item.end = end;
+        item.body = ItemBody::ParagraphOf(text_end);
+        self.tree.close();
+        true
+    }
+
+    /// The last sibling becomes the title of a definition, with what stands inside. Where there is none, nothing changes.
+    pub fn title_last(&mut self)
         requires { IsPlaced self.old.tree }
         ensures placed { IsPlaced self.new.tree }
         ensures turned { (here : Forest Item) (item : Item) (inside : Forest Item) (up : List (Opened Item)) → Is self.old.tree (join here (one item inside)) up
-            → Is self.new.tree (join here (one (item_at item.start item.end body) inside)) up }
+            → Is self.new.tree (join here (one (item_at item.start item.end (titled item.body)) inside)) up }
         ensures none { (up : List (Opened Item)) → Is self.old.tree Nil up → self.new.tree ≡ self.old.tree }
         ensures tables { self.new.allocations ≡ self.old.allocations }
     {
         if let Some(last) = self.tree.cur() {
-            self.tree.item_mut(last).body = body;
+            let item = self.tree.item_mut(last);
+            item.body = titled(item.body);
         }
     }
 
-    /// A node around the last sibling, which becomes something else: the new node begins where that sibling begins, and is open. Where
-    /// there is no sibling, it is empty, and begins where the text does.
-    pub fn enclose_last(&mut self, around: ItemBody, body: ItemBody) -> Result<(), AllocError>
+    /// A node around the last sibling, which becomes the title of a definition: the new node begins where that sibling begins, and is open.
+    /// Where there is no sibling, it is empty, and begins where the text does.
+    pub fn enclose_title(&mut self, around: ItemBody) -> Result<(), AllocError>
         requires { IsPlaced self.old.tree }
         ensures placed { IsPlaced self.new.tree }
         ensures ok { OnOk result ((here : Forest Item) (item : Item) (inside : Forest Item) (up : List (Opened Item)) → Is self.old.tree (join here (one item inside)) up
-            → Is self.new.tree (one (item_at item.start item.end body) inside) (record { left = here; item = item_at item.start item.start around } ∷ up)) }
+            → Is self.new.tree (one (item_at item.start item.end (titled item.body)) inside) (record { left = here; item = item_at item.start item.start around } ∷ up)) }
         ensures none { OnOk result ((up : List (Opened Item)) → Is self.old.tree Nil up → Is self.new.tree Nil (record { left = Nil; item = item_at 0 0 around } ∷ up)) }
         ensures tables { self.new.allocations ≡ self.old.allocations }
     {
@@ -123,7 +171,7 @@ impl<'a> Builder<'a> {
             return self.open(0, around);
         };
         let begin = self.tree.item(last).start;
-        self.turn_last(body);
+        self.title_last();
         self.tree.enclose(Item {
             start: begin,
             end: begin,

@@ -29,13 +29,15 @@ is_tight flags = (flags.0 % 2) == 1
 abbrev pub list_number : (delimiter number : ℕ) → Option ℕ
 list_number delimiter number = if is_delimiter delimiter then Some number else None
 
--- how an item of the block pass is a node: as an element, as what is spelt by the text at an index, or as a slice of the text;
--- other items are none
+-- how an item of the block pass is a node: as an element, as what is spelt by the text at an index, as a slice of the text, or as a
+-- paragraph or a title with one text inside, from where it begins to before a place; other items are none
 pub data Shape : Type 0 where
   Element : (kind : BlockKind) → Shape
   Spelt : (kind : List ℕ → BlockKind) → (index : ℕ) → Shape
   TextSlice : Shape
   HtmlSlice : Shape
+  ParagraphOf : (text_end : ℕ) → Shape
+  TitleOf : (text_end : ℕ) → Shape
   NoNode : Shape
 
 -- the columns that a delimiter row tells of
@@ -45,6 +47,7 @@ columns_of (Some alignments) = alignments
 
 abbrev pub shape : ItemBody → Shape
 shape body.Paragraph = Element document.Paragraph
+shape (body.ParagraphOf text_end) = ParagraphOf text_end
 shape body.TightParagraph = Element document.TightParagraph
 shape (body.Heading level) = Element (document.Heading (level_number level) no_attributes)
 shape (body.AttributedHeading level index) = Spelt (λ words. document.Heading (level_number level) (attributes_of words)) index.0
@@ -63,6 +66,7 @@ shape (body.ListItem width) = Element document.ListItem
 shape (body.TaskListMarker is_checked) = Element (document.TaskMarker is_checked)
 shape (body.DefinitionList flags) = Element (document.DefinitionList (is_tight flags))
 shape body.DefinitionListTitle = Element document.DefinitionListTitle
+shape (body.DefinitionListTitleOf text_end) = TitleOf text_end
 shape (body.DefinitionListDefinition width) = Element document.DefinitionListDefinition
 shape (body.FootnoteDefinition index) = Spelt document.FootnoteDefinition index.0
 shape (body.Text backslash_escaped) = TextSlice
@@ -71,12 +75,14 @@ shape (body.SynthesizeChar char) = Element (document.OwnedText (encode_utf8 char
 shape body.Html = HtmlSlice
 shape _ = NoNode
 
--- what it is whatever its range
+-- what it is whatever its range, and whatever stands inside
 abbrev pub kind_of : List CowStr → Shape → Option BlockKind
 kind_of texts (Element kind) = Some kind
 kind_of texts (Spelt kind index) = option_map kind (text_at texts index)
 kind_of texts TextSlice = None
 kind_of texts HtmlSlice = None
+kind_of texts (ParagraphOf text_end) = None
+kind_of texts (TitleOf text_end) = None
 kind_of texts NoNode = None
 
 -- what it is over its range
@@ -85,10 +91,23 @@ kind_over text texts start end (Element kind) = Some kind
 kind_over text texts start end (Spelt kind index) = option_map kind (text_at texts index)
 kind_over text texts start end TextSlice = Some (document.Text (slice text start end))
 kind_over text texts start end HtmlSlice = Some (document.Html (slice text start end))
+kind_over text texts start end (ParagraphOf text_end) = Some document.Paragraph
+kind_over text texts start end (TitleOf text_end) = Some document.DefinitionListTitle
 kind_over text texts start end NoNode = None
 
 abbrev pub ranged : (start end : ℕ) → BlockKind → BlockNode
 ranged start end kind = node kind start end
+
+-- one text and nothing else inside; where something does stand there, the first is no node of a document
+abbrev pub one_text : List ℕ → (start text_end : ℕ) → Forest (Option BlockNode) → Forest (Option BlockNode)
+one_text text start text_end forest.Nil = forest.Node (Some (node (document.Text (slice text start text_end)) start text_end)) forest.Nil forest.Nil
+one_text text start text_end (forest.Node first inside after) = forest.Node None inside after
+
+-- what is shown inside an item that begins at a place, where this stands below it
+abbrev pub shown_inside : List ℕ → (start : ℕ) → Shape → Forest (Option BlockNode) → Forest (Option BlockNode)
+shown_inside text start (ParagraphOf text_end) below = one_text text start text_end below
+shown_inside text start (TitleOf text_end) below = one_text text start text_end below
+shown_inside text start _ below = below
 
 -- an item that may have children
 abbrev pub shown_element : List CowStr → Item → Option BlockNode
@@ -101,7 +120,7 @@ module _ (text : List ℕ) (texts : List CowStr) where
   -- the items of a forest
   abbrev pub shown_forest : Forest Item → Forest (Option BlockNode)
   shown_forest forest.Nil = forest.Nil
-  shown_forest (forest.Node item inside after) = forest.Node (shown_item item) (shown_forest inside) (shown_forest after)
+  shown_forest (forest.Node item inside after) = forest.Node (shown_item item) (shown_inside text item.start (shape item.body) (shown_forest inside)) (shown_forest after)
 
 -- the nodes of a document, in the same form
 abbrev pub nodes_of : BlockDocument → Forest (Option BlockNode)

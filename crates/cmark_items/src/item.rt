@@ -112,6 +112,9 @@ pub enum ItemBody {
     Root,
     /// A paragraph (CommonMark 4.8).
     Paragraph,
+    /// A paragraph with one text and nothing else inside, as one node: the text stands from where the paragraph begins to before this
+    /// byte offset of the source.
+    ParagraphOf(usize),
     /// A paragraph that stands directly in an item of a tight list (CommonMark 5.3).
     TightParagraph,
     /// A thematic break (CommonMark 4.1).
@@ -142,6 +145,9 @@ pub enum ItemBody {
     MaybeDefinitionListTitle,
     /// A title of definitions.
     DefinitionListTitle,
+    /// A title of definitions with one text and nothing else inside, as one node: the text stands from where the title begins to before
+    /// this byte offset of the source.
+    DefinitionListTitleOf(usize),
     /// A definition, and the width of its prefix in columns.
     DefinitionListDefinition(usize),
     /// A table (GFM 4.10), and its delimiter row.

@@ -28,7 +28,7 @@ pub draws-waiting : (text : List ℕ) (old new : Builder) (waits : Option Stretc
     Draws text old d → Draws text new (drawn (texts_of (rest_of (shown_waits text waits))) d)
 draws-waiting text old new waits s d is step same draws =
     subst (λ w. Draws text new (drawn (texts_of (rest_of (shown_waits text w))) d)) (sym is)
-    (draws-add text old new (item_at s.start s.end (body.Text false)) (node (Text (slice text s.start s.end)) s.start s.end) d step same refl draws)
+    (draws-add text old new (item_at s.start s.end (body.Text false)) (node (Text (slice text s.start s.end)) s.start s.end) d step same refl refl draws)
 
 pub draws-none : (text : List ℕ) (b : Builder) (waits : Option Stretch) (d : Drawing) → waits ≡ None → Draws text b d → Draws text b (drawn (texts_of (rest_of (shown_waits text waits))) d)
 draws-none text b waits d is draws = subst (λ w. Draws text b (drawn (texts_of (rest_of (shown_waits text w))) d)) (sym is) (subst (Draws text b) (sym (drawn-Nil d)) draws)
@@ -245,7 +245,7 @@ pub draws-html : (text : List ℕ) (old new : Builder) (s : Stretch) (d : Drawin
     Draws text old d → Draws text new (drawn (html_then (piece_if text s.start s.end []) Nil) d)
 draws-html text old new s d some step same draws =
     subst (λ ps. Draws text new (drawn (html_then ps Nil) d)) (sym (piece_if-some text s [] some))
-    (draws-add text old new (item_at s.start s.end body.Html) (node (Html (slice text s.start s.end)) s.start s.end) d step same refl draws)
+    (draws-add text old new (item_at s.start s.end body.Html) (node (Html (slice text s.start s.end)) s.start s.end) d step same refl refl draws)
 
 pub draws-html-spaces : (text : List ℕ) (old new : Builder) (n count place at : ℕ) (d : Drawing) → count ≡ n → count ≢ 0 → place ≡ at →
     ((d : Drawing) → Draws text old d → Draws text new (drawn (Node (node (OwnedText (replicate count 32)) place place) Nil Nil) d)) →

@@ -7,7 +7,7 @@ use Rattle.cmark_tree.specs.Forest as forest
 use Rattle.cmark_tree.specs.Forest.{Forest, one, join as join_forests}
 use Rattle.cmark_tree.specs.Building.{Opened, Is}
 use Rattle.cmark_grammar.specs.BlockDocument.{Text, OwnedText, Nil, Node, node}
-use Rattle.cmark_grammar.specs.Tokens.{slice, piece_if}
+use Rattle.cmark_grammar.specs.Tokens.{slice, piece_if, stretch_then}
 use Rattle.cmark_items.specs.declared.allocations.Allocations.{Allocations}
 use Rattle.cmark_items.specs.declared.allocations.CowIndex.{CowIndex}
 use Rattle.cmark_items.specs.declared.item.Item.{Item}
@@ -42,7 +42,7 @@ draws-owned text old new kept owned index start end d at is step same draws =
     draws-add text mid new (item_at start end (body.SynthesizeText index)) (node (OwnedText (text_bytes owned)) start end) d step same
     (ap (λ o. option_map (ranged start end) (option_map OwnedText o)) (
     ap (λ t. text_at t index.0) texts ∙ ap (text_at ((tables old.allocations).texts ++ owned ∷ [])) at ∙ last-text (tables old.allocations).texts owned))
-    (draws-text text old mid owned d refl texts draws)
+    refl (draws-text text old mid owned d refl texts draws)
 
 -- a text as it is, as a node
 is-less : (a b : ℕ) → a < b → nat_lt a b ≡ true
@@ -60,7 +60,11 @@ pub draws-words : (text : List ℕ) (old new : Builder) (start end : ℕ) (d : D
     Draws text old d → Draws text new (drawn (texts_of (piece_if text start end [])) d)
 draws-words text old new start end d some step same draws =
     subst (λ ps. Draws text new (drawn (texts_of ps) d)) (if-less text start end true (is-less start end some))
-    (draws-add text old new (item_at start end (body.Text false)) (node (Text (slice text start end)) start end) d step same refl draws)
+    (draws-add text old new (item_at start end (body.Text false)) (node (Text (slice text start end)) start end) d step same refl refl draws)
+
+-- a stretch that is not empty is one text
+pub some-stretch : (text : List ℕ) (start end : ℕ) → start < end → Node (node (Text (slice text start end)) start end) Nil Nil ≡ stretch_then text start end Nil
+some-stretch text start end some = ap texts_of (if-less text start end true (is-less start end some))
 
 pub draws-no_words : (text : List ℕ) (b : Builder) (start end : ℕ) (d : Drawing) → end ≤ start → Draws text b d → Draws text b (drawn (texts_of (piece_if text start end [])) d)
 draws-no_words text b start end d none draws =

@@ -14,7 +14,7 @@ mod words;
 pub use code::{draw_code_line, draw_stretch};
 pub use heading::{draw_heading, find_attributes};
 pub use html::draw_html_line;
-pub use paragraph::{cut_lines, draw_last_lines, draw_lines};
+pub use paragraph::{close_lines, cut_lines, draw_last_lines, draw_lines};
 pub use setext::{SetextAttributes, find_setext_attributes};
 pub use stretch::Stretch;
 pub use table::{draw_head, draw_row};

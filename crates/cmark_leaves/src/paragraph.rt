@@ -6,7 +6,7 @@ ghost use Rattle.cmark_tree.specs.Building.{IsPlaced};
 ghost use Rattle.cmark_items.specs.Tables.{tables, defined};
 ghost use Rattle.cmark_grammar.specs.BlockDocument.{Nil};
 ghost use Rattle.cmark_grammar.specs.Tokens.{words_end, stretch_then};
-ghost use Rattle.cmark_block_model.specs.Drawing.{Drawing, drawn, texts_cut};
+ghost use Rattle.cmark_block_model.specs.Drawing.{Drawing, closed_at, drawn, texts_cut};
 ghost use Rattle.cmark_builder.specs.Drawn.{Draws};
 ghost use Rattle.cmark_lines.specs.Rests.{row_of};
 
@@ -40,6 +40,30 @@ pub fn draw_last_lines(
     ensures definitions { defined (tables builder.new.allocations) ≡ defined (tables builder.old.allocations) }
 {
     draw_words(builder, from, words_end(last))
+}
+
+/// Closes the open paragraph at the byte offset `end`, behind its last lines that touch, from the byte offset `from` to the end of the
+/// last one's words: where they are all of it, as one node with them. Where memory is refused, the tree is as it was.
+#[inline(always)]
+pub fn close_lines(
+    builder: &mut Builder<'_>,
+    from: usize,
+    last: LineRest<'_>,
+    end: usize,
+) -> Result<(), AllocError>
+    requires { IsPlaced builder.old.tree }
+    ensures placed { IsPlaced builder.new.tree }
+    ensures drawn { OnOk result ((text : List ℕ) (d : Drawing) → Draws text builder.old d
+        → Draws text builder.new (closed_at end (drawn (stretch_then text from (words_end (row_of last.entry)) Nil) d))) }
+    ensures definitions { defined (tables builder.new.allocations) ≡ defined (tables builder.old.allocations) }
+{
+    let text_end = words_end(last);
+    if from < text_end && builder.close_whole(from, text_end, end) {
+        return Ok(());
+    }
+    draw_words(builder, from, text_end)?;
+    builder.close(end);
+    Ok(())
 }
 
 /// Lines of a paragraph that touch, from this byte offset to behind the line ending of the last of them, where further lines follow

@@ -29,11 +29,11 @@ use Rattle.cmark_walk.specs.declared.reading.Stage.TheVariants as stage
 use Rattle.cmark_walk.specs.declared.reading.Step.{Step}
 use Rattle.cmark_walk.specs.declared.reading.Step.TheVariants as step
 use Rattle.cmark_text.specs.declared.event.Event.{Event as TextEvent}
-use Rattle.cmark_walk.specs.Walking.{BeginsWithList, ComesNearer, Drawn, Draws, GivesRanged, HasText, IsStaged, MayBeginWithEnd, NoEndIsNext, Outer, OwnsText, StandsBelow, content_of, leaf_at, leaving, left_above, left_from, task_body, tight_below, texts_of}
+use Rattle.cmark_walk.specs.Walking.{BeginsWithList, ComesNearer, Drawn, Draws, GivesRanged, HasText, IsStaged, MayBeginWithEnd, NoEndIsNext, Outer, OwnsText, StandsBelow, content_of, leaf_at, leaving, left_above, left_from, own_text_end, task_body, tight_below, texts_of}
 use Rattle.cmark_walk.proofs.InsideItems.{not-definition, task-drawn, task-read}
 use Rattle.cmark_walk.proofs.Links.{IsChild, leads-inside}
 use Rattle.cmark_walk.proofs.Paths.{spelt-kind, within-kind}
-use Rattle.cmark_walk.proofs.WalkSteps.{IsFocusAt, IsItem, as_kind, at-focus, before-node, element_at, inside_at, left-staged, read_with}
+use Rattle.cmark_walk.proofs.WalkSteps.{IsFocusAt, IsItem, as_kind, at-focus, before-node, element_at, focus, inside_at, left-staged, one-inside, read_with}
 
 -- ## Lists that begin with something else
 
@@ -192,9 +192,16 @@ some-stretches (document.Node node document.Nil after) n e = n refl
 some-stretches (document.Node node (document.Node line content more) after) n e = let q : record { start = line.start; end = line.end } ∷ stretches_of more ≡ [] = e in cc
 
 -- a leaf with a node inside it has a text
-pub has-text : (walk : Walk) (ix : TreeIndex) (child : Option TreeIndex) (first : TreeIndex) → IsFocusAt walk ix → IsChild walk ix child → child ≡ Some first → HasText walk
-has-text walk ix child first at c e z here above s =
-    let l = leads-inside walk ix child at c z here above s in some-stretches here (some-nodes walk first l.forest (content_of here) l.draws (sym e ∙ l.link_is))
+pub has-text : (walk : Walk) (item : Item) (ix : TreeIndex) (child : Option TreeIndex) (first : TreeIndex) → IsFocusAt walk ix → IsItem walk.tree ix item → own_text_end item.body ≡ None → IsChild walk ix child → child ≡ Some first → HasText walk
+has-text walk item ix child first at is none c e z here above s =
+    let l = leads-inside walk ix item child at is none c z here above s in some-stretches here (some-nodes walk first l.forest (content_of here) l.draws (sym e ∙ l.link_is))
+
+-- and so does one with a text of its own
+pub has-own-text : (walk : Walk) (item : Item) (ix : TreeIndex) (text_end : ℕ) → IsFocusAt walk ix → IsItem walk.tree ix item → own_text_end item.body ≡ Some text_end → HasText walk
+has-own-text walk item ix text_end at is own z here above s =
+    let f = focus walk item ix z here above s (at z s.below.holds) is in
+    let o = one-inside walk.text.now item.start (own_text_end item.body) text_end (Draws walk.text.now (texts_of walk) f.inner f.inside) f.inside own f.draws_inside in
+    some-stretches here (λ nil. let q : document.Node _ document.Nil document.Nil ≡ document.Nil = sym o.is ∙ ap content_of (sym f.here_is) ∙ nil in cc)
 
 -- ## Steps
 

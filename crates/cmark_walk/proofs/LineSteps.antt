@@ -6,19 +6,21 @@ use Rattle.cmark_tree.specs.Forest.{Forest, Nil, Node}
 use Rattle.cmark_tree.specs.Arena.{Entry, Placed, first, Stands}
 use Rattle.cmark_tree.specs.Zip.{Zip}
 use Rattle.cmark_tree.specs.Tree.{entry_at, HasNode, focus_of, index_at}
-use Rattle.cmark_tree.proofs.Steps.{focus_read, in_right}
+use Rattle.cmark_tree.proofs.Steps.{focus_read}
 use Rattle.cmark_tree.proofs.Entries.{node_at-within}
 use Rattle.cmark_text.specs.declared.text.CowStr.{CowStr}
 use Rattle.cmark_grammar.specs.BlockDocument as document
-use Rattle.cmark_grammar.specs.BlockDocument.{BlockDocument}
+use Rattle.cmark_grammar.specs.BlockDocument.{BlockDocument, node}
 use Rattle.cmark_grammar.specs.Ranges.{InOrder}
 use Rattle.cmark_grammar.specs.SpanDocuments.{stretches_of}
+use Rattle.cmark_grammar.specs.Tokens.{slice}
 use Rattle.cmark_items.specs.declared.item.Item.{Item}
 use Rattle.cmark_leaf_text.specs.declared.stretch.LeafLine.{LeafLine}
 use Rattle.cmark_leaf_text.specs.Stretches.{AreLines}
 use Rattle.cmark_walk.specs.declared.walk.Walk.{Walk}
-use Rattle.cmark_walk.specs.Walking.{AreLinesOf, Drawn, Draws, Goes, Outer, StandsAt, content_of, leaf_at, lines_of, texts_of}
-use Rattle.cmark_walk.proofs.WalkSteps.{IsFocusAt, range-of-item}
+use Rattle.cmark_walk.specs.Walking.{Drawn, Draws, Goes, HoldsLines, Outer, StandsAt, content_of, leaf_at, lines_of, own_text_end, texts_of}
+use Rattle.cmark_walk.proofs.Links.{leads-inside}
+use Rattle.cmark_walk.proofs.WalkSteps.{IsFocusAt, drawn-below, focus, one-inside, range-of-item}
 
 -- the nodes of a leaf, in order, are lines
 lines-turn : (text : List ℕ) (texts : List CowStr) (low from : ℕ) (f : Forest (Placed Item)) (d : BlockDocument) (to : ℕ) → low ≤ from → Draws text texts f d → InOrder from d to → AreLines text low (lines_of (stretches_of d))
@@ -60,26 +62,11 @@ abbrev pub IsNextAt : Walk → TreeIndex → Option TreeIndex → Type 0
 IsNextAt walk ix next = (e : Entry Item) → entry_at walk.tree ix.ix ≡ Some e → next ≡ index_at e.next
 
 module _ (walk : Walk) where
-  -- the first node inside the focus
-  begin-at : (ix : TreeIndex) (child : Option TreeIndex) (right : Forest (Placed Item)) (here : BlockDocument) → Stands (entry_at walk.tree) right → Draws walk.text.now (texts_of walk) right here
-      → focus_of right ≡ Some ix → IsChildAt walk ix child → Gathering walk (content_of here) [] child
-  begin-at ix child Nil here st d f c = absurd (let q : None ≡ Some ix = f in cc)
-  begin-at ix child (Node p f g) document.Nil st d fo c = absurd d
-  begin-at ix child (Node p f g) (document.Node node inside after) st d fo c =
-      let same = ap (λ k. k.ix) (same_Some (record { ix = p.ix }) ix fo) in
-      let entry : Entry Item = record { item = p.item; child = first f; next = first g } in
-      record {
-        rest = f;
-        left = inside;
-        stands = st.1;
-        draws = d.1;
-        next_is = c entry (subst (λ k. entry_at walk.tree k ≡ Some entry) same st.0) ∙ focus_read walk.tree.nodes f st.1;
-        are = refl;
-      }
-
-  pub begins-lines : (ix : TreeIndex) (child : Option TreeIndex) (lines : List LeafLine) → IsFocusAt walk ix → IsChildAt walk ix child → lines ≡ [] → Gathered walk lines child
-  begins-lines ix child lines at c none z here above s =
-      subst (λ ls. Gathering walk (content_of here) ls child) (sym none) (begin-at ix child z.right here (in_right walk.tree.nodes walk.tree.first z s.below.holds.forest) s.draws (at z s.below.holds) c)
+  -- the first node inside the focus, where that has no text of its own
+  pub begins-lines : (item : Item) (ix : TreeIndex) (child : Option TreeIndex) (lines : List LeafLine) → IsFocusAt walk ix → IsItemAt walk ix item → own_text_end item.body ≡ None → IsChildAt walk ix child → lines ≡ [] → Gathered walk lines child
+  begins-lines item ix child lines at is own c none z here above s =
+      let l = leads-inside walk ix item child at is own c z here above s in
+      subst (λ ls. Gathering walk (content_of here) ls child) (sym none) (record { rest = l.forest; left = content_of here; stands = l.stands; draws = l.draws; next_is = l.link_is; are = refl })
 
   -- a node that is to come is one of the tree
   node-at : (content : BlockDocument) (lines : List LeafLine) (line : TreeIndex) (rest : Forest (Placed Item)) → Stands (entry_at walk.tree) rest → Some line ≡ focus_of rest → HasNode walk.tree line.ix
@@ -128,18 +115,35 @@ module _ (walk : Walk) where
   done-at lines all (Node p f g) left d e are = absurd (let q : None ≡ Some (record { ix = p.ix }) = e in cc)
 
   -- the nodes inside the focus are its lines
-  turn-at : (right : Forest (Placed Item)) (here : BlockDocument) → Draws walk.text.now (texts_of walk) right here → AreLines walk.text.now 0 (lines_of (stretches_of (content_of here)))
-  turn-at right document.Nil d = tt
-  turn-at Nil (document.Node node inside after) d = absurd d
-  turn-at (Node p f g) (document.Node node inside after) d = lines-turn walk.text.now (texts_of walk) 0 node.start f inside node.end (omega arith) d.1 d.3
+  turn-at : (item : Item) (ix : TreeIndex) → IsFocusAt walk ix → IsItemAt walk ix item → own_text_end item.body ≡ None → (z : Zip Item) (here : BlockDocument) (above : List Outer) → StandsAt walk z here above → AreLines walk.text.now 0 (lines_of (stretches_of (content_of here)))
+  turn-at item ix at is own z here above s =
+      let f = focus walk item ix z here above s (at z s.below.holds) is in
+      let below = drawn-below walk.text.now item.start (own_text_end item.body) (Draws walk.text.now (texts_of walk) f.inner f.inside) f.inside own f.draws_inside in
+      subst (λ h. AreLines walk.text.now 0 (lines_of (stretches_of (content_of h)))) (sym f.here_is) (lines-turn walk.text.now (texts_of walk) 0 f.node.start f.inner f.inside f.node.end (omega arith) below f.in_order)
 
   content-stretches : (here : BlockDocument) → (leaf_at here).stretches ≡ stretches_of (content_of here)
   content-stretches document.Nil = refl
   content-stretches (document.Node node inside after) = refl
 
-  pub lines-done : (lines : List LeafLine) (next : Option TreeIndex) → Gathered walk lines next → next ≡ None → (z : Zip Item) (here : BlockDocument) (above : List Outer) → StandsAt walk z here above
-      → AreLinesOf walk.text.now (leaf_at here) lines
-  lines-done lines next h e z here above s =
+  pub lines-done : (item : Item) (ix : TreeIndex) (lines : List LeafLine) (next : Option TreeIndex) → IsFocusAt walk ix → IsItemAt walk ix item → own_text_end item.body ≡ None → Gathered walk lines next → next ≡ None → HoldsLines walk lines
+  lines-done item ix lines next at is own h e z here above s =
       let k = h z here above s in
       let are = done-at lines (lines_of (stretches_of (content_of here))) k.rest k.left k.draws (sym e ∙ k.next_is) k.are in
-      record { are = are ∙ ap lines_of (sym (content-stretches here)); in_turn = subst (AreLines walk.text.now 0) (sym are) (turn-at z.right here s.draws) }
+      record { are = are ∙ ap lines_of (sym (content-stretches here)); in_turn = subst (AreLines walk.text.now 0) (sym are) (turn-at item ix at is own z here above s) }
+
+  -- a text of its own is one line
+  pub own-line : (item : Item) (ix : TreeIndex) (text_end : ℕ) (lines : List LeafLine) → IsFocusAt walk ix → IsItemAt walk ix item → own_text_end item.body ≡ Some text_end
+      → lines ≡ record { start = item.start; content_end = text_end; line_end = text_end } ∷ [] → HoldsLines walk lines
+  own-line item ix text_end lines at is own e z here above s =
+      let f = focus walk item ix z here above s (at z s.below.holds) is in
+      let o = one-inside walk.text.now item.start (own_text_end item.body) text_end (Draws walk.text.now (texts_of walk) f.inner f.inside) f.inside own f.draws_inside in
+      let content : content_of here ≡ document.Node (node (document.Text (slice walk.text.now item.start text_end)) item.start text_end) document.Nil document.Nil = ap content_of f.here_is ∙ o.is in
+      let line : LeafLine = record { start = item.start; content_end = text_end; line_end = text_end } in
+      record {
+        are = e ∙ ap (λ d. lines_of (stretches_of d)) (sym content) ∙ ap lines_of (sym (content-stretches here));
+        in_turn = subst (AreLines walk.text.now 0) (sym e)
+            ((
+              record { behind = omega arith; content = o.in_order; ending = omega arith; within = o.within; starts = o.starts; stops = o.ends; ends = o.ends },
+              tt,
+            ));
+      }

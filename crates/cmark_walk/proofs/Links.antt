@@ -12,8 +12,8 @@ use Rattle.cmark_grammar.specs.BlockDocument as document
 use Rattle.cmark_grammar.specs.BlockDocument.{BlockNode, BlockDocument}
 use Rattle.cmark_items.specs.declared.item.Item.{Item}
 use Rattle.cmark_walk.specs.declared.walk.Walk.{Walk}
-use Rattle.cmark_walk.specs.Walking.{Drawn, Draws, Outer, StandsAt, behind_first, content_of, texts_of}
-use Rattle.cmark_walk.proofs.WalkSteps.{IsFocusAt, IsItem}
+use Rattle.cmark_walk.specs.Walking.{Drawn, Draws, Outer, StandsAt, behind_first, content_of, own_text_end, texts_of}
+use Rattle.cmark_walk.proofs.WalkSteps.{IsFocusAt, IsItem, drawn-below, focus}
 
 abbrev pub IsNext : Walk → TreeIndex → Option TreeIndex → Type 0
 IsNext walk ix next = (e : Entry Item) → entry_at walk.tree ix.ix ≡ Some e → next ≡ index_at e.next
@@ -47,22 +47,20 @@ module _ (walk : Walk) where
     pub leads-behind : (next : Option TreeIndex) → IsFocusAt walk ix → IsNext walk ix next → (z : Zip Item) (here : BlockDocument) (above : List Outer) → StandsAt walk z here above → Leads next (behind_first here)
     leads-behind next at n z here above s = behind-at next z.right here (in_right walk.tree.nodes walk.tree.first z s.below.holds.forest) s.draws (at z s.below.holds) n
 
-    inside-at : (child : Option TreeIndex) (right : Forest (Placed Item)) (here : BlockDocument) → Stands (entry_at walk.tree) right → Draws walk.text.now (texts_of walk) right here → focus_of right ≡ Some ix → IsChild walk ix child → Leads child (content_of here)
-    inside-at child Nil here st d f c = absurd (let q : None ≡ Some ix = f in cc)
-    inside-at child (Node p f g) document.Nil st d fo c = absurd d
-    inside-at child (Node p f g) (document.Node node inside after) st d fo c =
-        let same = ap (λ k. k.ix) (same_Some (record { ix = p.ix }) ix fo) in
-        let entry : Entry Item = record { item = p.item; child = first f; next = first g } in
-        record {
-          forest = f;
+    -- to the nodes inside the focus, where that has no text of its own
+    pub leads-inside : (item : Item) (child : Option TreeIndex) → IsFocusAt walk ix → IsItem walk.tree ix item → own_text_end item.body ≡ None → IsChild walk ix child
+        → (z : Zip Item) (here : BlockDocument) (above : List Outer) → StandsAt walk z here above → Leads child (content_of here)
+    leads-inside item child at is none c z here above s =
+        let f = focus walk item ix z here above s (at z s.below.holds) is in
+        let st = subst (Stands (entry_at walk.tree)) f.right_is (in_right walk.tree.nodes walk.tree.first z s.below.holds.forest) in
+        let entry : Entry Item = record { item = f.place.item; child = first f.inner; next = first f.later } in
+        subst (λ h. Leads child (content_of h)) (sym f.here_is)
+        (record {
+          forest = f.inner;
           stands = st.1;
-          draws = d.1;
-          link_is = c entry (subst (λ k. entry_at walk.tree k ≡ Some entry) same st.0) ∙ focus_read walk.tree.nodes f st.1;
-        }
-
-    -- to the nodes inside the focus
-    pub leads-inside : (child : Option TreeIndex) → IsFocusAt walk ix → IsChild walk ix child → (z : Zip Item) (here : BlockDocument) (above : List Outer) → StandsAt walk z here above → Leads child (content_of here)
-    leads-inside child at c z here above s = inside-at child z.right here (in_right walk.tree.nodes walk.tree.first z s.below.holds.forest) s.draws (at z s.below.holds) c
+          draws = drawn-below walk.text.now item.start (own_text_end item.body) (Draws walk.text.now (texts_of walk) f.inner f.inside) f.inside none f.draws_inside;
+          link_is = c entry (subst (λ k. entry_at walk.tree k ≡ Some entry) f.at st.0) ∙ focus_read walk.tree.nodes f.inner st.1;
+        })
 
   nowhere-at : (forest : Forest (Placed Item)) (nodes : BlockDocument) → Draws walk.text.now (texts_of walk) forest nodes → None ≡ focus_of forest → nodes ≡ document.Nil
   nowhere-at Nil document.Nil d e = refl
@@ -80,6 +78,17 @@ module _ (walk : Walk) where
   -- a link leads to a node of the tree
   pub leads-node : (to : TreeIndex) (link : Option TreeIndex) (nodes : BlockDocument) → Leads link nodes → link ≡ Some to → HasNode walk.tree to.ix
   leads-node to link nodes l e = node-at to l.forest l.stands (sym e ∙ l.link_is)
+
+  child-at : (ix to : TreeIndex) (child : Option TreeIndex) (right : Forest (Placed Item)) → Stands (entry_at walk.tree) right → focus_of right ≡ Some ix → IsChild walk ix child → child ≡ Some to → HasNode walk.tree to.ix
+  child-at ix to child Nil st f c e = absurd (let q : None ≡ Some ix = f in cc)
+  child-at ix to child (Node p f g) st fo c e =
+      let same = ap (λ k. k.ix) (same_Some (record { ix = p.ix }) ix fo) in
+      let entry : Entry Item = record { item = p.item; child = first f; next = first g } in
+      node-at to f st.1 (sym e ∙ c entry (subst (λ k. entry_at walk.tree k ≡ Some entry) same st.0) ∙ focus_read walk.tree.nodes f st.1)
+
+  -- the first node below the focus is one of the tree
+  pub leads-child : (ix to : TreeIndex) (child : Option TreeIndex) → IsFocusAt walk ix → IsChild walk ix child → child ≡ Some to → (z : Zip Item) (here : BlockDocument) (above : List Outer) → StandsAt walk z here above → HasNode walk.tree to.ix
+  leads-child ix to child at c e z here above s = child-at ix to child z.right (in_right walk.tree.nodes walk.tree.first z s.below.holds.forest) (at z s.below.holds) c e
 
   -- some nodes begin with one that has this item
   pub record Begins (item : Item) (nodes : BlockDocument) : Type 0 where

@@ -19,51 +19,21 @@ use Rattle.cmark_grammar.specs.BlockDocument.{BlockKind, BlockNode, BlockDocumen
 use Rattle.cmark_grammar.specs.BlockReading.{read_as, over, begins_title, is_title}
 use Rattle.cmark_grammar.specs.DrawnDocument.{kind_within, settled}
 use Rattle.cmark_grammar.specs.LeafText.{Leaf}
-use Rattle.cmark_grammar.specs.SpanDocuments.{Segment, Given, Content, leaf_of, first_of_segments, segments}
+use Rattle.cmark_grammar.specs.SpanDocuments.{Segment, Given, Content, is_leaf, leaf_of, first_of_segments, segments}
 use Rattle.cmark_grammar.specs.Tightness.{tight_within}
 use Rattle.cmark_items.specs.declared.item.Item.{Item}
 use Rattle.cmark_leaf_text.specs.declared.stretch.LeafLine.{LeafLine}
 use Rattle.cmark_walk.specs.declared.walk.Walk.{Walk}
 use Rattle.cmark_walk.specs.declared.reading.Stage.TheVariants as stage
 use Rattle.cmark_walk.specs.declared.reading.Step.{Step}
-use Rattle.cmark_walk.specs.Walking.{Drawn, Outer, StandsAt, Remains, Goes, GivesStep, GivesRanged, IsElement, IsStaged, IsTitleIn, BeginsWithList, TitleIn, content_of, left_above, left_from, leaving, texts_of, tight_below}
+use Rattle.cmark_walk.specs.Walking.{Drawn, Outer, StandsAt, Remains, Goes, GivesStep, GivesRanged, IsElement, IsStaged, IsTitleIn, BeginsWithList, TitleIn, content_of, is_list, left_above, left_from, leaving, texts_of, tight_below}
 use Rattle.cmark_walk.proofs.InsideItems.{not-definition}
 use Rattle.cmark_walk.proofs.LeafKinds.{settled-leaf}
-use Rattle.cmark_walk.proofs.Links.{IsChild, Begins, leads-inside, leads-node, leads-nowhere, leads-to}
+use Rattle.cmark_walk.proofs.Links.{IsChild, Begins, Leads, leads-child, leads-inside, leads-nowhere, leads-to}
 use Rattle.cmark_walk.proofs.ListKinds.{list-kind, no-title, title-kind, title-leaf}
-use Rattle.cmark_walk.proofs.WalkSteps.{as_kind, Focus, IsFocusAt, IsItem, at-item, at_range, down, gives-step, has-focus, into, left-staged, moved, over-range, remains-before, staged}
+use Rattle.cmark_walk.proofs.WalkSteps.{as_kind, Focus, IsFocusAt, IsItem, at-item, at_range, block-below, down, gives-step, has-focus, into, left-staged, moved, over-range, remains-before, staged}
 
--- ## What is inside the focus
-
-module _ (walk : Walk) (ix : TreeIndex) (at : IsFocusAt walk ix) (found : Option TreeIndex) (c : IsChild walk ix found) where
-  -- nothing is
-  pub nothing-inside : None ≡ found → IsTitleIn walk ix None
-  nothing-inside none z here above s tight =
-      ap (λ d. begins_title (settled tight d)) (leads-nowhere walk found (content_of here) (leads-inside walk ix found at c z here above s) none)
-
-  -- the first node inside the focus is one of the tree
-  pub child-node : (child : TreeIndex) → found ≡ Some child → Goes walk → HasNode walk.tree child.ix
-  child-node child e g = leads-node walk child found (content_of g.1.here) (leads-inside walk ix found at c g.1.z g.1.here g.1.above g.1.stands) e
-
-  -- some nodes are, the first with this item
-  module _ (child : TreeIndex) (item : Item) (is : IsItem walk.tree child item) (e : found ≡ Some child) where
-    child-drawn : (z : Zip Item) (here : BlockDocument) (above : List Outer) → StandsAt walk z here above → Begins walk item (content_of here)
-    child-drawn z here above s = leads-to walk child item found (content_of here) is (leads-inside walk ix found at c z here above s) e
-
-    -- no title
-    pub other-inside : ((text : List ℕ) (texts : List CowStr) (node : BlockNode) → Drawn text texts item node → false ≡ is_title node.kind) → IsTitleIn walk ix None
-    other-inside other z here above s tight =
-        let b = child-drawn z here above s in
-        ap (λ d. begins_title (settled tight d)) b.nodes_are
-        ∙ no-title tight b.node.kind (begins_title (settled tight b.rest)) (not-definition walk.text.now (texts_of walk) item b.node b.drawn) (sym (other walk.text.now (texts_of walk) b.node b.drawn))
-
-    -- one
-    pub title-inside : ((text : List ℕ) (texts : List CowStr) (node : BlockNode) → Drawn text texts item node → true ≡ is_title node.kind) → IsTitleIn walk ix (Some item)
-    title-inside is-title z here above s =
-        let b = child-drawn z here above s in
-        subst (TitleIn walk (Some item)) (sym b.nodes_are) (b.drawn, sym (is-title walk.text.now (texts_of walk) b.node b.drawn))
-
--- ## Into the list
+-- ## The focus
 
 -- the item at the focus
 item-at : (walk : Walk) (ix : TreeIndex) (right : Forest (Placed Item)) → Stands (entry_at walk.tree) right → focus_of right ≡ Some ix → (item : Item) × IsItem walk.tree ix item
@@ -84,8 +54,51 @@ module _ (walk : Walk) (ix : TreeIndex) (at : IsFocusAt walk ix) where
       let i = item-at walk ix z.right (in_right walk.tree.nodes walk.tree.first z s.below.holds.forest) (at z s.below.holds) in
       record { item = i.0; is = i.1; focus = at-item walk i.0 ix at i.1 z here above s }
 
+list-no-leaf : (kind : BlockKind) → is_list kind ≡ true → is_leaf kind ≡ false
+list-no-leaf kind l = ap is_leaf (list-kind kind l).1
+
+-- ## What is inside the focus
+
+module _ (walk : Walk) (ix : TreeIndex) (at : IsFocusAt walk ix) (found : Option TreeIndex) (c : IsChild walk ix found) where
+  -- a definition list has no text of its own
+  leads-listed : (z : Zip Item) (here : BlockDocument) (above : List Outer) → StandsAt walk z here above → BeginsWithList here → Leads walk found (content_of here)
+  leads-listed z here above s l =
+      let h = at-here walk ix at z here above s in
+      let f = h.focus in
+      leads-inside walk ix h.item found at h.is (block-below walk.text.now (texts_of walk) h.item f.node f.drawn (list-no-leaf f.node.kind (subst BeginsWithList f.here_is l))) c z here above s
+
+  -- nothing is
+  pub nothing-inside : None ≡ found → IsTitleIn walk ix None
+  nothing-inside none z here above s l tight =
+      ap (λ d. begins_title (settled tight d)) (leads-nowhere walk found (content_of here) (leads-listed z here above s l) none)
+
+  -- the first node below the focus is one of the tree
+  pub child-node : (child : TreeIndex) → found ≡ Some child → Goes walk → HasNode walk.tree child.ix
+  child-node child e g = leads-child walk ix child found at c e g.1.z g.1.here g.1.above g.1.stands
+
+  -- some nodes are, the first with this item
+  module _ (child : TreeIndex) (item : Item) (is : IsItem walk.tree child item) (e : found ≡ Some child) where
+    child-drawn : (z : Zip Item) (here : BlockDocument) (above : List Outer) → StandsAt walk z here above → BeginsWithList here → Begins walk item (content_of here)
+    child-drawn z here above s l = leads-to walk child item found (content_of here) is (leads-listed z here above s l) e
+
+    -- no title
+    pub other-inside : ((text : List ℕ) (texts : List CowStr) (node : BlockNode) → Drawn text texts item node → false ≡ is_title node.kind) → IsTitleIn walk ix None
+    other-inside other z here above s l tight =
+        let b = child-drawn z here above s l in
+        ap (λ d. begins_title (settled tight d)) b.nodes_are
+        ∙ no-title tight b.node.kind (begins_title (settled tight b.rest)) (not-definition walk.text.now (texts_of walk) item b.node b.drawn) (sym (other walk.text.now (texts_of walk) b.node b.drawn))
+
+    -- one
+    pub title-inside : ((text : List ℕ) (texts : List CowStr) (node : BlockNode) → Drawn text texts item node → true ≡ is_title node.kind) → IsTitleIn walk ix (Some item)
+    title-inside is-title z here above s l =
+        let b = child-drawn z here above s l in
+        subst (TitleIn walk (Some item)) (sym b.nodes_are) (b.drawn, sym (is-title walk.text.now (texts_of walk) b.node b.drawn))
+
+-- ## Into the list
+
+module _ (walk : Walk) (ix : TreeIndex) (at : IsFocusAt walk ix) where
   pub here-focus : Goes walk → (z : Zip Item) × Holds walk.tree z × HasFocus z
-  here-focus g = let h = at-here g.1.z g.1.here g.1.above g.1.stands in has-focus walk h.item ix at h.is g
+  here-focus g = let h = at-here walk ix at g.1.z g.1.here g.1.above g.1.stands in has-focus walk h.item ix at h.is g
 
   module _ (t : Tree Item) (push : (z : Zip Item) → Holds walk.tree z → HasFocus z → Holds t (pushed z)) (is_checked : Bool) (start end : ℕ) (now : walk.stage ≡ stage.Listed is_checked start end) where
     abbrev marker : event.Ranged
@@ -94,18 +107,20 @@ module _ (walk : Walk) (ix : TreeIndex) (at : IsFocusAt walk ix) where
     abbrev below : BlockNode → BlockDocument → List Outer → List Outer
     below node after above = record { node = node; after = after } ∷ above
 
-    left-listed : (left : List Segment) (r : Remains walk left) (h : Here r.z r.here) → left ≡ left_from (stage.Listed is_checked start end) (document.Node h.focus.node h.focus.inside h.focus.after) r.above
+    left-listed : (left : List Segment) (r : Remains walk left) (h : Here walk ix at r.z r.here) → left ≡ left_from (stage.Listed is_checked start end) (document.Node h.focus.node h.focus.inside h.focus.after) r.above
     left-listed left r h = left-staged walk (stage.Listed is_checked start end) left now r ∙ ap (λ d. left_from (stage.Listed is_checked start end) d r.above) h.focus.here_is
 
+    listed : {left : List Segment} → (r : Remains walk left) → BeginsWithList r.here
+    listed r = subst (λ k. IsStaged k r.here) now r.staged
+
     -- a definition list is an element
-    list-element : (left : List Segment) (r : Remains walk left) (h : Here r.z r.here) → IsElement (read_as (kind_within (tight_below r.above) h.focus.node.kind))
+    list-element : (left : List Segment) (r : Remains walk left) (h : Here walk ix at r.z r.here) → IsElement (read_as (kind_within (tight_below r.above) h.focus.node.kind))
     list-element left r h =
-        let listed : BeginsWithList (document.Node h.focus.node h.focus.inside h.focus.after) = subst BeginsWithList h.focus.here_is (subst (λ k. IsStaged k r.here) now r.staged) in
-        let k = list-kind h.focus.node.kind listed in
+        let k = list-kind h.focus.node.kind (subst BeginsWithList h.focus.here_is (listed r)) in
         subst (λ b. IsElement (read_as (kind_within (tight_below r.above) b))) (sym k.1) tt
 
-    inside-of : (left : List Segment) (r : Remains walk left) (h : Here r.z r.here) → StandsAt (moved walk t) (down walk h.item ix t r.z r.here h.focus) h.focus.inside (below h.focus.node h.focus.after r.above)
-    inside-of left r h = into walk h.item ix t r.z r.here r.above r.stands h.is h.focus (list-element left r h) push
+    inside-of : (left : List Segment) (r : Remains walk left) (h : Here walk ix at r.z r.here) → StandsAt (moved walk t) (down walk h.item ix t r.z r.here h.focus) h.focus.inside (below h.focus.node h.focus.after r.above)
+    inside-of left r h = into walk h.item ix t r.z r.here r.above r.stands h.is h.focus (list-no-leaf h.focus.node.kind (subst BeginsWithList h.focus.here_is (listed r))) (list-element left r h) push
 
     -- with no title the marker stands before all that is inside
     untitled-left : (node : BlockNode) (inside after : BlockDocument) (above : List Outer) → begins_title (settled (tight_within (tight_below above) node.kind) inside) ≡ false
@@ -122,10 +137,10 @@ module _ (walk : Walk) (ix : TreeIndex) (at : IsFocusAt walk ix) where
 
     pub enters-untitled : IsTitleIn walk ix None → (left : List Segment) → Remains walk left → (others : List Segment) × (left ≡ Given marker ∷ others) × Remains in_list others
     enters-untitled none left r =
-        let h = at-here r.z r.here r.above r.stands in
+        let h = at-here walk ix at r.z r.here r.above r.stands in
         let f = h.focus in
         let tight : Bool = tight_within (tight_below r.above) f.node.kind in
-        let untitled : begins_title (settled tight f.inside) ≡ false = ap (λ d. begins_title (settled tight (content_of d))) (sym f.here_is) ∙ none r.z r.here r.above r.stands tight in
+        let untitled : begins_title (settled tight f.inside) ≡ false = ap (λ d. begins_title (settled tight (content_of d))) (sym f.here_is) ∙ none r.z r.here r.above r.stands (listed r) tight in
         let s = inside-of left r h in
         let others : List Segment = left_from stage.Before f.inside (below f.node f.after r.above) in (
           others,
@@ -170,9 +185,9 @@ module _ (walk : Walk) (ix : TreeIndex) (at : IsFocusAt walk ix) where
 
     pub enters-titled : (title : Item) → IsTitleIn walk ix (Some title) → (s : Step) → GivesRanged (text_event.Start text_tag.DefinitionListTitle) title s → (left : List Segment) (lines : List LeafLine) → Remains walk left → GivesStep left s lines in_title
     enters-titled title found s g left lines r =
-        let h = at-here r.z r.here r.above r.stands in
+        let h = at-here walk ix at r.z r.here r.above r.stands in
         let f = h.focus in
-        let b = subst (λ d. TitleIn walk (Some title) (content_of d)) f.here_is (found r.z r.here r.above r.stands) in
+        let b = subst (λ d. TitleIn walk (Some title) (content_of d)) f.here_is (found r.z r.here r.above r.stands (listed r)) in
         let p = inside-of left r h in
         gives-step (text_event.Start text_tag.DefinitionListTitle) title s lines left (left_from (stage.Marked is_checked start end) f.inside (below f.node f.after r.above)) in_title g
         (left-listed left r h ∙ titled-left title f.node f.inside f.after r.above b)

@@ -1,5 +1,6 @@
 -- A walk at its first node.
-use Rattle.std.proofs.Common.{◌≡◌, ◌≤◌, ℕ, false, List, [], ◌∷◌, Some, length, refl, sym, ap, ◌∙◌, append-nil, arith}
+use Rattle.std.proofs.Common.{◌≡◌, ◌≤◌, ℕ, false, List, [], ◌∷◌, Option, Some, None, length, refl, sym, ap, ◌∙◌, subst, append-nil, arith}
+use Rattle.std.proofs.lemmas.Option.{same_Some}
 use Rattle.std.specs.Str.{IsCharBoundary}
 use Rattle.cmark_tree.specs.declared.tree.Tree.{Tree}
 use Rattle.cmark_tree.specs.Forest as forest
@@ -10,15 +11,18 @@ use Rattle.cmark_tree.specs.Building.{Is, opened}
 use Rattle.cmark_tree.specs.Tree.{Holds}
 use Rattle.cmark_text.specs.declared.text.CowStr.{CowStr}
 use Rattle.cmark_grammar.specs.BlockDocument as document
-use Rattle.cmark_grammar.specs.BlockDocument.{BlockDocument}
+use Rattle.cmark_grammar.specs.BlockDocument.{BlockNode, BlockDocument, node}
 use Rattle.cmark_grammar.specs.DrawnDocument.{settled}
 use Rattle.cmark_grammar.specs.Ranges.{InOrder, AllAt}
 use Rattle.cmark_grammar.specs.SpanDocuments.{segments}
+use Rattle.cmark_grammar.specs.Tokens.{slice}
 use Rattle.cmark_items.specs.declared.item.Item.{Item}
-use Rattle.cmark_items.specs.ItemNodes.{shown_item, shown_forest, nodes_of}
+use Rattle.cmark_items.specs.declared.item.ItemBody.{ItemBody}
+use Rattle.cmark_items.specs.declared.item.ItemBody.TheVariants as body
+use Rattle.cmark_items.specs.ItemNodes.{one_text, shape, shown_inside, shown_item, shown_forest, nodes_of}
 use Rattle.cmark_walk.specs.declared.walk.Walk.{Walk}
 use Rattle.cmark_walk.specs.declared.reading.Stage.TheVariants as stage
-use Rattle.cmark_walk.specs.Walking.{Draws, Remains, texts_of}
+use Rattle.cmark_walk.specs.Walking.{Draws, DrawsInside, IsOneText, Remains, own_text_end, texts_of}
 use Rattle.cmark_walk.proofs.WalkSteps.{remains-before}
 
 pub in-order : (from : ℕ) (d : BlockDocument) (to : ℕ) → InOrder from d to → from ≤ to
@@ -32,18 +36,54 @@ in-order from (document.Node node inside after) to h =
 node-parts : {A : Type 0} (x y : A) (f f' g g' : Forest A) → Node x f g ≡ Node y f' g' → (x ≡ y) × (f ≡ f') × (g ≡ g')
 node-parts x y f f' g g' e = (cc, cc, cc)
 
+module _ (text : List ℕ) where
+  -- the text of a node that has its own
+  one-drawn : (start text_end : ℕ) (shown : Forest (Option BlockNode)) (inside : BlockDocument) (from to : ℕ) → one_text text start text_end shown ≡ nodes_of inside → InOrder from inside to → to ≤ length text → AllAt (IsCharBoundary text) inside
+      → IsOneText text start text_end inside
+  one-drawn start text_end Nil document.Nil from to e o l a =
+      absurd (let q : Node (Some (node (document.Text (slice text start text_end)) start text_end)) forest.Nil forest.Nil ≡ forest.Nil = e in cc)
+  one-drawn start text_end Nil (document.Node n inner after) from to e o l a =
+      let own : BlockNode = node (document.Text (slice text start text_end)) start text_end in
+      let parts = node-parts (Some own) (Some n) forest.Nil (nodes_of inner) forest.Nil (nodes_of after) e in
+      let same : own ≡ n = same_Some own n parts.0 in
+      let i = in-order n.start inner n.end o.1 in
+      let r = in-order n.end after to o.2 in
+      let starts : start ≡ n.start = ap (λ m. m.start) same in
+      let ends : text_end ≡ n.end = ap (λ m. m.end) same in
+      record {
+        is = ap (λ m. document.Node m inner after) (sym same) ∙ ap (λ d. document.Node own d after) (no-nodes inner parts.1) ∙ ap (λ d. document.Node own document.Nil d) (no-nodes after parts.2);
+        in_order = omega (arith, i, starts, ends);
+        within = omega (arith, r, l, ends);
+        starts = subst (IsCharBoundary text) (sym starts) a.0;
+        ends = subst (IsCharBoundary text) (sym ends) a.1;
+      }
+    where
+      no-nodes : (d : BlockDocument) → forest.Nil ≡ nodes_of d → d ≡ document.Nil
+      no-nodes document.Nil e = refl
+      no-nodes (document.Node m i a) e = absurd (let q : forest.Nil ≡ Node (Some m) (nodes_of i) (nodes_of a) = e in cc)
+  one-drawn start text_end (Node x f g) document.Nil from to e o l a = absurd (let q : Node None f g ≡ forest.Nil = e in cc)
+  one-drawn start text_end (Node x f g) (document.Node n inner after) from to e o l a =
+      absurd (let q : None ≡ Some n = (node-parts None (Some n) f (nodes_of inner) g (nodes_of after) e).0 in cc)
+
+  inside-drawn : (start : ℕ) (b : ItemBody) (shown : Forest (Option BlockNode)) (inside : BlockDocument) (from to : ℕ) (below : Type 0) → shown_inside text start (shape b) shown ≡ nodes_of inside → InOrder from inside to → to ≤ length text → AllAt (IsCharBoundary text) inside
+      → (shown ≡ nodes_of inside → below) → DrawsInside text start (own_text_end b) below inside
+  inside-drawn start (body.ParagraphOf text_end) shown inside from to below e o l a d = one-drawn start text_end shown inside from to e o l a
+  inside-drawn start (body.DefinitionListTitleOf text_end) shown inside from to below e o l a d = one-drawn start text_end shown inside from to e o l a
+  inside-drawn start _ shown inside from to below e o l a d = d e
+
 module _ (text : List ℕ) (texts : List CowStr) where
   pub draws : (f : Forest (Placed Item)) (d : BlockDocument) (from to : ℕ) → shown_forest text texts (items_of f) ≡ nodes_of d → InOrder from d to → to ≤ length text → AllAt (IsCharBoundary text) d → Draws text texts f d
   draws Nil document.Nil from to e o l a = tt
   draws Nil (document.Node node inside after) from to e o l a = absurd (let q : forest.Nil ≡ Node (Some node) (nodes_of inside) (nodes_of after) = e in cc)
-  draws (Node p f g) document.Nil from to e o l a = absurd (let q : Node (shown_item text texts p.item) (shown_forest text texts (items_of f)) (shown_forest text texts (items_of g)) ≡ forest.Nil = e in cc)
+  draws (Node p f g) document.Nil from to e o l a = absurd (let q : Node (shown_item text texts p.item) (shown_inside text p.item.start (shape p.item.body) (shown_forest text texts (items_of f))) (shown_forest text texts (items_of g)) ≡ forest.Nil = e in cc)
   draws (Node p f g) (document.Node node inside after) from to e o l a =
-      let parts = node-parts (shown_item text texts p.item) (Some node) (shown_forest text texts (items_of f)) (nodes_of inside) (shown_forest text texts (items_of g)) (nodes_of after) e in
+      let parts = node-parts (shown_item text texts p.item) (Some node) (shown_inside text p.item.start (shape p.item.body) (shown_forest text texts (items_of f))) (nodes_of inside) (shown_forest text texts (items_of g)) (nodes_of after) e in
       let i = in-order node.start inside node.end o.1 in
       let r = in-order node.end after to o.2 in
       let within : node.end ≤ length text = omega (arith, r, l) in (
         record { shown = parts.0; in_order = i; within = within; starts = a.0; ends = a.1 },
-        draws f inside node.start node.end parts.1 o.1 within a.2,
+        inside-drawn text p.item.start p.item.body (shown_forest text texts (items_of f)) inside node.start node.end (Draws text texts f inside) parts.1 o.1 within a.2
+            (λ e. draws f inside node.start node.end e o.1 within a.2),
         draws g after node.end to parts.2 o.2 l a.3,
         o.1,
       )

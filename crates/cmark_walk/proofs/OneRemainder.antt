@@ -1,5 +1,5 @@
 -- What remains of a walk is all that remains: its tree and the place where it stands decide it.
-use Rattle.std.proofs.Common.{◌≡◌, ℕ, List, [], ◌∷◌, ◌++◌, length, length-append, arith, refl, sym, ap, ◌∙◌, subst}
+use Rattle.std.proofs.Common.{◌≡◌, ℕ, List, [], ◌∷◌, ◌++◌, Option, Some, None, length, length-append, arith, refl, sym, ap, ◌∙◌, subst}
 use Rattle.std.proofs.lemmas.List.{same_from_push}
 use Rattle.std.proofs.lemmas.Option.{same_Some}
 use Rattle.cmark_tree.specs.declared.nodes.Nodes.{Nodes}
@@ -17,7 +17,7 @@ use Rattle.cmark_grammar.specs.BlockDocument.{BlockNode, BlockDocument}
 use Rattle.cmark_grammar.specs.SpanDocuments.{Segment}
 use Rattle.cmark_items.specs.declared.item.Item.{Item}
 use Rattle.cmark_walk.specs.declared.walk.Walk.{Walk}
-use Rattle.cmark_walk.specs.Walking.{Draws, DrawsAbove, Outer, Remains, left_from, texts_of}
+use Rattle.cmark_walk.specs.Walking.{Drawn, Draws, DrawsInside, DrawsAbove, Outer, Remains, left_from, own_text_end, texts_of}
 
 longer : (xs : List TreeIndex) (x : TreeIndex) → xs ++ x ∷ [] ≡ [] → ⊥
 longer xs x e = let n = length-append xs (x ∷ []) in let m = ap length e in omega (arith, n, m)
@@ -63,6 +63,11 @@ module _ {T : Type 0} where
         path-one nodes up others (join v.left (Node v.place f v.right)) (join w.left (Node w.place g w.right)) s t last.0,
       )
 
+-- what stands inside an item is one document, where what is below it is
+inside-one : (text : List ℕ) (start : ℕ) (own : Option ℕ) (below other : Type 0) (i j : BlockDocument) → (below → other → i ≡ j) → DrawsInside text start own below i → DrawsInside text start own other j → i ≡ j
+inside-one text start None below other i j same a b = same a b
+inside-one text start (Some text_end) below other i j same a b = a.is ∙ sym b.is
+
 module _ (text : List ℕ) (texts : List CowStr) where
   -- a forest draws one document
   draws-one : (f : Forest (Placed Item)) (d e : BlockDocument) → Draws text texts f d → Draws text texts f e → d ≡ e
@@ -73,7 +78,7 @@ module _ (text : List ℕ) (texts : List CowStr) where
   draws-one (Node p f g) (document.Node n i a) document.Nil b c = absurd c
   draws-one (Node p f g) (document.Node n i a) (document.Node m j b) x y =
       let node = same_Some {A = BlockNode} n m (sym x.0.shown ∙ y.0.shown) in
-      let inside = draws-one f i j x.1 y.1 in
+      let inside = inside-one text p.item.start (own_text_end p.item.body) (Draws text texts f i) (Draws text texts f j) i j (draws-one f i j) x.1 y.1 in
       let after = draws-one g a b x.2 y.2 in
       ap (λ z. document.Node z i a) node ∙ ap (λ z. document.Node m z a) inside ∙ ap (λ z. document.Node m j z) after
 
@@ -89,8 +94,8 @@ module _ (text : List ℕ) (texts : List CowStr) where
   above-one (v ∷ up) (w ∷ others) [] outer p a b = absurd a
   above-one (v ∷ up) (w ∷ others) (o ∷ above) [] p a b = absurd b
   above-one (v ∷ up) (w ∷ others) (o ∷ above) (q ∷ outer) p a b =
-      let drawn = subst {A = Placed Item} (λ x. Draws text texts (Node x Nil Nil) (document.Node o.node document.Nil document.Nil)) p.0 (a.0, tt, tt, a.0.in_order) in
-      let node = same_Some {A = BlockNode} o.node q.node (sym drawn.0.shown ∙ b.0.shown) in
+      let drawn = subst {A = Placed Item} (λ x. Drawn text texts x.item o.node) p.0 a.0 in
+      let node = same_Some {A = BlockNode} o.node q.node (sym drawn.shown ∙ b.0.shown) in
       let after = draws-one w.right o.after q.after (subst (λ f. Draws text texts f o.after) p.1 a.1) b.1 in
       ap (λ z. z ∷ above) (outer-one o q node after) ∙ ap (λ z. q ∷ z) (above-one up others above outer p.2 a.2 b.2)
 

@@ -139,6 +139,7 @@ kind-within text texts start end tight body.SoftBreak kind e = absurd (let q : N
 kind-within text texts start end tight (body.HardBreak x0) kind e = absurd (let q : None ≡ Some kind = e in cc)
 kind-within text texts start end tight body.Root kind e = absurd (let q : None ≡ Some kind = e in cc)
 kind-within text texts start end tight body.Paragraph kind e = ap (tight_within tight) (sym (same_Some document.Paragraph kind e))
+kind-within text texts start end tight (body.ParagraphOf x0) kind e = ap (tight_within tight) (sym (same_Some document.Paragraph kind e))
 kind-within text texts start end tight body.TightParagraph kind e = ap (tight_within tight) (sym (same_Some document.TightParagraph kind e))
 kind-within text texts start end tight body.Rule kind e = ap (tight_within tight) (sym (same_Some document.ThematicBreak kind e))
 kind-within text texts start end tight (body.Heading x0) kind e = ap (tight_within tight) (sym (same_Some (document.Heading (level_number x0) no_attributes) kind e))
@@ -154,6 +155,7 @@ kind-within text texts start end tight (body.MetadataBlock x0) kind e = ap (tigh
 kind-within text texts start end tight (body.DefinitionList x0) kind e = ap (tight_within tight) (sym (same_Some (document.DefinitionList (is_tight x0)) kind e))
 kind-within text texts start end tight body.MaybeDefinitionListTitle kind e = absurd (let q : None ≡ Some kind = e in cc)
 kind-within text texts start end tight body.DefinitionListTitle kind e = ap (tight_within tight) (sym (same_Some document.DefinitionListTitle kind e))
+kind-within text texts start end tight (body.DefinitionListTitleOf x0) kind e = ap (tight_within tight) (sym (same_Some document.DefinitionListTitle kind e))
 kind-within text texts start end tight (body.DefinitionListDefinition x0) kind e = ap (tight_within tight) (sym (same_Some document.DefinitionListDefinition kind e))
 kind-within text texts start end tight (body.Table x0) kind e = ap (tight_within tight) (sym (spelt-kind (λ row. document.Table (columns_of (delimiter_row row))) (text_at texts x0.0) kind e).1)
 kind-within text texts start end tight body.TableHead kind e = ap (tight_within tight) (sym (same_Some document.TableHead kind e))
@@ -234,6 +236,7 @@ not-within tight body.SoftBreak l d i j = refl
 not-within tight (body.HardBreak x0) l d i j = refl
 not-within tight body.Root l d i j = refl
 not-within tight body.Paragraph l d i j = refl
+not-within tight (body.ParagraphOf x0) l d i j = refl
 not-within tight body.TightParagraph l d i j = refl
 not-within tight body.Rule l d i j = refl
 not-within tight (body.Heading x0) l d i j = refl
@@ -249,6 +252,7 @@ not-within tight (body.MetadataBlock x0) l d i j = refl
 not-within tight (body.DefinitionList x0) l d i j = absurd (d x0 refl)
 not-within tight body.MaybeDefinitionListTitle l d i j = refl
 not-within tight body.DefinitionListTitle l d i j = refl
+not-within tight (body.DefinitionListTitleOf x0) l d i j = refl
 not-within tight (body.DefinitionListDefinition x0) l d i j = absurd (j x0 refl)
 not-within tight (body.Table x0) l d i j = refl
 not-within tight body.TableHead l d i j = refl

@@ -1,5 +1,5 @@
 -- One step of a walk over a document's tree.
-use Rattle.std.proofs.Common.{◌≡◌, ℕ, Bool, true, false, List, [], ◌∷◌, ◌++◌, Option, Some, None, Result, Ok, Err, OnErr, option_map, refl, sym, ap, ◌∙◌, subst, append_assoc}
+use Rattle.std.proofs.Common.{◌≡◌, ℕ, Bool, true, false, true≢false, List, [], ◌∷◌, ◌++◌, Option, Some, None, Result, Ok, Err, OnErr, option_map, refl, sym, ap, ◌∙◌, subst, append_assoc}
 use Rattle.std.proofs.lemmas.Option.{same_Some}
 use Rattle.cmark_tree.specs.declared.tree.Tree.{Tree}
 use Rattle.cmark_tree.specs.declared.tree_index.TreeIndex.{TreeIndex}
@@ -24,8 +24,11 @@ use Rattle.cmark_grammar.specs.BlockReading as reads
 use Rattle.cmark_grammar.specs.BlockReading.{Reads, read_as, over, first_event, starts_before}
 use Rattle.cmark_grammar.specs.DrawnDocument.{kind_within, settled}
 use Rattle.cmark_grammar.specs.SpanDocuments.{Segment, Given, Content, is_leaf, leaf_of, inside_of, node_segments, first_of_segments, with_first_segment, segments}
+use Rattle.cmark_grammar.specs.Ranges.{InOrder}
 use Rattle.cmark_grammar.specs.Tightness.{tight_within}
 use Rattle.cmark_items.specs.declared.item.Item.{Item}
+use Rattle.cmark_items.specs.declared.item.ItemBody.{ItemBody}
+use Rattle.cmark_items.specs.declared.item.ItemBody.TheVariants as body
 use Rattle.cmark_items.specs.ItemNodes.{ranged, kind_over, shape}
 use Rattle.cmark_leaf_text.specs.declared.stretch.LeafLine.{LeafLine}
 use Rattle.cmark_walk.specs.declared.walk.Walk.{Walk}
@@ -34,7 +37,7 @@ use Rattle.cmark_walk.specs.declared.reading.Stage.TheVariants as stage
 use Rattle.cmark_walk.specs.declared.reading.Step.{Step}
 use Rattle.cmark_walk.specs.declared.reading.Step.TheVariants as step
 use Rattle.cmark_walk.specs.Reads.{tag_in}
-use Rattle.cmark_walk.specs.Walking.{Drawn, Draws, Outer, StandsBelow, StandsAt, Remains, Goes, GivesStep, GivesRanged, IsFirst, IsAt, IsElement, IsStaged, left_from, left_above, leaving, tight_below, text_of, texts_of, definitions_of}
+use Rattle.cmark_walk.specs.Walking.{Drawn, Draws, DrawsInside, IsOneText, own_text_end, Outer, StandsBelow, StandsAt, Remains, Goes, GivesStep, GivesRanged, IsFirst, IsAt, IsElement, IsStaged, left_from, left_above, leaving, tight_below, text_of, texts_of, definitions_of}
 use Rattle.cmark_walk.proofs.LeafKinds.{leaf-within, inside-leaf, inside-block, settled-leaf, only-leaves-inside}
 
 -- the walk with its tree in another place
@@ -72,8 +75,10 @@ pub record Focus (walk : Walk) (item : Item) (ix : TreeIndex) (z : Zip Item) (he
   pub here_is : here ≡ document.Node node inside after
   pub at : place.ix ≡ ix.ix
   pub drawn_place : Drawn walk.text.now (texts_of walk) place.item node
+  pub item_is : item ≡ place.item
   pub drawn : Drawn walk.text.now (texts_of walk) item node
-  pub draws_inside : Draws walk.text.now (texts_of walk) inner inside
+  pub draws_inside : DrawsInside walk.text.now item.start (own_text_end item.body) (Draws walk.text.now (texts_of walk) inner inside) inside
+  pub in_order : InOrder node.start inside node.end
   pub draws_after : Draws walk.text.now (texts_of walk) later after
 
 abbrev pub IsItem : Tree Item → TreeIndex → Item → Type 0
@@ -96,13 +101,38 @@ focus-split walk item ix z (Node p f g) (document.Node node inside after) r st d
       here_is = refl;
       at = same;
       drawn_place = d.0;
+      item_is = read;
       drawn = subst (λ k. Drawn walk.text.now (texts_of walk) k node) (sym read) d.0;
-      draws_inside = d.1;
+      draws_inside = subst (λ k. DrawsInside walk.text.now k.start (own_text_end k.body) (Draws walk.text.now (texts_of walk) f inside) inside) (sym read) d.1;
+      in_order = d.3;
       draws_after = d.2;
     }
 
 pub focus : (walk : Walk) (item : Item) (ix : TreeIndex) (z : Zip Item) (here : BlockDocument) (above : List Outer) → StandsAt walk z here above → focus_of z.right ≡ Some ix → IsItem walk.tree ix item → Focus walk item ix z here
 focus walk item ix z here above s f i = focus-split walk item ix z z.right here refl (in_right walk.tree.nodes walk.tree.first z s.below.holds.forest) s.draws f i
+
+-- only a leaf has a text of its own
+kind-below : (text : List ℕ) (texts : List CowStr) (start end : ℕ) (b : ItemBody) (kind : BlockKind) → kind_over text texts start end (shape b) ≡ Some kind → is_leaf kind ≡ false → own_text_end b ≡ None
+kind-below text texts start end (body.ParagraphOf text_end) kind e n = absurd (true≢false (ap is_leaf (same_Some document.Paragraph kind e) ∙ n))
+kind-below text texts start end (body.DefinitionListTitleOf text_end) kind e n = absurd (true≢false (ap is_leaf (same_Some document.DefinitionListTitle kind e) ∙ n))
+kind-below text texts start end _ kind e n = refl
+
+kind-of-node : (start end : ℕ) (kind : Option BlockKind) (node : BlockNode) → option_map (ranged start end) kind ≡ Some node → kind ≡ Some node.kind
+kind-of-node start end None node e = absurd (let q : None ≡ Some node = e in cc)
+kind-of-node start end (Some k) node e = ap Some (ap (λ n. n.kind) (same_Some (ranged start end k) node e))
+
+pub block-below : (text : List ℕ) (texts : List CowStr) (item : Item) (node : BlockNode) → Drawn text texts item node → is_leaf node.kind ≡ false → own_text_end item.body ≡ None
+block-below text texts item node d n = kind-below text texts item.start item.end item.body node.kind (kind-of-node item.start item.end (kind_over text texts item.start item.end (shape item.body)) node d.shown) n
+
+-- where there is none, what stands inside is drawn below it
+pub drawn-below : (text : List ℕ) (start : ℕ) (own : Option ℕ) (below : Type 0) (inside : BlockDocument) → own ≡ None → DrawsInside text start own below inside → below
+drawn-below text start None below inside n d = d
+drawn-below text start (Some text_end) below inside n d = absurd (let q : Some text_end ≡ None = n in cc)
+
+-- and else it is one text
+pub one-inside : (text : List ℕ) (start : ℕ) (own : Option ℕ) (text_end : ℕ) (below : Type 0) (inside : BlockDocument) → own ≡ Some text_end → DrawsInside text start own below inside → IsOneText text start text_end inside
+one-inside text start None text_end below inside e d = absurd (let q : None ≡ Some text_end = e in cc)
+one-inside text start (Some end) text_end below inside e d = subst (λ k. IsOneText text start k inside) (same_Some end text_end e) d
 
 abbrev pub as_kind : BlockKind → BlockNode → BlockNode
 as_kind kind node = record node { kind = kind }
@@ -137,15 +167,15 @@ module _ (walk : Walk) (item : Item) (ix : TreeIndex) (t : Tree Item) where
   down z here f = record { left = Nil; right = f.inner; up = record { left = z.left; place = f.place; right = f.later } ∷ z.up }
 
   -- into the node
-  pub into : (z : Zip Item) (here : BlockDocument) (above : List Outer) → StandsAt walk z here above → IsItem walk.tree ix item → (f : Focus walk item ix z here) → IsElement (read_as (kind_within (tight_below above) f.node.kind))
+  pub into : (z : Zip Item) (here : BlockDocument) (above : List Outer) → StandsAt walk z here above → IsItem walk.tree ix item → (f : Focus walk item ix z here) → is_leaf f.node.kind ≡ false → IsElement (read_as (kind_within (tight_below above) f.node.kind))
       → ((z : Zip Item) → Holds walk.tree z → HasFocus z → Holds t (pushed z)) → StandsAt (moved walk t) (down z here f) f.inside (record { node = f.node; after = f.after } ∷ above)
-  into z here above s i f element push = record {
+  into z here above s i f block element push = record {
     below = record {
       holds = subst (λ r. Holds t (push_to z.left r z.up)) f.right_is (push z s.below.holds (subst IsFocus (sym f.right_is) tt));
       draws_above = (f.drawn_place, f.draws_after, s.below.draws_above);
       elements = (element, s.below.elements);
     };
-    draws = f.draws_inside;
+    draws = drawn-below walk.text.now item.start (own_text_end item.body) (Draws walk.text.now (texts_of walk) f.inner f.inside) f.inside (block-below walk.text.now (texts_of walk) item f.node f.drawn block) f.draws_inside;
   }
 
   abbrev pub beyond : (z : Zip Item) (here : BlockDocument) → Focus walk item ix z here → Zip Item
@@ -240,14 +270,15 @@ module _ (walk : Walk) (item : Item) (ix : TreeIndex) (t : Tree Item) (at : IsFo
   enters-around-as tag read leaf push left r =
       let f = at-focus r.z r.here r.above r.stands in
       let at-node = read r.z r.above f.node r.stands.below f.drawn in
+      let block : is_leaf f.node.kind ≡ false = sym (leaf walk.text.now (texts_of walk) f.node f.drawn) in
       let below : List Outer = record { node = f.node; after = f.after } ∷ r.above in
       let rest : List Segment = leaving (read_as (kind_at r.above f.node)) f.node ++ (after_at r.above f.after ++ left_above r.above) in (
         left_from stage.Before f.inside below,
         before-node left r f
             ∙ left-around tag (read_as (kind_at r.above f.node)) (element_at r.above f.after) (kind_at r.above f.node) f.node (inside_at r.above f.node f.inside) (after_at r.above f.after) (left_above r.above) at-node
-            ∙ ap (λ I. Given (over f.node (event.Start tag)) ∷ (I ++ rest)) (no-leaf-inside r.above f.node f.inside (sym (leaf walk.text.now (texts_of walk) f.node f.drawn)))
+            ∙ ap (λ I. Given (over f.node (event.Start tag)) ∷ (I ++ rest)) (no-leaf-inside r.above f.node f.inside block)
             ∙ ap (λ x. Given x ∷ left_from stage.Before f.inside below) (over-range walk.text.now (texts_of walk) item f.node (event.Start tag) f.drawn),
-        remains-before (moved walk t) (left_from stage.Before f.inside below) (down walk item ix t r.z r.here f) f.inside below before (into walk item ix t r.z r.here r.above r.stands is f (around-element tag (read_as (kind_at r.above f.node)) at-node) push) refl,
+        remains-before (moved walk t) (left_from stage.Before f.inside below) (down walk item ix t r.z r.here f) f.inside below before (into walk item ix t r.z r.here r.above r.stands is f block (around-element tag (read_as (kind_at r.above f.node)) at-node) push) refl,
       )
 
   pub enters-around : (tag : TextTag) (s : Step) → Reads-at walk item (reads.Around (shown_tag tag)) → Leaf-at walk item false → ((z : Zip Item) → Holds walk.tree z → HasFocus z → Holds t (pushed z))

@@ -17,7 +17,7 @@ use Rattle.cmark_grammar.specs.TagEnd.{TagEnd, end_of}
 use Rattle.cmark_grammar.specs.Event as event
 use Rattle.cmark_grammar.specs.Event.{Event}
 use Rattle.cmark_grammar.specs.BlockDocument as document
-use Rattle.cmark_grammar.specs.BlockDocument.{BlockKind, BlockNode, BlockDocument}
+use Rattle.cmark_grammar.specs.BlockDocument.{BlockKind, BlockNode, BlockDocument, node}
 use Rattle.cmark_grammar.specs.BlockReading as reads
 use Rattle.cmark_grammar.specs.BlockReading.{Reads, read_as, over, is_title, begins_title, starts_before}
 use Rattle.cmark_grammar.specs.DrawnDocument.{kind_within, settled}
@@ -25,6 +25,7 @@ use Rattle.cmark_grammar.specs.LeafText.{Stretch, Leaf}
 use Rattle.cmark_grammar.specs.Ranges.{InOrder}
 use Rattle.cmark_grammar.specs.SpanDocuments.{Segment, Given, Content, is_leaf, leaf_of, first_of_segments, segments}
 use Rattle.cmark_grammar.specs.Tightness.{tight_within}
+use Rattle.cmark_grammar.specs.Tokens.{slice}
 use Rattle.cmark_items.specs.declared.definitions.RefDefs.{RefDefs}
 use Rattle.cmark_items.specs.declared.item.Item.{Item}
 use Rattle.cmark_items.specs.declared.item.ItemBody.{ItemBody}
@@ -65,13 +66,33 @@ pub record Outer : Type 0 where
   pub node : BlockNode
   pub after : BlockDocument
 
+-- where the text of a paragraph or a title ends that has one text inside and is one node with it
+abbrev pub own_text_end : ItemBody → Option ℕ
+own_text_end (body.ParagraphOf text_end) = Some text_end
+own_text_end (body.DefinitionListTitleOf text_end) = Some text_end
+own_text_end _ = None
+
+-- these nodes are one text, whose range cuts no character of the source
+pub record IsOneText (text : List ℕ) (start text_end : ℕ) (nodes : BlockDocument) : Type 0 where
+  pub is : nodes ≡ document.Node (node (document.Text (slice text start text_end)) start text_end) document.Nil document.Nil
+  pub in_order : start ≤ text_end
+  pub within : text_end ≤ length text
+  pub starts : IsCharBoundary text start
+  pub ends : IsCharBoundary text text_end
+
+-- these nodes stand inside an item that begins at a place: its own text, or else what is drawn below it
+abbrev pub DrawsInside : List ℕ → (start : ℕ) → (own_text_end : Option ℕ) → (below : Type 0) → BlockDocument → Type 0
+DrawsInside text start (Some text_end) below nodes = IsOneText text start text_end nodes
+DrawsInside text start None below nodes = below
+
 module _ (text : List ℕ) (texts : List CowStr) where
   -- a forest is a document, in which what is inside a node stands in order within it
   abbrev pub Draws : Forest (Placed Item) → BlockDocument → Type 0
   Draws forest.Nil document.Nil = Unit {0}
   Draws forest.Nil (document.Node node inside after) = ⊥
   Draws (forest.Node p f g) document.Nil = ⊥
-  Draws (forest.Node p f g) (document.Node node inside after) = Drawn text texts p.item node × Draws f inside × Draws g after × InOrder node.start inside node.end
+  Draws (forest.Node p f g) (document.Node node inside after) =
+      Drawn text texts p.item node × DrawsInside text p.item.start (own_text_end p.item.body) (Draws f inside) inside × Draws g after × InOrder node.start inside node.end
 
   abbrev pub DrawsAbove : List (Level Item) → List Outer → Type 0
   DrawsAbove [] [] = Unit {0}
@@ -391,8 +412,9 @@ TitleIn walk None inside = (tight : Bool) → begins_title (settled tight inside
 TitleIn walk (Some item) document.Nil = ⊥
 TitleIn walk (Some item) (document.Node node inside after) = Drawn walk.text.now (texts_of walk) item node × (is_title node.kind ≡ true)
 
+-- where the focus is a definition list
 abbrev pub IsTitleIn : Walk → TreeIndex → Option Item → Type 0
-IsTitleIn walk ix found = (z : Zip Item) (here : BlockDocument) (above : List Outer) → StandsAt walk z here above → TitleIn walk found (content_of here)
+IsTitleIn walk ix found = (z : Zip Item) (here : BlockDocument) (above : List Outer) → StandsAt walk z here above → BeginsWithList here → TitleIn walk found (content_of here)
 
 abbrev pub IsLeafBehind : Walk → TreeIndex → Option (TextTag × Item) → Type 0
 IsLeafBehind walk ix found = (z : Zip Item) (here : BlockDocument) (above : List Outer) → StandsAt walk z here above → BeginsBehind walk above found (behind_first here)

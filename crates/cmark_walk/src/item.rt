@@ -105,7 +105,7 @@ impl<'a> Walk<'a> {
         ensures refused { OnErr result (OwnsText item.body) }
     {
         match item.body {
-            ItemBody::Paragraph => Ok(if self.is_tight() {
+            ItemBody::Paragraph | ItemBody::ParagraphOf(_) => Ok(if self.is_tight() {
                 None
             } else {
                 Some(Tag::Paragraph)
@@ -128,7 +128,9 @@ impl<'a> Walk<'a> {
             )))),
             ItemBody::ListItem(_) => Ok(Some(Tag::Item)),
             ItemBody::DefinitionList(_) => Ok(Some(Tag::DefinitionList)),
-            ItemBody::DefinitionListTitle => Ok(Some(Tag::DefinitionListTitle)),
+            ItemBody::DefinitionListTitle | ItemBody::DefinitionListTitleOf(_) => {
+                Ok(Some(Tag::DefinitionListTitle))
+            }
             ItemBody::DefinitionListDefinition(_) => Ok(Some(Tag::DefinitionListDefinition)),
             ItemBody::AttributedHeading(_, _)
             | ItemBody::FencedCodeBlock(_)
@@ -180,7 +182,7 @@ impl<'a> Walk<'a> {
             → option_map shown_end result ≡ end_in (read_as (kind_within (tight_below above) node.kind)) }
     {
         match item.body {
-            ItemBody::Paragraph => {
+            ItemBody::Paragraph | ItemBody::ParagraphOf(_) => {
                 if self.is_tight() {
                     None
                 } else {
@@ -204,7 +206,9 @@ impl<'a> Walk<'a> {
             }
             ItemBody::ListItem(_) => Some(TagEnd::Item),
             ItemBody::DefinitionList(_) => Some(TagEnd::DefinitionList),
-            ItemBody::DefinitionListTitle => Some(TagEnd::DefinitionListTitle),
+            ItemBody::DefinitionListTitle | ItemBody::DefinitionListTitleOf(_) => {
+                Some(TagEnd::DefinitionListTitle)
+            }
             ItemBody::DefinitionListDefinition(_) => Some(TagEnd::DefinitionListDefinition),
             ItemBody::FootnoteDefinition(_) => Some(TagEnd::FootnoteDefinition),
             _ => None,

@@ -1,7 +1,7 @@
 //! Which kind of node an item of a document's tree is.
 
 ghost use Rattle.std.specs.Prelude.{◌≡◌, ℕ, List};
-ghost use Rattle.cmark_walk.specs.Walking.{task_body, Drawn, is_list};
+ghost use Rattle.cmark_walk.specs.Walking.{task_body, Drawn, is_list, own_text_end};
 ghost use Rattle.cmark_grammar.specs.BlockDocument.{BlockNode};
 ghost use Rattle.cmark_grammar.specs.SpanDocuments.{is_leaf, is_cell};
 ghost use Rattle.cmark_text.specs.declared.text.CowStr.{CowStr};
@@ -27,10 +27,12 @@ pub(crate) fn is_leaf(item: Item) -> bool
 {
     match item.body {
         ItemBody::Paragraph => true,
+        ItemBody::ParagraphOf(_) => true,
         ItemBody::TightParagraph => true,
         ItemBody::Heading(_) => true,
         ItemBody::AttributedHeading(_, _) => true,
         ItemBody::DefinitionListTitle => true,
+        ItemBody::DefinitionListTitleOf(_) => true,
         ItemBody::TableCell => true,
         _ => false,
     }
@@ -60,5 +62,20 @@ pub(crate) fn is_list(item: Item) -> bool
 pub(crate) fn is_title(item: Item) -> bool
     ensures { (text : List ℕ) (texts : List CowStr) (node : BlockNode) → Drawn text texts item node → result ≡ is_title node.kind }
 {
-    matches!(item.body, ItemBody::DefinitionListTitle)
+    matches!(
+        item.body,
+        ItemBody::DefinitionListTitle | ItemBody::DefinitionListTitleOf(_)
+    )
+}
+
+// Where the text of a paragraph or a title ends that is one node with its only text: a byte offset of the source.
+#[inline(always)]
+pub(crate) fn own_text_end(item: Item) -> Option<usize>
+    ensures { result ≡ own_text_end item.body }
+{
+    match item.body {
+        ItemBody::ParagraphOf(text_end) => Some(text_end),
+        ItemBody::DefinitionListTitleOf(text_end) => Some(text_end),
+        _ => None,
+    }
 }

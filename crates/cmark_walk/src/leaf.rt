@@ -7,7 +7,7 @@ ghost use Rattle.cmark_walk.specs.declared.reading.Stage.TheVariants as stage;
 ghost use Rattle.cmark_walk.specs.Walking.{GoesOn, LeavesTheSame, Remains, Gives, text_of, IsAt, HoldsLines, HasText, GivesStep, ComesNearer, StepsZeroCopy};
 ghost use Rattle.cmark_leaf_text.specs.declared.stretch.LeafLine.{LeafLine};
 
-use crate::kind::is_cell;
+use crate::kind::{is_cell, own_text_end};
 use crate::reading::{Stage, Step};
 use crate::walk::{Walk, given};
 use cmark_leaf_text::LeafLine;
@@ -35,13 +35,22 @@ impl<'a> Walk<'a> {
         Ok(is_cell)
     }
 
-    // The lines of the leaf in the focus.
+    // The lines of the leaf in the focus: its own text, or the nodes inside.
     fn gather(&self, ix: TreeIndex, lines: &mut Vec<LeafLine>) -> Result<(), AllocError>
         requires { IsAt self.now ix }
         ensures lines { OnOk result (HoldsLines self.now lines.new.items) }
         ensures text { OnErr result (HasText self.now) }
     {
         lines.clear();
+        let leaf = *self.tree.item(ix);
+        if let Some(text_end) = own_text_end(leaf) {
+            lines.push(LeafLine {
+                start: leaf.start,
+                content_end: text_end,
+                line_end: text_end,
+            })?;
+            return Ok(());
+        }
         let Some(first) = self.tree.child(ix) else {
             return Ok(());
         };

@@ -153,7 +153,7 @@ impl<'a> Walk<'a> {
             ItemBody::Text { .. } => Glance::Alone(Short::Text(self.part(item))),
             ItemBody::Html => Glance::Alone(Short::Html(self.part(item))),
             ItemBody::Rule => Glance::Alone(Short::Rule),
-            ItemBody::Paragraph => {
+            ItemBody::Paragraph | ItemBody::ParagraphOf(_) => {
                 if self.is_tight() {
                     Glance::Inside
                 } else {
@@ -173,7 +173,9 @@ impl<'a> Walk<'a> {
             }
             ItemBody::ListItem(_) => Glance::Around(PlainTag::Item),
             ItemBody::DefinitionList(_) => Glance::Around(PlainTag::DefinitionList),
-            ItemBody::DefinitionListTitle => Glance::Around(PlainTag::DefinitionListTitle),
+            ItemBody::DefinitionListTitle | ItemBody::DefinitionListTitleOf(_) => {
+                Glance::Around(PlainTag::DefinitionListTitle)
+            }
             ItemBody::DefinitionListDefinition(_) => {
                 Glance::Around(PlainTag::DefinitionListDefinition)
             }

@@ -23,6 +23,6 @@ returns-in_ok-add-in-None-clause-drawn c text left d draws =
     let cells = c.args.cells.now in
     let line_end = c.args.line_end in (
       drawn (Node (node TableCell line_end line_end) Nil Nil) d,
-      draws-add text c.args.builder.now c.add.new.self _ (node TableCell line_end line_end) d c.in_ok-add-in-None.ensures.ok c.in_ok-add-in-None.ensures.tables refl draws,
+      draws-add text c.args.builder.now c.add.new.self _ (node TableCell line_end line_end) d c.in_ok-add-in-None.ensures.ok c.in_ok-add-in-None.ensures.tables refl refl draws,
       cells-missing text cells left (c.args.content_end - length cells) line_end c.in-None.ensures.cells d,
     )

@@ -16,6 +16,6 @@ returns-clause-runs g c text options lookup m runs =
     let kind = TaskMarker c.args.is_checked in
     let start = c.args.start in
     let draws = subst (λ end. Draws text new (drawn (Node (node kind start end) Nil Nil) m.drawing)) c.begin.ensures.place
-    (draws-add text before.builder new _ (node kind start c.begin.result) m.drawing c.in_ok-add.ensures.ok c.in_ok-add.ensures.tables refl runs.drawing) in
+    (draws-add text before.builder new _ (node kind start c.begin.result) m.drawing c.in_ok-add.ensures.ok c.in_ok-add.ensures.tables refl refl runs.drawing) in
     c.in_ok-begin_paragraph.ensures.runs text options lookup _
     (runs-builder g.E.EntityLookup.replacement text options lookup m before new (drawn (Node (node kind start (begin_of (row_of c.args.behind))) Nil Nil) m.drawing) runs draws (ap (λ a. defined (tables a)) c.in_ok-add.ensures.tables))

@@ -1,4 +1,4 @@
-use Rattle.std.proofs.Common.{◌≡◌, ◌∷◌, sym, ◌∙◌, subst, Some}
+use Rattle.std.proofs.Common.{◌≡◌, sym, ◌∙◌, subst, Some}
 use Rattle.cmark_tree.specs.Forest.{Nil, join, one}
 use Rattle.cmark_tree.specs.Building.{Is, closed}
 use Rattle.cmark_tree.specs.Zip.{Zip}
