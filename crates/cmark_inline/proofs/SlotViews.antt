@@ -15,10 +15,11 @@ use Rattle.cmark_inline_model.specs.SlotRows.{slot_events}
 use Rattle.cmark_leaf_text.specs.Reads.{source_of}
 use Rattle.cmark_leaf_text.specs.declared.leaf_text.LeafText.{LeafText}
 use Rattle.cmark_text.specs.declared.text.CowStr.{CowStr}
+use Rattle.cmark_text.specs.Ranged.{shown_ranged}
 use Rattle.cmark_text.specs.Shown.{shown}
-use Rattle.cmark_inline.specs.Opens.{Gives, Passes, shown_given}
+use Rattle.cmark_text.specs.declared.ranged.Ranged.{Ranged as Given}
+use Rattle.cmark_inline.specs.Opens.{Gives, Passes}
 use Rattle.cmark_inline.specs.SlotViews.{slot_as, shown_slot, shown_slots, shown_open, shown_opened, events_of, event_in, first_of, slot_end, item_slot, text_named, link_of, link_named, linked_or_none, bytes_or_none, shown_element, IsThere, Differ, AreOnce, EndsBehind, CanBeGiven, KeepsOthers, IsFirst, with_given}
-use Rattle.cmark_inline.specs.declared.event.Given.{Given}
 use Rattle.cmark_inline.specs.declared.event.Opened.{Opened}
 use Rattle.cmark_inline.specs.declared.link.LinkParts.{LinkParts}
 use Rattle.cmark_inline.specs.declared.slot.Element.{Element}
@@ -152,8 +153,8 @@ module _ (leaf : LeafText) (texts : List CowStr) (links : List LinkParts) (slot 
 
   -- an element begins
   pub begin-first : (texts1 : List CowStr) (links1 : List LinkParts) (opened1 : List Opened) (given : Given) (e : Element) → slot.kind ≡ kind.Begin e → CanBeGiven leaf texts links (slot ∷ slots)
-      → texts1 ≡ texts → KeepsOthers (link_of e) links links1 → shown_given given ≡ begins e → shown_opened opened1 ≡ closes e ∷ shown_opened opened
-      → events_of leaf texts links (slot ∷ slots) opened ≡ shown_given given ∷ events_of leaf texts1 links1 slots opened1
+      → texts1 ≡ texts → KeepsOthers (link_of e) links links1 → shown_ranged given ≡ begins e → shown_opened opened1 ≡ closes e ∷ shown_opened opened
+      → events_of leaf texts links (slot ∷ slots) opened ≡ shown_ranged given ∷ events_of leaf texts1 links1 slots opened1
   begin-first texts1 links1 opened1 given e is h ts ls g o =
       let seen = seen-behind leaf texts texts1 links links1 slot slots h (keeps-same (text_named slot.kind) texts texts1 ts) (subst (λ (k : SlotKind). KeepsOthers (link_named k) links links1) (sym is) ls) in
       by-kind (kind.Begin e) is
@@ -186,14 +187,14 @@ module _ (leaf : LeafText) (texts : List CowStr) (links : List LinkParts) (slot 
   pub single-first : (texts1 : List CowStr) (links1 : List LinkParts) (opened1 : List Opened) (given : Given) → ((end : ℕ) → slot.kind ≡ kind.SourceHtml end → ⊥) → ((end : ℕ) → slot.kind ≡ kind.SourceText end → ⊥) → (slot.kind ≡ kind.Empty → ⊥)
       → ((e : Element) → slot.kind ≡ kind.Begin e → ⊥) → (slot.kind ≡ kind.End → ⊥) → (slot.kind ≡ kind.Nothing → ⊥) → CanBeGiven leaf texts links (slot ∷ slots) → KeepsOthers (text_named slot.kind) texts texts1 → links1 ≡ links → opened1 ≡ opened
       → shown given.event ≡ event_in leaf texts slot slot.kind → given.range.start ≡ first_of leaf slot → given.range.end ≡ slot_end leaf slot
-      → events_of leaf texts links (slot ∷ slots) opened ≡ shown_given given ∷ events_of leaf texts1 links1 slots opened1
+      → events_of leaf texts links (slot ∷ slots) opened ≡ shown_ranged given ∷ events_of leaf texts1 links1 slots opened1
   single-first texts1 links1 opened1 given html text empty begin end nothing h ts ls o value start last =
       let seen = seen-behind leaf texts texts1 links links1 slot slots h ts (keeps-same (link_named slot.kind) links links1 ls) in
-      let here : over (source_of leaf) (first_of leaf slot) (slot_end leaf slot) (event_in leaf texts slot slot.kind) ≡ shown_given given = cc in
+      let here : over (source_of leaf) (first_of leaf slot) (slot_end leaf slot) (event_in leaf texts slot slot.kind) ≡ shown_ranged given = cc in
       single-kind slot.kind html text empty begin end nothing (shown_slots leaf texts links slots) (shown_opened opened)
       ∙ ap (λ x. x ∷ events_of leaf texts links slots opened) here
-      ∙ ap (λ l. shown_given given ∷ slot_events (source_of leaf) l (shown_opened opened)) (sym seen)
-      ∙ ap (λ (l : List Opened). shown_given given ∷ slot_events (source_of leaf) (shown_slots leaf texts1 links1 slots) (shown_opened l)) (sym o)
+      ∙ ap (λ l. shown_ranged given ∷ slot_events (source_of leaf) l (shown_opened opened)) (sym seen)
+      ∙ ap (λ (l : List Opened). shown_ranged given ∷ slot_events (source_of leaf) (shown_slots leaf texts1 links1 slots) (shown_opened l)) (sym o)
 
 -- an element that ends leaves what none leaves, where none is open
 pub passes-ended : (source : List ℕ) (old new : List Opened) (given : Option Given) → Gives source old given new → Passes source old given new

@@ -15,10 +15,10 @@ use Rattle.cmark_inline_model.specs.SlotRows as row
 use Rattle.cmark_inline_model.specs.SlotRows.{slot_events}
 use Rattle.cmark_leaf_text.specs.Reads.{is_cell_of, place_of, source_of, text_of}
 use Rattle.cmark_leaf_text.specs.declared.leaf_text.LeafText.{LeafText}
+use Rattle.cmark_text.specs.Ranged.{shown_ranged}
 use Rattle.cmark_text.specs.Shown.{shown_end, shown_linked, text_bytes}
+use Rattle.cmark_text.specs.declared.ranged.Ranged.{Ranged as Given}
 use Rattle.cmark_text.specs.declared.text.CowStr.{CowStr}
-use Rattle.cmark_inline.specs.Opens.{shown_given}
-use Rattle.cmark_inline.specs.declared.event.Given.{Given}
 use Rattle.cmark_inline.specs.declared.event.Opened.{Opened}
 use Rattle.cmark_inline.specs.declared.link.LinkParts.{LinkParts}
 use Rattle.cmark_inline.specs.declared.slot.Element.{Element}
@@ -122,12 +122,12 @@ events_to_come leaf state = events_of leaf state.texts.items state.links.items (
 -- an event is the first of some, and these are behind it; or there is none
 abbrev pub IsFirst : Option Given → (events behind : List Ranged) → Type 0
 IsFirst None events behind = (events ≡ []) × (behind ≡ [])
-IsFirst (Some given) events behind = events ≡ shown_given given ∷ behind
+IsFirst (Some given) events behind = events ≡ shown_ranged given ∷ behind
 
 -- an event in front of others, if there is one
 abbrev pub with_given : Option Given → List Ranged → List Ranged
 with_given None behind = behind
-with_given (Some given) behind = shown_given given ∷ behind
+with_given (Some given) behind = shown_ranged given ∷ behind
 
 -- ## What slots name: a text or a link is taken when its slot is given, so that it can be given once
 
