@@ -13,19 +13,21 @@ ghost use Rattle.cmark_inline_model.specs.FirstEvents.{BeginWithoutEnd};
 ghost use Rattle.cmark_leaf_text.specs.Reads.{IsRead, IsPart, is_cell_of, place_of, text_of, source_of};
 ghost use Rattle.cmark_scan_parts.specs.Shown.{IsBorrowed};
 ghost use Rattle.cmark_grammar.specs.Tag as grammar_tag;
-ghost use Rattle.cmark_grammar.specs.TagEnd.{end_of, Image, Link};
+ghost use Rattle.cmark_grammar.specs.TagEnd as grammar_end;
+ghost use Rattle.cmark_grammar.specs.TagEnd.{end_of};
 ghost use Rattle.cmark_text.specs.Ranged.{IsRangedZeroCopy, shown_ranged};
 ghost use Rattle.cmark_text.specs.Shown.{shown, shown_end, shown_tag, text_bytes, IsBoxed, IsInlined};
 ghost use Rattle.cmark_text.specs.ZeroCopy.{IsLentBy, IsPartIfBorrowed, IsZeroCopy};
 ghost use Rattle.cmark_inline.specs.Opens.{element_end, Follows, Gives, Passes, events_left};
-ghost use Rattle.cmark_inline.specs.SlotViews.{AreLeft, CanBeGiven, IsFirst, IsThere, KeepsOthers, event_in, events_of, events_to_come, link_named, link_of, linked_at, shown_element, shown_opened, shown_parts, text_at, text_named, with_given};
+ghost use Rattle.cmark_items.specs.Links.{shown_link};
+ghost use Rattle.cmark_inline.specs.SlotViews.{AreLeft, CanBeGiven, IsFirst, IsThere, KeepsOthers, event_in, events_of, events_to_come, link_named, link_of, linked_at, shown_element, shown_opened, text_at, text_named, with_given};
 ghost use Rattle.cmark_inline.specs.Stands.{AreOpened, AreSlots, IsSlot};
 ghost use Rattle.cmark_inline.specs.declared.slot.Slot.{Slot as Slots};
 
-use crate::link::LinkParts;
 use crate::slot::{Element, Slot, SlotKind};
 use crate::state::InlineState;
 use cmark_finds::code_text;
+use cmark_items::Link;
 use cmark_leaf_text::LeafText;
 use cmark_scan_parts::without_pipe_escapes;
 use cmark_text::{CowStr, Event, Ranged, Tag, TagEnd};
@@ -221,16 +223,16 @@ impl<'a> InlineState<'a> {
         }
     }
 
-    fn take_link(&mut self, index: usize) -> LinkParts<'a>
+    fn take_link(&mut self, index: usize) -> Link<'a>
         requires { index < length self.old.links.items }
         ensures slots { self.new.slots ≡ self.old.slots }
         ensures expansion_left { self.new.expansion_left ≡ self.old.expansion_left }
         ensures walk { self.new.walk ≡ self.old.walk }
-        ensures value { shown_parts result ≡ linked_at self.old.links.items index }
+        ensures value { shown_link result ≡ linked_at self.old.links.items index }
         ensures links { KeepsOthers (Some index) self.old.links.items self.new.links.items }
         ensures texts { self.new.texts ≡ self.old.texts }
     {
-        std::mem::replace(&mut self.links[index], LinkParts::none())
+        std::mem::replace(&mut self.links[index], Link::none())
     }
 
     fn take_text(&mut self, index: usize) -> CowStr<'a>
@@ -309,12 +311,12 @@ fn element_end(element: Element) -> TagEnd
     }
 }
 
-fn link_tag<'a>(link: LinkParts<'a>) -> Tag<'a>
+fn link_tag<'a>(link: Link<'a>) -> Tag<'a>
     ensures span { IsSpan (shown_tag result) }
-    ensures end { end_of (shown_tag result) ≡ Link }
-    ensures value { shown_tag result ≡ grammar_tag.Link (shown_parts link.entry) }
+    ensures end { end_of (shown_tag result) ≡ grammar_end.Link }
+    ensures value { shown_tag result ≡ grammar_tag.Link (shown_link link.entry) }
 {
-    let LinkParts {
+    let Link {
         link_type,
         dest_url,
         title,
@@ -328,12 +330,12 @@ fn link_tag<'a>(link: LinkParts<'a>) -> Tag<'a>
     }
 }
 
-fn image_tag<'a>(link: LinkParts<'a>) -> Tag<'a>
+fn image_tag<'a>(link: Link<'a>) -> Tag<'a>
     ensures span { IsSpan (shown_tag result) }
-    ensures end { end_of (shown_tag result) ≡ Image }
-    ensures value { shown_tag result ≡ grammar_tag.Image (shown_parts link.entry) }
+    ensures end { end_of (shown_tag result) ≡ grammar_end.Image }
+    ensures value { shown_tag result ≡ grammar_tag.Image (shown_link link.entry) }
 {
-    let LinkParts {
+    let Link {
         link_type,
         dest_url,
         title,
