@@ -1,8 +1,8 @@
 """Labels, destinations and titles: the definitions of LinkDefinitions, Labels, Destinations and LinkTails."""
 from typing import NamedTuple
 
-from inlines.letters import (Parsed, and_then, behind_blanks, behind_ending, behind_start, is_blank_byte, is_content,
-                             resolved, title_lines)
+from inlines.letters import (Parsed, and_then, behind_blanks, behind_ending, behind_start, is_content, resolved,
+                             title_lines)
 
 
 # ## LinkDefinitions
@@ -23,8 +23,8 @@ def up_to(closer, refused, over_lines, bs):
     return None
 
 
-def is_white(b):
-    return is_blank_byte(b) or b in b"\n\f\r"
+def is_ascii_whitespace(b):
+    return b in b"\t\n\f\r "
 
 
 def characters(bs):
@@ -32,7 +32,7 @@ def characters(bs):
 
 
 def is_label(bs):
-    return characters(bs) <= 999 and any(not is_white(b) for b in bs)
+    return characters(bs) <= 999 and any(not is_ascii_whitespace(b) for b in bs)
 
 
 def label_in(bs):

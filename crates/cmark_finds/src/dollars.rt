@@ -9,7 +9,7 @@ ghost use Rattle.cmark_grammar.specs.Tokens.{slice};
 ghost use Rattle.cmark_finds.specs.Dollars.{AreDollarsOf, IsFormulaAt, braces_at, closing, dollar_here, dollars_in, formula_at, shown_braces, shown_formula, signs_of};
 
 use crate::braces::Braces;
-use cmark_scan_parts::bytes::{escapes_next, is_white};
+use cmark_scan_parts::bytes::escapes_next;
 use std::alloc::{AllocError, Global};
 
 /// Where a formula lies in its text.
@@ -222,7 +222,7 @@ fn is_ink_at(bytes: &[u8], at: usize) -> bool
 fn is_ink(byte: u8) -> bool
     ensures { result ≡ is_ink byte }
 {
-    !is_white(byte)
+    !byte.is_ascii_whitespace()
 }
 
 /// How many dollar signs stand at each end.

@@ -1,7 +1,9 @@
 -- The content of a setext heading without its attributes is cut out of that of a paragraph.
 use Rattle.std.proofs.Common.{◌≡◌, ℕ, suc, ◌≤◌, ◌<◌, Bool, true, false, ◌==◌, List, [], ◌∷◌, ◌++◌, length, drop, refl, sym, arith, true≢false}
+use Rattle.std.specs.Char.{is_ascii_whitespace}
 use Rattle.std.specs.Prelude.{if◌then◌else◌, nat_lt}
-use Rattle.cmark_grammar.specs.Attributes.{is_braced, before_braces, closes, is_white_space}
+use Rattle.std.proofs.lemmas.Bool.Decides.{nat_tests}
+use Rattle.cmark_grammar.specs.Attributes.{is_braced, before_braces, closes}
 use Rattle.cmark_grammar.specs.BlockDocument.{BlockDocument, Nil, Node}
 use Rattle.cmark_grammar.specs.Columns.{Column, drop_end, put_before, is_blank}
 use Rattle.cmark_grammar.specs.Ranges.{InOrder, AllAt, count_nodes, count_tables}
@@ -48,8 +50,8 @@ module _ (E : ℕ → Type 0) where
   content-reaches r [] g gs = end-reaches is_blank r.columns (good-reaches r.columns g.good)
   content-reaches r (s ∷ more) g gs = join-reaches r.columns (line_end_column r ∷ content_of (s ∷ more)) (good-reaches r.columns g.good) (λ lt. g.content_end, content-reaches s more gs.0 gs.1)
 
-  white-ascii : (b : ℕ) → is_white_space b ≡ true → b < 128
-  white-ascii b e = grind (arith)
+  white-ascii : (b : ℕ) → is_ascii_whitespace b ≡ true → b < 128
+  white-ascii b e = grind (arith, nat_tests)
 
   first-reaches : (cs : List Column) → Reaches cs → ends_in_braces cs ≡ true → E (attributes_place cs)
   first-reaches [] r e = absurd (true≢false (sym e))

@@ -1,5 +1,6 @@
 -- The attributes of a heading (this profile's own): words between braces at the end of its content.
 use Rattle.std.specs.Prelude.{ℕ, Bool, true, false, ◌==◌, ◌&&◌, ◌||◌, not, if◌then◌else◌, List, [], ◌∷◌, ◌++◌, length, drop, take_while, fold, Option, None, Some}
+use Rattle.std.specs.Char.{is_ascii_whitespace}
 
 -- a name with a value, if it has one
 pub record Attribute : Type 0 where
@@ -14,20 +15,16 @@ pub record Attributes : Type 0 where
 abbrev pub no_attributes : Attributes
 no_attributes = record { id = None; classes = []; others = [] }
 
--- white space between words: tab, line feed, form feed, carriage return and space
-abbrev pub is_white_space : ℕ → Bool
-is_white_space b = (b == 9) || ((b == 10) || ((b == 12) || ((b == 13) || (b == 32))))
-
 -- one more byte in front: white space parts, so that the first part is empty; other bytes stand in the first part
 abbrev pub put_byte : (parts_words : Bool) → ℕ → List (List ℕ) → List (List ℕ)
 put_byte true b ws = [] ∷ ws
 put_byte false b [] = (b ∷ []) ∷ []
 put_byte false b (w ∷ ws) = (b ∷ w) ∷ ws
 
--- the words that white space parts; some of them are empty
+-- the words that ASCII white space parts (tab, line feed, form feed, carriage return, space); some of them are empty
 abbrev pub words : List ℕ → List (List ℕ)
 words [] = [] ∷ []
-words (b ∷ bs) = put_byte (is_white_space b) b (words bs)
+words (b ∷ bs) = put_byte (is_ascii_whitespace b) b (words bs)
 
 abbrev pub is_no_equals : ℕ → Bool
 is_no_equals b = not (b == 61)

@@ -1,14 +1,15 @@
 -- Formulas between dollar signs (this profile's own).
 use Rattle.std.specs.Prelude.{ℕ, suc, ◌%◌, Bool, true, false, not, ◌==◌, ◌&&◌, if◌then◌else◌, List, [], ◌∷◌, drop, Option, Some, None}
+use Rattle.std.specs.Char.{is_ascii_whitespace}
 use Rattle.cmark_grammar.specs.Letters.{first_is}
-use Rattle.cmark_grammar.specs.LinkDefinitions.{Parsed, put, escapes_next, is_white}
+use Rattle.cmark_grammar.specs.LinkDefinitions.{Parsed, put, escapes_next}
 
 abbrev pub is_dollar : ℕ → Bool
 is_dollar b = b == 36
 
 -- no white space
 abbrev pub is_ink : ℕ → Bool
-is_ink b = not (is_white b)
+is_ink b = not (is_ascii_whitespace b)
 
 -- The braces of a leaf part it into contexts, which have numbers modulo 256. Those that are entered, the inner ones first; the number
 -- of the outermost, which is 255 at first; and the number of the next

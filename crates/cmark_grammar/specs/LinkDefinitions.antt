@@ -1,5 +1,6 @@
 -- Link reference definitions (CommonMark 4.7): labels, destinations and titles.
 use Rattle.std.specs.Prelude.{ℕ, suc, ◌-◌, Bool, true, false, ◌==◌, ◌&&◌, ◌||◌, not, nat_lt, nat_le, if◌then◌else◌, List, [], ◌∷◌, ◌++◌, length, drop, take_while, count_by, Option, Some, None}
+use Rattle.std.specs.Char.{is_ascii_whitespace}
 use Rattle.cmark_grammar.specs.Columns.{is_blank_byte, bytes_of}
 use Rattle.cmark_grammar.specs.Rows.{Row, words_of}
 use Rattle.cmark_grammar.specs.Leaves.{is_empty}
@@ -29,17 +30,13 @@ abbrev pub up_to : (escaped : Bool) → (closer refused : ℕ) → (over_lines :
 up_to escaped closer refused over_lines [] = None
 up_to escaped closer refused over_lines (b ∷ bs) = up_to_byte escaped closer refused over_lines b bs (up_to (escapes_next escaped b) closer refused over_lines bs)
 
--- tab, line feed, form feed, carriage return and space
-abbrev pub is_white : ℕ → Bool
-is_white b = is_blank_byte b || ((b == 10) || ((b == 12) || (b == 13)))
-
 -- characters of UTF-8: all bytes but those that go on with one
 abbrev pub characters : List ℕ → ℕ
 characters bs = count_by (λ b. nat_lt b 128 || nat_le 192 b) bs
 
--- 1 to 999 characters, at least one of them no white space
+-- 1 to 999 characters, at least one of them no ASCII white space (tab, line feed, form feed, carriage return, space)
 abbrev pub is_label : List ℕ → Bool
-is_label bs = nat_le (characters bs) 999 && nat_lt 0 (count_by (λ b. not (is_white b)) bs)
+is_label bs = nat_le (characters bs) 999 && nat_lt 0 (count_by (λ b. not (is_ascii_whitespace b)) bs)
 
 -- a label behind its opening bracket, up to the next bracket, which no backslash escapes and which closes it
 abbrev pub label_if : Option Parsed → Option Parsed

@@ -1,6 +1,7 @@
 -- The attributes of a setext heading (this profile's own): braces at the end of its content, which may stand over several lines.
 use Rattle.std.specs.Prelude.{ℕ, Bool, true, false, nat_lt, if◌then◌else◌, List, [], ◌∷◌, ◌++◌, length, drop}
-use Rattle.cmark_grammar.specs.Attributes.{Attributes, no_attributes, is_white_space, before_braces, inside_braces, attributes_of}
+use Rattle.std.specs.Char.{is_ascii_whitespace}
+use Rattle.cmark_grammar.specs.Attributes.{Attributes, no_attributes, before_braces, inside_braces, attributes_of}
 use Rattle.cmark_grammar.specs.BlockDocument.{BlockDocument, Nil, Node}
 use Rattle.cmark_grammar.specs.Columns.{Column, drop_end, without_trailing_blanks, bytes_of}
 use Rattle.cmark_grammar.specs.Rows.{Row, first_place}
@@ -17,7 +18,7 @@ content_of (r ∷ []) = without_trailing_blanks r.columns
 content_of (r ∷ (s ∷ more)) = r.columns ++ line_end_column r ∷ content_of (s ∷ more)
 
 abbrev pub is_white : Column → Bool
-is_white c = is_white_space c.byte
+is_white c = is_ascii_whitespace c.byte
 
 -- braces stand at the end that hold no braces
 abbrev pub ends_in_braces : List Column → Bool

@@ -18,7 +18,7 @@ use Rattle.cmark_scan_parts.proofs.Endings.{tag-behind}
 use Rattle.cmark_inline.specs.MarkupInSource.{IsTag, IsFound, FindsNone, ReadsLess}
 use Rattle.cmark_inline.specs.Linked.{IsAutolink}
 use Rattle.cmark_inline.specs.Tokens.{whole, reading, read_on, opens_markup, shown_autolink, Says, Puts, BeginsThere, PutsAutolink}
-use Rattle.cmark_inline.specs.declared.link.LinkParts.{LinkParts}
+use Rattle.cmark_items.specs.declared.allocations.Link.{Link}
 use Rattle.cmark_inline.specs.declared.markup.FoundHtml.{FoundHtml}
 use Rattle.cmark_inline.specs.declared.slot.SlotKind.TheVariants as kind
 use Rattle.cmark_inline.specs.declared.state.InlineState.{InlineState}
@@ -56,7 +56,7 @@ module _ (o : Options) (l : Lookup) (leaf : LeafText) (here : Cursor) (old new :
   module _ (behind : here.pending ≤ here.at) (lt : here.at < length text) (is : get_or text here.at 0 ≡ 60) (slash : first_is (λ c. c == 92) (drop (here.at + 1) text) ≡ false) where
     autolink-made : (end : ℕ) → option_map (shown_autolink text here.at) (Some end) ≡ autolink_in (drop (here.at + 1) text) → IsPart text here.at end → (next.pending ≡ end) × (next.at ≡ end)
         → PutsAutolink (length old.links.items) here.pending here.at end old.slots.items new.slots.items
-        → (parts : LinkParts) × IsAutolink text here.at end parts × (new.links.items ≡ old.links.items ++ (parts ∷ []))
+        → (parts : Link) × IsAutolink text here.at end parts × (new.links.items ≡ old.links.items ++ (parts ∷ []))
         → new ≡ record old { slots = new.slots; links = new.links }
         → ReadsLess o l leaf here old new next
     autolink-made end value part places slots link others = inr (inl (record {
@@ -140,7 +140,7 @@ module _ (o : Options) (l : Lookup) (leaf : LeafText) (here : Cursor) (old new :
   ByAutolink text =
       IsLess text → (end : ℕ) → option_map (shown_autolink text here.at) (Some end) ≡ autolink_in (drop (here.at + 1) text) → IsPart text here.at end → (next.pending ≡ end) × (next.at ≡ end)
       → PutsAutolink (length old.links.items) here.pending here.at end old.slots.items new.slots.items
-      → (parts : LinkParts) × IsAutolink text here.at end parts × (new.links.items ≡ old.links.items ++ (parts ∷ []))
+      → (parts : Link) × IsAutolink text here.at end parts × (new.links.items ≡ old.links.items ++ (parts ∷ []))
       → new ≡ record old { slots = new.slots; links = new.links }
       → ReadsLess o l leaf here old new next
 

@@ -32,7 +32,7 @@ use Rattle.cmark_inline.specs.Decided.{ComesTo, EndsWithin, IsCloser, ReadsSame,
 use Rattle.cmark_inline.specs.Doubled as stacks
 use Rattle.cmark_inline.specs.Footnoted.{KeepsLabel, footnote_of, forms_footnote}
 use Rattle.cmark_inline.specs.Hiding.{WritesReference, WritesWikilink}
-use Rattle.cmark_inline.specs.SlotViews.{shown_parts}
+use Rattle.cmark_items.specs.Links.{shown_link}
 use Rattle.cmark_inline.specs.Sound.{IsSound, IsTakenFrom}
 use Rattle.cmark_inline.specs.Stands.{IsBracket, Stands}
 use Rattle.cmark_inline.specs.FormedSlots.{WritesElement}
@@ -384,7 +384,7 @@ module _ (options : Options) (lookup : Lookup) (references : RefDefs) (footnotes
     pub target-closes : (st between : InlineState) (b : Bracket) (taken : Option Bracket) (target : Target) → IsReady st.brackets st.doubled → TakenAs place bs tk taken → taken ≡ Some b → Remembers text place s st → between.brackets ≡ st.brackets → between.doubled ≡ st.doubled
         → TargetDecides R options lookup references leaf text b close st between (Some target) before after → false ≡ forms_footnote options footnotes (footnote_of options (is_cell_of leaf) (is_there close st.label_close) text close taken)
         → close < target.resume → target.resume ≤ length text → EndsWithin text between.label_close → FormsTarget options b target between new next → between.links ≡ old.links
-        → ((nearer : ℕ) → drop nearer bs ≡ b ∷ drop (suc nearer) bs → reads.place_of leaf (target.end - 1) + 1 ≡ place target.end → (after : State) → ReadsFor (record { result = Forms nearer (Linking (record { linked = shown_parts target.parts; end = place target.end })); after = after })) → Goal
+        → ((nearer : ℕ) → drop nearer bs ≡ b ∷ drop (suc nearer) bs → reads.place_of leaf (target.end - 1) + 1 ≡ place target.end → (after : State) → ReadsFor (record { result = Forms nearer (Linking (record { linked = shown_link target.link; end = place target.end })); after = after })) → Goal
     target-closes st between b taken target ready takes e m same_brackets same_doubled decides no_note lt within label formed table reading = go tk refl
       where
         s2 : State
@@ -415,7 +415,7 @@ module _ (options : Options) (lookup : Lookup) (references : RefDefs) (footnotes
                   (subst (λ (v : Brackets). StandFor options.wikilinks place close ready.openers bs v between.doubled) (sym same_brackets) (subst (λ (v : Brackets). StandFor options.wikilinks place close ready.openers bs st.brackets v) (sym same_doubled) ready.view))
                   i.1 (ready.none t f) formed.leaves))
                   (record { expansion_left = sym formed.expansion_left; label = ap (option_map place) (sym formed.label); within = subst (EndsWithin text) (sym formed.label) label });
-              notes = (target.parts, refl, formed.links ∙ ap (λ v. v.items ++ (target.parts ∷ [])) table);
+              notes = (target.link, refl, formed.links ∙ ap (λ v. v.items ++ (target.link ∷ [])) table);
             }
 
     -- a text

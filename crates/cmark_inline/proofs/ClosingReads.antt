@@ -35,14 +35,15 @@ use Rattle.cmark_inline.specs.Closers.{Formed, LinksTaken, ReadsOn}
 use Rattle.cmark_inline.specs.Decided.{ComesTo, IsCloser}
 use Rattle.cmark_inline.specs.MarkedSlots.{places_of, siblings_from}
 use Rattle.cmark_inline.specs.Reached.{HasRead, ReadsPlaces, bracket_place, quotes_of, runs_of}
-use Rattle.cmark_inline.specs.SlotViews.{first_of, shown_parts, shown_slot, shown_slots, slot_as}
+use Rattle.cmark_items.specs.Links.{shown_link}
+use Rattle.cmark_inline.specs.SlotViews.{first_of, shown_slot, shown_slots, slot_as}
 use Rattle.cmark_inline.specs.Stands.{PushesText}
 use Rattle.cmark_inline.specs.Tokens.{Puts}
 use Rattle.cmark_inline.specs.FormedSlots.{WritesElement, dressed_behind, wrapped}
 use Rattle.cmark_inline.specs.declared.bracket.Bracket.{Bracket}
 use Rattle.cmark_inline.specs.declared.callback.BrokenLink.{BrokenLink}
 use Rattle.cmark_inline.specs.declared.delimiter.PlacedRun.{PlacedRun}
-use Rattle.cmark_inline.specs.declared.link.LinkParts.{LinkParts}
+use Rattle.cmark_items.specs.declared.allocations.Link.{Link}
 use Rattle.cmark_inline.specs.declared.link.Target.{Target}
 use Rattle.cmark_inline.specs.declared.quote.PlacedQuote.{PlacedQuote}
 use Rattle.cmark_inline.specs.declared.slot.Slot.{Slot}
@@ -136,7 +137,7 @@ rows-flushed from close old one two a b = record {
 
 pub rows-read : (leaf : LeafText) (reader : Reader) (read : Leaf) (place : ℕ → ℕ) (before : Between) (p : Pass) (bs : List Bracket) (one two : InlineState) → SameRows one two → HasRead leaf reader read place before p bs one → HasRead leaf reader read place before p bs two
 rows-read leaf reader read place before p bs one two e h =
-    let all : List CowStr → List LinkParts → List Slot → List PlacedRun → List PlacedQuote → Type 0 = λ t l s d q.
+    let all : List CowStr → List Link → List Slot → List PlacedRun → List PlacedQuote → Type 0 = λ t l s d q.
     IsReached reader read before p (map (bracket_place place) bs) (shown_slots leaf t l s) (places_of d) (map (λ (x : PlacedQuote). x.slot) q) (runs_of d) (quotes_of q) in
     subst (λ x. all x two.links.items two.slots.items two.delimiters.placed.items two.quotes.placed.items) (sym e.texts)
     (subst (λ x. all one.texts.items x two.slots.items two.delimiters.placed.items two.quotes.placed.items) (sym e.links)
@@ -161,7 +162,7 @@ like-at source (x ∷ xs) (y ∷ ys) (suc k) d e h lt = like-at source xs ys k d
 same-head : {X : Type 0} (x y : X) (xs ys : List X) → x ∷ xs ≡ y ∷ ys → x ≡ y
 same-head x y xs ys e = cc
 
-text-first : (leaf : LeafText) (source : List ℕ) (texts : List CowStr) (links : List LinkParts) (slot : Slot) (k : SlotKind) (opener : items.Bracket) → k ≡ kind.Text → IsLike source (slot_as leaf texts links slot k) (text_slot opener) → first_of leaf slot ≡ opener.start
+text-first : (leaf : LeafText) (source : List ℕ) (texts : List CowStr) (links : List Link) (slot : Slot) (k : SlotKind) (opener : items.Bracket) → k ≡ kind.Text → IsLike source (slot_as leaf texts links slot k) (text_slot opener) → first_of leaf slot ≡ opener.start
 text-first leaf source texts links slot k opener e h = (subst (λ x. IsLike source (slot_as leaf texts links slot x) (text_slot opener)) e h).start
 
 pub opener-first : (leaf : LeafText) (reader : Reader) (read : Leaf) (place : ℕ → ℕ) (before : Between) (p : Pass) (bs : List Bracket) (state : InlineState) → HasRead leaf reader read place before p bs state
@@ -193,7 +194,7 @@ opener-first leaf reader read place before p bs state h b nearer there within d 
 one-byte : (xs : List ℕ) (a b : ℕ) → b ≡ suc a → a < length xs → slice xs a b ≡ get_or xs a 0 ∷ []
 one-byte xs a b e lt = ap (λ n. take n (drop a xs)) (let q : b - a ≡ 1 = omega (arith, e) in q) ∙ ap (take 1) (drop-cons xs a 0 lt)
 
-closer-like : (leaf : LeafText) (reader : Reader) (read : Leaf) (place : ℕ → ℕ) (text : List ℕ) (close : ℕ) (closer : items.Bracket) (texts : List CowStr) (links : List LinkParts) → text ≡ text_of leaf → ReadsPlaces leaf reader read place → IsCloser text place close closer
+closer-like : (leaf : LeafText) (reader : Reader) (read : Leaf) (place : ℕ → ℕ) (text : List ℕ) (close : ℕ) (closer : items.Bracket) (texts : List CowStr) (links : List Link) → text ≡ text_of leaf → ReadsPlaces leaf reader read place → IsCloser text place close closer
     → IsLike reader.source (shown_slot leaf texts links (record { kind = kind.Text; start = close; end = close + 1 })) (text_slot closer)
 closer-like leaf reader read place text close closer texts links same places c =
     let w = c.within in
@@ -235,10 +236,10 @@ module _ (leaf : LeafText) (reader : Reader) (read : Leaf) (place : ℕ → ℕ)
   -- it forms a link or an image
   pub link-reads : (b : Bracket) (target : Target) → WritesElement reader.options b target st new → b.slot < length st.slots.items → ((d : Slot) → (get_or st.slots.items b.slot d).kind ≡ kind.Text)
       → (nearer : ℕ) → drop nearer bs ≡ b ∷ drop (suc nearer) bs → place_of leaf (target.end - 1) + 1 ≡ place target.end
-      → (next : State) → Comes AnyAnswer s.asked (decide reader read s closer) (record { result = Forms nearer (Linking (record { linked = shown_parts target.parts; end = place target.end })); after = next })
-      → ReadsOn leaf reader read place from close closer s bs (record { result = Forms nearer (Linking (record { linked = shown_parts target.parts; end = place target.end })); after = next }) old new
+      → (next : State) → Comes AnyAnswer s.asked (decide reader read s closer) (record { result = Forms nearer (Linking (record { linked = shown_link target.link; end = place target.end })); after = next })
+      → ReadsOn leaf reader read place from close closer s bs (record { result = Forms nearer (Linking (record { linked = shown_link target.link; end = place target.end })); after = next }) old new
   link-reads b target writes within text nearer there ends next comes = λ places t before p flushed state_is pushes others h.
-      let linked = shown_parts target.parts in
+      let linked = shown_link target.link in
       let runs = st.delimiters.placed.items in
       let quotes = st.quotes.placed.items in
       let siblings = siblings_from 0 (drop b.runs runs) in

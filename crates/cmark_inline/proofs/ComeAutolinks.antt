@@ -35,7 +35,7 @@ use Rattle.cmark_inline.specs.Sound.{IsSound}
 use Rattle.cmark_inline.specs.SlotViews.{linked_at, linked_or_none, shown_slot, shown_slots}
 use Rattle.cmark_inline.specs.Tokens.{AppendsAutolink, begins_at}
 use Rattle.cmark_inline.specs.declared.callback.BrokenLink.{BrokenLink}
-use Rattle.cmark_inline.specs.declared.link.LinkParts.{LinkParts}
+use Rattle.cmark_items.specs.declared.allocations.Link.{Link}
 use Rattle.cmark_inline.specs.declared.quote.PlacedQuote.{PlacedQuote}
 use Rattle.cmark_inline.specs.declared.slot.Element.TheVariants as element
 use Rattle.cmark_inline.specs.declared.slot.Slot.{Slot}
@@ -119,7 +119,7 @@ module _ (leaf : LeafText) (reader : Reader) (read : Leaf) (place : ℕ → ℕ)
         shown-longer leaf old.texts.items new.texts.items [] old.links.items new.links.items (a.parts ∷ []) front (texts ∙ sym (append-nil old.texts.items)) a.links
         ((keeps-pending old mid refl here.pending here.at a.slots.text).sound sound).named in
         let link_is : linked_at new.links.items (length old.links.items) ≡ uri_link uri =
-        ap (λ (l : List LinkParts). linked_at l (length old.links.items)) a.links ∙ ap linked_or_none (get-last old.links.items a.parts)
+        ap (λ (l : List Link). linked_at l (length old.links.items)) a.links ∙ ap linked_or_none (get-last old.links.items a.parts)
         ∙ ap (λ y. record { link_type = y; destination = text_bytes a.parts.dest_url; title = text_bytes a.parts.title; id = text_bytes a.parts.id }) a.link.form
         ∙ ap (λ y. record { link_type = link.Autolink; destination = y; title = text_bytes a.parts.title; id = text_bytes a.parts.id }) a.link.destination
         ∙ ap (λ y. record { link_type = link.Autolink; destination = uri; title = y; id = text_bytes a.parts.id }) a.link.title

@@ -29,7 +29,7 @@ use Rattle.cmark_inline.specs.Reached.{ReadsPlaces}
 use Rattle.cmark_inline.specs.SlotViews.{shown_slot, shown_slots}
 use Rattle.cmark_inline.specs.Tokens.{AppendsQuote, AppendsRun, byte_slots}
 use Rattle.cmark_inline.specs.declared.callback.BrokenLink.{BrokenLink}
-use Rattle.cmark_inline.specs.declared.link.LinkParts.{LinkParts}
+use Rattle.cmark_items.specs.declared.allocations.Link.{Link}
 use Rattle.cmark_inline.specs.declared.slot.Slot.{Slot}
 use Rattle.cmark_inline.specs.declared.state.InlineState.{InlineState}
 use Rattle.cmark_inline.specs.declared.step.Cursor.{Cursor}
@@ -87,7 +87,7 @@ module _ (leaf : LeafText) (reader : Reader) (read : Leaf) (place : ℕ → ℕ)
       record { some = some; within = within; sizes = omega (arith, a, b, p, q, some); last = omega (arith, a, b, p, q, some); content = λ i lt. all (s + i) (omega arith) lt }
 
   -- a text of these bytes
-  pub text-like : (s e : ℕ) → Together reader read text place r.places s e → (k : ItemKind) → ((x : Item) → event_of reader.source x k ≡ event.Text (slice reader.source x.start x.end)) → (texts : List CowStr) (links : List LinkParts)
+  pub text-like : (s e : ℕ) → Together reader read text place r.places s e → (k : ItemKind) → ((x : Item) → event_of reader.source x k ≡ event.Text (slice reader.source x.start x.end)) → (texts : List CowStr) (links : List Link)
       → IsLike reader.source (shown_slot leaf texts links (text_slot s e)) (ItemSlot (item k (place s) (suc (place (e - 1)))))
   text-like s e t k is texts links =
       let some = t.some in
@@ -99,7 +99,7 @@ module _ (leaf : LeafText) (reader : Reader) (read : Leaf) (place : ℕ → ℕ)
         lines = λ q. no-html reader.source (item k (place s) (suc (place (e - 1)))) (slice reader.source (place s) (suc (place (e - 1)))) k (is (item k (place s) (suc (place (e - 1)))));
       }
 
-  pub bytes-like : (size at : ℕ) (texts : List CowStr) (links : List LinkParts) → at + size ≤ length text → ((k : ℕ) → at ≤ k → k < at + size → is_content (get_or text k 0) ≡ true)
+  pub bytes-like : (size at : ℕ) (texts : List CowStr) (links : List Link) → at + size ≤ length text → ((k : ℕ) → at ≤ k → k < at + size → is_content (get_or text k 0) ≡ true)
       → AreLike reader.source (shown_slots leaf texts links (byte_slots at size)) (run_slots (place at) size [])
   bytes-like zero at texts links within all = refl
   bytes-like (suc size) at texts links within all =

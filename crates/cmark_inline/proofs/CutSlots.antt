@@ -28,7 +28,7 @@ use Rattle.cmark_inline_model.specs.SlotRows as row
 use Rattle.cmark_inline.specs.Reached.{ReadsPlaces}
 use Rattle.cmark_inline.specs.SlotViews.{shown_slot, slot_as, text_at, written}
 use Rattle.cmark_inline.specs.Wikilinks.{cut_kind, cut_slot}
-use Rattle.cmark_inline.specs.declared.link.LinkParts.{LinkParts}
+use Rattle.cmark_items.specs.declared.allocations.Link.{Link}
 use Rattle.cmark_inline.specs.declared.slot.Slot.{Slot}
 use Rattle.cmark_inline.specs.declared.slot.SlotKind.{SlotKind}
 use Rattle.cmark_inline.specs.declared.slot.SlotKind.TheVariants as kind
@@ -294,7 +294,7 @@ html-kind source bytes x items.HardBreak h = absurd (let z : ⊥ = cc in z)
 
 -- ## The slot that is cut
 
-module _ (leaf : LeafText) (reader : Reader) (read : Leaf) (place : ℕ → ℕ) (places : ReadsPlaces leaf reader read place) (texts : List CowStr) (links : List LinkParts) (slot : Slot) (t : ℕ) (low : slot.start < t) (high : t < slot.end) (within : slot.end ≤ length (text_of leaf))
+module _ (leaf : LeafText) (reader : Reader) (read : Leaf) (place : ℕ → ℕ) (places : ReadsPlaces leaf reader read place) (texts : List CowStr) (links : List Link) (slot : Slot) (t : ℕ) (low : slot.start < t) (high : t < slot.end) (within : slot.end ≤ length (text_of leaf))
     (x : Item) (facts : CutFacts reader.source x) (further : place t < x.end) where
   abbrev src : List ℕ
   src = reader.source

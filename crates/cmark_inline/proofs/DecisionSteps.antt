@@ -36,14 +36,14 @@ module _ {F : Type 0} (R : F → BrokenLink → Option (CowStr × CowStr) → F 
 
   -- the same link
   same : (s : State) (label_close : Option ℕ) (asked : List Exchange) (t : Target) (form : link.LinkType) (destination title id : List ℕ) (left end resume : ℕ)
-      → shown_link_type t.parts.link_type ≡ form → text_bytes t.parts.dest_url ≡ destination → text_bytes t.parts.title ≡ title → text_bytes t.parts.id ≡ id
+      → shown_link_type t.link.link_type ≡ form → text_bytes t.link.dest_url ≡ destination → text_bytes t.link.title ≡ title → text_bytes t.link.id ≡ id
       → left ≡ (s.expansion_left - length destination) - length title → place t.end ≡ end → place t.resume ≡ resume → label_close ≡ s.label_close
       → target_outcome reader leaf place taken closer (with_left left label_close asked s) (Some t)
       ≡ links reader leaf taken (linked form (record { url = destination; title = title }) id) end resume (with_left ((s.expansion_left - length destination) - length title) s.label_close asked s)
   same s label_close asked t form destination title id left end resume a b c d e f g h =
-      ap (λ z. links reader leaf taken (record { link_type = z; destination = text_bytes t.parts.dest_url; title = text_bytes t.parts.title; id = text_bytes t.parts.id }) (place t.end) (place t.resume) (with_left left label_close asked s)) a
-      ∙ ap (λ z. links reader leaf taken (record { link_type = form; destination = z; title = text_bytes t.parts.title; id = text_bytes t.parts.id }) (place t.end) (place t.resume) (with_left left label_close asked s)) b
-      ∙ ap (λ z. links reader leaf taken (record { link_type = form; destination = destination; title = z; id = text_bytes t.parts.id }) (place t.end) (place t.resume) (with_left left label_close asked s)) c
+      ap (λ z. links reader leaf taken (record { link_type = z; destination = text_bytes t.link.dest_url; title = text_bytes t.link.title; id = text_bytes t.link.id }) (place t.end) (place t.resume) (with_left left label_close asked s)) a
+      ∙ ap (λ z. links reader leaf taken (record { link_type = form; destination = z; title = text_bytes t.link.title; id = text_bytes t.link.id }) (place t.end) (place t.resume) (with_left left label_close asked s)) b
+      ∙ ap (λ z. links reader leaf taken (record { link_type = form; destination = destination; title = z; id = text_bytes t.link.id }) (place t.end) (place t.resume) (with_left left label_close asked s)) c
       ∙ ap (λ z. links reader leaf taken (record { link_type = form; destination = destination; title = title; id = z }) (place t.end) (place t.resume) (with_left left label_close asked s)) d
       ∙ ap (λ z. links reader leaf taken (record { link_type = form; destination = destination; title = title; id = id }) z (place t.resume) (with_left left label_close asked s)) f
       ∙ ap (λ z. links reader leaf taken (record { link_type = form; destination = destination; title = title; id = id }) end z (with_left left label_close asked s)) g
@@ -60,7 +60,7 @@ module _ {F : Type 0} (R : F → BrokenLink → Option (CowStr × CowStr) → F 
   led named s form (Some reference) None expansion_left label_close found before after callback defs shown refers left label ends = absurd (let z : ⊥ = cc in z)
   led named s form (Some reference) (Some def) expansion_left label_close None before after callback defs shown refers left label ends = absurd refers.1
   led named s form (Some reference) (Some def) expansion_left label_close (Some t) before after callback defs shown refers left label ends =
-      let told : said_in t.parts ≡ said reference = refers.1.2 ∙ sym (some defs) in
+      let told : said_in t.link ≡ said reference = refers.1.2 ∙ sym (some defs) in
       let destination = ap (λ (x : Said). x.destination) told in
       let title = ap (λ (x : Said). x.title) told in
       let e = ends t refl in
@@ -69,7 +69,7 @@ module _ {F : Type 0} (R : F → BrokenLink → Option (CowStr × CowStr) → F 
         comes = (
           same s label_close s.asked t named.link_type reference.destination (or_empty reference.title) (normal_form named.label) expansion_left named.end named.resume
               (ap shown_link_type refers.1.0 ∙ sym shown) destination title refers.1.1
-              (left ∙ ap (λ l. (s.expansion_left - length l) - length (text_bytes t.parts.title)) destination ∙ ap (λ l. (s.expansion_left - length reference.destination) - length l) title) e.0 e.1 label,
+              (left ∙ ap (λ l. (s.expansion_left - length l) - length (text_bytes t.link.title)) destination ∙ ap (λ l. (s.expansion_left - length reference.destination) - length l) title) e.0 e.1 label,
           refers.0,
         );
       }
@@ -120,7 +120,7 @@ module _ {F : Type 0} (R : F → BrokenLink → Option (CowStr × CowStr) → F 
               record { link = h.0.0; told = Some (parted d); question_is = this h.0.0 h.0.1; answer_is = refl; run = h.0.2 },
               same s label_close (asked (Some answer)) t (link.to_unknown named.link_type) answer.url answer.title (normal_form named.label) expansion_left named.end named.resume
                   (h.1.0 ∙ ap link.to_unknown (sym shown)) url title h.1.1
-                  (l ∙ ap (λ z. (s.expansion_left - length z) - length (text_bytes t.parts.title)) url ∙ ap (λ z. (s.expansion_left - length answer.url) - length z) title) p.0 p.1 label,
+                  (l ∙ ap (λ z. (s.expansion_left - length z) - length (text_bytes t.link.title)) url ∙ ap (λ z. (s.expansion_left - length answer.url) - length z) title) p.0 p.1 label,
             );
           }
 

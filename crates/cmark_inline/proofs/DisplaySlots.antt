@@ -20,7 +20,7 @@ use Rattle.cmark_inline_model.proofs.RowPasses.{like-both}
 use Rattle.cmark_inline.specs.SlotViews.{shown_element, shown_slot, shown_slots, slot_as}
 use Rattle.cmark_inline.specs.Sound.{EndsIn, source_end}
 use Rattle.cmark_inline.specs.Wikilinks.{cut_at, cut_kind, cut_slot, ends_by, has_none_behind, hidden}
-use Rattle.cmark_inline.specs.declared.link.LinkParts.{LinkParts}
+use Rattle.cmark_items.specs.declared.allocations.Link.{Link}
 use Rattle.cmark_inline.specs.declared.slot.Slot.{Slot}
 use Rattle.cmark_inline.specs.declared.slot.SlotKind.{SlotKind}
 use Rattle.cmark_inline.specs.declared.slot.SlotKind.TheVariants as kind
@@ -39,7 +39,7 @@ like-length source (x ∷ a) (y ∷ b) h = ap suc (like-length source a b h.1)
 
 -- ## Places of the text and of the source
 
-module _ (leaf : LeafText) (source : List ℕ) (texts : List CowStr) (links : List LinkParts) (order : (j k : ℕ) → j < k → k < length (text_of leaf) → place_of leaf j < place_of leaf k)
+module _ (leaf : LeafText) (source : List ℕ) (texts : List CowStr) (links : List Link) (order : (j k : ℕ) → j < k → k < length (text_of leaf) → place_of leaf j < place_of leaf k)
     (t display : ℕ) (there : t < length (text_of leaf)) (is : place_of leaf t ≡ display) where
   early : (k : ℕ) → k < t → place_of leaf k < display
   early k lt = let a = order k t lt there in omega (arith, a, is)

@@ -14,13 +14,14 @@ use Rattle.cmark_inline_model.specs.SlotRows as row
 use Rattle.cmark_inline_model.specs.SlotRows.{marks_by}
 use Rattle.cmark_inline.specs.MarkedSlots.{begun_as, places_of, siblings_from}
 use Rattle.cmark_inline.specs.QuoteSlots.{characters_of}
-use Rattle.cmark_inline.specs.SlotViews.{first_of, linked_or_none, shown_element, shown_parts, shown_slot, shown_slots}
+use Rattle.cmark_items.specs.Links.{shown_link}
+use Rattle.cmark_inline.specs.SlotViews.{first_of, linked_or_none, shown_element, shown_slot, shown_slots}
 use Rattle.cmark_inline.specs.Sound.{AreNamed, CanSettle}
 use Rattle.cmark_inline.specs.Stands.{AreSlots}
 use Rattle.cmark_inline.specs.FormedSlots.{WritesElement, dressed_behind, end_slot, wrapped}
 use Rattle.cmark_inline.specs.declared.bracket.Bracket.{Bracket}
 use Rattle.cmark_inline.specs.declared.delimiter.PlacedRun.{PlacedRun}
-use Rattle.cmark_inline.specs.declared.link.LinkParts.{LinkParts}
+use Rattle.cmark_items.specs.declared.allocations.Link.{Link}
 use Rattle.cmark_inline.specs.declared.link.Target.{Target}
 use Rattle.cmark_inline.specs.declared.quote.PlacedQuote.{PlacedQuote}
 use Rattle.cmark_inline.specs.declared.slot.Element.{Element}
@@ -33,16 +34,16 @@ use Rattle.cmark_inline.proofs.RunPlaces.{all-ahead}
 use Rattle.cmark_inline.proofs.Wrapping.{AreInside, ahead-inside, dressed-wrapped, texts-inside}
 
 -- the tag of a link or an image whose parts come last into the table
-pub link-shown : (links : List LinkParts) (parts : LinkParts) (index : ℕ) → index ≡ length links → shown_element (links ++ (parts ∷ [])) (element.Link index) ≡ tag_by false (shown_parts parts)
+pub link-shown : (links : List Link) (parts : Link) (index : ℕ) → index ≡ length links → shown_element (links ++ (parts ∷ [])) (element.Link index) ≡ tag_by false (shown_link parts)
 link-shown links parts index e = ap (λ i. shown_element (links ++ (parts ∷ [])) (element.Link i)) e ∙ ap (λ o. tag_by false (linked_or_none o)) (get-last links parts)
 
-pub image-shown : (links : List LinkParts) (parts : LinkParts) (index : ℕ) → index ≡ length links → shown_element (links ++ (parts ∷ [])) (element.Image index) ≡ tag_by true (shown_parts parts)
+pub image-shown : (links : List Link) (parts : Link) (index : ℕ) → index ≡ length links → shown_element (links ++ (parts ∷ [])) (element.Image index) ≡ tag_by true (shown_link parts)
 image-shown links parts index e = ap (λ i. shown_element (links ++ (parts ∷ [])) (element.Image i)) e ∙ ap (λ o. tag_by true (linked_or_none o)) (get-last links parts)
 
 larger : (m n : ℕ) → m ≤ n → max m n ≡ n
 larger m n le = omega (arith, le)
 
-module _ (leaf : LeafText) (texts : List CowStr) (links links1 : List LinkParts) (at : ℕ) (slots : List Slot) (there : at < length slots) (element : Element) (tag : Tag) (shows : shown_element links1 element ≡ tag) (close end : ℕ) (s d : Slot) (before : (get_or slots at d).end ≤ end)
+module _ (leaf : LeafText) (texts : List CowStr) (links links1 : List Link) (at : ℕ) (slots : List Slot) (there : at < length slots) (element : Element) (tag : Tag) (shows : shown_element links1 element ≡ tag) (close end : ℕ) (s d : Slot) (before : (get_or slots at d).end ≤ end)
     (same : shown_slots leaf texts links1 slots ≡ shown_slots leaf texts links slots) (begins : s ≡ begun_as element end (get_or slots at d)) where
   abbrev begin : row.Slot
   begin = row.BeginSlot tag (first_of leaf (get_or slots at d)) (place_of leaf (end - 1) + 1)
@@ -76,7 +77,7 @@ module _ (leaf : LeafText) (texts : List CowStr) (links links1 : List LinkParts)
 -- by the calls for it
 pub writes-element : (options : Options) (bracket : Bracket) (target : Target) (old new : InlineState) (element : Element) → bracket.slot < length old.slots.items → (close : ℕ) (text : List ℕ) → AreSlots text close old.slots.items → close < target.end
     → AreNamed (length old.texts.items) (length old.links.items) old.slots.items → CanSettle (bracket.slot + 1) old.slots.items (drop bracket.runs old.delimiters.placed.items) (drop bracket.quotes old.quotes.placed.items)
-    → new.texts.items ≡ old.texts.items → new.links.items ≡ old.links.items ++ (target.parts ∷ []) → shown_element (old.links.items ++ (target.parts ∷ [])) element ≡ tag_by bracket.is_image (shown_parts target.parts)
+    → new.texts.items ≡ old.texts.items → new.links.items ≡ old.links.items ++ (target.link ∷ []) → shown_element (old.links.items ++ (target.link ∷ [])) element ≡ tag_by bracket.is_image (shown_link target.link)
     → new.delimiters.placed.items ≡ take bracket.runs old.delimiters.placed.items → new.quotes.placed.items ≡ take bracket.quotes old.quotes.placed.items
     → ((leaf : LeafText) (pairs : List Pair) (spans : Spans) → IsEmphasis (siblings_from 0 (drop bracket.runs old.delimiters.placed.items)) pairs spans → shown_slots leaf new.texts.items new.links.items new.slots.items
     ≡ dressed_behind options bracket pairs old.delimiters.placed.items old.quotes.placed.items (shown_slots leaf new.texts.items new.links.items (set old.slots.items bracket.slot (begun_as element target.end (get_or old.slots.items bracket.slot no-slot)) ++ (end_slot close target.end ∷ []))))
@@ -87,12 +88,12 @@ writes-element options bracket target old new element there close text stand beh
       let slots : List Slot = old.slots.items in
       let at : ℕ = bracket.slot in
       let same : shown_slots leaf old.texts.items new.links.items slots ≡ shown_slots leaf old.texts.items old.links.items slots =
-      shown-longer leaf old.texts.items old.texts.items [] old.links.items new.links.items (target.parts ∷ []) slots (sym (append-nil old.texts.items)) links named in
+      shown-longer leaf old.texts.items old.texts.items [] old.links.items new.links.items (target.link ∷ []) slots (sym (append-nil old.texts.items)) links named in
       let first : get_or slots at no-slot ≡ get_or slots at d = get_or_default slots at no-slot d there in
       let e = (stand at d there).before in
       let made : Slot = begun_as element target.end (get_or slots at no-slot) in
       dressed leaf pairs spans emphasis
       ∙ ap (λ l. dressed_behind options bracket pairs old.delimiters.placed.items old.quotes.placed.items (shown_slots leaf l new.links.items (set slots at made ++ (end_slot close target.end ∷ [])))) texts
-      ∙ element-dressed leaf old.texts.items old.links.items new.links.items at slots there element (tag_by bracket.is_image (shown_parts target.parts)) (ap (λ l. shown_element l element) links ∙ shows) close target.end made d
+      ∙ element-dressed leaf old.texts.items old.links.items new.links.items at slots there element (tag_by bracket.is_image (shown_link target.link)) (ap (λ l. shown_element l element) links ∙ shows) close target.end made d
       (let q : (get_or slots at d).end ≤ target.end = omega (arith, e, behind) in q) same (ap (begun_as element target.end) first) options bracket pairs old.delimiters.placed.items old.quotes.placed.items refl can;
 }

@@ -17,7 +17,7 @@ use Rattle.cmark_inline.specs.SlotViews.{bytes_or_none, item_slot, shown_slot, s
 use Rattle.cmark_inline.specs.Sound.{AreNamed}
 use Rattle.cmark_inline.specs.Wikilinks.{Hides, hidden}
 use Rattle.cmark_inline.specs.declared.bracket.Bracket.{Bracket}
-use Rattle.cmark_inline.specs.declared.link.LinkParts.{LinkParts}
+use Rattle.cmark_items.specs.declared.allocations.Link.{Link}
 use Rattle.cmark_inline.specs.declared.slot.Slot.{Slot}
 use Rattle.cmark_inline.specs.declared.state.InlineState.{InlineState}
 use Rattle.cmark_inline.proofs.Longer.{get-last, shown-longer}
@@ -57,7 +57,7 @@ hides-behind (s ∷ front) rest (x ∷ new) h =
     let first : x ≡ s = h.before 0 no-slot (omega arith) in
     ap (λ y. y ∷ new) first ∙ ap (λ l. s ∷ l) (hides-behind front rest new (hides-tail (length front) (length (front ++ rest)) s x (front ++ rest) new h))
 
-pub hidden-seen : (leaf : LeafText) (texts : List CowStr) (links : List LinkParts) (slots : List Slot) → seen (shown_slots leaf texts links (map hidden slots)) ≡ []
+pub hidden-seen : (leaf : LeafText) (texts : List CowStr) (links : List Link) (slots : List Slot) → seen (shown_slots leaf texts links (map hidden slots)) ≡ []
 hidden-seen leaf texts links [] = refl
 hidden-seen leaf texts links (s ∷ slots) = hidden-seen leaf texts links slots
 

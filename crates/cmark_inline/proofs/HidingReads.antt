@@ -40,7 +40,7 @@ use Rattle.cmark_inline.specs.Sound.{AreEnded, IsSound, IsTakenPair}
 use Rattle.cmark_inline.specs.Stands.{Stands}
 use Rattle.cmark_inline.specs.Wikilinks.{ShowsFrom, display_place, has_pothole, shown_name, wiki_start, wiki_text}
 use Rattle.cmark_inline.specs.declared.bracket.Bracket.{Bracket}
-use Rattle.cmark_inline.specs.declared.link.LinkParts.{LinkParts}
+use Rattle.cmark_items.specs.declared.allocations.Link.{Link}
 use Rattle.cmark_inline.specs.declared.slot.SlotKind.TheVariants as kind
 use Rattle.cmark_inline.specs.declared.state.InlineState.{InlineState}
 use Rattle.cmark_inline.specs.declared.wikilink.Wikilink.{Wikilink}
@@ -75,7 +75,7 @@ no-quotes false start label end = refl
 
 module _ (leaf : LeafText) (reader : Reader) (read : Leaf) (place : ℕ → ℕ) (places : ReadsPlaces leaf reader read place) where
   -- one byte that is a text
-  byte-like : (texts : List CowStr) (links : List LinkParts) (k : ℕ) → k < length (text_of leaf) → IsLike reader.source (shown_slot leaf texts links (record { kind = kind.Text; start = k; end = k + 1 })) (row.ItemSlot (item items.Own (place k) (suc (place k))))
+  byte-like : (texts : List CowStr) (links : List Link) (k : ℕ) → k < length (text_of leaf) → IsLike reader.source (shown_slot leaf texts links (record { kind = kind.Text; start = k; end = k + 1 })) (row.ItemSlot (item items.Own (place k) (suc (place k))))
   byte-like texts links k within =
       let b = places.bytes k within in
       let last : k + 1 - 1 ≡ k = omega arith in

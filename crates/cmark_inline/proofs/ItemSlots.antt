@@ -19,7 +19,7 @@ use Rattle.cmark_inline_model.specs.SlotRows.{ItemSlot}
 use Rattle.cmark_inline_model.proofs.TogetherTokens.{byte-lines, byte-together}
 use Rattle.cmark_inline.specs.SlotViews.{first_of, slot_end, written, bytes_or_none, text_at, slot_as, shown_slot}
 use Rattle.cmark_inline.specs.Tokens.{begins_at, Says, IsItem}
-use Rattle.cmark_inline.specs.declared.link.LinkParts.{LinkParts}
+use Rattle.cmark_items.specs.declared.allocations.Link.{Link}
 use Rattle.cmark_inline.specs.declared.slot.Slot.{Slot}
 use Rattle.cmark_inline.specs.declared.slot.SlotKind.{SlotKind}
 use Rattle.cmark_inline.specs.declared.slot.SlotKind.TheVariants as kind
@@ -34,7 +34,7 @@ module _ (leaf : LeafText) (reader : Reader) (read : Leaf) (place : ℕ → ℕ)
   text = text_of leaf
 
   -- an item of the text with its range
-  module _ (texts : List CowStr) (links : List LinkParts) (slot : Slot) (s e : ℕ) (start : slot.start ≡ s) (end : slot.end ≡ e) (some : s < e) (within : e ≤ length (text_of leaf)) where
+  module _ (texts : List CowStr) (links : List Link) (slot : Slot) (s e : ℕ) (start : slot.start ≡ s) (end : slot.end ≡ e) (some : s < e) (within : e ≤ length (text_of leaf)) where
     abbrev placed : ItemKind → Item
     placed k = record { kind = k; start = place s; end = suc (place (e - 1)) }
 
@@ -74,7 +74,7 @@ module _ (leaf : LeafText) (reader : Reader) (read : Leaf) (place : ℕ → ℕ)
     item-like HardBreak kind.HardBreak b none says = gives HardBreak HardBreak (λ q. refl) (λ i j y. refl)
     item-like x k b none says = absurd says
 
-  pub slot-like : (texts : List CowStr) (links : List LinkParts) (slot : Slot) (item : Item) (at resume : ℕ) → begins_at reader.options reader.lookup (is_cell_of leaf) text at ≡ Stands item resume → may_open_markup (drop at text) ≡ false
+  pub slot-like : (texts : List CowStr) (links : List Link) (slot : Slot) (item : Item) (at resume : ℕ) → begins_at reader.options reader.lookup (is_cell_of leaf) text at ≡ Stands item resume → may_open_markup (drop at text) ≡ false
       → IsItem (is_cell_of leaf) text texts item slot → item.start < item.end → item.end ≤ length text → IsLike reader.source (shown_slot leaf texts links slot) (ItemSlot (placed_item place item))
   slot-like texts links slot item at resume token none is some within =
       item-like texts links slot item.start item.end is.start is.end some within item.kind slot.kind

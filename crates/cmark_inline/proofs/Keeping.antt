@@ -18,7 +18,7 @@ use Rattle.cmark_inline.specs.declared.bracket.Bracket.{Bracket}
 use Rattle.cmark_inline.specs.declared.bracket.Brackets.{Brackets}
 use Rattle.cmark_inline.specs.declared.delimiter.Delimiters.{Delimiters}
 use Rattle.cmark_inline.specs.declared.delimiter.PlacedRun.{PlacedRun}
-use Rattle.cmark_inline.specs.declared.link.LinkParts.{LinkParts}
+use Rattle.cmark_items.specs.declared.allocations.Link.{Link}
 use Rattle.cmark_inline.specs.declared.quote.PlacedQuote.{PlacedQuote}
 use Rattle.cmark_inline.specs.declared.quote.Quotes.{Quotes}
 use Rattle.cmark_inline.specs.declared.slot.Element.TheVariants as element
@@ -109,7 +109,7 @@ module _ (old between new : InlineState) (start text_end : ℕ) (slot : Slot) (p
     ends = λ leaf e. ended-puts leaf old.slots.items new.slots.items start text_end slot puts e (subst (λ o. EndsIn leaf slot.end o) (sym no_end) tt);
   }
 
-module _ (old new : InlineState) (start at end : ℕ) (puts : PutsAutolink (length old.links.items) start at end old.slots.items new.slots.items) (parts : LinkParts) (links : new.links.items ≡ old.links.items ++ (parts ∷ [])) (others : new ≡ record old { slots = new.slots; links = new.links }) where
+module _ (old new : InlineState) (start at end : ℕ) (puts : PutsAutolink (length old.links.items) start at end old.slots.items new.slots.items) (parts : Link) (links : new.links.items ≡ old.links.items ++ (parts ∷ [])) (others : new ≡ record old { slots = new.slots; links = new.links }) where
   abbrev first : Slot
   first = record { kind = kind.Begin (element.Autolink (length old.links.items)); start = at; end = end }
 

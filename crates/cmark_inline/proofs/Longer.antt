@@ -5,7 +5,7 @@ use Rattle.cmark_leaf_text.specs.declared.leaf_text.LeafText.{LeafText}
 use Rattle.cmark_text.specs.declared.text.CowStr.{CowStr}
 use Rattle.cmark_inline.specs.SlotViews.{IsThere, link_named, shown_slot, shown_slots, text_named}
 use Rattle.cmark_inline.specs.Sound.{AreNamed}
-use Rattle.cmark_inline.specs.declared.link.LinkParts.{LinkParts}
+use Rattle.cmark_items.specs.declared.allocations.Link.{Link}
 use Rattle.cmark_inline.specs.declared.slot.Slot.{Slot}
 use Rattle.cmark_inline.proofs.Placing.{all-head, all-tail}
 use Rattle.cmark_inline.proofs.SlotViews.{SameAt, same-slot}
@@ -24,7 +24,7 @@ same-longer : {X : Type 0} (named : Option ℕ) (xs more : List X) → IsThere (
 same-longer None xs more h = tt
 same-longer (Some i) xs more h = get-longer xs more i h
 
-module _ (leaf : LeafText) (texts more_texts : List CowStr) (links more_links : List LinkParts) where
+module _ (leaf : LeafText) (texts more_texts : List CowStr) (links more_links : List Link) where
   abbrev HasText : Slot → Type 0
   HasText slot = IsThere (length texts) (text_named slot.kind)
 
@@ -40,7 +40,7 @@ module _ (leaf : LeafText) (texts more_texts : List CowStr) (links more_links : 
       ∙ ap (λ ss. shown_slot leaf texts links slot ∷ ss) (all-longer slots (all-tail HasText slot slots t) (all-tail HasLink slot slots l))
 
 -- slots that name what is there
-pub shown-longer : (leaf : LeafText) (texts texts1 more_texts : List CowStr) (links links1 more_links : List LinkParts) (slots : List Slot) → texts1 ≡ texts ++ more_texts → links1 ≡ links ++ more_links → AreNamed (length texts) (length links) slots
+pub shown-longer : (leaf : LeafText) (texts texts1 more_texts : List CowStr) (links links1 more_links : List Link) (slots : List Slot) → texts1 ≡ texts ++ more_texts → links1 ≡ links ++ more_links → AreNamed (length texts) (length links) slots
     → shown_slots leaf texts1 links1 slots ≡ shown_slots leaf texts links slots
 shown-longer leaf texts texts1 more_texts links links1 more_links slots t l named =
     ap (λ x. shown_slots leaf x links1 slots) t ∙ ap (λ x. shown_slots leaf (texts ++ more_texts) x slots) l ∙ all-longer leaf texts more_texts links more_links slots named.texts_there named.links_there

@@ -19,7 +19,7 @@ use Rattle.cmark_text.specs.declared.text.CowStr.{CowStr}
 use Rattle.cmark_inline.specs.MarkedSlots.{AreAhead, AreBegun, AreReady, AreWhole, BeganFrom, EndWithin, Merges, SameBefore, begun_as, ended, last_in, shown_mark, whole_to}
 use Rattle.cmark_inline.specs.SlotViews.{slot_as, shown_slot, shown_slots, shown_element, item_slot, first_of, slot_end}
 use Rattle.cmark_inline.specs.Wikilinks.{Hides, hidden}
-use Rattle.cmark_inline.specs.declared.link.LinkParts.{LinkParts}
+use Rattle.cmark_items.specs.declared.allocations.Link.{Link}
 use Rattle.cmark_inline.specs.declared.slot.Element.{Element}
 use Rattle.cmark_inline.specs.declared.slot.Slot.{Slot}
 use Rattle.cmark_inline.specs.declared.slot.SlotKind.TheVariants as kind
@@ -319,7 +319,7 @@ used-in (suc count) at k rows d low high within =
     used-in count (suc at) k (set rows at row.NothingSlot) d (let q : suc at ≤ k = omega (arith, low, other) in q) (omega (arith, high)) (omega (arith, n, within)))
     (cases_eq k at)
 
-module _ (leaf : LeafText) (texts : List CowStr) (links : List LinkParts) where
+module _ (leaf : LeafText) (texts : List CowStr) (links : List Link) where
   abbrev view : Slot → row.Slot
   view slot = shown_slot leaf texts links slot
 

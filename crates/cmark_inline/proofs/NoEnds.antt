@@ -11,13 +11,13 @@ use Rattle.cmark_text.specs.declared.text.CowStr.{CowStr}
 use Rattle.cmark_inline.specs.Shorts.{IsAlone}
 use Rattle.cmark_inline.specs.SlotViews.{slot_as, shown_slots, shown_opened, events_of}
 use Rattle.cmark_inline.specs.declared.event.Opened.{Opened}
-use Rattle.cmark_inline.specs.declared.link.LinkParts.{LinkParts}
+use Rattle.cmark_items.specs.declared.allocations.Link.{Link}
 use Rattle.cmark_inline.specs.declared.slot.Element.{Element}
 use Rattle.cmark_inline.specs.declared.slot.Slot.{Slot}
 use Rattle.cmark_inline.specs.declared.slot.SlotKind.{SlotKind}
 use Rattle.cmark_inline.specs.declared.slot.SlotKind.TheVariants as kind
 
-module _ (leaf : LeafText) (texts : List CowStr) (links : List LinkParts) (slot : Slot) where
+module _ (leaf : LeafText) (texts : List CowStr) (links : List Link) (slot : Slot) where
   alone_no_end : (k : SlotKind) → IsAlone k → (rows : List row.Slot) (ends : List Ranged) → BeginWithoutEnd (slot_events (source_of leaf) (slot_as leaf texts links slot k ∷ rows) ends)
   alone_no_end kind.Text a rows ends = λ h. h
   alone_no_end (kind.OwnedText index) a rows ends = λ h. h
@@ -48,7 +48,7 @@ module _ (leaf : LeafText) (texts : List CowStr) (links : List LinkParts) (slot 
     begin-no-end e is = subst (λ (k : SlotKind). BeginWithoutEnd (slot_events (source_of leaf) (slot_as leaf texts links slot k ∷ shown_slots leaf texts links behind) (shown_opened opened))) (sym is) (λ h. h)
 
 -- so it is for the slots from this one on
-pub here-no-end : (leaf : LeafText) (texts : List CowStr) (links : List LinkParts) (slots : List Slot) (opened : List Opened) (at : ℕ) (slot : Slot) → at < length slots → slot ≡ get_or slots at slot
+pub here-no-end : (leaf : LeafText) (texts : List CowStr) (links : List Link) (slots : List Slot) (opened : List Opened) (at : ℕ) (slot : Slot) → at < length slots → slot ≡ get_or slots at slot
     → ((behind : List Slot) → BeginWithoutEnd (events_of leaf texts links (slot ∷ behind) opened)) → BeginWithoutEnd (events_of leaf texts links (drop at slots) opened)
 here-no-end leaf texts links slots opened at slot lt is h =
     subst (λ (l : List Slot). BeginWithoutEnd (events_of leaf texts links l opened)) (sym (drop-cons slots at slot lt ∙ ap (λ x. x ∷ drop (suc at) slots) (sym is))) (h (drop (suc at) slots))

@@ -24,7 +24,7 @@ use Rattle.cmark_inline.specs.SlotViews.{shown_slot, shown_slots}
 use Rattle.cmark_inline.specs.Stands.{PushesText}
 use Rattle.cmark_inline.specs.Tokens.{begins_at, reading, whole}
 use Rattle.cmark_inline.specs.declared.callback.BrokenLink.{BrokenLink}
-use Rattle.cmark_inline.specs.declared.link.LinkParts.{LinkParts}
+use Rattle.cmark_items.specs.declared.allocations.Link.{Link}
 use Rattle.cmark_inline.specs.declared.slot.SlotKind.TheVariants as kind
 use Rattle.cmark_inline.specs.declared.state.InlineState.{InlineState}
 use Rattle.cmark_inline.proofs.ItemSlots.{item-like}
@@ -104,7 +104,7 @@ module _ (leaf : LeafText) (reader : Reader) (read : Leaf) (place : ℕ → ℕ)
     pub begun-placed : token reader read (place at) ≡ Stands (placed_item place (text_item start to)) (place to)
     begun-placed = token-placed at before_end none ∙ ap (placed place) own_token
 
-    pub begun-like : (texts : List CowStr) (links : List LinkParts) → IsLike reader.source (shown_slot leaf texts links (text_slot start to)) (ItemSlot (placed_item place (text_item start to)))
+    pub begun-like : (texts : List CowStr) (links : List Link) → IsLike reader.source (shown_slot leaf texts links (text_slot start to)) (ItemSlot (placed_item place (text_item start to)))
     begun-like texts links =
         item-like leaf reader read place r.places r.cell r.bytes texts links (text_slot start to) start to refl refl some within Plain kind.Text
         (text-together reader read text place r.places at none (text_item start to) to (subst (λ c. token (text_reader reader.options reader.lookup text) (one_stretch c text) at ≡ item_at Plain start to) (sym r.cell) own_token)) (λ h. absurd (true≢false (sym h))) tt

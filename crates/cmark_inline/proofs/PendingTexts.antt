@@ -17,7 +17,7 @@ use Rattle.cmark_inline.specs.PlainStretches.{StandsForItself}
 use Rattle.cmark_inline.specs.Reached.{ReadsPlaces}
 use Rattle.cmark_inline.specs.SlotViews.{shown_slot}
 use Rattle.cmark_inline.specs.Tokens.{begins_at}
-use Rattle.cmark_inline.specs.declared.link.LinkParts.{LinkParts}
+use Rattle.cmark_items.specs.declared.allocations.Link.{Link}
 use Rattle.cmark_inline.specs.declared.slot.Slot.{Slot}
 use Rattle.cmark_inline.specs.declared.slot.SlotKind.TheVariants as kind
 use Rattle.cmark_inline.proofs.ItemSlots.{item-like}
@@ -53,7 +53,7 @@ module _ (leaf : LeafText) (reader : Reader) (read : Leaf) (place : ℕ → ℕ)
     pub pending-token : token reader read (place at) ≡ Stands (placed_item place (text_item start to)) (place to)
     pending-token = token-at reader read text place r.places at before_end none ∙ ap (placed place) there
 
-    pub pending-like : (texts : List CowStr) (links : List LinkParts) → IsLike reader.source (shown_slot leaf texts links (text_slot start to)) (ItemSlot (placed_item place (text_item start to)))
+    pub pending-like : (texts : List CowStr) (links : List Link) → IsLike reader.source (shown_slot leaf texts links (text_slot start to)) (ItemSlot (placed_item place (text_item start to)))
     pending-like texts links =
         item-like leaf reader read place r.places r.cell r.bytes texts links (text_slot start to) start to refl refl (omega arith) within Plain kind.Text
         (text-together reader read text place r.places at none (text_item start to) to there) (λ h. absurd (true≢false (sym h))) tt

@@ -13,7 +13,7 @@ use Rattle.cmark_text.specs.declared.text.CowStr.{CowStr}
 use Rattle.cmark_inline.specs.MarkedSlots.{HaveTexts}
 use Rattle.cmark_inline.specs.QuoteSlots.{with_character, with_characters}
 use Rattle.cmark_inline.specs.SlotViews.{slot_as, shown_slot, shown_slots, item_slot, first_of, slot_end}
-use Rattle.cmark_inline.specs.declared.link.LinkParts.{LinkParts}
+use Rattle.cmark_items.specs.declared.allocations.Link.{Link}
 use Rattle.cmark_inline.specs.declared.quote.PlacedQuote.{PlacedQuote}
 use Rattle.cmark_inline.specs.declared.slot.Slot.{Slot}
 use Rattle.cmark_inline.specs.declared.slot.SlotKind.{SlotKind}
@@ -45,7 +45,7 @@ ranges-stay slots at character d0 placed lt h k p within =
           (cases_eq (get_or placed k p).slot at),
     )
 
-module _ (leaf : LeafText) (texts : List CowStr) (links : List LinkParts) where
+module _ (leaf : LeafText) (texts : List CowStr) (links : List Link) where
   abbrev view : Slot → row.Slot
   view slot = shown_slot leaf texts links slot
 

@@ -13,7 +13,7 @@ use Rattle.cmark_inline.specs.declared.link.Target.{Target}
 module _ {F : Type 0} (R : F → BrokenLink → Option (CowStr × CowStr) → F → Type 0) where
   pub by-definition : (def : Option LinkDef) (form : LinkType) (label : List ℕ) (start end : ℕ) (before after : F) (found : Destination) (target : Target)
       → option_map shown_destination (Some found) ≡ option_map said_by def → after ≡ before
-      → target.parts.link_type ≡ form → text_bytes target.parts.id ≡ label → target.parts.dest_url ≡ found.dest_url → target.parts.title ≡ found.title
+      → target.link.link_type ≡ form → text_bytes target.link.id ≡ label → target.link.dest_url ≡ found.dest_url → target.link.title ≡ found.title
       → Refers R def form label start end before after (Some target)
   by-definition None form label start end before after found target e same kind id url title = absurd (none e)
     where
@@ -21,8 +21,8 @@ module _ {F : Type 0} (R : F → BrokenLink → Option (CowStr × CowStr) → F 
       none q = let z : ⊥ = cc in z
   by-definition (Some def) form label start end before after found target e same kind id url title = (same, (kind, id, said ∙ some e))
     where
-      said : said_in target.parts ≡ shown_destination found
-      said = ap (λ (c : CowStr). record { destination = text_bytes c; title = text_bytes target.parts.title }) url ∙ ap (λ (c : CowStr). record { destination = text_bytes found.dest_url; title = text_bytes c }) title
+      said : said_in target.link ≡ shown_destination found
+      said = ap (λ (c : CowStr). record { destination = text_bytes c; title = text_bytes target.link.title }) url ∙ ap (λ (c : CowStr). record { destination = text_bytes found.dest_url; title = text_bytes c }) title
 
       some : Some (shown_destination found) ≡ Some (said_by def) → shown_destination found ≡ said_by def
       some q = let z : shown_destination found ≡ said_by def = cc in z

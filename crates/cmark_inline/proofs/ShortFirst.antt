@@ -25,7 +25,7 @@ use Rattle.cmark_inline.specs.Elements.{emphasis_tag}
 use Rattle.cmark_inline.specs.Shorts.{AreSome, IsAlone, IsCodeOf, IsNextFirst, IsShortFirst, IsTextOf, PassesFirst, StandsFor}
 use Rattle.cmark_inline.specs.SlotViews.{events_of, first_of, slot_end, shown_element, shown_opened, shown_slots, slot_as}
 use Rattle.cmark_inline.specs.declared.event.Opened.{Opened}
-use Rattle.cmark_inline.specs.declared.link.LinkParts.{LinkParts}
+use Rattle.cmark_items.specs.declared.allocations.Link.{Link}
 use Rattle.cmark_inline.specs.declared.slot.Element.{Element}
 use Rattle.cmark_inline.specs.declared.slot.Element.TheVariants as element
 use Rattle.cmark_inline.specs.declared.slot.Slot.{Slot}
@@ -36,7 +36,7 @@ use Rattle.cmark_inline.proofs.ShortSteps.{get_or-any, part-range, short-opens}
 use Rattle.cmark_inline.proofs.SlotViews.{opened-more}
 
 -- the tag of an element of emphasis
-plain-element : (links : List LinkParts) (e : Element) (t : Tag) → Some t ≡ emphasis_tag e → shown_element links e ≡ t
+plain-element : (links : List Link) (e : Element) (t : Tag) → Some t ≡ emphasis_tag e → shown_element links e ≡ t
 plain-element links element.Emphasis t h = cc
 plain-element links element.Strong t h = cc
 plain-element links element.Strikethrough t h = cc
@@ -46,7 +46,7 @@ plain-element links (element.Link index) t h = cc
 plain-element links (element.Autolink index) t h = cc
 plain-element links (element.Image index) t h = cc
 
-module _ (leaf : LeafText) (texts : List CowStr) (links : List LinkParts) (slot : Slot) (slots : List Slot) (opened : List Opened) where
+module _ (leaf : LeafText) (texts : List CowStr) (links : List Link) (slot : Slot) (slots : List Slot) (opened : List Opened) where
   abbrev here : Event → Ranged
   here e = over (source_of leaf) (first_of leaf slot) (slot_end leaf slot) e
 
@@ -191,9 +191,9 @@ alone kind.Nothing b e n = n refl
 
 -- ## The slots one after the other
 
-module _ (leaf : LeafText) (texts texts1 : List CowStr) (links links1 : List LinkParts) (slots slots1 : List Slot) (opened opened1 : List Opened) (at at1 : ℕ) (ts : texts1 ≡ texts) (ls : links1 ≡ links) (same : slots1 ≡ slots) where
+module _ (leaf : LeafText) (texts texts1 : List CowStr) (links links1 : List Link) (slots slots1 : List Slot) (opened opened1 : List Opened) (at at1 : ℕ) (ts : texts1 ≡ texts) (ls : links1 ≡ links) (same : slots1 ≡ slots) where
   kept : (l : List Slot) → events_of leaf texts links l opened1 ≡ events_of leaf texts1 links1 l opened1
-  kept l = ap (λ (t : List CowStr). events_of leaf t links l opened1) (sym ts) ∙ ap (λ (k : List LinkParts). events_of leaf texts1 k l opened1) (sym ls)
+  kept l = ap (λ (t : List CowStr). events_of leaf t links l opened1) (sym ts) ∙ ap (λ (k : List Link). events_of leaf texts1 k l opened1) (sym ls)
 
   -- where no slot was passed
   pub events-same : at1 ≡ at → opened1 ≡ opened → events_of leaf texts1 links1 (drop at1 slots1) opened1 ≡ events_of leaf texts links (drop at slots) opened
@@ -213,7 +213,7 @@ module _ (leaf : LeafText) (texts texts1 : List CowStr) (links links1 : List Lin
         drop-cons slots at slot lt ∙ ap (λ x. x ∷ drop (suc at) slots) (sym is) ∙ ap (λ l. slot ∷ drop (suc at) l) (sym same) ∙ ap (λ k. slot ∷ drop k slots1) (let q : suc at ≡ next = omega (arith, place) in q)
 
     abbrev Passed : Next → Type 0
-    Passed n = (texts : List CowStr) (links : List LinkParts) (behind : List Slot) → PassesFirst (source_of leaf) opened n opened1 (events_of leaf texts links (slot ∷ behind) opened) (events_of leaf texts links behind opened1)
+    Passed n = (texts : List CowStr) (links : List Link) (behind : List Slot) → PassesFirst (source_of leaf) opened n opened1 (events_of leaf texts links (slot ∷ behind) opened) (events_of leaf texts links behind opened1)
 
     pub passed-over : Passed next.Over → at1 ≡ at + 1 → events_of leaf texts links (drop at slots) opened ≡ events_of leaf texts1 links1 (drop at1 slots1) opened1
     passed-over h place = ap (λ (l : List Slot). events_of leaf texts links l opened) (here-first at1 place) ∙ h texts links (drop at1 slots1) ∙ kept (drop at1 slots1)

@@ -15,12 +15,13 @@ use Rattle.cmark_inline_model.specs.SlotRows.{slot_events}
 use Rattle.cmark_leaf_text.specs.Reads.{source_of}
 use Rattle.cmark_leaf_text.specs.declared.leaf_text.LeafText.{LeafText}
 use Rattle.cmark_text.specs.declared.text.CowStr.{CowStr}
+use Rattle.cmark_text.specs.Ranged.{shown_ranged}
 use Rattle.cmark_text.specs.Shown.{shown}
-use Rattle.cmark_inline.specs.Opens.{Gives, Passes, shown_given}
+use Rattle.cmark_text.specs.declared.ranged.Ranged.{Ranged as Given}
+use Rattle.cmark_inline.specs.Opens.{Gives, Passes}
 use Rattle.cmark_inline.specs.SlotViews.{slot_as, shown_slot, shown_slots, shown_open, shown_opened, events_of, event_in, first_of, slot_end, item_slot, text_named, link_of, link_named, linked_or_none, bytes_or_none, shown_element, IsThere, Differ, AreOnce, EndsBehind, CanBeGiven, KeepsOthers, IsFirst, with_given}
-use Rattle.cmark_inline.specs.declared.event.Given.{Given}
 use Rattle.cmark_inline.specs.declared.event.Opened.{Opened}
-use Rattle.cmark_inline.specs.declared.link.LinkParts.{LinkParts}
+use Rattle.cmark_items.specs.declared.allocations.Link.{Link}
 use Rattle.cmark_inline.specs.declared.slot.Element.{Element}
 use Rattle.cmark_inline.specs.declared.slot.Element.TheVariants as element
 use Rattle.cmark_inline.specs.declared.slot.Slot.{Slot}
@@ -60,17 +61,17 @@ same-at (Some other) (Some index) old new k d = k.others index (λ e. d (sym e))
 
 -- ## A slot whose text and link are there as before
 
-same-element : (old new : List LinkParts) (e : Element) → SameAt (link_of e) old new → shown_element new e ≡ shown_element old e
+same-element : (old new : List Link) (e : Element) → SameAt (link_of e) old new → shown_element new e ≡ shown_element old e
 same-element old new element.Emphasis s = refl
 same-element old new element.Strong s = refl
 same-element old new element.Strikethrough s = refl
 same-element old new element.Superscript s = refl
 same-element old new element.Subscript s = refl
-same-element old new (element.Link index) s = ap (λ (o : Option LinkParts). tag.Link (linked_or_none o)) s
-same-element old new (element.Autolink index) s = ap (λ (o : Option LinkParts). tag.Link (linked_or_none o)) s
-same-element old new (element.Image index) s = ap (λ (o : Option LinkParts). tag.Image (linked_or_none o)) s
+same-element old new (element.Link index) s = ap (λ (o : Option Link). tag.Link (linked_or_none o)) s
+same-element old new (element.Autolink index) s = ap (λ (o : Option Link). tag.Link (linked_or_none o)) s
+same-element old new (element.Image index) s = ap (λ (o : Option Link). tag.Image (linked_or_none o)) s
 
-module _ (leaf : LeafText) (texts texts1 : List CowStr) (links links1 : List LinkParts) where
+module _ (leaf : LeafText) (texts texts1 : List CowStr) (links links1 : List Link) where
   pub same-slot : (slot : Slot) (k : SlotKind) → SameAt (text_named k) texts texts1 → SameAt (link_named k) links links1 → slot_as leaf texts1 links1 slot k ≡ slot_as leaf texts links slot k
   same-slot slot kind.Text s l = refl
   same-slot slot (kind.OwnedText index) s l = ap (λ (o : Option CowStr). item_slot (items.Written (bytes_or_none o)) (first_of leaf slot) (slot_end leaf slot)) s
@@ -117,7 +118,7 @@ all-behind P slot slots all k d lt = all (suc k) d (let q : suc k < length (slot
 there-in : (m n : ℕ) (named : Option ℕ) → m ≡ n → IsThere n named → IsThere m named
 there-in m n named e there = subst (λ k. IsThere k named) (sym e) there
 
-module _ (leaf : LeafText) (texts texts1 : List CowStr) (links links1 : List LinkParts) (slot : Slot) (slots : List Slot) where
+module _ (leaf : LeafText) (texts texts1 : List CowStr) (links links1 : List Link) (slot : Slot) (slots : List Slot) where
   -- what the first slot names is taken, and those behind it stand for what they stood for
   pub seen-behind : CanBeGiven leaf texts links (slot ∷ slots) → KeepsOthers (text_named slot.kind) texts texts1 → KeepsOthers (link_named slot.kind) links links1
       → shown_slots leaf texts1 links1 slots ≡ shown_slots leaf texts links slots
@@ -140,7 +141,7 @@ opened-more opened one = ap reverse (map-append shown_open opened (one ∷ [])) 
 
 -- ## The events of the first slot
 
-module _ (leaf : LeafText) (texts : List CowStr) (links : List LinkParts) (slot : Slot) (slots : List Slot) (opened : List Opened) where
+module _ (leaf : LeafText) (texts : List CowStr) (links : List Link) (slot : Slot) (slots : List Slot) (opened : List Opened) where
   by-kind : (k : SlotKind) → slot.kind ≡ k → events_of leaf texts links (slot ∷ slots) opened ≡ slot_events (source_of leaf) (slot_as leaf texts links slot k ∷ shown_slots leaf texts links slots) (shown_opened opened)
   by-kind k e = ap (λ (x : SlotKind). slot_events (source_of leaf) (slot_as leaf texts links slot x ∷ shown_slots leaf texts links slots) (shown_opened opened)) e
 
@@ -151,9 +152,9 @@ module _ (leaf : LeafText) (texts : List CowStr) (links : List LinkParts) (slot 
   closes e = over (source_of leaf) (first_of leaf slot) (slot_end leaf slot) (event.End (end_of (shown_element links e)))
 
   -- an element begins
-  pub begin-first : (texts1 : List CowStr) (links1 : List LinkParts) (opened1 : List Opened) (given : Given) (e : Element) → slot.kind ≡ kind.Begin e → CanBeGiven leaf texts links (slot ∷ slots)
-      → texts1 ≡ texts → KeepsOthers (link_of e) links links1 → shown_given given ≡ begins e → shown_opened opened1 ≡ closes e ∷ shown_opened opened
-      → events_of leaf texts links (slot ∷ slots) opened ≡ shown_given given ∷ events_of leaf texts1 links1 slots opened1
+  pub begin-first : (texts1 : List CowStr) (links1 : List Link) (opened1 : List Opened) (given : Given) (e : Element) → slot.kind ≡ kind.Begin e → CanBeGiven leaf texts links (slot ∷ slots)
+      → texts1 ≡ texts → KeepsOthers (link_of e) links links1 → shown_ranged given ≡ begins e → shown_opened opened1 ≡ closes e ∷ shown_opened opened
+      → events_of leaf texts links (slot ∷ slots) opened ≡ shown_ranged given ∷ events_of leaf texts1 links1 slots opened1
   begin-first texts1 links1 opened1 given e is h ts ls g o =
       let seen = seen-behind leaf texts texts1 links links1 slot slots h (keeps-same (text_named slot.kind) texts texts1 ts) (subst (λ (k : SlotKind). KeepsOthers (link_named k) links links1) (sym is) ls) in
       by-kind (kind.Begin e) is
@@ -183,17 +184,17 @@ module _ (leaf : LeafText) (texts : List CowStr) (links : List LinkParts) (slot 
   single-kind kind.End html text empty begin end nothing rows ends = absurd (end refl)
   single-kind kind.Nothing html text empty begin end nothing rows ends = absurd (nothing refl)
 
-  pub single-first : (texts1 : List CowStr) (links1 : List LinkParts) (opened1 : List Opened) (given : Given) → ((end : ℕ) → slot.kind ≡ kind.SourceHtml end → ⊥) → ((end : ℕ) → slot.kind ≡ kind.SourceText end → ⊥) → (slot.kind ≡ kind.Empty → ⊥)
+  pub single-first : (texts1 : List CowStr) (links1 : List Link) (opened1 : List Opened) (given : Given) → ((end : ℕ) → slot.kind ≡ kind.SourceHtml end → ⊥) → ((end : ℕ) → slot.kind ≡ kind.SourceText end → ⊥) → (slot.kind ≡ kind.Empty → ⊥)
       → ((e : Element) → slot.kind ≡ kind.Begin e → ⊥) → (slot.kind ≡ kind.End → ⊥) → (slot.kind ≡ kind.Nothing → ⊥) → CanBeGiven leaf texts links (slot ∷ slots) → KeepsOthers (text_named slot.kind) texts texts1 → links1 ≡ links → opened1 ≡ opened
       → shown given.event ≡ event_in leaf texts slot slot.kind → given.range.start ≡ first_of leaf slot → given.range.end ≡ slot_end leaf slot
-      → events_of leaf texts links (slot ∷ slots) opened ≡ shown_given given ∷ events_of leaf texts1 links1 slots opened1
+      → events_of leaf texts links (slot ∷ slots) opened ≡ shown_ranged given ∷ events_of leaf texts1 links1 slots opened1
   single-first texts1 links1 opened1 given html text empty begin end nothing h ts ls o value start last =
       let seen = seen-behind leaf texts texts1 links links1 slot slots h ts (keeps-same (link_named slot.kind) links links1 ls) in
-      let here : over (source_of leaf) (first_of leaf slot) (slot_end leaf slot) (event_in leaf texts slot slot.kind) ≡ shown_given given = cc in
+      let here : over (source_of leaf) (first_of leaf slot) (slot_end leaf slot) (event_in leaf texts slot slot.kind) ≡ shown_ranged given = cc in
       single-kind slot.kind html text empty begin end nothing (shown_slots leaf texts links slots) (shown_opened opened)
       ∙ ap (λ x. x ∷ events_of leaf texts links slots opened) here
-      ∙ ap (λ l. shown_given given ∷ slot_events (source_of leaf) l (shown_opened opened)) (sym seen)
-      ∙ ap (λ (l : List Opened). shown_given given ∷ slot_events (source_of leaf) (shown_slots leaf texts1 links1 slots) (shown_opened l)) (sym o)
+      ∙ ap (λ l. shown_ranged given ∷ slot_events (source_of leaf) l (shown_opened opened)) (sym seen)
+      ∙ ap (λ (l : List Opened). shown_ranged given ∷ slot_events (source_of leaf) (shown_slots leaf texts1 links1 slots) (shown_opened l)) (sym o)
 
 -- an element that ends leaves what none leaves, where none is open
 pub passes-ended : (source : List ℕ) (old new : List Opened) (given : Option Given) → Gives source old given new → Passes source old given new
@@ -203,7 +204,7 @@ passes-ended source old new (Some given) h = h
 -- ## The next event
 
 -- what the next slot names is there
-pub named-there : (leaf : LeafText) (texts : List CowStr) (links : List LinkParts) (slots : List Slot) (next : ℕ) (slot : Slot) → next < length slots → slot ≡ get_or slots next slot → CanBeGiven leaf texts links (drop next slots)
+pub named-there : (leaf : LeafText) (texts : List CowStr) (links : List Link) (slots : List Slot) (next : ℕ) (slot : Slot) → next < length slots → slot ≡ get_or slots next slot → CanBeGiven leaf texts links (drop next slots)
     → IsThere (length texts) (text_named slot.kind) × IsThere (length links) (link_named slot.kind)
 named-there leaf texts links slots next slot lt is h =
     let s : drop next slots ≡ slot ∷ drop (suc next) slots = drop-cons slots next slot lt ∙ ap (λ x. x ∷ drop (suc next) slots) (sym is) in
@@ -211,7 +212,7 @@ named-there leaf texts links slots next slot lt is h =
     let first : 0 < length (slot ∷ drop (suc next) slots) = omega arith in
     (here.texts_there 0 slot first, here.links_there 0 slot first)
 
-module _ (leaf : LeafText) (texts texts1 : List CowStr) (links links1 : List LinkParts) (slots slots1 : List Slot) (opened opened1 : List Opened) (next next1 : ℕ) (same : slots1 ≡ slots) (place : next1 ≡ next) where
+module _ (leaf : LeafText) (texts texts1 : List CowStr) (links links1 : List Link) (slots slots1 : List Slot) (opened opened1 : List Opened) (next next1 : ℕ) (same : slots1 ≡ slots) (place : next1 ≡ next) where
   split : (slot : Slot) → next < length slots → slot ≡ get_or slots next slot → drop next slots ≡ slot ∷ drop (next1 + 1) slots1
   split slot lt is =
       drop-cons slots next slot lt
@@ -243,7 +244,7 @@ module _ (leaf : LeafText) (texts texts1 : List CowStr) (links links1 : List Lin
   pub left-last : texts1 ≡ texts → links1 ≡ links → CanBeGiven leaf texts links (drop next slots) → CanBeGiven leaf texts1 links1 (drop next1 slots1)
   left-last ts ls h =
       subst (λ (t : List CowStr). CanBeGiven leaf t links1 (drop next1 slots1)) (sym ts)
-      (subst (λ (k : List LinkParts). CanBeGiven leaf texts k (drop next1 slots1)) (sym ls) (subst (λ (l : List Slot). CanBeGiven leaf texts links l) (sym (ap (λ n. drop n slots1) place ∙ ap (drop next) same)) h))
+      (subst (λ (k : List Link). CanBeGiven leaf texts k (drop next1 slots1)) (sym ls) (subst (λ (l : List Slot). CanBeGiven leaf texts links l) (sym (ap (λ n. drop n slots1) place ∙ ap (drop next) same)) h))
 
 -- the first of the events before some are those before others
 pub first-before : (given : Option Given) (before here behind : List Ranged) → before ≡ here → IsFirst given here behind → IsFirst given before behind

@@ -13,7 +13,7 @@ use Rattle.cmark_inline.specs.MarkupInSource.{IsFound}
 use Rattle.cmark_inline.specs.SlotViews.{CanBeGiven, EndsBehind}
 use Rattle.cmark_inline.specs.Sound.{AreNamed, EndsIn, source_end}
 use Rattle.cmark_text.specs.declared.text.CowStr.{CowStr}
-use Rattle.cmark_inline.specs.declared.link.LinkParts.{LinkParts}
+use Rattle.cmark_items.specs.declared.allocations.Link.{Link}
 use Rattle.cmark_inline.specs.declared.markup.FoundHtml.{FoundHtml}
 use Rattle.cmark_inline.specs.declared.slot.Slot.{Slot}
 use Rattle.cmark_inline.specs.declared.slot.SlotKind.{SlotKind}
@@ -93,7 +93,7 @@ ends-behind leaf slot (kind.SourceHtml end) lt e = (e.0 slot.start lt, e.1)
 ends-behind leaf slot (kind.SourceText end) lt e = (e.0 slot.start lt, e.1)
 ends-behind leaf slot other lt e = tt
 
-pub left-of : (leaf : LeafText) (texts : List CowStr) (links : List LinkParts) (slots : List Slot) (next : ℕ) → next ≡ 0 → AreNamed (length texts) (length links) slots → All (λ (slot : Slot). EndsBehind leaf slot slot.kind) slots
+pub left-of : (leaf : LeafText) (texts : List CowStr) (links : List Link) (slots : List Slot) (next : ℕ) → next ≡ 0 → AreNamed (length texts) (length links) slots → All (λ (slot : Slot). EndsBehind leaf slot slot.kind) slots
     → CanBeGiven leaf texts links (drop next slots)
 left-of leaf texts links slots next none named ends = subst (CanBeGiven leaf texts links) (sym (ap (λ n. drop n slots) none ∙ drop-none slots)) (record {
   texts_there = named.texts_there;

@@ -5,7 +5,7 @@ use Rattle.std.proofs.lemmas.List.{length-drop, get_or-drop}
 use Rattle.cmark_leaf_text.specs.declared.leaf_text.LeafText.{LeafText}
 use Rattle.cmark_text.specs.declared.text.CowStr.{CowStr}
 use Rattle.cmark_inline.specs.SlotViews.{AreLeft, AreOnce, CanBeGiven, Differ, EndsBehind, IsThere, link_named, text_named}
-use Rattle.cmark_inline.specs.declared.link.LinkParts.{LinkParts}
+use Rattle.cmark_items.specs.declared.allocations.Link.{Link}
 use Rattle.cmark_inline.specs.declared.slot.Slot.{Slot}
 use Rattle.cmark_inline.specs.declared.slot.SlotKind.{SlotKind}
 use Rattle.cmark_inline.specs.declared.state.InlineState.{InlineState}
@@ -17,7 +17,7 @@ once-later named n slots h = λ i j d less lt.
     subst (λ (x : Slot). Differ (named x.kind) (named (get_or (drop n slots) j d).kind)) (sym (get_or-drop n slots i d))
     (subst (λ (y : Slot). Differ (named (get_or slots (n + i) d).kind) (named y.kind)) (sym (get_or-drop n slots j d)) (h (n + i) (n + j) d (let q : n + i < n + j = omega (arith, less) in q) (let q : n + j < length slots = omega (arith, lt, a) in q)))
 
-given-later : (leaf : LeafText) (texts : List CowStr) (links : List LinkParts) (n : ℕ) (slots : List Slot) → CanBeGiven leaf texts links slots → CanBeGiven leaf texts links (drop n slots)
+given-later : (leaf : LeafText) (texts : List CowStr) (links : List Link) (n : ℕ) (slots : List Slot) → CanBeGiven leaf texts links slots → CanBeGiven leaf texts links (drop n slots)
 given-later leaf texts links n slots h = record {
   texts_there = all-drop (λ (slot : Slot). IsThere (length texts) (text_named slot.kind)) n slots h.texts_there;
   links_there = all-drop (λ (slot : Slot). IsThere (length links) (link_named slot.kind)) n slots h.links_there;

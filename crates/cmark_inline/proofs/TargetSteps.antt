@@ -25,7 +25,8 @@ use Rattle.cmark_items.specs.Footnotes.{footnote}
 use Rattle.cmark_items.specs.declared.footnotes.FootnoteDefs.{FootnoteDefs}
 use Rattle.cmark_text.specs.Shown.{shown_link_type, text_bytes}
 use Rattle.cmark_inline_model.specs.TextPlaces.{ArePlaces}
-use Rattle.cmark_inline.specs.Decided.{IsCloser, EndsWithin, is_full, shown_parts, target_outcome}
+use Rattle.cmark_items.specs.Links.{shown_link}
+use Rattle.cmark_inline.specs.Decided.{IsCloser, EndsWithin, is_full, target_outcome}
 use Rattle.cmark_inline.specs.Footnoted.{labels, no_leaf, as_label, is_footnote_label, footnote_label, footnote_behind, unless_footnote, is_accepted, forms_footnote}
 use Rattle.cmark_inline.specs.Linked as linked
 use Rattle.cmark_inline.specs.Linked.{InlineLink, Reference, shown_target, shown_link_reference, reference_behind, full_or_own, collapsed_or_shortcut}
@@ -394,12 +395,12 @@ inline-named lookup is_cell reader leaf text place p looks cell close closer c t
         ap Settled (
         ap (λ d. links reader leaf taken (record { link_type = link.Inline; destination = d; title = unescaped reader.lookup leaf.is_cell (title_lines false (or_empty tail.title)); id = [] }) (decisions.place reader leaf tail.behind) (decisions.place reader leaf tail.behind) s)
         (ap (λ l. unescaped l leaf.is_cell tail.destination) looks ∙ ap (λ z. unescaped lookup z tail.destination) cell ∙ sym destination)
-        ∙ ap (λ d. links reader leaf taken (record { link_type = link.Inline; destination = text_bytes t.parts.dest_url; title = d; id = [] }) (decisions.place reader leaf tail.behind) (decisions.place reader leaf tail.behind) s)
+        ∙ ap (λ d. links reader leaf taken (record { link_type = link.Inline; destination = text_bytes t.link.dest_url; title = d; id = [] }) (decisions.place reader leaf tail.behind) (decisions.place reader leaf tail.behind) s)
         (ap (λ l. unescaped l leaf.is_cell (title_lines false (or_empty tail.title))) looks ∙ ap (λ z. unescaped lookup z (title_lines false (or_empty tail.title))) cell ∙ title_same tail.title ∙ sym title)
-        ∙ ap (λ d. links reader leaf taken (record { link_type = link.Inline; destination = text_bytes t.parts.dest_url; title = text_bytes t.parts.title; id = d }) (decisions.place reader leaf tail.behind) (decisions.place reader leaf tail.behind) s) (sym id)
-        ∙ ap (λ d. links reader leaf taken (record { link_type = d; destination = text_bytes t.parts.dest_url; title = text_bytes t.parts.title; id = text_bytes t.parts.id }) (decisions.place reader leaf tail.behind) (decisions.place reader leaf tail.behind) s) (sym form)
-        ∙ ap (λ n. links reader leaf taken (shown_parts t.parts) n n s) end
-        ∙ ap (λ n. links reader leaf taken (shown_parts t.parts) (place t.end) (place n) s) (sym resume)
+        ∙ ap (λ d. links reader leaf taken (record { link_type = link.Inline; destination = text_bytes t.link.dest_url; title = text_bytes t.link.title; id = d }) (decisions.place reader leaf tail.behind) (decisions.place reader leaf tail.behind) s) (sym id)
+        ∙ ap (λ d. links reader leaf taken (record { link_type = d; destination = text_bytes t.link.dest_url; title = text_bytes t.link.title; id = text_bytes t.link.id }) (decisions.place reader leaf tail.behind) (decisions.place reader leaf tail.behind) s) (sym form)
+        ∙ ap (λ n. links reader leaf taken (shown_link t.link) n n s) end
+        ∙ ap (λ n. links reader leaf taken (shown_link t.link) (place t.end) (place n) s) (sym resume)
         )
       where
         one : Some (shown_target text t) ≡ Some (linked.inline_link lookup is_cell tail) → shown_target text t ≡ linked.inline_link lookup is_cell tail

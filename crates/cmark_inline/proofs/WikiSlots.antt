@@ -19,7 +19,8 @@ use Rattle.cmark_inline_model.specs.SlotRows.{marked, marks_by, quoted, seen}
 use Rattle.cmark_inline.specs.Hiding.{AreLeft, WritesShown}
 use Rattle.cmark_inline.specs.MarkedSlots.{SameBefore, begun_as, places_of, siblings_from}
 use Rattle.cmark_inline.specs.QuoteSlots.{characters_of}
-use Rattle.cmark_inline.specs.SlotViews.{first_of, shown_element, shown_parts, shown_slot, shown_slots}
+use Rattle.cmark_items.specs.Links.{shown_link}
+use Rattle.cmark_inline.specs.SlotViews.{first_of, shown_element, shown_slot, shown_slots}
 use Rattle.cmark_inline.specs.Sound.{AreNamed, AreSound, CanSettle}
 use Rattle.cmark_inline.specs.Stands.{AreSlots}
 use Rattle.cmark_inline.specs.Wikilinks.{Hides, IsNamed, Shows, display_place, has_pothole, hidden, shown_name}
@@ -27,7 +28,7 @@ use Rattle.cmark_inline.specs.FormedSlots.{Forgets, dressed_behind, end_slot, wr
 use Rattle.cmark_inline.specs.declared.bracket.Bracket.{Bracket}
 use Rattle.cmark_inline.specs.declared.bracket.Brackets.{Brackets}
 use Rattle.cmark_inline.specs.declared.delimiter.PlacedRun.{PlacedRun}
-use Rattle.cmark_inline.specs.declared.link.LinkParts.{LinkParts}
+use Rattle.cmark_items.specs.declared.allocations.Link.{Link}
 use Rattle.cmark_inline.specs.declared.quote.PlacedQuote.{PlacedQuote}
 use Rattle.cmark_inline.specs.declared.slot.Element.{Element}
 use Rattle.cmark_inline.specs.declared.slot.Element.TheVariants as element
@@ -44,22 +45,22 @@ use Rattle.cmark_inline.proofs.WikiSteps.{cut-past}
 
 -- ## The tag
 
-named-shown : (wikilink : Wikilink) (parts : LinkParts) → IsNamed wikilink parts → shown_parts parts ≡ record { link_type = link.WikiLink (has_pothole wikilink.display); destination = wikilink.name.now; title = []; id = [] }
+named-shown : (wikilink : Wikilink) (parts : Link) → IsNamed wikilink parts → shown_link parts ≡ record { link_type = link.WikiLink (has_pothole wikilink.display); destination = wikilink.name.now; title = []; id = [] }
 named-shown wikilink parts h =
     let all : link.LinkType → List ℕ → List ℕ → List ℕ → Linked = λ a b c d. record { link_type = a; destination = b; title = c; id = d } in
-    ap (λ x. all x (shown_parts parts).destination (shown_parts parts).title (shown_parts parts).id) h.form
-    ∙ ap (λ x. all (link.WikiLink (has_pothole wikilink.display)) x (shown_parts parts).title (shown_parts parts).id) h.destination
-    ∙ ap (λ x. all (link.WikiLink (has_pothole wikilink.display)) wikilink.name.now x (shown_parts parts).id) h.title
+    ap (λ x. all x (shown_link parts).destination (shown_link parts).title (shown_link parts).id) h.form
+    ∙ ap (λ x. all (link.WikiLink (has_pothole wikilink.display)) x (shown_link parts).title (shown_link parts).id) h.destination
+    ∙ ap (λ x. all (link.WikiLink (has_pothole wikilink.display)) wikilink.name.now x (shown_link parts).id) h.title
     ∙ ap (λ x. all (link.WikiLink (has_pothole wikilink.display)) wikilink.name.now [] x) h.id
 
-wiki-shown : (wikilink : Wikilink) (links : List LinkParts) (parts : LinkParts) (index : ℕ) (z : Bool) (made : Element) → IsNamed wikilink parts → index ≡ length links → made ≡ (if z then element.Image index else element.Link index)
+wiki-shown : (wikilink : Wikilink) (links : List Link) (parts : Link) (index : ℕ) (z : Bool) (made : Element) → IsNamed wikilink parts → index ≡ length links → made ≡ (if z then element.Image index else element.Link index)
     → shown_element (links ++ (parts ∷ [])) made ≡ wiki_tag z wikilink.name.now (has_pothole wikilink.display)
 wiki-shown wikilink links parts index true made h e is = ap (shown_element (links ++ (parts ∷ []))) is ∙ image-shown links parts index e ∙ ap (tag_by true) (named-shown wikilink parts h)
 wiki-shown wikilink links parts index false made h e is = ap (shown_element (links ++ (parts ∷ []))) is ∙ link-shown links parts index e ∙ ap (tag_by false) (named-shown wikilink parts h)
 
 -- ## What the calls write
 
-pub writes-shown : (options : Options) (text : List ℕ) (doubled : Bracket) (close : ℕ) (wikilink : Wikilink) (old new : InlineState) (parts : LinkParts) (index : ℕ) (made : Element) (shown : List Slot) (inside : Bracket)
+pub writes-shown : (options : Options) (text : List ℕ) (doubled : Bracket) (close : ℕ) (wikilink : Wikilink) (old new : InlineState) (parts : Link) (index : ℕ) (made : Element) (shown : List Slot) (inside : Bracket)
     → (at : ℕ) × Shows text doubled close wikilink old.slots.items shown at × AreLeft at old.delimiters.placed.items old.quotes.placed.items doubled inside
     → doubled.slot < length old.slots.items → length old.slots.items ≤ length shown → SameBefore (doubled.slot + 1) old.slots.items shown → AreSlots text close old.slots.items → AreNamed (length old.texts.items) (length old.links.items) shown
     → CanSettle (doubled.slot + 1) shown (drop inside.runs old.delimiters.placed.items) (drop inside.quotes old.quotes.placed.items) → new.texts.items ≡ old.texts.items → new.links.items ≡ old.links.items ++ (parts ∷ []) → IsNamed wikilink parts

@@ -17,7 +17,8 @@ use Rattle.cmark_text.specs.Shown.{text_bytes}
 use Rattle.cmark_text.specs.declared.text.CowStr.{CowStr}
 use Rattle.cmark_inline_model.specs.BracketPass.{Pass, closed_by}
 use Rattle.cmark_inline.specs.BracketViews.{StandFor, IsFresh, behind_opening, standing_of}
-use Rattle.cmark_inline.specs.Decided.{ReadsSame, IsCloser, Remembers, ComesTo, EndsWithin, TargetDecides, shown_parts}
+use Rattle.cmark_items.specs.Links.{shown_link}
+use Rattle.cmark_inline.specs.Decided.{ReadsSame, IsCloser, Remembers, ComesTo, EndsWithin, TargetDecides}
 use Rattle.cmark_inline.specs.Doubled.{DropsBehind}
 use Rattle.cmark_inline.specs.Reached.{HasRead, ReadsPlaces}
 use Rattle.cmark_inline.specs.Sound.{AreEnded}
@@ -26,7 +27,7 @@ use Rattle.cmark_inline.specs.FormedSlots.{WritesElement}
 use Rattle.cmark_inline.specs.declared.bracket.Bracket.{Bracket}
 use Rattle.cmark_inline.specs.declared.bracket.Brackets.{Brackets}
 use Rattle.cmark_inline.specs.declared.callback.BrokenLink.{BrokenLink}
-use Rattle.cmark_inline.specs.declared.link.LinkParts.{LinkParts}
+use Rattle.cmark_items.specs.declared.allocations.Link.{Link}
 use Rattle.cmark_inline.specs.declared.link.Target.{Target}
 use Rattle.cmark_inline.specs.declared.state.InlineState.{InlineState}
 use Rattle.cmark_inline.specs.declared.step.Cursor.{Cursor}
@@ -95,7 +96,7 @@ pub record FormsTarget (options : Options) (bracket : Bracket) (target : Target)
   pub pending : next.pending ≡ target.resume
   pub at : next.at ≡ target.resume
   pub leaves : LeavesElement bracket.is_image bracket.start old new
-  pub links : new.links.items ≡ old.links.items ++ (target.parts ∷ [])
+  pub links : new.links.items ≡ old.links.items ++ (target.link ∷ [])
   pub expansion_left : new.expansion_left ≡ old.expansion_left
   pub label : new.label_close ≡ old.label_close
   pub writes : WritesElement options bracket target old new
@@ -145,7 +146,7 @@ left_of (Forms nearer formed) bs = drop (suc nearer) bs
 
 -- what is noted of it: the parts of a link or an image, or the label of a footnote reference
 abbrev pub Notes : Result → (old new : InlineState) → Type 0
-Notes (Forms nearer (Linking target)) old new = (parts : LinkParts) × (shown_parts parts ≡ target.linked) × (new.links.items ≡ old.links.items ++ (parts ∷ []))
+Notes (Forms nearer (Linking target)) old new = (parts : Link) × (shown_link parts ≡ target.linked) × (new.links.items ≡ old.links.items ++ (parts ∷ []))
 Notes (Forms nearer (Footnote label end)) old new = (text : CowStr) × (text_bytes text ≡ label) × (new.texts.items ≡ old.texts.items ++ (text ∷ []))
 Notes (Forms nearer (Wiki name display end)) old new = Unit {0}
 Notes StaysText old new = new.links ≡ old.links

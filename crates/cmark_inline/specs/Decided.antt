@@ -13,7 +13,6 @@ use Rattle.cmark_grammar.specs.OpenBrackets.{Taken}
 use Rattle.cmark_grammar.specs.Options.{Options}
 use Rattle.cmark_grammar.specs.Questions.{Question, Exchange}
 use Rattle.cmark_grammar.specs.Readers.{Reader}
-use Rattle.cmark_grammar.specs.Tag.{Linked}
 use Rattle.cmark_items.specs.Definitions.{definition}
 use Rattle.cmark_items.specs.Footnotes.{footnote}
 use Rattle.cmark_items.specs.declared.definitions.RefDefs.{RefDefs}
@@ -21,7 +20,8 @@ use Rattle.cmark_items.specs.declared.footnotes.FootnoteDefs.{FootnoteDefs}
 use Rattle.cmark_leaf_text.specs.Reads as reads
 use Rattle.cmark_leaf_text.specs.Reads.{source_of, text_of, is_cell_of}
 use Rattle.cmark_leaf_text.specs.declared.leaf_text.LeafText.{LeafText}
-use Rattle.cmark_text.specs.Shown.{shown_link_type, shown_linked, text_bytes}
+use Rattle.cmark_items.specs.Links.{shown_link}
+use Rattle.cmark_text.specs.Shown.{shown_link_type, text_bytes}
 use Rattle.cmark_text.specs.declared.text.CowStr.{CowStr}
 use Rattle.cmark_inline_model.specs.TextPlaces.{ArePlaces}
 use Rattle.cmark_inline.specs.BracketViews.{IsPlaced}
@@ -30,7 +30,6 @@ use Rattle.cmark_inline.specs.Linked.{Said, said_by}
 use Rattle.cmark_inline.specs.declared.bracket.Bracket.{Bracket}
 use Rattle.cmark_inline.specs.declared.state.InlineState.{InlineState}
 use Rattle.cmark_inline.specs.declared.callback.BrokenLink.{BrokenLink}
-use Rattle.cmark_inline.specs.declared.link.LinkParts.{LinkParts}
 use Rattle.cmark_inline.specs.declared.link.Target.{Target}
 
 -- ## What is read
@@ -95,13 +94,10 @@ ComesTo R (Asks question answered) outcome before after = (answer : Option answe
 
 -- ## What is formed
 
-abbrev pub shown_parts : LinkParts → Linked
-shown_parts parts = shown_linked parts.link_type parts.dest_url parts.title parts.id
-
 -- a link or an image with this target; where there is none, the closing bracket is a text
 abbrev pub target_outcome : Reader → Leaf → (place : ℕ → ℕ) → Taken → (closer : items.Bracket) → State → Option Target → Outcome
 target_outcome reader leaf place taken closer s None = stays reader leaf closer s
-target_outcome reader leaf place taken closer s (Some target) = links reader leaf taken (shown_parts target.parts) (place target.end) (place target.resume) s
+target_outcome reader leaf place taken closer s (Some target) = links reader leaf taken (shown_link target.link) (place target.end) (place target.resume) s
 
 -- the state with what is left of the reference expansion limit, the closing bracket of a full reference's label, and the questions
 abbrev pub with_left : (expansion_left : ℕ) → (label_close : Option ℕ) → List Exchange → State → State

@@ -10,7 +10,8 @@ use Rattle.cmark_inline_model.specs.SlotRows as row
 use Rattle.cmark_inline_model.specs.SlotRows.{marked, marks_by, quoted}
 use Rattle.cmark_inline.specs.MarkedSlots.{places_of, siblings_from}
 use Rattle.cmark_inline.specs.QuoteSlots.{characters_of}
-use Rattle.cmark_inline.specs.SlotViews.{first_of, shown_parts, shown_slots}
+use Rattle.cmark_items.specs.Links.{shown_link}
+use Rattle.cmark_inline.specs.SlotViews.{first_of, shown_slots}
 use Rattle.cmark_inline.specs.declared.bracket.Bracket.{Bracket}
 use Rattle.cmark_inline.specs.declared.delimiter.PlacedRun.{PlacedRun}
 use Rattle.cmark_inline.specs.declared.link.Target.{Target}
@@ -42,5 +43,5 @@ pub record WritesElement (options : Options) (bracket : Bracket) (target : Targe
   pub forgets : Forgets bracket old new
   pub slots : (leaf : LeafText) (pairs : List Pair) (spans : Spans) (d : Slot) → IsEmphasis (siblings_from 0 (drop bracket.runs old.delimiters.placed.items)) pairs spans
       → shown_slots leaf new.texts.items new.links.items new.slots.items
-      ≡ wrapped bracket.slot (row.BeginSlot (tag_by bracket.is_image (shown_parts target.parts)) (first_of leaf (get_or old.slots.items bracket.slot d)) (place_of leaf (target.end - 1) + 1))
+      ≡ wrapped bracket.slot (row.BeginSlot (tag_by bracket.is_image (shown_link target.link)) (first_of leaf (get_or old.slots.items bracket.slot d)) (place_of leaf (target.end - 1) + 1))
       (dressed_behind options bracket pairs old.delimiters.placed.items old.quotes.placed.items (shown_slots leaf old.texts.items old.links.items old.slots.items))

@@ -15,7 +15,7 @@ use Rattle.cmark_inline.specs.Footnoted.{is_footnote_label, unless_footnote}
 use Rattle.cmark_inline.specs.declared.callback.BrokenLink.{BrokenLink}
 use Rattle.cmark_inline.specs.declared.reference.LinkReference.{LinkReference}
 use Rattle.cmark_inline.specs.declared.reference.Destination.{Destination}
-use Rattle.cmark_inline.specs.declared.link.LinkParts.{LinkParts}
+use Rattle.cmark_items.specs.declared.allocations.Link.{Link}
 use Rattle.cmark_inline.specs.declared.link.Target.{Target}
 use Rattle.cmark_inline.specs.Stands.{IsTarget}
 
@@ -35,7 +35,7 @@ said_by def = record { destination = text_bytes def.dest; title = title_or_none 
 abbrev pub shown_destination : Destination → Said
 shown_destination found = record { destination = text_bytes found.dest_url; title = text_bytes found.title }
 
-abbrev pub said_in : LinkParts → Said
+abbrev pub said_in : Link → Said
 said_in parts = record { destination = text_bytes parts.dest_url; title = text_bytes parts.title }
 
 -- a reference as it is written (CommonMark 6.3): its label, its form, and what is behind it, without and with a following `[]`
@@ -87,14 +87,14 @@ Answers R form label start end before after found = (question : BrokenLink) × I
 -- what a reference leads to by its definition: it keeps its form
 abbrev pub IsDefined : LinkType → (label : List ℕ) → LinkDef → Option Target → Type 0
 IsDefined form label def None = ⊥
-IsDefined form label def (Some target) = (target.parts.link_type ≡ form) × (text_bytes target.parts.id ≡ label) × (said_in target.parts ≡ said_by def)
+IsDefined form label def (Some target) = (target.link.link_type ≡ form) × (text_bytes target.link.id ≡ label) × (said_in target.link ≡ said_by def)
 
 -- what it leads to by the callback's answer: its form is an unknown one then
 abbrev pub IsAnswered : LinkType → (label : List ℕ) → Option Destination → Option Target → Type 0
 IsAnswered form label None None = Unit {0}
 IsAnswered form label None (Some target) = ⊥
 IsAnswered form label (Some found) None = ⊥
-IsAnswered form label (Some found) (Some target) = (shown_link_type target.parts.link_type ≡ link.to_unknown (shown_link_type form)) × (text_bytes target.parts.id ≡ label) × (target.parts.dest_url ≡ found.dest_url) × (target.parts.title ≡ found.title)
+IsAnswered form label (Some found) (Some target) = (shown_link_type target.link.link_type ≡ link.to_unknown (shown_link_type form)) × (text_bytes target.link.id ≡ label) × (target.link.dest_url ≡ found.dest_url) × (target.link.title ≡ found.title)
 
 -- what a reference leads to: by the definition of its label, and where there is none, by what the callback answers, which is
 -- asked in that case alone; its id is the label's normal form
@@ -105,7 +105,7 @@ Refers R None form label start end before after found = (destination : Option De
 -- how much of the reference expansion limit is left behind a reference: its destination and its title are taken off, if it forms a link
 abbrev pub left_behind : (left : ℕ) → Option Target → ℕ
 left_behind left None = left
-left_behind left (Some target) = (left - length (text_bytes target.parts.dest_url)) - length (text_bytes target.parts.title)
+left_behind left (Some target) = (left - length (text_bytes target.link.dest_url)) - length (text_bytes target.link.title)
 
 -- an inline link, and what is behind it; it has no id
 pub record InlineLink : Type 0 where
@@ -129,7 +129,7 @@ inline_link lookup is_cell tail = record {
 }
 
 abbrev pub shown_target : (text : List ℕ) → Target → InlineLink
-shown_target text target = record { form = shown_link_type target.parts.link_type; id = text_bytes target.parts.id; said = said_in target.parts; behind = drop target.end text }
+shown_target text target = record { form = shown_link_type target.link.link_type; id = text_bytes target.link.id; said = said_in target.link; behind = drop target.end text }
 
 -- the inline link that stands at this place of the text, behind a closing bracket, or none
 pub record FindsInline (lookup : Lookup) (is_cell : Bool) (text : List ℕ) (at : ℕ) (found : Option Target) : Type 0 where
@@ -138,7 +138,7 @@ pub record FindsInline (lookup : Lookup) (is_cell : Bool) (text : List ℕ) (at 
   pub resume : IfSome found (λ (target : Target). target.resume ≡ target.end)
 
 -- an autolink (CommonMark 6.5): its destination are the bytes between the angle brackets
-pub record IsAutolink (text : List ℕ) (at end : ℕ) (parts : LinkParts) : Type 0 where
+pub record IsAutolink (text : List ℕ) (at end : ℕ) (parts : Link) : Type 0 where
   pub form : shown_link_type parts.link_type ≡ link.Autolink
   pub destination : text_bytes parts.dest_url ≡ slice text (at + 1) (end - 1)
   pub title : text_bytes parts.title ≡ []

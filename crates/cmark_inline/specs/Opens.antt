@@ -4,20 +4,13 @@ use Rattle.cmark_grammar.specs.TagEnd as end
 use Rattle.cmark_grammar.specs.TagEnd.{end_of}
 use Rattle.cmark_grammar.specs.Event.{Event, Start, End, Ranged}
 use Rattle.cmark_grammar.specs.LeafSpans.{IsInline, IsRange, IsSpan}
-use Rattle.cmark_text.specs.Shown.{shown, shown_end}
-use Rattle.cmark_text.specs.ZeroCopy.{IsZeroCopy}
-use Rattle.cmark_inline.specs.declared.event.Given.{Given}
+use Rattle.cmark_text.specs.Ranged.{shown_ranged}
+use Rattle.cmark_text.specs.Shown.{shown_end}
+use Rattle.cmark_text.specs.declared.ranged.Ranged.{Ranged as Given}
 use Rattle.cmark_inline.specs.declared.event.Opened.{Opened}
 use Rattle.cmark_inline.specs.declared.slot.Element.{Element}
 use Rattle.cmark_inline.specs.declared.slot.Element.TheVariants as element
 use Rattle.cmark_inline.specs.declared.state.InlineState.{InlineState}
-
-abbrev pub shown_given : Given → Ranged
-shown_given given = record { event = shown given.event; start = given.range.start; end = given.range.end }
-
--- the zero-copy law of an event with its range
-abbrev pub GivesZeroCopy : (source : List ℕ) → Given → Type 0
-GivesZeroCopy source given = IsZeroCopy source given.event given.range.start given.range.end
 
 -- the end of an element
 abbrev pub element_end : Element → end.TagEnd
@@ -51,12 +44,12 @@ pub record Follows (source : List ℕ) (old : List Opened) (r : Ranged) (new : L
 -- an event, or none, where no element is open
 abbrev pub Gives : (source : List ℕ) → (old : List Opened) → Option Given → (new : List Opened) → Type 0
 Gives source old None new = (old ≡ []) × (new ≡ [])
-Gives source old (Some given) new = Follows source old (shown_given given) new
+Gives source old (Some given) new = Follows source old (shown_ranged given) new
 
 -- an event, or none
 abbrev pub Passes : (source : List ℕ) → (old : List Opened) → Option Given → (new : List Opened) → Type 0
 Passes source old None new = new ≡ old
-Passes source old (Some given) new = Follows source old (shown_given given) new
+Passes source old (Some given) new = Follows source old (shown_ranged given) new
 
 -- no more events are left: at most two for each slot that was not given, and an end for each open element
 abbrev pub events_left : InlineState → ℕ

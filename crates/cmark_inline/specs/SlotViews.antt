@@ -15,12 +15,13 @@ use Rattle.cmark_inline_model.specs.SlotRows as row
 use Rattle.cmark_inline_model.specs.SlotRows.{slot_events}
 use Rattle.cmark_leaf_text.specs.Reads.{is_cell_of, place_of, source_of, text_of}
 use Rattle.cmark_leaf_text.specs.declared.leaf_text.LeafText.{LeafText}
-use Rattle.cmark_text.specs.Shown.{shown_end, shown_linked, text_bytes}
+use Rattle.cmark_items.specs.Links.{shown_link}
+use Rattle.cmark_text.specs.Ranged.{shown_ranged}
+use Rattle.cmark_text.specs.Shown.{shown_end, text_bytes}
+use Rattle.cmark_text.specs.declared.ranged.Ranged.{Ranged as Given}
 use Rattle.cmark_text.specs.declared.text.CowStr.{CowStr}
-use Rattle.cmark_inline.specs.Opens.{shown_given}
-use Rattle.cmark_inline.specs.declared.event.Given.{Given}
 use Rattle.cmark_inline.specs.declared.event.Opened.{Opened}
-use Rattle.cmark_inline.specs.declared.link.LinkParts.{LinkParts}
+use Rattle.cmark_items.specs.declared.allocations.Link.{Link}
 use Rattle.cmark_inline.specs.declared.slot.Element.{Element}
 use Rattle.cmark_inline.specs.declared.slot.Element.TheVariants as element
 use Rattle.cmark_inline.specs.declared.slot.Slot.{Slot}
@@ -39,18 +40,15 @@ abbrev pub text_at : List CowStr → (index : ℕ) → List ℕ
 text_at texts index = bytes_or_none (slice_get texts index)
 
 -- the link of an index, in the same way
-abbrev pub shown_parts : LinkParts → Linked
-shown_parts parts = shown_linked parts.link_type parts.dest_url parts.title parts.id
-
-abbrev pub linked_or_none : Option LinkParts → Linked
+abbrev pub linked_or_none : Option Link → Linked
 linked_or_none None = record { link_type = link.Inline; destination = []; title = []; id = [] }
-linked_or_none (Some parts) = shown_parts parts
+linked_or_none (Some parts) = shown_link parts
 
-abbrev pub linked_at : List LinkParts → (index : ℕ) → Linked
+abbrev pub linked_at : List Link → (index : ℕ) → Linked
 linked_at links index = linked_or_none (slice_get links index)
 
 -- the tag of an element; an autolink is a link
-abbrev pub shown_element : List LinkParts → Element → Tag
+abbrev pub shown_element : List Link → Element → Tag
 shown_element links element.Emphasis = tag.Emphasis
 shown_element links element.Strong = tag.Strong
 shown_element links element.Strikethrough = tag.Strikethrough
@@ -75,7 +73,7 @@ abbrev pub item_slot : items.ItemKind → (start end : ℕ) → row.Slot
 item_slot kind start end = row.ItemSlot (item kind start end)
 
 -- what a slot of this kind stands for
-module _ (leaf : LeafText) (texts : List CowStr) (links : List LinkParts) (slot : Slot) where
+module _ (leaf : LeafText) (texts : List CowStr) (links : List Link) (slot : Slot) where
   abbrev pub slot_as : SlotKind → row.Slot
   slot_as kind.Text = item_slot (items.Written (written leaf slot.start slot.end)) (first_of leaf slot) (slot_end leaf slot)
   slot_as (kind.OwnedText index) = item_slot (items.Written (text_at texts index)) (first_of leaf slot) (slot_end leaf slot)
@@ -96,10 +94,10 @@ module _ (leaf : LeafText) (texts : List CowStr) (links : List LinkParts) (slot 
   slot_as kind.End = row.EndSlot
   slot_as kind.Nothing = row.NothingSlot
 
-abbrev pub shown_slot : LeafText → List CowStr → List LinkParts → Slot → row.Slot
+abbrev pub shown_slot : LeafText → List CowStr → List Link → Slot → row.Slot
 shown_slot leaf texts links slot = slot_as leaf texts links slot slot.kind
 
-abbrev pub shown_slots : LeafText → List CowStr → List LinkParts → List Slot → List row.Slot
+abbrev pub shown_slots : LeafText → List CowStr → List Link → List Slot → List row.Slot
 shown_slots leaf texts links slots = map (shown_slot leaf texts links) slots
 
 -- ## Events
@@ -112,7 +110,7 @@ abbrev pub shown_opened : List Opened → List Ranged
 shown_opened opened = reverse (map shown_open opened)
 
 -- the events of some slots, and behind the last the ends of what is still open
-abbrev pub events_of : LeafText → List CowStr → List LinkParts → List Slot → List Opened → List Ranged
+abbrev pub events_of : LeafText → List CowStr → List Link → List Slot → List Opened → List Ranged
 events_of leaf texts links slots opened = slot_events (source_of leaf) (shown_slots leaf texts links slots) (shown_opened opened)
 
 -- the events that are still to come
@@ -122,12 +120,12 @@ events_to_come leaf state = events_of leaf state.texts.items state.links.items (
 -- an event is the first of some, and these are behind it; or there is none
 abbrev pub IsFirst : Option Given → (events behind : List Ranged) → Type 0
 IsFirst None events behind = (events ≡ []) × (behind ≡ [])
-IsFirst (Some given) events behind = events ≡ shown_given given ∷ behind
+IsFirst (Some given) events behind = events ≡ shown_ranged given ∷ behind
 
 -- an event in front of others, if there is one
 abbrev pub with_given : Option Given → List Ranged → List Ranged
 with_given None behind = behind
-with_given (Some given) behind = shown_given given ∷ behind
+with_given (Some given) behind = shown_ranged given ∷ behind
 
 -- ## What slots name: a text or a link is taken when its slot is given, so that it can be given once
 
@@ -165,7 +163,7 @@ EndsBehind leaf slot (kind.SourceText end) = (first_of leaf slot < end) × IsCha
 EndsBehind leaf slot _ = Unit {0}
 
 -- each text and each link that these slots name is there, and is named once
-pub record CanBeGiven (leaf : LeafText) (texts : List CowStr) (links : List LinkParts) (slots : List Slot) : Type 0 where
+pub record CanBeGiven (leaf : LeafText) (texts : List CowStr) (links : List Link) (slots : List Slot) : Type 0 where
   pub texts_there : All (λ (slot : Slot). IsThere (length texts) (text_named slot.kind)) slots
   pub links_there : All (λ (slot : Slot). IsThere (length links) (link_named slot.kind)) slots
   pub texts_once : AreOnce text_named slots

@@ -22,7 +22,7 @@ use Rattle.cmark_text.specs.Shown.{text_bytes}
 use Rattle.cmark_text.specs.declared.text.CowStr.{CowStr}
 use Rattle.cmark_inline.specs.Linked.{IsAutolink}
 use Rattle.cmark_inline.specs.Stands.{PushesText}
-use Rattle.cmark_inline.specs.declared.link.LinkParts.{LinkParts}
+use Rattle.cmark_items.specs.declared.allocations.Link.{Link}
 use Rattle.cmark_inline.specs.declared.slot.Element.TheVariants as element
 use Rattle.cmark_inline.specs.declared.slot.Slot.{Slot}
 use Rattle.cmark_inline.specs.declared.slot.SlotKind.{SlotKind}
@@ -145,7 +145,7 @@ pub record AppendsAutolink (options : Options) (lookup : Lookup) (is_cell : Bool
   pub token : begins_at options lookup is_cell text here.at ≡ item_at (Autolink (slice text (here.at + 1) (next.at - 1))) here.at next.at
   pub pending : next.pending ≡ next.at
   pub slots : PutsAutolink (length old.links.items) here.pending here.at next.at old.slots.items new.slots.items
-  pub parts : LinkParts
+  pub parts : Link
   pub link : IsAutolink text here.at next.at parts
   pub links : new.links.items ≡ old.links.items ++ (parts ∷ [])
   pub others : new ≡ record old { slots = new.slots; links = new.links }

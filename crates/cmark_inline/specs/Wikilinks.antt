@@ -12,7 +12,7 @@ use Rattle.cmark_text.specs.Shown.{shown_link_type, text_bytes}
 use Rattle.cmark_inline.specs.Doubled.{nearest}
 use Rattle.cmark_inline.specs.declared.bracket.Bracket.{Bracket}
 use Rattle.cmark_inline.specs.declared.bracket.Brackets.{Brackets}
-use Rattle.cmark_inline.specs.declared.link.LinkParts.{LinkParts}
+use Rattle.cmark_items.specs.declared.allocations.Link.{Link}
 use Rattle.cmark_inline.specs.declared.slot.Slot.{Slot}
 use Rattle.cmark_inline.specs.declared.slot.SlotKind.{SlotKind}
 use Rattle.cmark_inline.specs.declared.slot.SlotKind.TheVariants as kind
@@ -44,7 +44,7 @@ has_pothole None = false
 has_pothole (Some at) = true
 
 -- its name is where it leads, and it has no title and no label
-pub record IsNamed (wikilink : Wikilink) (parts : LinkParts) : Type 0 where
+pub record IsNamed (wikilink : Wikilink) (parts : Link) : Type 0 where
   pub form : shown_link_type parts.link_type ≡ link.WikiLink (has_pothole wikilink.display)
   pub destination : text_bytes parts.dest_url ≡ wikilink.name.now
   pub title : text_bytes parts.title ≡ []

@@ -21,7 +21,7 @@ ghost use Rattle.cmark_text.specs.declared.text.CowStr.{CowStr as Texts};
 ghost use Rattle.cmark_grammar.specs.Emphasis.{IsEmphasis, Pair};
 ghost use Rattle.cmark_inline.specs.MarkedSlots.{siblings_from};
 ghost use Rattle.cmark_inline.specs.SlotViews.{shown_slots};
-ghost use Rattle.cmark_inline.specs.declared.link.LinkParts.{LinkParts as Parts};
+ghost use Rattle.cmark_items.specs.declared.allocations.Link.{Link as Links};
 
 use crate::bracket::Bracket;
 use crate::callback::BrokenLinkCallback;
@@ -207,7 +207,7 @@ impl<'a> InlineState<'a> {
         ensures ends { OnOk result ((leaf : LeafTexts) → AreEnded leaf self.old.slots.items → AreEnded leaf self.new.slots.items) }
         ensures expansion_left { self.new.expansion_left ≡ self.old.expansion_left }
         ensures stands { OnOk result (Stands text.now target.entry.resume self.new) }
-        ensures parts { OnOk result (self.new.links.items ≡ self.old.links.items ++ (target.entry.parts ∷ [])) }
+        ensures kept { OnOk result (self.new.links.items ≡ self.old.links.items ++ (target.entry.link ∷ [])) }
         ensures doubled { OnOk result (DropsBehind bracket.start self.old.doubled.standing.items self.new.doubled.standing.items) }
         ensures inactive { OnOk result (bracket.is_image ≡ false → self.new.doubled.inactive_below ≡ length self.new.doubled.standing.items) }
         ensures link { OnOk result (bracket.is_image ≡ false → HoldNoLink self.new.slots.items (bracket.slot + 1)) }
@@ -215,9 +215,9 @@ impl<'a> InlineState<'a> {
         ensures label { self.new.label_close ≡ self.old.label_close }
         ensures writes { OnOk result (WritesElement (shown_options options) bracket target.entry self.old self.new) }
     {
-        let Target { parts, end, .. } = target;
+        let Target { link, end, .. } = target;
         let index = self.links.len();
-        self.links.push(parts)?;
+        self.links.push(link)?;
         self.doubled.drop_behind(bracket.start);
         if bracket.is_image {
             begin(&mut self.slots, bracket.slot, Element::Image(index), end);
@@ -257,7 +257,7 @@ impl<'a> InlineState<'a> {
         ensures length { OnOk result (length self.new.slots.items ≡ length self.old.slots.items + 1) }
         ensures links { OnOk result (NoNewLink self.old.slots.items self.new.slots.items) }
         ensures runs { OnOk result (bytes_of self.new.delimiters.placed.items ≤ bytes_of self.old.delimiters.placed.items) }
-        ensures dressed { OnOk result ((leaf : LeafTexts) (texts : List Texts) (links : List Parts) (pairs : List Pair) (spans : Spans) → IsEmphasis (siblings_from 0 (drop bracket.runs self.old.delimiters.placed.items)) pairs spans
+        ensures dressed { OnOk result ((leaf : LeafTexts) (texts : List Texts) (links : List Links) (pairs : List Pair) (spans : Spans) → IsEmphasis (siblings_from 0 (drop bracket.runs self.old.delimiters.placed.items)) pairs spans
             → shown_slots leaf texts links self.new.slots.items ≡ dressed_behind (shown_options options) bracket pairs self.old.delimiters.placed.items self.old.quotes.placed.items (shown_slots leaf texts links (self.old.slots.items ++ (end_slot close end ∷ [])))) }
     {
         push_slot(&mut self.slots, SlotKind::End, close, end)?;

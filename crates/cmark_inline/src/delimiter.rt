@@ -17,7 +17,7 @@ ghost use Rattle.cmark_inline.specs.SlotViews.{link_of, shown_element, shown_slo
 ghost use Rattle.cmark_inline.specs.Sound.{NamesNoMore};
 ghost use Rattle.cmark_inline.specs.Stands.{AreSlots, NoNewLink, bytes_of, is_link};
 ghost use Rattle.cmark_inline.specs.declared.delimiter.PlacedRun.{PlacedRun as Placed};
-ghost use Rattle.cmark_inline.specs.declared.link.LinkParts.{LinkParts};
+ghost use Rattle.cmark_items.specs.declared.allocations.Link.{Link};
 ghost use Rattle.cmark_inline.specs.declared.slot.Slot.{Slot as Slots};
 ghost use Rattle.cmark_inline.specs.declared.slot.SlotKind.TheVariants as kind;
 
@@ -116,7 +116,7 @@ impl Delimiters {
         ensures length { OnOk result (length slots.new.items ≡ length slots.old.items) }
         ensures links { OnOk result (NoNewLink slots.old.items slots.new.items) }
         ensures runs { OnOk result (bytes_of self.new.placed.items ≤ bytes_of self.old.placed.items) }
-        ensures marks { OnOk result ((leaf : LeafText) (texts : List CowStr) (links : List LinkParts) (pairs : List Pair) (spans : Spans)
+        ensures marks { OnOk result ((leaf : LeafText) (texts : List CowStr) (links : List Link) (pairs : List Pair) (spans : Spans)
             → IsEmphasis (siblings_from 0 (drop first self.old.placed.items)) pairs spans
             → shown_slots leaf texts links slots.new.items
             ≡ marked (shown_options options) (places_of (drop first self.old.placed.items)) (marks_by (length (places_of (drop first self.old.placed.items))) pairs) (shown_slots leaf texts links slots.old.items) []) }
@@ -236,7 +236,7 @@ fn write_run<'m>(
     ensures within { IfOk result (λ rest. EndWithin slots.old.items → EndWithin slots.new.items) }
     ensures names { IfOk result (λ rest. NamesNoMore slots.old.items slots.new.items) }
     ensures before { IfOk result (λ rest. (low : ℕ) → BeganFrom low (reverse begun.old.items) → low ≤ placed.slot → SameBefore low slots.old.items slots.new.items × BeganFrom low (reverse begun.new.items)) }
-    ensures marks { IfOk result (λ rest. (leaf : LeafText) (texts : List CowStr) (links : List LinkParts) (behind : List ℕ)
+    ensures marks { IfOk result (λ rest. (leaf : LeafText) (texts : List CowStr) (links : List Link) (behind : List ℕ)
         → AreReady slots.old.items (reverse begun.old.items) (run_places placed.slot placed.run.run_length behind) marks.entry.now
         → marked (shown_options options) (run_places placed.slot placed.run.run_length behind) (map shown_mark marks.entry.now) (shown_slots leaf texts links slots.old.items) (reverse begun.old.items)
         ≡ marked (shown_options options) behind (map shown_mark rest.now) (shown_slots leaf texts links slots.new.items) (reverse begun.new.items)) }
@@ -264,7 +264,7 @@ fn write_mark(
     ensures within { OnOk result (EndWithin slots.old.items → EndWithin slots.new.items) }
     ensures names { OnOk result (NamesNoMore slots.old.items slots.new.items) }
     ensures before { OnOk result ((low : ℕ) → BeganFrom low (reverse begun.old.items) → low ≤ slot → SameBefore low slots.old.items slots.new.items × BeganFrom low (reverse begun.new.items)) }
-    ensures marks { OnOk result ((leaf : LeafText) (texts : List CowStr) (links : List LinkParts) (behind : List ℕ) (others : List Marks)
+    ensures marks { OnOk result ((leaf : LeafText) (texts : List CowStr) (links : List Link) (behind : List ℕ) (others : List Marks)
         → AreReady slots.old.items (reverse begun.old.items) (slot ∷ behind) (mark ∷ others)
         → marked (shown_options options) (slot ∷ behind) (shown_mark mark ∷ map shown_mark others) (shown_slots leaf texts links slots.old.items) (reverse begun.old.items)
         ≡ marked (shown_options options) behind (map shown_mark others) (shown_slots leaf texts links slots.new.items) (reverse begun.new.items)) }
@@ -324,7 +324,7 @@ fn element_of(kind: SpanKind, options: Options) -> Option<Element>
     ensures value { IsElementOf (shown_options options) (shown_kind kind) result }
     ensures links { IfSome result (λ element. is_link element ≡ false) }
     ensures names { IfSome result (λ element. link_of element ≡ None) }
-    ensures tag { IfSome result (λ element. (links : List LinkParts) → span_tag (shown_options options) (shown_kind kind) ≡ Some (shown_element links element)) }
+    ensures tag { IfSome result (λ element. (links : List Link) → span_tag (shown_options options) (shown_kind kind) ≡ Some (shown_element links element)) }
 {
     match kind {
         SpanKind::Emphasis => Some(Element::Emphasis),

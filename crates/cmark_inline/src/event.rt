@@ -10,20 +10,23 @@ ghost use Rattle.cmark_inline_model.specs.FirstEvents.{BeginWithoutEnd};
 ghost use Rattle.cmark_leaf_text.specs.Reads.{IsRead, IsPart, place_of, text_of, source_of};
 ghost use Rattle.cmark_scan_parts.specs.Shown.{IsBorrowed};
 ghost use Rattle.cmark_grammar.specs.Tag as grammar_tag;
-ghost use Rattle.cmark_grammar.specs.TagEnd.{end_of, Image, Link};
+ghost use Rattle.cmark_grammar.specs.TagEnd as grammar_end;
+ghost use Rattle.cmark_grammar.specs.TagEnd.{end_of};
+ghost use Rattle.cmark_text.specs.Ranged.{IsRangedZeroCopy, shown_ranged};
 ghost use Rattle.cmark_text.specs.Shown.{shown, shown_end, shown_tag, text_bytes, IsBoxed, IsInlined};
 ghost use Rattle.cmark_text.specs.ZeroCopy.{IsLentBy, IsZeroCopy};
-ghost use Rattle.cmark_inline.specs.Opens.{element_end, Follows, Gives, GivesZeroCopy, Passes, events_left, shown_given};
-ghost use Rattle.cmark_inline.specs.SlotViews.{AreLeft, CanBeGiven, IsFirst, IsThere, KeepsOthers, event_in, events_of, events_to_come, link_named, link_of, linked_at, shown_element, shown_opened, shown_parts, text_at, text_named, with_given};
+ghost use Rattle.cmark_inline.specs.Opens.{element_end, Follows, Gives, Passes, events_left};
+ghost use Rattle.cmark_items.specs.Links.{shown_link};
+ghost use Rattle.cmark_inline.specs.SlotViews.{AreLeft, CanBeGiven, IsFirst, IsThere, KeepsOthers, event_in, events_of, events_to_come, link_named, link_of, linked_at, shown_element, shown_opened, text_at, text_named, with_given};
 ghost use Rattle.cmark_inline.specs.Stands.{AreOpened, AreSlots, IsSlot};
 ghost use Rattle.cmark_inline.specs.declared.slot.Slot.{Slot as Slots};
 
 use crate::content::Content;
-use crate::link::LinkParts;
 use crate::slot::{Element, Slot, SlotKind};
 use crate::state::InlineState;
+use cmark_items::Link;
 use cmark_leaf_text::LeafText;
-use cmark_text::{CowStr, Event, Tag, TagEnd};
+use cmark_text::{CowStr, Event, Ranged, Tag, TagEnd};
 use std::alloc::{AllocError, Global};
 use std::ops::Range;
 
@@ -59,18 +62,11 @@ impl Walk {
     }
 }
 
-/// An event, and the bytes of the source that it comes from.
-#[derive(Drop)]
-pub struct Given<'a> {
-    pub event: Event<'a>,
-    pub range: Range<usize>,
-}
-
 impl<'a> InlineState<'a> {
     /// The next event of the leaf that was resolved, with its range in the source; `None` behind the last. The end of an element takes no
     /// memory.
     #[inline(always)]
-    pub fn next(&mut self, leaf: &LeafText<'a>) -> Result<Option<Given<'a>>, AllocError>
+    pub fn next(&mut self, leaf: &LeafText<'a>) -> Result<Option<Ranged<'a>>, AllocError>
         requires read { IsRead leaf.now }
         requires slots { AreSlots (text_of leaf.now) (length (text_of leaf.now)) self.old.slots.items }
         requires opened { AreOpened (source_of leaf.now) self.old.walk.opened.items }
@@ -78,7 +74,7 @@ impl<'a> InlineState<'a> {
         ensures slots { self.new.slots ≡ self.old.slots }
         ensures opened { AreOpened (source_of leaf.now) self.new.walk.opened.items }
         ensures gives { IfOk result (λ given. Gives (source_of leaf.now) self.old.walk.opened.items given self.new.walk.opened.items) }
-        ensures lent { IfOk result (λ given. IfSome given (GivesZeroCopy (source_of leaf.now))) }
+        ensures lent { IfOk result (λ given. IfSome given (IsRangedZeroCopy (source_of leaf.now))) }
         ensures fewer { IfOk result (λ given. OnSome given (events_left self.new < events_left self.old)) }
         ensures most { OnOk result (events_left self.new ≤ events_left self.old) }
         ensures few { OnOk result (length self.new.slots.items < 18446744073709551616) }
@@ -100,7 +96,7 @@ impl<'a> InlineState<'a> {
 
     // The event of a slot, if it has one.
     #[inline(always)]
-    fn give(&mut self, leaf: &LeafText<'a>, slot: Slot) -> Result<Option<Given<'a>>, AllocError>
+    fn give(&mut self, leaf: &LeafText<'a>, slot: Slot) -> Result<Option<Ranged<'a>>, AllocError>
         requires read { IsRead leaf.now }
         requires slot { IsSlot (text_of leaf.now) (length (text_of leaf.now)) slot }
         requires opened { AreOpened (source_of leaf.now) self.old.walk.opened.items }
@@ -111,7 +107,7 @@ impl<'a> InlineState<'a> {
         ensures place { self.new.walk.next ≡ self.old.walk.next }
         ensures opened { AreOpened (source_of leaf.now) self.new.walk.opened.items }
         ensures gives { IfOk result (λ given. Passes (source_of leaf.now) self.old.walk.opened.items given self.new.walk.opened.items) }
-        ensures lent { IfOk result (λ given. IfSome given (GivesZeroCopy (source_of leaf.now))) }
+        ensures lent { IfOk result (λ given. IfSome given (IsRangedZeroCopy (source_of leaf.now))) }
         ensures events { (behind : List Slots) → CanBeGiven leaf.now self.old.texts.items self.old.links.items (slot ∷ behind)
             → IfOk result (λ given. events_of leaf.now self.old.texts.items self.old.links.items (slot ∷ behind) self.old.walk.opened.items
             ≡ with_given given (events_of leaf.now self.new.texts.items self.new.links.items behind self.new.walk.opened.items)) }
@@ -129,18 +125,18 @@ impl<'a> InlineState<'a> {
             SlotKind::SourceHtml(end) => {
                 let (html, range) = source_part(leaf, slot, end);
                 let event = Event::InlineHtml(html);
-                Ok(Some(Given { event, range }))
+                Ok(Some(Ranged { event, range }))
             }
             SlotKind::SourceText(end) => {
                 let (text, range) = source_part(leaf, slot, end);
                 let event = Event::Text(text);
-                Ok(Some(Given { event, range }))
+                Ok(Some(Ranged { event, range }))
             }
             SlotKind::Empty => Ok(Some(empty_text(leaf, slot))),
             _ => {
                 let event = self.single(leaf, slot)?;
                 let range = leaf.range(slot.start, slot.end);
-                Ok(Some(Given { event, range }))
+                Ok(Some(Ranged { event, range }))
             }
         }
     }
@@ -151,7 +147,7 @@ impl<'a> InlineState<'a> {
         leaf: &LeafText<'a>,
         slot: Slot,
         element: Element,
-    ) -> Result<Given<'a>, AllocError>
+    ) -> Result<Ranged<'a>, AllocError>
         requires read { IsRead leaf.now }
         requires slot { IsSlot (text_of leaf.now) (length (text_of leaf.now)) slot }
         requires opened { AreOpened (source_of leaf.now) self.old.walk.opened.items }
@@ -160,9 +156,9 @@ impl<'a> InlineState<'a> {
         ensures expansion_left { self.new.expansion_left ≡ self.old.expansion_left }
         ensures place { self.new.walk.next ≡ self.old.walk.next }
         ensures opened { AreOpened (source_of leaf.now) self.new.walk.opened.items }
-        ensures gives { IfOk result (λ given. Follows (source_of leaf.now) self.old.walk.opened.items (shown_given given) self.new.walk.opened.items) }
-        ensures lent { IfOk result (GivesZeroCopy (source_of leaf.now)) }
-        ensures event { IfOk result (λ given. shown_given given ≡ over (source_of leaf.now) (place_of leaf.now slot.start) (place_of leaf.now (slot.end - 1) + 1) (Start (shown_element self.old.links.items element))) }
+        ensures gives { IfOk result (λ given. Follows (source_of leaf.now) self.old.walk.opened.items (shown_ranged given) self.new.walk.opened.items) }
+        ensures lent { IfOk result (IsRangedZeroCopy (source_of leaf.now)) }
+        ensures event { IfOk result (λ given. shown_ranged given ≡ over (source_of leaf.now) (place_of leaf.now slot.start) (place_of leaf.now (slot.end - 1) + 1) (Start (shown_element self.old.links.items element))) }
         ensures opens { OnOk result (shown_opened self.new.walk.opened.items ≡ over (source_of leaf.now) (place_of leaf.now slot.start) (place_of leaf.now (slot.end - 1) + 1) (End (end_of (shown_element self.old.links.items element))) ∷ shown_opened self.old.walk.opened.items) }
         ensures links { KeepsOthers (link_of element) self.old.links.items self.new.links.items }
         ensures texts { self.new.texts ≡ self.old.texts }
@@ -174,20 +170,20 @@ impl<'a> InlineState<'a> {
             start: range.start,
             end: range.end,
         })?;
-        Ok(Given {
+        Ok(Ranged {
             event: Event::Start(self.tag(element)),
             range,
         })
     }
 
     #[inline(always)]
-    fn end_last(&mut self) -> Option<Given<'a>>
+    fn end_last(&mut self) -> Option<Ranged<'a>>
         ensures slots { self.new.slots ≡ self.old.slots }
         ensures expansion_left { self.new.expansion_left ≡ self.old.expansion_left }
         ensures place { self.new.walk.next ≡ self.old.walk.next }
         ensures opened { (source : List ℕ) → AreOpened source self.old.walk.opened.items → AreOpened source self.new.walk.opened.items }
         ensures gives { (source : List ℕ) → AreOpened source self.old.walk.opened.items → Gives source self.old.walk.opened.items result self.new.walk.opened.items }
-        ensures lent { (source : List ℕ) → IfSome result (GivesZeroCopy source) }
+        ensures lent { (source : List ℕ) → IfSome result (IsRangedZeroCopy source) }
         ensures fewer { OnSome result (length self.new.walk.opened.items < length self.old.walk.opened.items) }
         ensures most { length self.new.walk.opened.items ≤ length self.old.walk.opened.items }
         ensures first { IsFirst result (shown_opened self.old.walk.opened.items) (shown_opened self.new.walk.opened.items) }
@@ -195,7 +191,7 @@ impl<'a> InlineState<'a> {
         ensures texts { self.new.texts ≡ self.old.texts }
     {
         let opened = self.walk.opened.pop()?;
-        Some(Given {
+        Some(Ranged {
             event: Event::End(opened.tag),
             range: opened.start..opened.end,
         })
@@ -223,16 +219,16 @@ impl<'a> InlineState<'a> {
         }
     }
 
-    fn take_link(&mut self, index: usize) -> LinkParts<'a>
+    fn take_link(&mut self, index: usize) -> Link<'a>
         requires { index < length self.old.links.items }
         ensures slots { self.new.slots ≡ self.old.slots }
         ensures expansion_left { self.new.expansion_left ≡ self.old.expansion_left }
         ensures walk { self.new.walk ≡ self.old.walk }
-        ensures value { shown_parts result ≡ linked_at self.old.links.items index }
+        ensures value { shown_link result ≡ linked_at self.old.links.items index }
         ensures links { KeepsOthers (Some index) self.old.links.items self.new.links.items }
         ensures texts { self.new.texts ≡ self.old.texts }
     {
-        std::mem::replace(&mut self.links[index], LinkParts::none())
+        std::mem::replace(&mut self.links[index], Link::none())
     }
 
     fn take_text(&mut self, index: usize) -> CowStr<'a>
@@ -313,12 +309,12 @@ fn element_end(element: Element) -> TagEnd
     }
 }
 
-fn link_tag<'a>(link: LinkParts<'a>) -> Tag<'a>
+fn link_tag<'a>(link: Link<'a>) -> Tag<'a>
     ensures span { IsSpan (shown_tag result) }
-    ensures end { end_of (shown_tag result) ≡ Link }
-    ensures value { shown_tag result ≡ grammar_tag.Link (shown_parts link.entry) }
+    ensures end { end_of (shown_tag result) ≡ grammar_end.Link }
+    ensures value { shown_tag result ≡ grammar_tag.Link (shown_link link.entry) }
 {
-    let LinkParts {
+    let Link {
         link_type,
         dest_url,
         title,
@@ -332,12 +328,12 @@ fn link_tag<'a>(link: LinkParts<'a>) -> Tag<'a>
     }
 }
 
-fn image_tag<'a>(link: LinkParts<'a>) -> Tag<'a>
+fn image_tag<'a>(link: Link<'a>) -> Tag<'a>
     ensures span { IsSpan (shown_tag result) }
-    ensures end { end_of (shown_tag result) ≡ Image }
-    ensures value { shown_tag result ≡ grammar_tag.Image (shown_parts link.entry) }
+    ensures end { end_of (shown_tag result) ≡ grammar_end.Image }
+    ensures value { shown_tag result ≡ grammar_tag.Image (shown_link link.entry) }
 {
-    let LinkParts {
+    let Link {
         link_type,
         dest_url,
         title,
@@ -413,17 +409,17 @@ fn source_part<'a>(leaf: &LeafText<'a>, slot: Slot, end: usize) -> (CowStr<'a>, 
 }
 
 // A text of no bytes, before the first byte of a slot.
-fn empty_text<'a>(leaf: &LeafText<'a>, slot: Slot) -> Given<'a>
+fn empty_text<'a>(leaf: &LeafText<'a>, slot: Slot) -> Ranged<'a>
     requires read { IsRead leaf.now }
     requires slot { IsSlot (text_of leaf.now) (length (text_of leaf.now)) slot }
     ensures start { result.range.start ≡ place_of leaf.now slot.start }
     ensures end { result.range.end ≡ place_of leaf.now slot.start }
     ensures range { IsRange (source_of leaf.now) result.range.start result.range.end }
     ensures value { shown result.event ≡ Text [] }
-    ensures lent { GivesZeroCopy (source_of leaf.now) result }
+    ensures lent { IsRangedZeroCopy (source_of leaf.now) result }
 {
     let start = leaf.range(slot.start, slot.end).start;
-    Given {
+    Ranged {
         event: Event::Text(CowStr::Borrowed("")),
         range: start..start,
     }

@@ -18,7 +18,7 @@ ghost use Rattle.cmark_inline.specs.PlainStretches.{StandsForItself};
 ghost use Rattle.cmark_inline.specs.Reached.{ReadsPlaces};
 ghost use Rattle.cmark_inline.specs.SlotViews.{shown_slot};
 ghost use Rattle.cmark_inline.specs.Tokens.{IsItem, begins_at};
-ghost use Rattle.cmark_inline.specs.declared.link.LinkParts.{LinkParts};
+ghost use Rattle.cmark_items.specs.declared.allocations.Link.{Link};
 ghost use Rattle.cmark_inline.specs.declared.slot.Slot.{Slot};
 ghost use Rattle.cmark_inline.specs.declared.slot.SlotKind.TheVariants as kind;
 
@@ -44,7 +44,7 @@ pub fn a_leaf_begins_and_ends_with_its_bytes()
 /// the same bytes.
 pub fn a_slot_is_like_its_item_in_the_source()
     ensures { (leaf : LeafText) (reader : Reader) (read : Leaf) (place : ℕ → ℕ) → ReadsPlaces leaf reader read place
-        → (texts : List CowStr) (links : List LinkParts) (slot : Slot) (item : Item) (at resume : ℕ)
+        → (texts : List CowStr) (links : List Link) (slot : Slot) (item : Item) (at resume : ℕ)
         → begins_at reader.options reader.lookup (is_cell_of leaf) (text_of leaf) at ≡ Stands item resume → may_open_markup (drop at (text_of leaf)) ≡ false
         → IsItem (is_cell_of leaf) (text_of leaf) texts item slot → item.start < item.end → item.end ≤ length (text_of leaf)
         → IsLike reader.source (shown_slot leaf texts links slot) (ItemSlot (placed_item place item)) }
@@ -62,6 +62,6 @@ pub fn a_pending_text_is_one_item_in_the_source()
         → begins_at reader.options reader.lookup (is_cell_of leaf) (text_of leaf) at ≡ item_at Plain start end → may_open_markup (drop at (text_of leaf)) ≡ false
         → start < end → end ≤ to → to ≤ length (text_of leaf) → ((k : ℕ) → end ≤ k → k < to → StandsForItself reader.options reader.lookup (is_cell_of leaf) (text_of leaf) k to)
         → StopsAt (text_reader reader.options reader.lookup (text_of leaf)) (one_stretch (is_cell_of leaf) (text_of leaf)) to → at ≤ length (text_of leaf)
-        → (texts : List CowStr) (links : List LinkParts)
+        → (texts : List CowStr) (links : List Link)
         → IsLike reader.source (shown_slot leaf texts links (record { kind = kind.Text; start = start; end = to })) (ItemSlot (placed_item place (record { kind = Plain; start = start; end = to }))) }
 {}

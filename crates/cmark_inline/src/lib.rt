@@ -31,7 +31,6 @@ mod text;
 mod wikilink;
 
 pub use callback::{BrokenLink, BrokenLinkCallback, DefaultBrokenLinkCallback, OwnedLinkCallback};
-pub use event::Given;
 pub use read::Reader;
 pub use special::{SpecialBytes, special_bytes};
 pub use state::InlineState;

@@ -6,41 +6,19 @@ ghost use Rattle.cmark_leaf_text.specs.Reads.{IsRead, is_cell_of, text_of};
 ghost use Rattle.cmark_grammar.specs.Letters.{first_is};
 ghost use Rattle.cmark_text.specs.Shown.{text_bytes};
 ghost use Rattle.cmark_inline.specs.Linked.{FindsInline, resolved_title, shown_target};
-ghost use Rattle.cmark_inline.specs.SlotViews.{linked_or_none, shown_parts};
 
 use cmark_finds::{link_tail, title_text};
+use cmark_items::Link;
 use cmark_leaf_text::LeafText;
 use cmark_scan_parts::unescape;
 use cmark_text::{CowStr, EntityLookup, LinkType};
 use std::alloc::{AllocError, Global};
 
-/// What a link or an image is.
-#[derive(Drop)]
-pub struct LinkParts<'a> {
-    pub link_type: LinkType,
-    pub dest_url: CowStr<'a>,
-    pub title: CowStr<'a>,
-    pub id: CowStr<'a>,
-}
-
-impl<'a> LinkParts<'a> {
-    /// A link that was taken.
-    pub fn none() -> LinkParts<'a>
-        ensures { shown_parts result ≡ linked_or_none None }
-    {
-        LinkParts {
-            link_type: LinkType::Inline,
-            dest_url: CowStr::Borrowed(""),
-            title: CowStr::Borrowed(""),
-            id: CowStr::Borrowed(""),
-        }
-    }
-}
-
 /// What forms a link or an image.
 #[derive(Drop)]
 pub struct Target<'a> {
-    pub parts: LinkParts<'a>,
+    /// What it says of itself.
+    pub link: Link<'a>,
     /// The place behind the link.
     pub end: usize,
     /// The place behind all that it uses up, where the text is read on.
@@ -64,7 +42,7 @@ fn inline_in<'t, E: EntityLookup>(
     let dest_url = unescape(alloc, CowStr::Borrowed(tail.destination), is_cell, entities)?;
     let title = resolved_title(alloc, tail.title, is_cell, entities)?;
     Ok(Some(Target {
-        parts: LinkParts {
+        link: Link {
             link_type: LinkType::Inline,
             dest_url,
             title,
@@ -95,18 +73,18 @@ fn own_target(alloc: Global, target: Target<'_>) -> Result<Target<'static>, Allo
     ensures value { IfOk result (λ made. (text : List ℕ) → shown_target text made ≡ shown_target text target.entry) }
     ensures ends { IfOk result (λ made. (made.end ≡ target.entry.end) × (made.resume ≡ target.entry.resume)) }
 {
-    let Target { parts, end, resume } = target;
-    let LinkParts {
+    let Target { link, end, resume } = target;
+    let Link {
         link_type,
         dest_url,
         title,
         id,
-    } = parts;
+    } = link;
     let dest_url = dest_url.into_static(alloc)?;
     let title = title.into_static(alloc)?;
     let id = id.into_static(alloc)?;
     Ok(Target {
-        parts: LinkParts {
+        link: Link {
             link_type,
             dest_url,
             title,

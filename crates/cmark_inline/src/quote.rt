@@ -8,7 +8,7 @@ ghost use Rattle.cmark_inline.specs.MarkedSlots.{HaveTexts};
 ghost use Rattle.cmark_inline.specs.QuoteSlots.{characters_of, with_characters};
 ghost use Rattle.cmark_inline.specs.SlotViews.{shown_slots};
 ghost use Rattle.cmark_inline.specs.Stands.{AreSlots, NoNewLink};
-ghost use Rattle.cmark_inline.specs.declared.link.LinkParts.{LinkParts};
+ghost use Rattle.cmark_items.specs.declared.allocations.Link.{Link};
 ghost use Rattle.cmark_inline.specs.declared.quote.PlacedQuote.{PlacedQuote};
 
 use crate::slot::{Slot, become_character};
@@ -91,7 +91,7 @@ impl Quotes {
         ensures slots { OnOk result ((text : List ℕ) (place : ℕ) → AreSlots text place slots.old.items → AreSlots text place slots.new.items) }
         ensures length { OnOk result (length slots.new.items ≡ length slots.old.items) }
         ensures links { OnOk result (NoNewLink slots.old.items slots.new.items) }
-        ensures quotes { OnOk result ((leaf : LeafText) (texts : List CowStr) (links : List LinkParts)
+        ensures quotes { OnOk result ((leaf : LeafText) (texts : List CowStr) (links : List Link)
             → shown_slots leaf texts links slots.new.items ≡ quoted (map (λ (p : PlacedQuote). p.slot) (drop first self.old.placed.items)) (characters_of (drop first self.old.placed.items)) (shown_slots leaf texts links slots.old.items)) }
         ensures placed { OnOk result (self.new.placed.items ≡ take first self.old.placed.items) }
         ensures succeeds { length self.old.placed.items ≤ first → IsOk result }

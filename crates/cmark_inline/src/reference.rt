@@ -16,11 +16,11 @@ ghost use Rattle.cmark_grammar.specs.Tokens.{slice};
 use crate::bracket::Bracket;
 use crate::callback::{BrokenLink, BrokenLinkCallback};
 use crate::footnote::{full_label, is_footnote_label};
-use crate::link::{LinkParts, Target};
+use crate::link::Target;
 use crate::read::Reader;
 use crate::state::InlineState;
 use cmark_finds::{collapsed_end, is_bracketed_label};
-use cmark_items::RefDefs;
+use cmark_items::{Link, RefDefs};
 use cmark_leaf_text::LeafText;
 use cmark_scan_parts::with_literal_pipes;
 use cmark_text::{CowStr, EntityLookup, LinkLabel, LinkType, Options};
@@ -201,7 +201,7 @@ impl<'a> InlineState<'a> {
         id: CowStr<'a>,
         link_reference: LinkReference<'_>,
     ) -> Target<'a>
-        ensures parts { result.parts ≡ record { link_type = link_type; dest_url = found.entry.dest_url; title = found.entry.title; id = id.entry } }
+        ensures link { result.link ≡ record { link_type = link_type; dest_url = found.entry.dest_url; title = found.entry.title; id = id.entry } }
         ensures end { result.end ≡ link_reference.entry.end }
         ensures resume { result.resume ≡ link_reference.entry.resume }
         ensures expansion_left { self.new.expansion_left ≡ left_behind self.old.expansion_left (Some result) }
@@ -215,7 +215,7 @@ impl<'a> InlineState<'a> {
         self.expansion_left = self.expansion_left.saturating_sub(dest_url.as_str().len());
         self.expansion_left = self.expansion_left.saturating_sub(title.as_str().len());
         Target {
-            parts: LinkParts {
+            link: Link {
                 link_type,
                 dest_url,
                 title,

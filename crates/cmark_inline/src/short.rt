@@ -20,7 +20,7 @@ ghost use Rattle.cmark_inline.specs.Stands.{AreOpened, AreSlots, IsSlot};
 ghost use Rattle.cmark_inline.specs.declared.event.Opened.{Opened as OpenedOnes};
 ghost use Rattle.cmark_inline.specs.declared.slot.Slot.{Slot as Slots};
 ghost use Rattle.cmark_leaf_text.specs.declared.leaf_text.LeafText.{LeafText as LeafTexts};
-ghost use Rattle.cmark_inline.specs.declared.link.LinkParts.{LinkParts as Links};
+ghost use Rattle.cmark_items.specs.declared.allocations.Link.{Link as Links};
 ghost use Rattle.cmark_text.specs.declared.event.TagEnd.{TagEnd as TagEnds};
 ghost use Rattle.cmark_text.specs.declared.text.CowStr.{CowStr as Texts};
 ghost use Rattle.cmark_text.specs.declared.short.PlainTag.{PlainTag as PlainTags};

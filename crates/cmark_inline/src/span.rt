@@ -6,7 +6,7 @@ ghost use Rattle.cmark_grammar.specs.Options.{Options};
 ghost use Rattle.cmark_finds.specs.Backticks.{AreRunsOf};
 ghost use Rattle.cmark_leaf_text.specs.Reads.{IsRead, IsPart, text_of};
 ghost use Rattle.cmark_inline.specs.Linked.{IsAutolink};
-ghost use Rattle.cmark_inline.specs.declared.link.LinkParts.{LinkParts as Parts};
+ghost use Rattle.cmark_items.specs.declared.allocations.Link.{Link as Links};
 ghost use Rattle.cmark_inline.specs.ReadsOn.{ReadsOn};
 ghost use Rattle.cmark_inline.specs.Stands.{IsAtByte, IsCursor, Moves, Stands};
 ghost use Rattle.cmark_inline.specs.Tokens.{Appends, PutsAutolink, TakesEscaped};
@@ -14,13 +14,13 @@ ghost use Rattle.cmark_inline.specs.MarkupInSource.{AreUnclosed, ReadsLess};
 ghost use Rattle.cmark_inline.specs.Sound.{AreEnded, IsSound};
 
 use crate::event::text_between;
-use crate::link::LinkParts;
 use crate::markup::Unclosed;
 use crate::place::{autolink_end, behind, is_followed_by, onto_words, pass, run_end, text_start};
 use crate::slot::{Element, Slot, SlotKind};
 use crate::state::InlineState;
 use crate::step::Cursor;
 use cmark_finds::BacktickRuns;
+use cmark_items::Link;
 use cmark_leaf_text::LeafText;
 use cmark_text::{CowStr, LinkType};
 use std::alloc::AllocError;
@@ -120,7 +120,7 @@ impl<'a> InlineState<'a> {
         ensures at { IfOk result (λ next. (next.pending ≡ end) × (next.at ≡ end)) }
         ensures slots { OnOk result (PutsAutolink (length self.old.links.items) here.pending here.at end self.old.slots.items self.new.slots.items) }
         ensures others { OnOk result (self.new ≡ record self.old { slots = self.new.slots; links = self.new.links }) }
-        ensures link { IfOk result (λ next. (parts : Parts) × IsAutolink text.now here.at end parts × (self.new.links.items ≡ self.old.links.items ++ (parts ∷ []))) }
+        ensures link { IfOk result (λ next. (parts : Links) × IsAutolink text.now here.at end parts × (self.new.links.items ≡ self.old.links.items ++ (parts ∷ []))) }
         ensures expansion_left { self.new.expansion_left ≡ self.old.expansion_left }
         ensures moves { IfOk result (Moves text.now here.at self.new) }
     {
@@ -130,7 +130,7 @@ impl<'a> InlineState<'a> {
             start: here.at,
             end,
         };
-        self.links.push(LinkParts {
+        self.links.push(Link {
             link_type: LinkType::Autolink,
             dest_url,
             title: CowStr::Borrowed(""),

@@ -8,9 +8,9 @@ ghost use Rattle.cmark_inline.specs.Stands.{Stands};
 use crate::bracket::Brackets;
 use crate::delimiter::Delimiters;
 use crate::event::Walk;
-use crate::link::LinkParts;
 use crate::quote::Quotes;
 use crate::slot::Slot;
+use cmark_items::Link;
 use cmark_text::CowStr;
 use std::alloc::Global;
 
@@ -28,7 +28,7 @@ pub struct InlineState<'a> {
     pub(crate) delimiters: Delimiters,
     pub(crate) quotes: Quotes,
     pub(crate) texts: Vec<CowStr<'a>>,
-    pub(crate) links: Vec<LinkParts<'a>>,
+    pub(crate) links: Vec<Link<'a>>,
     pub(crate) expansion_left: usize,
     pub(crate) label_close: Option<usize>,
     pub(crate) walk: Walk,

@@ -17,15 +17,15 @@ ghost use Rattle.cmark_inline.specs.declared.bracket.Bracket.{Bracket as Opening
 ghost use Rattle.cmark_leaf_text.specs.declared.leaf_text.LeafText.{LeafText as LeafTexts};
 ghost use Rattle.cmark_inline.specs.Stands.{AreSlots, HoldNoLink, IsBracket, Moves, NoNewLink, Stands};
 ghost use Rattle.cmark_inline.specs.Wikilinks.{IsNamed, IsWikilink, Shows, forms_wikilink, wiki_text};
-ghost use Rattle.cmark_inline.specs.declared.link.LinkParts.{LinkParts as Parts};
+ghost use Rattle.cmark_items.specs.declared.allocations.Link.{Link as Links};
 
 use crate::bracket::Bracket;
-use crate::link::LinkParts;
 use crate::place::is_followed_by;
 use crate::slot::{Element, SlotKind, begin, cut, first_behind, hide, push_slot};
 use crate::state::InlineState;
 use crate::step::Cursor;
 use bitflags::Flags;
+use cmark_items::Link;
 use cmark_leaf_text::LeafText;
 use cmark_scan_parts::scan_wikilink_pipe;
 use cmark_text::{CowStr, LinkType, Options};
@@ -98,10 +98,10 @@ fn linked_element(is_image: bool, index: usize) -> Element
 }
 
 // A wikilink leads by its name, and has no title and no label.
-fn link_parts(wikilink: Wikilink<'_>) -> LinkParts<'_>
+fn named_link(wikilink: Wikilink<'_>) -> Link<'_>
     ensures { IsNamed wikilink.entry result }
 {
-    LinkParts {
+    Link {
         link_type: LinkType::WikiLink {
             has_pothole: wikilink.display.is_some(),
         },
@@ -182,7 +182,7 @@ impl<'a> InlineState<'a> {
         ensures ends { OnOk result ((leaf : LeafTexts) → AreEnded leaf self.old.slots.items → EndsIn leaf close (Some wikilink.entry.source_end) → AreEnded leaf self.new.slots.items) }
         ensures expansion_left { self.new.expansion_left ≡ self.old.expansion_left }
         ensures stands { OnOk result (Stands text.now (close + 2) self.new) }
-        ensures parts { OnOk result ((parts : Parts) × IsNamed wikilink.entry parts × (self.new.links.items ≡ self.old.links.items ++ (parts ∷ []))) }
+        ensures parts { OnOk result ((parts : Links) × IsNamed wikilink.entry parts × (self.new.links.items ≡ self.old.links.items ++ (parts ∷ []))) }
         ensures link { OnOk result (doubled.is_image ≡ false → HoldNoLink self.new.slots.items (doubled.slot + 1)) }
         ensures runs { OnOk result (length self.new.delimiters.placed.items ≤ doubled.runs) }
         ensures quotes { OnOk result (length self.new.quotes.placed.items ≤ doubled.quotes) }
@@ -195,7 +195,7 @@ impl<'a> InlineState<'a> {
     {
         let end = close + 2;
         let index = self.links.len();
-        self.links.push(link_parts(wikilink))?;
+        self.links.push(named_link(wikilink))?;
         let inside = self.show(text, doubled, close, wikilink)?;
         let element = linked_element(doubled.is_image, index);
         begin(&mut self.slots, doubled.slot, element, end);

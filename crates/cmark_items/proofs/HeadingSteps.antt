@@ -1,9 +1,11 @@
 -- The words between braces, one after the other.
 use Rattle.std.proofs.Common.{◌≡◌, ℕ, zero, suc, ◌<◌, Bool, true, false, ◌==◌, ◌||◌, not, ◌++◌, List, [], ◌∷◌, length, take, drop, Option, Some, None, refl, sym, ap, ◌∙◌, arith, cond, true≢false}
+use Rattle.std.specs.Char.{is_ascii_whitespace}
 use Rattle.std.specs.List.{take_while}
 use Rattle.std.specs.Prelude.{get_or, if◌then◌else◌}
+use Rattle.std.proofs.lemmas.Bool.Decides.{nat_tests}
 use Rattle.std.proofs.lemmas.List.Sums.{take_while-cons}
-use Rattle.cmark_grammar.specs.Attributes.{Attributes, is_white_space, is_no_equals, put_byte, words, value_behind, attribute_of, with_word}
+use Rattle.cmark_grammar.specs.Attributes.{Attributes, is_no_equals, put_byte, words, value_behind, attribute_of, with_word}
 use Rattle.cmark_items.specs.Headings.{is_in_word, words_behind}
 
 -- how much is left
@@ -14,16 +16,16 @@ left_size (Some bs) = suc (length bs)
 -- the first word, and those behind the white space that ends it
 pub words-cut : (bs : List ℕ) → words bs ≡ take (length (take_while is_in_word bs)) bs ∷ words_behind (value_behind (drop (length (take_while is_in_word bs)) bs))
 words-cut [] = refl
-words-cut (b ∷ bs) = go (is_white_space b) refl (words-cut bs)
+words-cut (b ∷ bs) = go (is_ascii_whitespace b) refl (words-cut bs)
   where
     n : ℕ
     n = length (take_while is_in_word bs)
 
-    at : (z : Bool) → is_white_space b ≡ z → length (take_while is_in_word (b ∷ bs)) ≡ length (cond (not z) (b ∷ take_while is_in_word bs) [])
+    at : (z : Bool) → is_ascii_whitespace b ≡ z → length (take_while is_in_word (b ∷ bs)) ≡ length (cond (not z) (b ∷ take_while is_in_word bs) [])
     at z e = ap length (take_while-cons is_in_word b bs) ∙ ap (λ y. length (cond (not y) (b ∷ take_while is_in_word bs) [])) e
 
-    go : (z : Bool) → is_white_space b ≡ z → words bs ≡ take n bs ∷ words_behind (value_behind (drop n bs)) →
-        put_byte (is_white_space b) b (words bs) ≡ take (length (take_while is_in_word (b ∷ bs))) (b ∷ bs) ∷ words_behind (value_behind (drop (length (take_while is_in_word (b ∷ bs))) (b ∷ bs)))
+    go : (z : Bool) → is_ascii_whitespace b ≡ z → words bs ≡ take n bs ∷ words_behind (value_behind (drop n bs)) →
+        put_byte (is_ascii_whitespace b) b (words bs) ≡ take (length (take_while is_in_word (b ∷ bs))) (b ∷ bs) ∷ words_behind (value_behind (drop (length (take_while is_in_word (b ∷ bs))) (b ∷ bs)))
     go true e ih = ap (λ y. put_byte y b (words bs)) e ∙ sym (ap (λ k. take k (b ∷ bs) ∷ words_behind (value_behind (drop k (b ∷ bs)))) (at true e))
     go false e ih =
         ap (λ y. put_byte y b (words bs)) e ∙ ap (put_byte false b) ih
@@ -44,22 +46,13 @@ behind-fails p (b ∷ bs) l = go (p b) refl (behind-fails p bs)
 is_byte : (b n : ℕ) → (b == n) ≡ true → n < 128 → b < 128
 is_byte b n e l = grind (arith, e, l)
 
-one-of : (b n : ℕ) (q : Bool) → n < 128 → ((b == n) || q) ≡ true → (q ≡ true → b < 128) → b < 128
-one-of b n q l e more = go (b == n) refl e
-  where
-    go : (z : Bool) → (b == n) ≡ z → (z || q) ≡ true → b < 128
-    go true f g = is_byte b n f l
-    go false f g = more g
-
 not-false : (z : Bool) → not z ≡ false → z ≡ true
 not-false true e = refl
 not-false false e = absurd (true≢false e)
 
 -- a byte that ends a word is ASCII, and so is one that ends a name
 pub white-ascii : (b : ℕ) → is_in_word b ≡ false → b < 128
-white-ascii b e =
-    one-of b 9 _ (omega arith) (not-false (is_white_space b) e)
-    (λ f. one-of b 10 _ (omega arith) f (λ g. one-of b 12 _ (omega arith) g (λ h. one-of b 13 _ (omega arith) h (λ i. is_byte b 32 i (omega arith)))))
+white-ascii b e = let white : is_ascii_whitespace b ≡ true = not-false (is_ascii_whitespace b) e in grind (arith, nat_tests, white)
 
 pub equals-ascii : (b : ℕ) → is_no_equals b ≡ false → b < 128
 equals-ascii b e = is_byte b 61 (not-false (b == 61) e) (omega arith)

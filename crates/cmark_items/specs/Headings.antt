@@ -1,7 +1,8 @@
 -- The attributes of a heading as those of the definitions.
 use Rattle.std.specs.Prelude.{ℕ, Bool, not, List, [], Option, Some, None}
 use Rattle.std.specs.Borrow.{Bor}
-use Rattle.cmark_grammar.specs.Attributes.{Attributes, is_white_space, words}
+use Rattle.std.specs.Char.{is_ascii_whitespace}
+use Rattle.cmark_grammar.specs.Attributes.{Attributes, words}
 use Rattle.cmark_text.specs.Shown.{shown_attributes}
 use Rattle.cmark_items.specs.declared.heading.HeadingAttributes.{HeadingAttributes}
 
@@ -9,7 +10,7 @@ abbrev pub shown_heading : HeadingAttributes → Attributes
 shown_heading a = shown_attributes a.id a.classes.items a.attrs.items
 
 abbrev pub is_in_word : ℕ → Bool
-is_in_word b = not (is_white_space b)
+is_in_word b = not (is_ascii_whitespace b)
 
 abbrev pub str_bytes : Bor (List ℕ) → List ℕ
 str_bytes text = text.now

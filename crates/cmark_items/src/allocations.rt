@@ -3,7 +3,7 @@
 ghost use Rattle.std.specs.Prelude.{◌≡◌, ◌<◌, ◌++◌, ◌∷◌, [], length, IfOk, OnOk, OnErr, slice_get, Some, None, List, ℕ};
 ghost use Rattle.cmark_items.specs.Definitions.{definition};
 ghost use Rattle.cmark_items.specs.Footnotes.{footnote};
-ghost use Rattle.cmark_items.specs.Tables.{Tables, tables, with_text, with_link, with_alignments, LeavesNoText, LeavesNoLink, without_alignments};
+ghost use Rattle.cmark_items.specs.Tables.{Tables, tables, with_text, with_link, with_alignments, IsUnknown, LeavesNoText, LeavesNoLink, without_alignments};
 
 use crate::definitions::RefDefs;
 use crate::footnotes::FootnoteDefs;
@@ -39,6 +39,20 @@ pub struct Link<'a> {
     pub title: CowStr<'a>,
     /// The label of a reference; empty for others.
     pub id: CowStr<'a>,
+}
+
+impl<'a> Link<'a> {
+    /// An unknown shortcut without texts, which stands where a link was taken.
+    pub fn none() -> Link<'a>
+        ensures { IsUnknown result }
+    {
+        Link {
+            link_type: LinkType::ShortcutUnknown,
+            dest_url: CowStr::Borrowed(""),
+            title: CowStr::Borrowed(""),
+            id: CowStr::Borrowed(""),
+        }
+    }
 }
 
 /// The tables that the items of a tree point into, and the definitions of links and footnotes.
@@ -151,15 +165,7 @@ impl<'a> Allocations<'a> {
         ensures value { slice_get (tables self.old).links index.0 ≡ Some result }
         ensures left { LeavesNoLink index.0 (tables self.old) (tables self.new) }
     {
-        mem::replace(
-            &mut self.links[index.0],
-            Link {
-                link_type: LinkType::ShortcutUnknown,
-                dest_url: CowStr::Borrowed(""),
-                title: CowStr::Borrowed(""),
-                id: CowStr::Borrowed(""),
-            },
-        )
+        mem::replace(&mut self.links[index.0], Link::none())
     }
 
     /// Takes a table's alignments out. None are left.

@@ -2,7 +2,7 @@
 
 ghost use Rattle.std.specs.Prelude.{◌≡◌, ◌<◌, ◌≤◌, ℕ, ◌∷◌, length, take, drop, IfOk, OnOk, IfSome, option_map, get_or};
 ghost use Rattle.std.specs.List.{take_while};
-ghost use Rattle.cmark_grammar.specs.Attributes.{is_white_space, is_no_equals, words, value_behind, attribute_of, attributes_of, with_word, no_attributes};
+ghost use Rattle.cmark_grammar.specs.Attributes.{is_no_equals, words, value_behind, attribute_of, attributes_of, with_word, no_attributes};
 ghost use Rattle.cmark_text.specs.Shown.{text_bytes, shown_attribute};
 ghost use Rattle.cmark_items.specs.Headings.{shown_heading, is_in_word, str_bytes, words_behind};
 
@@ -20,14 +20,6 @@ pub struct HeadingAttributes<'a> {
     pub attrs: Vec<(CowStr<'a>, Option<CowStr<'a>>)>,
 }
 
-/// Whether a byte is white space between words: a tab, a line feed, a form feed, a carriage return or a space.
-#[inline]
-pub fn is_white_space(byte: u8) -> bool
-    ensures { result ≡ is_white_space byte }
-{
-    matches!(byte, b'\t' | b'\n' | 12 | b'\r' | b' ')
-}
-
 /// How many bytes of a word stand in front.
 fn count_word(bytes: &[u8]) -> usize
     ensures value { result ≡ length (take_while is_in_word bytes.now) }
@@ -35,7 +27,7 @@ fn count_word(bytes: &[u8]) -> usize
 {
     bytes
         .iter()
-        .take_while(|byte| !is_white_space(**byte))
+        .take_while(|byte| !byte.is_ascii_whitespace())
         .count()
 }
 

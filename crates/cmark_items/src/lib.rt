@@ -11,6 +11,6 @@ mod list_flags;
 pub use allocations::{AlignmentIndex, Allocations, CowIndex, HeadingIndex, Link, LinkIndex};
 pub use definitions::{LinkDef, RefDefs, RefDefsIter};
 pub use footnotes::{FootnoteDef, FootnoteDefs};
-pub use heading::{HeadingAttributes, is_white_space};
+pub use heading::HeadingAttributes;
 pub use item::{Item, ItemBody};
 pub use list_flags::ListFlags;

@@ -1,7 +1,8 @@
 -- Where the attributes of a setext heading begin in the text, by how many bytes of its content stand before them.
 use Rattle.std.proofs.Common.{◌≡◌, ◌⊎◌, inl, inr, ℕ, zero, suc, ◌+◌, ◌-◌, ◌<◌, ◌≤◌, Bool, true, false, ◌==◌, List, [], ◌∷◌, ◌++◌, append_assoc, append-nil, length, length-append, drop, get_or, map, refl, sym, ap, ◌∙◌, subst, arith}
+use Rattle.std.specs.Char.{is_ascii_whitespace}
 use Rattle.std.specs.Prelude.{if◌then◌else◌, nat_le, nat_lt}
-use Rattle.cmark_grammar.specs.Attributes.{is_white_space, before_braces}
+use Rattle.cmark_grammar.specs.Attributes.{before_braces}
 use Rattle.cmark_grammar.specs.Columns.{Column, drop_end, bytes_of}
 use Rattle.cmark_grammar.specs.Rows.{Row, place, first_place, begin_of}
 use Rattle.cmark_grammar.specs.SetextAttributes.{line_end_column, is_white, ends_in_braces, before_attributes, attributes_place}
@@ -100,7 +101,7 @@ less-lt a b e = grind (arith)
 
 -- the attributes begin where so many bytes stand before them
 pub found-place : (before : List LineRest) (last : LineRest) → let cs = content_columns before last in ends_in_braces cs ≡ true
-    → place_in (map row_of before) (row_of last) (length (drop_end is_white_space (before_braces (λ b. b) (bytes_of cs)))) ≡ attributes_place cs
+    → place_in (map row_of before) (row_of last) (length (drop_end is_ascii_whitespace (before_braces (λ b. b) (bytes_of cs)))) ≡ attributes_place cs
 found-place before last e = go white.behind cut
   where
     cs : List Column
@@ -124,10 +125,10 @@ found-place before last e = go white.behind cut
     cut : cs ≡ left ++ white.behind
     cut = white.is
 
-    size : length (bytes_of left) ≡ length (drop_end is_white_space (before_braces (λ b. b) (bytes_of cs)))
-    size = ap length (white-bytes is_white_space front refl (front-tabs front first.behind (subst AreTabs first.is (content-tabs before last))) ∙ ap (drop_end is_white_space) (before-whole cs (content-tabs before last) (content-whole before last)))
+    size : length (bytes_of left) ≡ length (drop_end is_ascii_whitespace (before_braces (λ b. b) (bytes_of cs)))
+    size = ap length (white-bytes is_ascii_whitespace front refl (front-tabs front first.behind (subst AreTabs first.is (content-tabs before last))) ∙ ap (drop_end is_ascii_whitespace) (before-whole cs (content-tabs before last) (content-whole before last)))
 
-    go : (behind : List Column) → cs ≡ left ++ behind → place_in (map row_of before) (row_of last) (length (drop_end is_white_space (before_braces (λ b. b) (bytes_of cs)))) ≡ attributes_place cs
+    go : (behind : List Column) → cs ≡ left ++ behind → place_in (map row_of before) (row_of last) (length (drop_end is_ascii_whitespace (before_braces (λ b. b) (bytes_of cs)))) ≡ attributes_place cs
     go [] is = absurd (let l = less-lt (length front) (length cs) e in let m = end-shorter is_white front in let n = ap length (is ∙ append-nil left) in omega (arith, l, m, n))
     go (c ∷ behind) is =
         ap (place_in (map row_of before) (row_of last)) (sym size)

@@ -4,7 +4,6 @@ pub mod ColumnCuts
 pub mod ContentPlaces
 pub mod ContentSteps
 pub mod DrawSteps
-pub mod EndSteps
 pub mod HeadingSteps
 pub mod ReadSteps
 pub mod SetextContent

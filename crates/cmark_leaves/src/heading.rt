@@ -14,11 +14,10 @@ ghost use Rattle.cmark_builder.specs.Drawn.{Draws};
 ghost use Rattle.cmark_lines.specs.Rests.{row_of};
 ghost use Rattle.cmark_leaves.specs.Closings.{behind_opening, without_closing_bytes, without_attributes_bytes, Finds};
 
-use crate::trailing::without_trailing;
 use crate::words::draw_words;
 use cmark_builder::Builder;
 use cmark_lines::LineRest;
-use cmark_scan_parts::bytes::{count_blanks, without_trailing_blanks};
+use cmark_scan_parts::bytes::{count_blanks, without_trailing, without_trailing_blanks};
 use std::alloc::AllocError;
 
 /// How many `#` stand in front.
@@ -42,7 +41,7 @@ fn without_closing(bytes: &[u8]) -> &[u8]
     ensures value { result.now ≡ without_closing_bytes bytes.now }
     ensures within { length result.now ≤ length bytes.now }
 {
-    let before = without_trailing(bytes, b'#');
+    let before = without_trailing(bytes, |byte| byte == b'#');
     let trimmed = without_trailing_blanks(before);
     if before.is_empty() || trimmed.len() < before.len() {
         trimmed

@@ -8,7 +8,6 @@ mod paragraph;
 mod setext;
 mod stretch;
 mod table;
-mod trailing;
 mod words;
 
 pub use code::{draw_code_line, draw_stretch};

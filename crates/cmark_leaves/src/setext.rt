@@ -7,9 +7,8 @@ ghost use Rattle.cmark_leaves.specs.Contents.{AreRead, gathered_bytes, place_in,
 ghost use Rattle.cmark_leaves.specs.TextColumns.{IsRead};
 
 use crate::heading::count_before_braces;
-use crate::trailing::without_trailing_white_space;
 use cmark_lines::LineRest;
-use cmark_scan_parts::bytes::without_trailing_blanks;
+use cmark_scan_parts::bytes::{without_trailing, without_trailing_blanks};
 use std::alloc::{AllocError, Global};
 
 /// The attributes at the end of a setext heading's content.
@@ -83,9 +82,9 @@ pub fn find_setext_attributes(
         return Ok(None);
     }
     let words = String::from_str(alloc, &room.as_str()[count + 1..content.len() - 1])?;
-    let size = without_trailing_white_space(&content[..count]).len();
+    let kept = without_trailing(&content[..count], |byte| byte.is_ascii_whitespace());
     Ok(Some(SetextAttributes {
         words,
-        place: place_of(before, last, size),
+        place: place_of(before, last, kept.len()),
     }))
 }

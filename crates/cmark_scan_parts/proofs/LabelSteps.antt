@@ -1,11 +1,12 @@
 -- A label read from byte to byte.
 use Rattle.std.proofs.Common.{◌≡◌, ℕ, zero, suc, ◌+◌, ◌-◌, ◌<◌, ◌≤◌, Bool, true, false, ◌&&◌, ◌||◌, not, nat_lt, nat_le, if◌then◌else◌, List, [], ◌∷◌, ◌++◌, length, take, drop, get_or, Option, None, Some, refl, sym, ap, subst, ◌∙◌, arith, append-nil, append_assoc, drop-cons, drop-drop, length-drop}
+use Rattle.std.specs.Char.{is_ascii_whitespace}
 use denote.Ref.{Bor}
 use Rattle.std.specs.Prelude.{Result, Ok, count_by, fold, option_map, slice_range}
 use Rattle.std.proofs.lemmas.Bool.{lt-leb, le-leb}
 use Rattle.std.proofs.lemmas.List.{take_more, get_or-drop}
 use Rattle.cmark_grammar.specs.Letters.{and_then}
-use Rattle.cmark_grammar.specs.LinkDefinitions.{Parsed, put, up_to_byte, escapes_next, characters, is_white, label_if}
+use Rattle.cmark_grammar.specs.LinkDefinitions.{Parsed, put, up_to_byte, escapes_next, characters, label_if}
 use Rattle.cmark_grammar.specs.LabelsOverLines.{as_in_cell, label_prefix, up_to_bracket, label_over_lines}
 use Rattle.cmark_text.specs.declared.text.CowStr.{CowStr}
 use Rattle.cmark_text.specs.declared.text.CowStr.TheVariants.{Borrowed}
@@ -14,7 +15,7 @@ use Rattle.cmark_scan_parts.proofs.PartSteps.{puts, puts-more, puts-none, puts-d
 
 -- some byte is no white space
 abbrev pub has_words : List ℕ → Bool
-has_words bs = nat_lt 0 (count_by (λ b. not (is_white b)) bs)
+has_words bs = nat_lt 0 (count_by (λ b. not (is_ascii_whitespace b)) bs)
 
 last_step : (f : ℕ → ℕ → ℕ) (a : ℕ) (bs : List ℕ) (b : ℕ) → fold f a (bs ++ b ∷ []) ≡ f (fold f a bs) b
 last_step f a [] b = refl
@@ -35,10 +36,10 @@ one_more n false = ap (nat_lt 0) (let e : n + 0 ≡ n = omega arith in e) ∙ sy
     or_false true = refl
     or_false false = refl
 
-pub words_more : (bs : List ℕ) (b : ℕ) → has_words (bs ++ b ∷ []) ≡ (has_words bs || not (is_white b))
+pub words_more : (bs : List ℕ) (b : ℕ) → has_words (bs ++ b ∷ []) ≡ (has_words bs || not (is_ascii_whitespace b))
 words_more bs b =
-    ap (nat_lt 0) (last_step (λ n c. n + (if not (is_white c) then 1 else 0)) 0 bs b)
-    ∙ one_more (count_by (λ c. not (is_white c)) bs) (not (is_white b))
+    ap (nat_lt 0) (last_step (λ n c. n + (if not (is_ascii_whitespace c) then 1 else 0)) 0 bs b)
+    ∙ one_more (count_by (λ c. not (is_ascii_whitespace c)) bs) (not (is_ascii_whitespace b))
 
 pub label_fails : (all here : Option Parsed) (text : List ℕ) → all ≡ puts text here → here ≡ None → None ≡ label_if all
 label_fails all here text reads e = sym (ap label_if (reads ∙ ap (puts text) e ∙ puts-none text))

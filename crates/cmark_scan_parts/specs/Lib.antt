@@ -5,3 +5,4 @@ pub mod Pipes
 pub mod Resolved
 pub mod Shown
 pub mod Steps
+pub mod Tested

@@ -4,9 +4,12 @@ ghost use Rattle.std.specs.Prelude.{◌≡◌, ◌<◌, ◌≤◌, length, optio
 ghost use Rattle.cmark_grammar.specs.Columns.{is_blank_byte, drop_end};
 ghost use Rattle.std.specs.List.{prefix_len};
 ghost use Rattle.cmark_grammar.specs.Letters.{is_letter, behind_all};
-ghost use Rattle.cmark_grammar.specs.LinkDefinitions.{is_white, escapes_next};
+ghost use Rattle.cmark_grammar.specs.LinkDefinitions.{escapes_next};
 ghost use Rattle.cmark_grammar.specs.Lines.{ending_len};
 ghost use Rattle.cmark_grammar.specs.Tags.{is_attribute_start, is_space_byte, ends_value, behind_ending, behind_line_feed};
+ghost use Rattle.cmark_scan_parts.specs.Tested.{ForTests};
+
+use crate::count::scan_rev_while;
 
 /// A class of bytes, all of them ASCII but for `BareValue` and `Uri`.
 #[derive(Clone, Copy)]
@@ -94,19 +97,18 @@ pub fn without_trailing_blanks(bytes: &[u8]) -> &[u8]
     ensures value { result.now ≡ drop_end is_blank_byte bytes.now }
     ensures within { length result.now ≤ length bytes.now }
 {
-    let mut len = bytes.len();
-    while len > 0 && is_blank(bytes[len - 1]) {
-        len -= 1;
-    }
-    &bytes[..len]
+    without_trailing(bytes, is_blank)
 }
 
-/// Whether a byte is white space: a tab, a line feed, a form feed, a carriage return or a space.
+/// The bytes without those at their end that pass a test.
 #[inline]
-pub fn is_white(byte: u8) -> bool
-    ensures { result ≡ is_white byte }
+pub fn without_trailing<F: Fn(u8) -> bool>(bytes: &[u8], passes: F) -> &[u8]
+    requires { F.IsAlwaysCallable passes }
+    ensures value { ForTests F.Fn passes (λ test. result.now ≡ drop_end test bytes.now) }
+    ensures within { length result.now ≤ length bytes.now }
 {
-    matches!(byte, b'\t' | b'\n' | 12 | b'\r' | b' ')
+    let passed = scan_rev_while(bytes, passes);
+    &bytes[..bytes.len() - passed]
 }
 
 /// Whether a byte is a blank or a part of a line ending.

@@ -1,15 +1,15 @@
 //! Labels of links behind their opening bracket (CommonMark 4.7).
 
 ghost use Rattle.std.specs.Prelude.{◌≡◌, ◌<◌, ◌≤◌, ◌&&◌, ◌||◌, ◌++◌, [], Ok, true, false, ℕ, length, List, Option, not, nat_lt, nat_le, IfOk, IfSome, option_map, if◌then◌else◌, string_bytes};
+ghost use Rattle.std.specs.Char.{is_ascii_whitespace};
 ghost use Rattle.std.specs.Str.{IsUtf8, IsCharBoundary};
-ghost use Rattle.cmark_grammar.specs.LinkDefinitions.{is_white};
 ghost use Rattle.cmark_grammar.specs.LabelsOverLines.{label_prefix, label_over_lines};
 ghost use Rattle.cmark_text.specs.Shown.{text_bytes};
 ghost use Rattle.cmark_text.specs.declared.text.CowStr.TheVariants.{Borrowed};
 ghost use Rattle.cmark_scan_parts.specs.Handled.{LabelsWithin, ForLabels};
 ghost use Rattle.cmark_scan_parts.specs.Shown.{shown_label, cut_behind, IsBorrowed, IsWhole};
 
-use crate::bytes::{escapes_next, is_white};
+use crate::bytes::escapes_next;
 use crate::closed::{Step, closed_step};
 use crate::label_text::begins_character;
 use crate::owned::ends_line;
@@ -36,9 +36,9 @@ fn begun(byte: u8) -> usize
 
 /// Whether one of the bytes before is no white space, or this one is none.
 fn finds_word(has_words: bool, byte: u8) -> bool
-    ensures { result ≡ (has_words || not (is_white byte)) }
+    ensures { result ≡ (has_words || not (is_ascii_whitespace byte)) }
 {
-    has_words || !is_white(byte)
+    has_words || !byte.is_ascii_whitespace()
 }
 
 /// Whether a label has this number of characters, of which some are no white space, or none.

@@ -1,9 +1,8 @@
 //! Which bytes are the text of a label (CommonMark 6.3).
 
 ghost use Rattle.std.specs.Prelude.{◌≡◌, ◌||◌, not, nat_lt, nat_le, count_by};
-ghost use Rattle.cmark_grammar.specs.LinkDefinitions.{is_white, characters, is_label};
-
-use crate::bytes::is_white;
+ghost use Rattle.std.specs.Char.{is_ascii_whitespace};
+ghost use Rattle.cmark_grammar.specs.LinkDefinitions.{characters, is_label};
 
 /// Whether a character begins with this byte.
 #[inline]
@@ -22,9 +21,12 @@ fn characters(bytes: &[u8]) -> usize
 
 /// Whether some byte is no white space.
 fn has_words(bytes: &[u8]) -> bool
-    ensures { result ≡ nat_lt 0 (count_by (λ b. not (is_white b)) bytes.now) }
+    ensures { result ≡ nat_lt 0 (count_by (λ b. not (is_ascii_whitespace b)) bytes.now) }
 {
-    0 < bytes.iter().filter(|byte| !is_white(**byte)).count()
+    0 < bytes
+        .iter()
+        .filter(|byte| !byte.is_ascii_whitespace())
+        .count()
 }
 
 /// Whether these bytes are the text of a label: 1 to 999 characters, at least one of them no white space.

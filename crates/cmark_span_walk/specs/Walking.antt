@@ -29,23 +29,19 @@ use Rattle.cmark_inline.specs.declared.event.Opened.{Opened}
 use Rattle.cmark_leaf_text.specs.Reads as reads
 use Rattle.cmark_leaf_text.specs.Reads.{IsPart, IsRead, text_of}
 use Rattle.cmark_leaf_text.specs.declared.stretch.LeafLine.{LeafLine}
+use Rattle.cmark_text.specs.Ranged.{shown_ranged}
 use Rattle.cmark_text.specs.Short.{IsShortZeroCopy, shown_short}
 use Rattle.cmark_text.specs.Shown.{shown_options}
-use Rattle.cmark_text.specs.ZeroCopy.{IsZeroCopy}
+use Rattle.cmark_text.specs.declared.ranged.Ranged.{Ranged as Given}
 use Rattle.cmark_text.specs.declared.short.Next.{Next}
 use Rattle.cmark_text.specs.declared.short.Next.TheVariants as next
 use Rattle.cmark_text.specs.declared.short.Short.{Short}
 use Rattle.cmark_text.specs.declared.text.CowStr.{CowStr}
 use Rattle.cmark_walk.specs.Walking as walking
-use Rattle.cmark_walk.specs.Walking.{AreLinesOf, shown_ranged}
-use Rattle.cmark_walk.specs.declared.reading.Ranged.{Ranged as Given}
+use Rattle.cmark_walk.specs.Walking.{AreLinesOf}
 use Rattle.cmark_span_walk.specs.declared.span_walk.SpanWalk.{SpanWalk}
 
 -- ## Events and leaves
-
--- the zero-copy law of an event with its range
-abbrev pub GivesZeroCopy : (source : List ℕ) → Given → Type 0
-GivesZeroCopy source given = IsZeroCopy source given.event given.range.start given.range.end
 
 -- the bytes of an event lie in the text and cut no character
 abbrev pub HasRange : (source : List ℕ) → Ranged → Type 0

@@ -11,16 +11,16 @@ ghost use Rattle.cmark_grammar.specs.SpanDocuments.{Left, Segment};
 ghost use Rattle.cmark_inline.specs.Footnoted.{SameFootnotes};
 ghost use Rattle.cmark_inline.specs.PlainStretches.{IsSetOf, StandUpTo};
 ghost use Rattle.cmark_leaf_text.specs.Stretches.{AreLines};
-ghost use Rattle.cmark_inline.specs.Opens.{shown_given, GivesZeroCopy as SpanZeroCopy};
-ghost use Rattle.cmark_walk.specs.Walking.{Remains as BlocksRemain, definitions_of as block_definitions, shown_ranged, text_of};
+ghost use Rattle.cmark_walk.specs.Walking.{Remains as BlocksRemain, definitions_of as block_definitions, text_of};
+ghost use Rattle.cmark_text.specs.Ranged.{IsRangedZeroCopy};
 ghost use Rattle.cmark_text.specs.Shown.{shown_options};
-ghost use Rattle.cmark_span_walk.specs.Walking.{ArePlaced, GivesZeroCopy, HasAsked, HasPlaces, IsOnlyLine};
+ghost use Rattle.cmark_span_walk.specs.Walking.{ArePlaced, HasAsked, HasPlaces, IsOnlyLine};
 
-use cmark_inline::{BrokenLinkCallback, Given, InlineState, Reader, SpecialBytes, special_bytes};
+use cmark_inline::{BrokenLinkCallback, InlineState, Reader, SpecialBytes, special_bytes};
 use cmark_items::{FootnoteDefs, RefDefs};
 use cmark_leaf_text::{LeafLine, LeafText};
-use cmark_text::{EntityLookup, Next, Options, Short};
-use cmark_walk::{Brief, Met, Ranged, Walk};
+use cmark_text::{EntityLookup, Next, Options, Ranged, Short};
+use cmark_walk::{Brief, Met, Walk};
 use std::alloc::{AllocError, Global};
 
 /// How long a line may be that is looked through for a special byte before it is read: a longer one mostly has one, and would be looked
@@ -110,7 +110,7 @@ impl<'input, 'e, E: EntityLookup, F: BrokenLinkCallback<'input> + Drop> SpanWalk
         requires { Stands self.old }
         ensures stands { OnOk result (Stands self.new) }
         ensures given { (reader : GrammarReader) → IsReadBy E.replacement reader self.old → IfOk result (λ given. Gives F.answers E.replacement reader self.old given self.new) }
-        ensures lent { IfOk result (λ given. IfSome given (GivesZeroCopy (source_of self.old))) }
+        ensures lent { IfOk result (λ given. IfSome given (IsRangedZeroCopy (source_of self.old))) }
         ensures fewer { IfOk result (λ given. OnSome given (events_left self.new < events_left self.old)) }
         ensures ends { OnErr result ((reader : GrammarReader) → NoEndIsNext E.replacement reader self.old) }
         ensures asked { OnErr result (HasAsked F.answers (callback_of self.old) (callback_of self.new)) }
@@ -210,7 +210,7 @@ impl<'input, 'e, E: EntityLookup, F: BrokenLinkCallback<'input> + Drop> SpanWalk
         ensures given { (reader : GrammarReader) → IsReadBy E.replacement reader self.old → IfOk result (λ given. GivesSpan F.answers E.replacement reader self.old given self.new) }
         ensures kept { (reader : GrammarReader) → IfOk result (λ given. is_some given ≡ false → KeepsLeft E.replacement reader self.old self.new) }
         ensures ends { OnErr result ((reader : GrammarReader) → NoEndIsNext E.replacement reader self.old) }
-        ensures lent { IfOk result (λ given. IfSome given (GivesZeroCopy (source_of self.old))) }
+        ensures lent { IfOk result (λ given. IfSome given (IsRangedZeroCopy (source_of self.old))) }
         ensures fewer { IfOk result (λ given. OnSome given (events_left self.new < events_left self.old)) }
         ensures most { OnOk result (events_left self.new ≤ events_left self.old) }
         ensures few { OnOk result (self.old.in_leaf ≡ true → length self.new.inline.slots.items < 18446744073709551616) }
@@ -221,7 +221,7 @@ impl<'input, 'e, E: EntityLookup, F: BrokenLinkCallback<'input> + Drop> SpanWalk
             return Ok(None);
         }
         match self.inline.next(&self.leaf)? {
-            Some(given) => Ok(Some(ranged(given))),
+            Some(given) => Ok(Some(given)),
             None => {
                 self.in_leaf = false;
                 Ok(None)
@@ -276,17 +276,5 @@ impl<'input, 'e, E: EntityLookup, F: BrokenLinkCallback<'input> + Drop> SpanWalk
             .resolve(&self.leaf, &reader, footnotes, &mut self.callback)?;
         self.in_leaf = true;
         Ok(())
-    }
-}
-
-// An event of a leaf, as an event of the document.
-#[inline(always)]
-fn ranged<'a>(given: Given<'a>) -> Ranged<'a>
-    ensures value { shown_ranged result ≡ shown_given given.entry }
-    ensures lent { (source : List ℕ) → SpanZeroCopy source given.entry → GivesZeroCopy source result }
-{
-    Ranged {
-        event: given.event,
-        range: given.range,
     }
 }

@@ -3,6 +3,7 @@ pub mod Folding
 pub mod InPlace
 pub mod Labelled
 pub mod Marks
+pub mod Ranged
 pub mod Short
 pub mod Shown
 pub mod ZeroCopy

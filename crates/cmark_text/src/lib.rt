@@ -11,6 +11,7 @@ mod kind;
 mod label;
 mod lending;
 mod options;
+mod ranged;
 mod short;
 mod text;
 
@@ -24,5 +25,6 @@ pub use kind::{
 };
 pub use label::{FootnoteLabel, LinkLabel};
 pub use options::Options;
+pub use ranged::Ranged;
 pub use short::{Next, PlainTag, Short};
 pub use text::CowStr;

@@ -16,9 +16,9 @@ use Rattle.cmark_text.specs.declared.short.Short.{Short}
 use Rattle.cmark_text.specs.declared.short.Short.TheVariants as short
 use Rattle.cmark_text.specs.Short.{IsShortZeroCopy, shown_plain, shown_short}
 use Rattle.cmark_text.specs.Shown.{shown_end}
+use Rattle.cmark_text.specs.declared.ranged.Ranged.{Ranged}
 use Rattle.cmark_walk.specs.declared.reading.Brief.{Brief}
 use Rattle.cmark_walk.specs.declared.reading.Brief.TheVariants as brief
-use Rattle.cmark_walk.specs.declared.reading.Ranged.{Ranged}
 use Rattle.cmark_walk.specs.declared.reading.Stage.TheVariants as stage
 use Rattle.cmark_walk.specs.declared.reading.Step.TheVariants as step
 use Rattle.cmark_walk.specs.declared.walk.Walk.{Walk}

@@ -4,6 +4,7 @@ use Rattle.std.specs.Str.{IsCharBoundary}
 use Rattle.cmark_text.specs.declared.text.CowStr.{CowStr}
 use Rattle.cmark_text.specs.declared.event.Event.{Event as TextEvent}
 use Rattle.cmark_text.specs.declared.short.Short.{Short}
+use Rattle.cmark_text.specs.Ranged.{IsRangedZeroCopy, shown_ranged}
 use Rattle.cmark_text.specs.Short.{IsShortZeroCopy, shown_plain, shown_short}
 use Rattle.cmark_text.specs.Shown.{shown}
 use Rattle.cmark_text.specs.ZeroCopy.{IsZeroCopy}
@@ -47,7 +48,6 @@ use Rattle.cmark_walk.specs.declared.reading.Glance.{Glance}
 use Rattle.cmark_walk.specs.declared.reading.Glance.TheVariants as glance
 use Rattle.cmark_walk.specs.declared.reading.Stage.{Stage}
 use Rattle.cmark_walk.specs.declared.reading.Stage.TheVariants as stage
-use Rattle.cmark_walk.specs.declared.reading.Ranged.{Ranged}
 use Rattle.cmark_walk.specs.declared.reading.Reading.{Reading}
 use Rattle.cmark_walk.specs.declared.reading.Reading.TheVariants as reading
 use Rattle.cmark_walk.specs.declared.reading.Step.{Step}
@@ -268,9 +268,6 @@ silent_steps (stage.Listed is_checked start end) = 0
 silent_steps stage.Lines = 0
 silent_steps stage.Behind = 2
 
-abbrev pub shown_ranged : Ranged → event.Ranged
-shown_ranged r = record { event = shown r.event; start = r.range.start; end = r.range.end }
-
 -- a leaf's stretches as the lines that its text is read from
 abbrev pub lines_of : List Stretch → List LeafLine
 lines_of [] = []
@@ -302,7 +299,7 @@ ComesNearer old step.Over new = Unit {0}
 
 -- the zero-copy law of what is met
 abbrev pub MeetsZeroCopy : List ℕ → Met → Type 0
-MeetsZeroCopy text (met.Event given) = IsZeroCopy text given.event given.range.start given.range.end
+MeetsZeroCopy text (met.Event given) = IsRangedZeroCopy text given
 MeetsZeroCopy text (met.Leaf is_cell) = Unit {0}
 MeetsZeroCopy text met.Over = Unit {0}
 
@@ -433,7 +430,7 @@ ReadsZeroCopy text item (reading.Alone event) = IsZeroCopy text event item.start
 ReadsZeroCopy text item reading.Inside = Unit {0}
 
 abbrev pub StepsZeroCopy : List ℕ → Step → Type 0
-StepsZeroCopy text (step.Event given) = IsZeroCopy text given.event given.range.start given.range.end
+StepsZeroCopy text (step.Event given) = IsRangedZeroCopy text given
 StepsZeroCopy text (step.Leaf is_cell) = Unit {0}
 StepsZeroCopy text step.Silent = Unit {0}
 StepsZeroCopy text step.Over = Unit {0}

@@ -7,10 +7,10 @@ ghost use Rattle.cmark_walk.specs.declared.reading.Stage.TheVariants as stage;
 ghost use Rattle.cmark_walk.specs.Walking.{GoesOn, LeavesTheSame, Remains, Goes, GivesStep, text_of, IsAt, ComesNearer, StepsZeroCopy, IsTaskAt, IsTitleIn, IsListBehind, IsLeafBehind};
 
 use crate::kind::{is_leaf, is_list, is_title};
-use crate::reading::{Ranged, Stage, Step};
+use crate::reading::{Stage, Step};
 use crate::walk::{Walk, given};
 use cmark_items::Item;
-use cmark_text::{Event, Tag};
+use cmark_text::{Event, Ranged, Tag};
 use cmark_tree::TreeIndex;
 use std::alloc::AllocError;
 

@@ -1,16 +1,6 @@
 //! What a step of a walk reads, and what it gives.
 
-use cmark_text::{Event, PlainTag, Short, Tag};
-use std::ops::Range;
-
-/// An event, and the bytes of the text that it comes from. A start and its end have the range of the whole element.
-#[derive(Drop)]
-pub struct Ranged<'a> {
-    /// The event.
-    pub event: Event<'a>,
-    /// Byte offsets of the text, from the start to before the end.
-    pub range: Range<usize>,
-}
+use cmark_text::{Event, PlainTag, Ranged, Short, Tag};
 
 /// What a walk meets next.
 #[derive(Drop)]

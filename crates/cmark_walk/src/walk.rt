@@ -18,10 +18,10 @@ ghost use Rattle.cmark_walk.specs.declared.reading.Stage.TheVariants as stage;
 ghost use Rattle.cmark_walk.specs.Walking.{GoesOn, LeavesTheSame, Remains, Goes, Gives, GivesStep, definitions_of, text_of, IsAt, IsPast, GivesRanged, NoEndIsNext, ComesNearer, StepsZeroCopy, MeetsZeroCopy};
 
 use crate::kind::{is_leaf, task_of};
-use crate::reading::{Met, Ranged, Reading, Stage, Step};
+use crate::reading::{Met, Reading, Stage, Step};
 use cmark_items::{Allocations, Item, RefDefs};
 use cmark_leaf_text::LeafLine;
-use cmark_text::Event;
+use cmark_text::{Event, Ranged};
 use cmark_tree::{Tree, TreeIndex};
 use std::alloc::{AllocError, Global};
 

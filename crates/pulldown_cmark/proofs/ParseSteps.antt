@@ -44,8 +44,8 @@ use Rattle.cmark_text.specs.Shown.{text_bytes}
 use Rattle.cmark_text.specs.declared.short.Next.{Next}
 use Rattle.cmark_text.specs.declared.short.Next.TheVariants as next
 use Rattle.cmark_text.specs.declared.text.CowStr.{CowStr}
-use Rattle.cmark_walk.specs.declared.reading.Ranged.{Ranged as Item}
-use Rattle.cmark_walk.specs.Walking.{shown_ranged}
+use Rattle.cmark_text.specs.declared.ranged.Ranged.{Ranged as Item}
+use Rattle.cmark_text.specs.Ranged.{IsRangedZeroCopy, shown_ranged}
 use Rattle.pulldown_cmark.specs.declared.parse.Parser.{Parser}
 use Rattle.pulldown_cmark.specs.Walking.{GoesOn, SomeLeft, reader_by}
 use Rattle.pulldown_cmark.specs.Parsing.{CanGo, IsOver, GivesAs, GivesOrErr, GivesStep, Left, Passes, Reads, Remains, definitions, footnotes, events_left, is_last, lookup_of, options_of, reader_for, text_of}
@@ -151,7 +151,7 @@ module _ {E F : Type 0} (Says : F → BrokenLink → Option (CowStr × CowStr) �
 
   -- an event is given, and the others are left
   pub gives-some : (old new : Parser E F) (item : Item) → old.is_over ≡ false → new.is_over ≡ false → walking.Gives (SaysIfAny Says) replacement (reader_for replacement old) old.spans (Some item) new.spans
-      → walking.GivesZeroCopy (text_of old) item → walking.events_left new.spans < walking.events_left old.spans → text_of new ≡ text_of old → definitions new ≡ definitions old → SameFootnotes (footnotes old) (footnotes new) → GivesStep Says replacement old (Some (Ok item)) new
+      → IsRangedZeroCopy (text_of old) item → walking.events_left new.spans < walking.events_left old.spans → text_of new ≡ text_of old → definitions new ≡ definitions old → SameFootnotes (footnotes old) (footnotes new) → GivesStep Says replacement old (Some (Ok item)) new
   gives-some old new item e n gives lent less text same known =
       let p = passes-of (shown_ranged item ∷ []) old new e n gives.1 in
       record {

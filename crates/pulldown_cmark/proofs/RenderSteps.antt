@@ -17,7 +17,7 @@ use Rattle.cmark_text.specs.declared.short.Short.{Short}
 use Rattle.cmark_text.specs.declared.text.CowStr.{CowStr}
 use Rattle.cmark_text.specs.Short.{shown_short}
 use Rattle.cmark_text.specs.Shown.{shown}
-use Rattle.cmark_walk.specs.declared.reading.Ranged.{Ranged as Item}
+use Rattle.cmark_text.specs.declared.ranged.Ranged.{Ranged as Item}
 use Rattle.pulldown_cmark.specs.declared.parse.Parser.{Parser}
 use Rattle.pulldown_cmark.specs.Parsing.{Asks, CanGo, GivesAs, GivesStep, Passes, Reads, Remains, callback_of}
 use Rattle.pulldown_cmark.specs.Rendering.{IsHtmlOf, events_of}

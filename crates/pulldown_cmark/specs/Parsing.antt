@@ -31,8 +31,8 @@ use Rattle.cmark_text.specs.Short.{IsShortZeroCopy, shown_short}
 use Rattle.cmark_text.specs.Shown.{shown}
 use Rattle.cmark_text.specs.ZeroCopy.{IsZeroCopy}
 use Rattle.cmark_text.specs.declared.text.CowStr.{CowStr}
-use Rattle.cmark_walk.specs.declared.reading.Ranged.{Ranged as Given}
-use Rattle.cmark_walk.specs.Walking.{shown_ranged}
+use Rattle.cmark_text.specs.declared.ranged.Ranged.{Ranged as Given}
+use Rattle.cmark_text.specs.Ranged.{shown_ranged}
 use Rattle.pulldown_cmark.specs.declared.parse.Parser.{Parser}
 use Rattle.pulldown_cmark.specs.declared.parse.OffsetIter.{OffsetIter}
 use Rattle.pulldown_cmark.specs.Walking.{GoesOn, GivesNext, ReadsFrom, reader_by}

@@ -8,7 +8,7 @@ use Rattle.cmark_inline.specs.MarkedSlots.{AreReady, BeganFrom, EndWithin, SameB
 use Rattle.cmark_inline.specs.SlotViews.{shown_slots}
 use Rattle.cmark_inline.specs.Sound.{NamesNoMore}
 use Rattle.cmark_inline.specs.Stands.{AreSlots, NoNewLink}
-use Rattle.cmark_inline.specs.declared.link.LinkParts.{LinkParts}
+use Rattle.cmark_items.specs.declared.allocations.Link.{Link}
 use Rattle.cmark_inline.proofs.delimiter.write_run.Given as goal
 
 abbrev pub invariant-loop-byte : goal.invariant-loop-byte
@@ -18,7 +18,7 @@ invariant-loop-byte l =
     × NoNewLink l.initial.slots.items l.slots.items
     × ((behind : List ℕ) → AreReady l.initial.slots.items (reverse l.initial.begun.items) (run_places l.placed.slot l.placed.run.run_length behind) l.marks
     → AreReady l.slots.items (reverse l.begun.items) (run_places (l.placed.slot + l.byte) (l.placed.run.run_length - l.byte) behind) (drop l.byte l.marks))
-    × ((leaf : LeafText) (texts : List CowStr) (links : List LinkParts) (behind : List ℕ)
+    × ((leaf : LeafText) (texts : List CowStr) (links : List Link) (behind : List ℕ)
     → AreReady l.initial.slots.items (reverse l.initial.begun.items) (run_places l.placed.slot l.placed.run.run_length behind) l.marks
     → marked (shown_options l.options) (run_places l.placed.slot l.placed.run.run_length behind) (map shown_mark l.marks) (shown_slots leaf texts links l.initial.slots.items) (reverse l.initial.begun.items)
     ≡ marked (shown_options l.options) (run_places (l.placed.slot + l.byte) (l.placed.run.run_length - l.byte) behind) (map shown_mark (drop l.byte l.marks)) (shown_slots leaf texts links l.slots.items) (reverse l.begun.items))

@@ -1,8 +1,9 @@
 use Rattle.std.proofs.Common.{◌≡◌, ◌+◌, ◌-◌, ◌<◌, ◌||◌, ◌++◌, ◌∷◌, [], true, false, not, List, ℕ, Some, length, take, drop, get_or, string_bytes, sym, ap, subst, ◌∙◌, arith, length-append}
+use Rattle.std.specs.Char.{is_ascii_whitespace}
 use Rattle.std.specs.Prelude.{option_map}
 use Rattle.std.proofs.Math.ListN.{drop_of_length-le}
 use Rattle.std.proofs.lemmas.Str.{IsCharBoundary-start, IsCharBoundary-after_ascii}
-use Rattle.cmark_grammar.specs.LinkDefinitions.{characters, is_white}
+use Rattle.cmark_grammar.specs.LinkDefinitions.{characters}
 use Rattle.cmark_grammar.specs.LabelsOverLines.{label_prefix, up_to_bracket}
 use Rattle.cmark_scan_parts.specs.Shown.{Part}
 use Rattle.cmark_scan_parts.proofs.Lists.{rest_of}
@@ -145,7 +146,7 @@ loop-at-preserved-then-size-gt0 g c =
     record {
       reads = λ prefix answers. label_onward prefix _ text at size byte c.loop-at.escaped c.escapes_next-escaped.result read _ (inv.reads prefix answers) cut c.in-GoesOn.ensures.value (c.in-Some.ensures.value prefix answers ∙ ap (label_prefix prefix byte) rest) is c.escapes_next-escaped.ensures;
       counts = ap (λ n. n + c.begun.result) inv.counts ∙ ap (λ n. characters read + n) c.begun.ensures.value ∙ sym (characters_more read byte) ∙ ap characters (sym is);
-      words = c.finds_word-has_words.ensures ∙ ap (λ w. w || not (is_white byte)) inv.words ∙ sym (words_more read byte) ∙ ap has_words (sym is);
+      words = c.finds_word-has_words.ensures ∙ ap (λ w. w || not (is_ascii_whitespace byte)) inv.words ∙ sym (words_more read byte) ∙ ap has_words (sym is);
       few = let s = c.begun.ensures.small in let f = c.if-count-gt999.false in omega (arith, s, f);
       ordered = omega arith;
       within = next.0;
@@ -176,7 +177,7 @@ loop-at-preserved g c =
       reads = λ prefix answers. label_onward prefix _ text at size byte c.loop-at.escaped c.escapes_next-escaped.result read _ (inv.reads prefix answers) cut c.in-GoesOn.ensures.value (c.in-Some.ensures.value prefix answers ∙ ap (label_prefix prefix byte) rest) is c.escapes_next-escaped.ensures
           ∙ ap (λ n. puts (so_far copied text mark (at + 1)) (up_to_bracket prefix c.escapes_next-escaped.result 0 (drop n text))) none;
       counts = ap (λ n. n + c.begun.result) inv.counts ∙ ap (λ n. characters read + n) c.begun.ensures.value ∙ sym (characters_more read byte) ∙ ap characters (sym is);
-      words = c.finds_word-has_words.ensures ∙ ap (λ w. w || not (is_white byte)) inv.words ∙ sym (words_more read byte) ∙ ap has_words (sym is);
+      words = c.finds_word-has_words.ensures ∙ ap (λ w. w || not (is_ascii_whitespace byte)) inv.words ∙ sym (words_more read byte) ∙ ap has_words (sym is);
       few = let s = c.begun.ensures.small in let f = c.if-count-gt999.false in omega (arith, s, f);
       ordered = let o = inv.ordered in omega (arith, o);
       within = omega (arith, lt);

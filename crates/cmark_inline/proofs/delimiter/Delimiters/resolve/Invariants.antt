@@ -8,7 +8,7 @@ use Rattle.cmark_inline.specs.MarkedSlots.{AreReady, BeganFrom, EndWithin, HaveB
 use Rattle.cmark_inline.specs.SlotViews.{shown_slots}
 use Rattle.cmark_inline.specs.Sound.{NamesNoMore}
 use Rattle.cmark_inline.specs.Stands.{AreSlots, NoNewLink}
-use Rattle.cmark_inline.specs.declared.link.LinkParts.{LinkParts}
+use Rattle.cmark_items.specs.declared.allocations.Link.{Link}
 use Rattle.cmark_inline.proofs.RunPlaces.{RunsFrom}
 use Rattle.cmark_inline.proofs.delimiter.Delimiters.resolve.Given as goal
 
@@ -18,7 +18,7 @@ invariant-loop-placed l =
     × (length l.slots.items ≡ length l.initial.slots.items)
     × NoNewLink l.initial.slots.items l.slots.items
     × AreReady l.slots.items (reverse l.self.1.1.1.1.1.0.items) (places_of l.rest) l.marks
-    × ((leaf : LeafText) (texts : List CowStr) (links : List LinkParts)
+    × ((leaf : LeafText) (texts : List CowStr) (links : List Link)
     → marked (shown_options l.options) (places_of (drop l.first l.fn.self.placed.items)) (map shown_mark l.initial.marks) (shown_slots leaf texts links l.initial.slots.items) []
     ≡ marked (shown_options l.options) (places_of l.rest) (map shown_mark l.marks) (shown_slots leaf texts links l.slots.items) (reverse l.self.1.1.1.1.1.0.items))
     × ((from place : ℕ) → HaveBytes l.initial.slots.items from place (drop l.first l.fn.self.placed.items)

@@ -121,7 +121,7 @@ returns-then-bracket-clause-sound c =
     let settled : IsSettled (b.slot + 1) (set old.slots.items b.slot s) new.slots.items = subst (λ l. IsSettled (b.slot + 1) l new.slots.items) (c.begin.ensures.value no-slot) f.settled in
     let m = f.length in
     let n = c.begin.ensures.length in
-    let more = ap (λ v. length v.items) c.finish.ensures.table ∙ ap length c.in_ok-push.ensures.items ∙ length_push old.links.items c.args.target.parts in
+    let more = ap (λ v. length v.items) c.finish.ensures.table ∙ ap length c.in_ok-push.ensures.items ∙ length_push old.links.items c.args.target.link in
     sound-same (length old.texts.items) (length new.texts.items) (length old.links.items + 1) (length new.links.items) new.slots.items _ new.delimiters.placed.items _ new.quotes.placed.items old.brackets.standing.items _ c.drop_behind.new.self.standing.items _
     (ap (λ v. length v.items) c.finish.ensures.texts) (let q : length new.links.items ≡ length old.links.items + 1 = omega (arith, more) in q) f.placed f.quotes (ap (λ (v : Brackets). v.standing.items) c.finish.ensures.brackets) (ap (λ (v : Brackets). v.standing.items) c.finish.ensures.doubled)
     (link-formed (length old.texts.items) (length old.links.items) old.slots.items old.delimiters.placed.items old.quotes.placed.items old.brackets.standing.items old.doubled.standing.items c.requires.sound b c.requires.taken c.args.text.now c.args.close c.requires.stands.doubled
@@ -164,7 +164,7 @@ returns-clause-sound c =
     let settled : IsSettled (b.slot + 1) (set old.slots.items b.slot s) new.slots.items = subst (λ l. IsSettled (b.slot + 1) l new.slots.items) (c.begin-2.ensures.value no-slot) f.settled in
     let m = f.length in
     let n = c.begin-2.ensures.length in
-    let more = ap (λ v. length v.items) c.finish-2.ensures.table ∙ ap length c.in_ok-push.ensures.items ∙ length_push old.links.items c.args.target.parts in
+    let more = ap (λ v. length v.items) c.finish-2.ensures.table ∙ ap length c.in_ok-push.ensures.items ∙ length_push old.links.items c.args.target.link in
     sound-same (length old.texts.items) (length new.texts.items) (length old.links.items + 1) (length new.links.items) new.slots.items _ new.delimiters.placed.items _ new.quotes.placed.items old.brackets.standing.items _ c.drop_behind.new.self.standing.items _
     (ap (λ v. length v.items) c.finish-2.ensures.texts) (let q : length new.links.items ≡ length old.links.items + 1 = omega (arith, more) in q) f.placed f.quotes (ap (λ v. v.items) c.deactivate_all.ensures.standing ∙ ap (λ (v : Brackets). v.standing.items) c.finish-2.ensures.brackets) (ap (λ v. v.items) c.deactivate_all-2.ensures.standing ∙ ap (λ (v : Brackets). v.standing.items) c.finish-2.ensures.doubled)
     (link-formed (length old.texts.items) (length old.links.items) old.slots.items old.delimiters.placed.items old.quotes.placed.items old.brackets.standing.items old.doubled.standing.items c.requires.sound b c.requires.taken c.args.text.now c.args.close c.requires.stands.doubled
@@ -194,7 +194,7 @@ returns-then-bracket-clause-writes c =
     let can = sound-settles (length old.texts.items) (length old.links.items) old.slots.items old.delimiters.placed.items old.quotes.placed.items old.brackets.standing.items old.doubled.standing.items c.requires.sound b p in
     subst (λ z. WritesElement (shown_options c.args.options) (record b { is_image = z }) c.args.target old new) (sym c.if-bracket.true)
     (writes-element (shown_options c.args.options) (record b { is_image = true }) c.args.target old new (element.Image c.len-index.result) p.there c.args.close c.args.text.now c.requires.stands.slots t.behind c.requires.sound.named can texts links
-    (image-shown old.links.items c.args.target.parts c.len-index.result index) f.placed f.quotes
+    (image-shown old.links.items c.args.target.link c.len-index.result index) f.placed f.quotes
     (λ leaf pairs spans emphasis. f.dressed leaf new.texts.items new.links.items pairs spans emphasis ∙ ap (λ l. dressed_behind (shown_options c.args.options) b pairs old.delimiters.placed.items old.quotes.placed.items (shown_slots leaf new.texts.items new.links.items (l ++ (end_slot c.args.close c.args.target.end ∷ [])))) begins))
 
 pub returns-clause-writes : goal.returns-clause-writes
@@ -212,5 +212,5 @@ returns-clause-writes c =
     let can = sound-settles (length old.texts.items) (length old.links.items) old.slots.items old.delimiters.placed.items old.quotes.placed.items old.brackets.standing.items old.doubled.standing.items c.requires.sound b p in
     subst (λ z. WritesElement (shown_options c.args.options) (record b { is_image = z }) c.args.target old (record new { brackets = c.deactivate_all.new.self; doubled = c.deactivate_all-2.new.self })) (sym c.if-bracket.false)
     (writes-element (shown_options c.args.options) (record b { is_image = false }) c.args.target old (record new { brackets = c.deactivate_all.new.self; doubled = c.deactivate_all-2.new.self }) (element.Link c.len-index.result) p.there c.args.close c.args.text.now c.requires.stands.slots t.behind c.requires.sound.named can texts links
-    (link-shown old.links.items c.args.target.parts c.len-index.result index) f.placed f.quotes
+    (link-shown old.links.items c.args.target.link c.len-index.result index) f.placed f.quotes
     (λ leaf pairs spans emphasis. f.dressed leaf new.texts.items new.links.items pairs spans emphasis ∙ ap (λ l. dressed_behind (shown_options c.args.options) b pairs old.delimiters.placed.items old.quotes.placed.items (shown_slots leaf new.texts.items new.links.items (l ++ (end_slot c.args.close c.args.target.end ∷ [])))) begins))

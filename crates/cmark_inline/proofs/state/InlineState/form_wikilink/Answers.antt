@@ -163,11 +163,11 @@ returns-clause-writes c =
     let new : InlineState = c.finish.new.self in
     let f = c.in_ok-finish.ensures in
     let index : c.len-index.result ≡ length old.links.items = search rules in
-    writes-shown options c.args.text.now d close c.args.wikilink old _ c.link_parts.result c.len-index.result c.linked_element-element.result shown.slots.items inside i.shows
+    writes-shown options c.args.text.now d close c.args.wikilink old _ c.named_link.result c.len-index.result c.linked_element-element.result shown.slots.items inside i.shows
     there size i.before c.requires.stands.slots (i.names (length old.texts.items) (length old.links.items) c.requires.sound.named) i.settles
     (ap (λ v. v.items) c.finish.ensures.texts ∙ ap (λ (x : InlineState). x.texts.items) o)
     (ap (λ v. v.items) c.finish.ensures.table ∙ ap (λ (x : InlineState). x.links.items) o ∙ c.in_ok-push.ensures.items)
-    c.link_parts.ensures index c.linked_element-element.ensures.value
+    c.named_link.ensures index c.linked_element-element.ensures.value
     (record {
       runs = c.truncate-2.ensures.placed ∙ ap (take d.runs) f.placed ∙ take-fewer d.runs inside.runs shown.delimiters.placed.items i.runs ∙ ap (λ (x : InlineState). take d.runs x.delimiters.placed.items) o;
       quotes = c.truncate.ensures ∙ ap (take d.quotes) f.quotes ∙ take-fewer d.quotes inside.quotes shown.quotes.placed.items i.quotes ∙ ap (λ (x : InlineState). take d.quotes x.quotes.placed.items) o;

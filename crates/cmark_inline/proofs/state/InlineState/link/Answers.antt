@@ -17,7 +17,7 @@ returns-clause-links g c =
     links-some g.F.BrokenLinkCallback.answers (shown_options c.args.reader.now.options) (g.E.EntityLookup.replacement c.args.reader.now.entities.now) c.args.reader.now.references.now c.args.leaf.now c.args.text.now c.args.taken c.in-Some.bracket c.args.close c.args.self.now
     c.target.new.self c.in_ok-target.field-0 c.args.callback.now c.target.new.callback c.in-Some.is c.in_ok-target.ensures.decides c.target.ensures.same c.in_ok-target.ensures.label c.target.ensures.table c.target.ensures.texts c.target.ensures.quotes
     c.in-Some-2.target c.form.new.self _ c.in-Some-2.is
-    (record { pending = refl; at = refl; leaves = c.in_ok-form.ensures.leaves; links = c.in_ok-form.ensures.parts; expansion_left = c.form.ensures.expansion_left; label = c.form.ensures.label; writes = c.in_ok-form.ensures.writes })
+    (record { pending = refl; at = refl; leaves = c.in_ok-form.ensures.leaves; links = c.in_ok-form.ensures.kept; expansion_left = c.form.ensures.expansion_left; label = c.form.ensures.label; writes = c.in_ok-form.ensures.writes })
 
 pub form-requires-clause-sound : goal.form-requires-clause-sound
 form-requires-clause-sound g c = spans-sound c.args.self.now c.target.new.self c.target.ensures.same c.target.ensures.table c.target.ensures.texts c.target.ensures.quotes c.requires.sound

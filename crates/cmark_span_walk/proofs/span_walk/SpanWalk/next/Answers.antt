@@ -3,9 +3,10 @@ use Rattle.std.proofs.Common.{[], ◌∷◌, refl, ap, ◌∙◌, subst}
 use Rattle.cmark_grammar.specs.SpanDocuments.{Content, Given as GivenOf}
 use Rattle.cmark_items.specs.Footnotes.{footnote}
 use Rattle.cmark_walk.specs.Walking as walking
-use Rattle.cmark_walk.specs.Walking.{MeetsZeroCopy, lines_of, shown_ranged}
+use Rattle.cmark_text.specs.Ranged.{IsRangedZeroCopy, shown_ranged}
+use Rattle.cmark_walk.specs.Walking.{MeetsZeroCopy, lines_of}
 use Rattle.cmark_walk.proofs.WalkSteps.{on-err}
-use Rattle.cmark_span_walk.specs.Walking.{ArePlaced, GivesSpan, GivesZeroCopy, HasRange}
+use Rattle.cmark_span_walk.specs.Walking.{ArePlaced, GivesSpan, HasRange}
 use Rattle.cmark_span_walk.proofs.EndSteps.{blocks-begin, leaf-keeps, text-begins}
 use Rattle.cmark_span_walk.proofs.Readings.{asked-on, asked-same, ends-on, event-passes, leaf-passes, met-same, over-ends, passes-none, passes-on}
 use Rattle.cmark_span_walk.proofs.Walks.{before-leaf, behind-at, lasts-leaf, lasts-none, met-by, over-at}
@@ -123,7 +124,7 @@ returns-in-Event-clause-lent g c =
     let mid = c.next_span.new.self in
     let s = c.in_ok-given.ensures.stands in
     let meets = subst (MeetsZeroCopy (walking.text_of mid.walk)) c.in-Event.is c.in_ok-given-2.ensures.lent in
-    subst (λ t. GivesZeroCopy t c.in-Event.given) (s.1.blocks.same_text ∙ c.in_ok-given.ensures.around.source ∙ c.loop-given.invariant.lasts.source) meets
+    subst (λ t. IsRangedZeroCopy t c.in-Event.given) (s.1.blocks.same_text ∙ c.in_ok-given.ensures.around.source ∙ c.loop-given.invariant.lasts.source) meets
 
 pub returns-in_err-given-clause-ends : goal.returns-in_err-given-clause-ends
 returns-in_err-given-clause-ends g c = on-err c.from_residual.result _ (λ reader exchanges events m b. c.in_err-given.ensures.ends reader exchanges events (c.loop-given.invariant.ends reader exchanges events m b) b)

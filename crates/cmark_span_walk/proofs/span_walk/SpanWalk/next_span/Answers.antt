@@ -1,8 +1,8 @@
-use Rattle.std.proofs.Common.{[], ◌∷◌, sym, subst}
+use Rattle.std.proofs.Common.{subst}
 use Rattle.cmark_inline.specs.Opens.{Gives as GivesSlot}
 use Rattle.cmark_inline.specs.SlotViews.{IsFirst, events_to_come}
 use Rattle.cmark_walk.proofs.WalkSteps.{on-err}
-use Rattle.cmark_span_walk.specs.Walking.{HasRange, Passes, opened_of, source_of}
+use Rattle.cmark_span_walk.specs.Walking.{opened_of, source_of}
 use Rattle.cmark_span_walk.proofs.EndSteps.{closed-keeps, spans-begin}
 use Rattle.cmark_span_walk.proofs.Readings.{closed-passes, passes-none, spanned}
 use Rattle.cmark_span_walk.proofs.Walks.{closed-at, given-left, spanned-at}
@@ -24,10 +24,8 @@ returns-in-Some-clause-given g c = λ reader r.
     let walk = c.args.self.now in
     let inside = c.if-not-self.false in
     let e = c.in_ok-given.ensures in
-    let new = record walk { inline = c.next.new.self } in
     let follows = subst (λ o. GivesSlot (source_of walk) (opened_of walk) o c.next.new.self.walk.opened.items) c.in-Some.is e.gives in
     let first = subst (λ o. IsFirst o (events_to_come walk.leaf walk.inline) (events_to_come walk.leaf c.next.new.self)) c.in-Some.is e.events in
-    subst (λ x. HasRange (source_of walk) x × Passes g.F.BrokenLinkCallback.answers g.E.EntityLookup.replacement reader (x ∷ []) walk new) (sym c.ranged.ensures.value)
     (follows.range, spanned g.F.BrokenLinkCallback.answers g.E.EntityLookup.replacement reader walk c.next.new.self _ r inside (spanned-at walk c.next.new.self r.left r.stands inside e.slots e.opened e.left) e.expansion_left first)
 
 pub returns-in-None-clause-stands : goal.returns-in-None-clause-stands

@@ -1,6 +1,7 @@
 use Rattle.std.proofs.Common.{◌<◌, OnSome, refl, subst}
 use Rattle.std.specs.Prelude.{IfSome}
-use Rattle.cmark_span_walk.specs.Walking.{Gives, GivesZeroCopy, events_left, source_of}
+use Rattle.cmark_span_walk.specs.Walking.{Gives, events_left, source_of}
+use Rattle.cmark_text.specs.Ranged.{IsRangedZeroCopy}
 use Rattle.pulldown_cmark.specs.Parsing.{reader_for}
 use Rattle.pulldown_cmark.proofs.ParseSteps.{SaysIfAny, gives-error, gives-none, gives-nothing, gives-some, going, read-by}
 use Rattle.pulldown_cmark.proofs.parse.Parser.advance.Goals as goal
@@ -20,7 +21,7 @@ returns-in-Ok-Some g c =
     let e = c.in-Ok-Some.ensures in
     gives-some Says replacement old _ c.in-Ok-Some.given c.if-self.false c.if-self.false
     (subst (λ o. Gives (SaysIfAny Says) replacement reader old.spans o c.next.new.self) c.in-Ok-Some.field-0-is (e.given reader (read-by replacement old c.if-self.false c.requires)))
-    (subst (λ o. IfSome o (GivesZeroCopy (source_of old.spans))) c.in-Ok-Some.field-0-is e.lent)
+    (subst (λ o. IfSome o (IsRangedZeroCopy (source_of old.spans))) c.in-Ok-Some.field-0-is e.lent)
     (subst (λ o. OnSome o (events_left c.next.new.self < events_left old.spans)) c.in-Ok-Some.field-0-is e.fewer) e.source e.definitions e.footnotes
 
 pub returns-in-Ok-None : goal.returns-in-Ok-None

@@ -1,9 +1,0 @@
-use Rattle.std.proofs.Common.{◌≡◌, ◌≤◌, ◌==◌, length, take}
-use Rattle.cmark_grammar.specs.Columns.{drop_end}
-use Rattle.cmark_leaves.proofs.trailing.without_trailing.Given as goal
-
-abbrev pub invariant-loop-len : goal.invariant-loop-len
-invariant-loop-len l = record { within : l.len ≤ length l.bytes; dropped : drop_end (λ b. b == l.one) (take l.len l.bytes) ≡ drop_end (λ b. b == l.one) l.bytes }
-
-abbrev pub decreases-loop-len : goal.decreases-loop-len
-decreases-loop-len l = l.len
