@@ -25,7 +25,7 @@ use Rattle.cmark_blocks.specs.Shown.{ShowsContainers}
 use Rattle.cmark_blocks.specs.Ahead.{lines_at}
 use Rattle.cmark_blocks.specs.LineByLine.{Feeds, FeedsSoFar, FeedsAll}
 use Rattle.cmark_blocks.specs.Runs.{Runs, ShowsLeaf}
-use Rattle.cmark_leaves.proofs.EndSteps.{equal-true, equal-false}
+use Rattle.std.proofs.lemmas.Bool.{eq-eqb, ne_eqb}
 
 module _ {E : Type 0} (replacement : E → Lookup) (text : List ℕ) (options : Options) (lookup : Lookup) (m : model.Pass) (pass : Pass E) (runs : Runs replacement text options lookup m pass) where
   pub in_paragraph : (from : ℕ) (last : LineRest) → pass.leaf ≡ leaf.Paragraph from last → m.leaf ≡ model.InParagraph (map row_of pass.blank_lines.items) from (row_of last)
@@ -44,12 +44,12 @@ module _ (text : List ℕ) (options : Options) (lookup : Lookup) (r : Row) (m : 
   -- a line that touches the last one, or not
   pub line-touches : (before : List Row) (from : ℕ) (last : Row) → begin_of r ≡ last.line_end → paragraph_line text options lookup before from last r m ≡ record m { leaf = model.InParagraph (kept_lines options.heading_attributes before last) from r }
   line-touches before from last e =
-      ap (λ z. if z then record m { leaf = model.InParagraph (kept_lines options.heading_attributes before last) from r } else record (with_drawn (stretch_then text from last.line_end Nil) m) { leaf = model.InParagraph (kept_lines options.heading_attributes before last) (begin_of r) r }) (equal-true (begin_of r) last.line_end e)
+      ap (λ z. if z then record m { leaf = model.InParagraph (kept_lines options.heading_attributes before last) from r } else record (with_drawn (stretch_then text from last.line_end Nil) m) { leaf = model.InParagraph (kept_lines options.heading_attributes before last) (begin_of r) r }) (eq-eqb (begin_of r) last.line_end e)
 
   pub line-apart : (before : List Row) (from : ℕ) (last : Row) → begin_of r ≢ last.line_end
       → paragraph_line text options lookup before from last r m ≡ record (with_drawn (stretch_then text from last.line_end Nil) m) { leaf = model.InParagraph (kept_lines options.heading_attributes before last) (begin_of r) r }
   line-apart before from last e =
-      ap (λ z. if z then record m { leaf = model.InParagraph (kept_lines options.heading_attributes before last) from r } else record (with_drawn (stretch_then text from last.line_end Nil) m) { leaf = model.InParagraph (kept_lines options.heading_attributes before last) (begin_of r) r }) (equal-false (begin_of r) last.line_end e)
+      ap (λ z. if z then record m { leaf = model.InParagraph (kept_lines options.heading_attributes before last) from r } else record (with_drawn (stretch_then text from last.line_end Nil) m) { leaf = model.InParagraph (kept_lines options.heading_attributes before last) (begin_of r) r }) (ne_eqb (begin_of r) last.line_end e)
 
 module _ (text : List ℕ) (options : Options) (lookup : Lookup) (r : Row) (next : List Row) (m : model.Pass) where
   -- behind a paragraph

@@ -1,5 +1,6 @@
 -- What is open in the block pass, seen as in its model.
 use Rattle.std.specs.Prelude.{◌≡◌, ℕ, List, [], ◌∷◌, Option, Some, None, option_map, ◌==◌, if◌then◌else◌}
+use Rattle.cmark_items.specs.ItemNodes.{list_number}
 use Rattle.cmark_lines.specs.Starts.{Shows}
 use Rattle.cmark_block_model.specs.OpenBlocks as model
 use Rattle.cmark_blocks.specs.declared.siblings.OpenList.{OpenList}
@@ -8,7 +9,7 @@ use Rattle.cmark_blocks.specs.declared.siblings.Title.{Title}
 use Rattle.cmark_blocks.specs.declared.state.OpenContainer.{OpenContainer}
 
 abbrev pub shown_list : OpenList → model.OpenList
-shown_list l = record { delimiter = l.delimiter; number = l.number; loose = l.loose; end = l.end }
+shown_list l = record { delimiter = l.delimiter; number = list_number l.delimiter l.number; loose = l.loose; end = l.end }
 
 abbrev pub shown_title : Title → model.Title
 shown_title t = record { list = option_map shown_list t.list; parted = t.parted }

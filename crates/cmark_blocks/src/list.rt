@@ -29,13 +29,13 @@ fn list_flags(loose: bool) -> ListFlags
 impl OpenList {
     /// The list as an item of the tree.
     fn body(self) -> ItemBody
-        ensures { shape result ≡ Element (list_kind self.delimiter self.number (not self.loose)) }
+        ensures { shape result ≡ Element (list_kind self.delimiter (list_number self.delimiter self.number) (not self.loose)) }
     {
         let flags = list_flags(self.loose);
         if self.delimiter == DEFINITION_DELIMITER {
             ItemBody::DefinitionList(flags)
         } else {
-            ItemBody::List(flags, self.delimiter, self.number.unwrap_or(0))
+            ItemBody::List(flags, self.delimiter, self.number)
         }
     }
 }
@@ -141,9 +141,10 @@ impl<'a, E: EntityLookup> Pass<'a, E> {
         ensures bare { self.new.bare ≡ self.old.bare }
     {
         self.begin_block();
+        let number = item.number.unwrap_or(0);
         let list = OpenList {
             delimiter: item.delimiter,
-            number: item.number,
+            number,
             loose: false,
             end: start,
         };

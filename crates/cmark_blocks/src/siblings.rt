@@ -1,9 +1,8 @@
 //! The blocks of a container so far, and the list that the last one is an item of (CommonMark 5.3).
 
-ghost use Rattle.std.specs.Prelude.{◌≡◌, ◌||◌, None, is_some, option_map, unwrap_or};
+ghost use Rattle.std.specs.Prelude.{◌≡◌, ◌||◌, None, is_some, option_map};
 ghost use Rattle.cmark_block_model.specs.BlockPass.{siblings_with_block, siblings_with_paragraph, siblings_with_item, siblings_behind_item, definitions_in, place_of};
 ghost use Rattle.cmark_grammar.specs.Places.{is_behind_title};
-ghost use Rattle.cmark_items.specs.ItemNodes.{list_number};
 ghost use Rattle.cmark_block_model.specs.OpenBlocks.{no_siblings};
 ghost use Rattle.cmark_blocks.specs.Titles.{list_around, with_title};
 ghost use Rattle.cmark_blocks.specs.Shown.{shown_list, shown_siblings, list_of};
@@ -11,15 +10,14 @@ ghost use Rattle.cmark_blocks.specs.Shown.{shown_list, shown_siblings, list_of};
 /// A list to which further items may come, or titles and definitions.
 #[derive(Clone, Copy)]
 pub(crate) struct OpenList {
-    /// The number of the first item, which its character tells of; none for a bullet, and for definitions.
-    pub number: Option<u64>,
+    /// The number of the first item; 0 for a bullet.
+    pub number: u64,
     /// Where its last item ends: a byte offset of the text.
     pub end: usize,
     /// The bullet, or what stands behind the number; the marker of definitions, `:`, where they stand in it.
     pub delimiter: u8,
     /// It is known to be loose.
     pub loose: bool,
-    ghost numbered: { list_number delimiter (unwrap_or number 0) ≡ number },
 }
 
 /// What was known before a paragraph that a definition may make a title (this profile's own).
@@ -166,7 +164,7 @@ impl Siblings {
             None => {
                 let list = OpenList {
                     delimiter: DEFINITION_DELIMITER,
-                    number: None,
+                    number: 0,
                     loose: false,
                     end: start,
                 };

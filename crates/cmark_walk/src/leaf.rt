@@ -36,6 +36,7 @@ impl<'a> Walk<'a> {
     }
 
     // The lines of the leaf in the focus: its own text, or the nodes inside.
+    #[inline(always)]
     fn gather(&self, ix: TreeIndex, lines: &mut Vec<LeafLine>) -> Result<(), AllocError>
         requires { IsAt self.now ix }
         ensures lines { OnOk result (HoldsLines self.now lines.new.items) }

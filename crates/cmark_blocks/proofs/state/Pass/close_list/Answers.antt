@@ -1,6 +1,6 @@
 use Rattle.std.proofs.Common.{◌≡◌, not, Some, None, option_map, sym, ap, ◌∙◌, subst}
 use Rattle.cmark_grammar.specs.Derivation.{list_kind}
-use Rattle.cmark_items.specs.ItemNodes.{kind_of}
+use Rattle.cmark_items.specs.ItemNodes.{kind_of, list_number}
 use Rattle.cmark_block_model.specs.BlockPass.{list_closed, title_released}
 use Rattle.cmark_builder.specs.Drawn.{Draws}
 use Rattle.cmark_builder.proofs.DrawnSteps.{draws-close_as}
@@ -19,7 +19,7 @@ returns-in-Some-clause-runs g c text options lookup m runs =
     let there : Some (shown_list l) ≡ m.inner.list = ap (option_map shown_list) (sym c.in-Some.is) ∙ list_is g.E.EntityLookup.replacement text options lookup (record m { drawing = d }) mid r in
     runs-builder g.E.EntityLookup.replacement text options lookup (record m { drawing = d }) mid c.close_as.new.self (list_closed m.inner.list d) r
     (subst (λ o. Draws text c.close_as.new.self (list_closed o d)) there
-    (draws-close_as text mid.builder c.close_as.new.self l.end _ (list_kind l.delimiter l.number (not l.loose)) d c.close_as.ensures.closed c.close_as.ensures.none c.close_as.ensures.tables (ap (kind_of (tables mid.builder.allocations).texts) c.body.ensures) r.drawing))
+    (draws-close_as text mid.builder c.close_as.new.self l.end _ (list_kind l.delimiter (list_number l.delimiter l.number) (not l.loose)) d c.close_as.ensures.closed c.close_as.ensures.none c.close_as.ensures.tables (ap (kind_of (tables mid.builder.allocations).texts) c.body.ensures) r.drawing))
     (ap (λ a. defined (tables a)) c.close_as.ensures.tables)
 
 pub returns-in_default-clause-runs : goal.returns-in_default-clause-runs
