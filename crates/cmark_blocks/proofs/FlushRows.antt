@@ -1,10 +1,10 @@
 -- What a letter or a bracket begins that stands in front of a line, with no indent.
-use Rattle.std.proofs.Common.{◌≡◌, ℕ, Bool, true, false, ◌==◌, ◌&&◌, not, List, [], ◌∷◌, drop, Option, None, refl, sym, ap, ◌∙◌, arith, eqb-true, true≢false}
+use Rattle.std.proofs.Common.{◌≡◌, ℕ, Bool, true, false, ◌==◌, ◌&&◌, not, List, [], ◌∷◌, drop, None, refl, sym, ap, ◌∙◌, arith, eqb-true, true≢false}
 use Rattle.std.specs.Prelude.{if◌then◌else◌}
 use Rattle.cmark_grammar.specs.Columns.{bytes_of}
 use Rattle.cmark_grammar.specs.Containers.{begins_with}
 use Rattle.cmark_grammar.specs.DefinitionLists.{definition_at}
-use Rattle.cmark_grammar.specs.Footnotes.{Footnotes, are_read, footnotes_in, is_footnote_label}
+use Rattle.cmark_grammar.specs.Footnotes.{are_read, footnotes_in, is_footnote_label}
 use Rattle.cmark_grammar.specs.Letters.{is_letter, first_is}
 use Rattle.cmark_grammar.specs.Metadata.{metadata_kind, metadata_if, metadata_of}
 use Rattle.cmark_grammar.specs.Openings as grammar

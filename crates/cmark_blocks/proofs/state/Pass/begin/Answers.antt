@@ -1,4 +1,4 @@
-use Rattle.std.proofs.Common.{◌≡◌, length, false, sym, subst, ◌∙◌}
+use Rattle.std.proofs.Common.{length, false, sym, subst, ◌∙◌}
 use Rattle.cmark_grammar.specs.Blocks.{place_in}
 use Rattle.cmark_grammar.specs.Containers.{is_alert, enter}
 use Rattle.cmark_block_model.specs.BlockPass.{ahead_in, begin_in, container_begun, inside_begun, is_item, place_of}

@@ -1,4 +1,4 @@
-use Rattle.std.proofs.Common.{false, Some, option_map, refl, sym, ap, ◌∙◌, subst}
+use Rattle.std.proofs.Common.{false, Some, option_map, sym, ap, ◌∙◌, subst}
 use Rattle.cmark_grammar.specs.BlockDocument.{DefinitionList, DefinitionListTitle}
 use Rattle.cmark_block_model.specs.Drawing.{retitled, enclosed}
 use Rattle.cmark_builder.proofs.DrawnSteps.{draws-titled, draws-enclosed}
