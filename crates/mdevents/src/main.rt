@@ -15,7 +15,14 @@ fn main(rt: HostRuntime) -> ExitCode {
     let mut writer = Watched::new(rt.stdout());
     let ended = start(&rt, "mdevents", ABOUT).and_then(|settings| {
         let options = settings.options;
-        run(rt.alloc(), &mut reader, &mut writer, options, &settings.entities).map_err(Stop::Fault)
+        run(
+            rt.alloc(),
+            &mut reader,
+            &mut writer,
+            options,
+            &settings.entities,
+        )
+        .map_err(Stop::Fault)
     });
     finish(&rt, "mdevents", &mut writer, ended)
 }

@@ -14,7 +14,14 @@ fn main(rt: HostRuntime) -> ExitCode {
     let mut writer = Watched::new(rt.stdout());
     let ended = start(&rt, "mdhtml", ABOUT).and_then(|settings| {
         let options = settings.options;
-        run(rt.alloc(), &mut reader, &mut writer, options, &settings.entities).map_err(Stop::Fault)
+        run(
+            rt.alloc(),
+            &mut reader,
+            &mut writer,
+            options,
+            &settings.entities,
+        )
+        .map_err(Stop::Fault)
     });
     finish(&rt, "mdhtml", &mut writer, ended)
 }
