@@ -1,6 +1,6 @@
 //! The pieces of events.
 
-ghost use Rattle.std.specs.Prelude.{◌≡◌, ◌++◌, true, IfOk, OnOk, OnErr, None, codes, is_some, option_map, string_bytes};
+ghost use Rattle.std.specs.Prelude.{◌≡◌, ◌++◌, true, IfOk, OnOk, OnErr, None, codes, is_err, is_some, option_map, string_bytes};
 ghost use Rattle.cmark_grammar.specs.Escapes.{escaped_body_text, escaped_html};
 ghost use Rattle.cmark_grammar.specs.Event.{End, SoftBreak, Start, Text};
 ghost use Rattle.cmark_grammar.specs.Html.{piece, piece_outside, moved, moved_outside, metadata_after, table_after, table_after_start, names_after, names_after_start, names_after_inside, opened_by, opened_image, last_piece, line_start_after, line_start_after_html, ends_in_line_feed, task_list_marker};
@@ -35,8 +35,24 @@ pub fn write_event<'a>(
     if writer.image.is_none() {
         write_outside(out, writer, event)
     } else {
-        write_in_image(out, writer, event)
+        write_event_inside(out, writer, event)
     }
+}
+
+/// Appends the piece of an event inside of an image. The event that it hands on stands in a function of its own, so that its room is cleared for
+/// events inside of images alone.
+#[inline(always)]
+fn write_event_inside<'a>(
+    out: &mut String,
+    writer: &mut Writer<'a>,
+    event: Event<'a>,
+) -> Result<(), AllocError>
+    requires { is_some writer.old.image ≡ true }
+    ensures ok { OnOk result (string_bytes out.new ≡ string_bytes out.old ++ piece (writing writer.old) (shown event.entry)) }
+    ensures state { OnOk result (writing writer.new ≡ moved (writing writer.old) (shown event.entry)) }
+    ensures err { OnErr result (AppendsFront (string_bytes out.old) (string_bytes out.new) (piece (writing writer.old) (shown event.entry))) }
+{
+    write_in_image(out, writer, event)
 }
 
 /// Appends the piece of an event outside of images.
@@ -58,11 +74,17 @@ fn write_outside<'a>(
             }
             Ok(())
         }
-        Err(error) => {
-            drop(event);
-            Err(error)
-        }
+        Err(error) => refuse(event, error),
     }
+}
+
+/// Lets an event go that was not written whole. It stands in a function of its own, so that the event's room is cleared there alone.
+#[inline(always)]
+fn refuse(event: Event<'_>, error: AllocError) -> Result<(), AllocError>
+    ensures { is_err result ≡ true }
+{
+    drop(event);
+    Err(error)
 }
 
 /// Appends this piece, and keeps what the event says but of tables, footnotes and images.
@@ -164,6 +186,17 @@ fn keep_event<'a>(
     ensures image { IfOk result (λ image. option_map shown_image image ≡ opened_image (shown event.entry)) }
 {
     match event {
+        Event::Start(Tag::Link {
+            link_type: _,
+            dest_url,
+            title,
+            id,
+        }) => {
+            drop(dest_url);
+            drop(title);
+            drop(id);
+            Ok(None)
+        }
         Event::Start(tag) => keep_start(table, names, tag),
         Event::End(tag) => {
             table.end(tag)?;
