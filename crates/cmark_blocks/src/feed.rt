@@ -55,8 +55,22 @@ impl<'a, E: EntityLookup> Pass<'a, E> {
         match self.leaf {
             OpenLeaf::Closed => self.begin(rest),
             OpenLeaf::Paragraph(from, last) => self.feed_paragraph(from, last, rest),
-            _ => self.feed_any_leaf(rest),
+            _ => self.feed_other_leaf(rest),
         }
+    }
+
+    /// The same, for another leaf than a paragraph. The line that it hands on stands in a function of its own, so that its room is cleared where such
+    /// a leaf is open alone.
+    #[inline(always)]
+    fn feed_other_leaf(&mut self, rest: LineRest<'a>) -> Result<(), AllocError>
+        requires good { IsGood self.old }
+        requires line { IsRead self.old.text.now rest }
+        requires bare { self.old.bare ≡ false }
+        ensures good { IsGood self.new }
+        ensures runs { OnOk result (FeedsLeaf E.replacement rest.entry self.old self.new) }
+        ensures text { self.new.text ≡ self.old.text }
+    {
+        self.feed_any_leaf(rest)
     }
 
     /// The same, for each kind of leaf.
@@ -159,11 +173,23 @@ impl<'a, E: EntityLookup> Pass<'a, E> {
             self.line_end = line.line_end();
             return Ok(());
         }
-        self.feed_inside(line)?;
-        Ok(())
+        self.feed_around(line)
     }
 
-    /// The same, inside of containers.
+    /// The same, inside of containers. The line that it hands on stands in a function of its own, so that its room is cleared there alone.
+    #[inline(always)]
+    fn feed_around(&mut self, line: LineRest<'a>) -> Result<(), AllocError>
+        requires good { IsGood self.old }
+        requires line { IsRead self.old.text.now line }
+        ensures good { IsGood self.new }
+        ensures runs { OnOk result (Feeds E.replacement line.entry self.old self.new) }
+        ensures text { self.new.text ≡ self.old.text }
+        ensures line_end { OnOk result (self.new.line_end ≡ (row_of line.entry).line_end) }
+    {
+        self.feed_inside(line)
+    }
+
+    /// What a line is inside of containers.
     #[inline(never)]
     fn feed_inside(&mut self, line: LineRest<'a>) -> Result<(), AllocError>
         requires good { IsGood self.old }

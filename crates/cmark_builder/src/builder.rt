@@ -54,6 +54,7 @@ impl<'a> Builder<'a> {
     }
 
     /// A node behind the last sibling, and the path down into it. Its end is set when it is closed.
+    #[inline(always)]
     pub fn open(&mut self, start: usize, body: ItemBody) -> Result<(), AllocError>
         requires { IsPlaced self.old.tree }
         ensures placed { IsPlaced self.new.tree }

@@ -103,6 +103,24 @@ pub(crate) fn container_start<'a>(
     ensures inside { IfSome result (Enters (row_of rest.entry)) }
     ensures marker { IfSome result (HasMarker (row_of rest.entry)) }
 {
+    if !reads_footnotes(options) {
+        return marker_start(rest, words);
+    }
+    footnote_or_marker_start(rest, words, options)
+}
+
+/// The same, where footnotes are read.
+#[inline(never)]
+fn footnote_or_marker_start<'a>(
+    rest: LineRest<'a>,
+    words: &[u8],
+    options: Options,
+) -> Option<ContainerStart<'a>>
+    requires { words.now ≡ words_of (row_of rest) }
+    ensures container { option_map (shown_start (shown_options options) (row_of rest.entry)) result ≡ begun_container (shown_options options) (row_of rest.entry) }
+    ensures inside { IfSome result (Enters (row_of rest.entry)) }
+    ensures marker { IfSome result (HasMarker (row_of rest.entry)) }
+{
     if let Some(start) = footnote_start(rest, options) {
         return Some(start);
     }
@@ -126,7 +144,7 @@ fn footnote_start<'a>(rest: LineRest<'a>, options: Options) -> Option<ContainerS
 }
 
 /// The list item or block quote that the line with these words begins, indented by at most three columns, and the line behind its marker.
-#[inline]
+#[inline(always)]
 fn marker_start<'a>(rest: LineRest<'a>, words: &[u8]) -> Option<ContainerStart<'a>>
     requires { words.now ≡ words_of (row_of rest) }
     ensures container { (options : profile.Options) → option_map (shown_start options (row_of rest.entry)) result ≡ begun_marked options (row_of rest.entry) }
@@ -136,6 +154,17 @@ fn marker_start<'a>(rest: LineRest<'a>, words: &[u8]) -> Option<ContainerStart<'
     if !may_begin_container(words) {
         return None;
     }
+    marked_start(rest)
+}
+
+/// The same, whatever the words begin with. The lines that it looks into stand in a function of its own, so that their room is cleared where a marker
+/// may stand alone.
+#[inline(always)]
+fn marked_start<'a>(rest: LineRest<'a>) -> Option<ContainerStart<'a>>
+    ensures container { (options : profile.Options) → option_map (shown_start options (row_of rest.entry)) result ≡ begun_marked options (row_of rest.entry) }
+    ensures inside { IfSome result (Enters (row_of rest.entry)) }
+    ensures marker { IfSome result (HasMarker (row_of rest.entry)) }
+{
     if let Some((item, inside)) = rest.behind_item() {
         return Some(ContainerStart::Item(item, inside));
     }

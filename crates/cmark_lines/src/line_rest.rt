@@ -24,7 +24,7 @@ pub struct LineRest<'a> {
 }
 
 impl<'a> LineRest<'a> {
-    ghost use Rattle.std.specs.Prelude.{◌<◌, ◌∷◌, ℕ, List, [], false, min};
+    ghost use Rattle.std.specs.Prelude.{◌≡◌, ◌<◌, ◌∷◌, ℕ, List, [], None, IfSome, true, false, min};
     ghost use Rattle.std.specs.Str.{IsCharBoundary, IsUtf8};
     ghost use Rattle.cmark_grammar.specs.Columns.{bytes_of};
     ghost use Rattle.cmark_grammar.specs.Letters.{is_letter, first_is};
@@ -148,6 +148,20 @@ impl<'a> LineRest<'a> {
         let mut ahead = self.front;
         ahead.scan_all_space();
         ahead.remaining_bytes()
+    }
+
+    /// The words, where the line has any: what `is_blank` and `words` say, of one look at the spaces and tabs in front.
+    #[inline(always)]
+    pub(crate) fn words_unless_blank(&self) -> Option<&'a [u8]>
+        ensures blank { result ≡ None → is_blank_line (row_of self.now) ≡ true }
+        ensures words { IfSome result (λ words. (is_blank_line (row_of self.now) ≡ false) × (words.now ≡ words_of (row_of self.now))) }
+    {
+        let mut ahead = self.front;
+        ahead.scan_all_space();
+        if ahead.is_at_eol() {
+            return None;
+        }
+        Some(ahead.remaining_bytes())
     }
 
     /// Whether the words begin with an ASCII letter, as most lines of prose do: such a line neither interrupts a paragraph nor

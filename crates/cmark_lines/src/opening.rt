@@ -64,14 +64,13 @@ pub fn what_opens<'a>(rest: LineRest<'a>, options: Options) -> Opening<'a>
     ensures placed { (text : List ℕ) → IsIn text rest.entry → InsideIsIn text result }
     ensures info_placed { (text : List ℕ) → IsIn text rest.entry → InfoIsIn text result (row_of rest.entry) }
 {
-    if rest.is_blank() {
+    let Some(words) = rest.words_unless_blank() else {
         return Opening::Blank;
-    }
+    };
     let indent = rest.indent_upto(4);
     if indent == 4 {
         return Opening::IndentedCode;
     }
-    let words = rest.words();
     if begins_with_letter(words) {
         return Opening::Plain;
     }

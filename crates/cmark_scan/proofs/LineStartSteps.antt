@@ -1,6 +1,6 @@
 -- What is left of a line, after some of its columns were taken.
 use Rattle.std.proofs.Common.{◌≡◌, ℕ, zero, suc, ◌+◌, ◌-◌, ◌<◌, ◌≤◌, true, false, List, [], length, take, drop, sym, ap, ◌∙◌, arith}
-use Rattle.std.specs.Prelude.{min}
+use Rattle.std.specs.Prelude.{◌==◌, min, not}
 use Rattle.std.proofs.lemmas.List.{drop-drop}
 use Rattle.cmark_grammar.specs.Columns.{expand, indent, without_indent}
 use Rattle.cmark_grammar.specs.Rows.{without}
@@ -18,9 +18,9 @@ columns-further at k line line' same more =
 
 pub row-further : (at line_end k : ℕ) (line line' : LineStart) → line'.bytes ≡ line.bytes → line'.held ≡ line.held → columns_taken line' ≡ columns_taken line + k → row_from at line_end line' ≡ without k (row_from at line_end line)
 row-further at line_end k line line' same held more =
-    ap (λ cs. record { columns = cs; at = at; content_end = at + length line'.bytes.now; line_end = line_end; lazy = false; held = line'.held }) (columns-further at k line line' same more)
-    ∙ ap (λ bytes. record { columns = drop k (columns_from at line); at = at; content_end = at + length bytes.now; line_end = line_end; lazy = false; held = line'.held }) same
-    ∙ ap (λ h. record (without k (row_from at line_end line)) { held = h }) held
+    ap (λ cs. record { columns = cs; at = at; content_end = at + length line'.bytes.now; line_end = line_end; lazy = false; held = not (line'.held == 0) }) (columns-further at k line line' same more)
+    ∙ ap (λ bytes. record { columns = drop k (columns_from at line); at = at; content_end = at + length bytes.now; line_end = line_end; lazy = false; held = not (line'.held == 0) }) same
+    ∙ ap (λ h. record (without k (row_from at line_end line)) { held = not (h == 0) }) held
 
 pub pending-blank : (at : ℕ) (line : LineStart) → line.pending ≤ indent (columns_from at line)
 pending-blank at line = pending-indent at line.bytes.now line.taken line.pending line.inside line.cut
@@ -54,9 +54,9 @@ same-behind at k line line' same more blank =
 pub row-behind : (at line_end : ℕ) (line line' : LineStart) → line'.bytes ≡ line.bytes → line'.held ≡ line.held → without_indent (columns_from at line') ≡ without_indent (columns_from at line) → indent (columns_from at line') ≡ 0
     → row_from at line_end line' ≡ without (indent (columns_from at line)) (row_from at line_end line)
 row-behind at line_end line line' same held behind none =
-    ap (λ cs. record { columns = cs; at = at; content_end = at + length line'.bytes.now; line_end = line_end; lazy = false; held = line'.held }) (ap (λ n. drop n (columns_from at line')) (sym none) ∙ behind)
-    ∙ ap (λ bytes. record { columns = without_indent (columns_from at line); at = at; content_end = at + length bytes.now; line_end = line_end; lazy = false; held = line'.held }) same
-    ∙ ap (λ h. record (without (indent (columns_from at line)) (row_from at line_end line)) { held = h }) held
+    ap (λ cs. record { columns = cs; at = at; content_end = at + length line'.bytes.now; line_end = line_end; lazy = false; held = not (line'.held == 0) }) (ap (λ n. drop n (columns_from at line')) (sym none) ∙ behind)
+    ∙ ap (λ bytes. record { columns = without_indent (columns_from at line); at = at; content_end = at + length bytes.now; line_end = line_end; lazy = false; held = not (line'.held == 0) }) same
+    ∙ ap (λ h. record (without (indent (columns_from at line)) (row_from at line_end line)) { held = not (h == 0) }) held
 
 -- columns left of a tab are in front of the others
 pub whole-behind : (at : ℕ) (line : LineStart) → without_indent (left at line.bytes.now line.taken 0) ≡ without_indent (columns_from at line)
@@ -69,16 +69,16 @@ whole-behind at line =
     ∙ drop-drop (indent (drop p cs)) p cs ∙ ap (λ n. drop n cs) (sym (indent-drop p cs (pending-blank at line)))
 
 pub row-on : (at line_end k : ℕ) (line : LineStart) (taken pending : ℕ) → column_behind 0 (take taken line.bytes.now) - pending ≡ columns_taken line + k
-    → record { columns = left at line.bytes.now taken pending; at = at; content_end = at + length line.bytes.now; line_end = line_end; lazy = false; held = line.held } ≡ without k (row_from at line_end line)
+    → record { columns = left at line.bytes.now taken pending; at = at; content_end = at + length line.bytes.now; line_end = line_end; lazy = false; held = not (line.held == 0) } ≡ without k (row_from at line_end line)
 row-on at line_end k line taken pending more =
-    ap (λ cs. record { columns = cs; at = at; content_end = at + length line.bytes.now; line_end = line_end; lazy = false; held = line.held }) (ap (λ n. drop n (expand 0 at line.bytes.now)) more ∙ sym (drop-drop k (columns_taken line) (expand 0 at line.bytes.now)))
+    ap (λ cs. record { columns = cs; at = at; content_end = at + length line.bytes.now; line_end = line_end; lazy = false; held = not (line.held == 0) }) (ap (λ n. drop n (expand 0 at line.bytes.now)) more ∙ sym (drop-drop k (columns_taken line) (expand 0 at line.bytes.now)))
 
 -- where the bytes behind the first ones are blank, and the blanks are taken, nothing is left
-pub row-emptied : (at line_end : ℕ) (line line1 line2 : LineStart) (size : ℕ) (bs : List ℕ) → line1.bytes ≡ line.bytes → line1.held ≡ line.held → line1.taken ≡ line.taken + size → line1.pending ≡ 0 → bs ≡ drop line.taken line.bytes.now → are_blank (drop size bs) ≡ true
+pub row-emptied : (at line_end : ℕ) (line line1 line2 : LineStart) (size : ℕ) (bs : List ℕ) → line1.bytes ≡ line.bytes → not (line1.held == 0) ≡ not (line.held == 0) → line1.taken ≡ line.taken + size → line1.pending ≡ 0 → bs ≡ drop line.taken line.bytes.now → are_blank (drop size bs) ≡ true
     → row_from at line_end line2 ≡ without (indent (columns_from at line1)) (row_from at line_end line1) → row_from at line_end line2 ≡ record (row_from at line_end line) { columns = [] }
 row-emptied at line_end line line1 line2 size bs same held further none is blank taken =
-    taken ∙ ap (λ cs. record { columns = cs; at = at; content_end = at + length line1.bytes.now; line_end = line_end; lazy = false; held = line1.held }) empty
-    ∙ ap (λ bytes. record { columns = []; at = at; content_end = at + length bytes.now; line_end = line_end; lazy = false; held = line1.held }) same
+    taken ∙ ap (λ cs. record { columns = cs; at = at; content_end = at + length line1.bytes.now; line_end = line_end; lazy = false; held = not (line1.held == 0) }) empty
+    ∙ ap (λ bytes. record { columns = []; at = at; content_end = at + length bytes.now; line_end = line_end; lazy = false; held = not (line1.held == 0) }) same
     ∙ ap (λ h. record { columns = []; at = at; content_end = at + length line.bytes.now; line_end = line_end; lazy = false; held = h }) held
   where
     rest : drop line1.taken line1.bytes.now ≡ drop size bs

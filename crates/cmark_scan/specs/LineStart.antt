@@ -16,7 +16,7 @@ columns_from at line = drop (columns_taken line) (expand 0 at line.bytes.now)
 
 -- the row that is left, where the line begins at this place of a text and the next one at that one
 abbrev pub row_from : (at line_end : ℕ) → LineStart → Row
-row_from at line_end line = record { columns = columns_from at line; at = at; content_end = at + length line.bytes.now; line_end = line_end; lazy = false; held = line.held }
+row_from at line_end line = record { columns = columns_from at line; at = at; content_end = at + length line.bytes.now; line_end = line_end; lazy = false; held = not (line.held == 0) }
 
 -- the whole line that these bytes begin with, at this place of a text
 abbrev pub line_of : (at line_end : ℕ) → List ℕ → Row

@@ -24,8 +24,8 @@ pub struct LineStart<'a> {
     pending: usize,
     /// The place of a byte that is no blank, or the line's length: where the last search for a thematic break stopped.
     break_stop: usize,
-    /// Whether a container that has no prefix keeps the line (this profile's own).
-    held: bool,
+    /// 1 where a container that has no prefix keeps the line (this profile's own), and 0 elsewhere: a whole word, since a line is moved word by word.
+    held: usize,
     ghost plain: { content bytes.now ≡ bytes.now },
     ghost inside: { taken ≤ length bytes.now },
     ghost behind: { behind_tab ≤ taken },
@@ -57,7 +57,7 @@ impl<'a> LineStart<'a> {
             behind_tab: 0,
             pending: 0,
             break_stop: len,
-            held: false,
+            held: 0,
         }
     }
 
@@ -265,7 +265,7 @@ impl<'a> LineStart<'a> {
     pub fn hold(&mut self)
         ensures { (at line_end : ℕ) → row_from at line_end self.new ≡ hold (row_from at line_end self.old) }
     {
-        self.held = true;
+        self.held = 1;
     }
 
     /// Whether a container which has no prefix keeps the line (this profile's own).
@@ -273,7 +273,7 @@ impl<'a> LineStart<'a> {
     pub fn is_held(&self) -> bool
         ensures { (at line_end : ℕ) → result ≡ (row_from at line_end self.now).held }
     {
-        self.held
+        self.held != 0
     }
 
     /// How many columns are left of a tab of which a part was taken, 0 to 3.

@@ -140,7 +140,9 @@ impl<'input, E: EntityLookup, F: BrokenLinkCallback<'input> + Drop> Parser<'inpu
     {
         if !self.is_over {
             let given = self.spans.next_short();
-            self.is_over = is_last(&given);
+            if is_last(&given) {
+                self.is_over = true;
+            }
             return given;
         }
         Ok(Next::Over)
