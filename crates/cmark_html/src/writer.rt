@@ -186,12 +186,14 @@ fn keep_event<'a>(
     ensures image { IfOk result (λ image. option_map shown_image image ≡ opened_image (shown event.entry)) }
 {
     match event {
-        Event::Start(Tag::Link {
-            link_type: _,
-            dest_url,
-            title,
-            id,
-        }) => {
+        Event::Start(
+            Tag::Link {
+                link_type: _,
+                dest_url,
+                title,
+                id,
+            },
+        ) => {
             drop(dest_url);
             drop(title);
             drop(id);

@@ -103,10 +103,10 @@ pub(crate) fn container_start<'a>(
     ensures inside { IfSome result (Enters (row_of rest.entry)) }
     ensures marker { IfSome result (HasMarker (row_of rest.entry)) }
 {
-    if !reads_footnotes(options) {
-        return marker_start(rest, words);
+    if reads_footnotes(options) {
+        return footnote_or_marker_start(rest, words, options);
     }
-    footnote_or_marker_start(rest, words, options)
+    marker_start(rest, words)
 }
 
 /// The same, where footnotes are read.

@@ -156,12 +156,12 @@ impl<'a> LineRest<'a> {
         ensures blank { result ≡ None → is_blank_line (row_of self.now) ≡ true }
         ensures words { IfSome result (λ words. (is_blank_line (row_of self.now) ≡ false) × (words.now ≡ words_of (row_of self.now))) }
     {
-        let mut ahead = self.front;
-        ahead.scan_all_space();
-        if ahead.is_at_eol() {
+        let mut behind = self.front;
+        behind.scan_all_space();
+        if behind.is_at_eol() {
             return None;
         }
-        Some(ahead.remaining_bytes())
+        Some(behind.remaining_bytes())
     }
 
     /// Whether the words begin with an ASCII letter, as most lines of prose do: such a line neither interrupts a paragraph nor
