@@ -1,4 +1,4 @@
-use Rattle.std.proofs.Common.{refl}
+use Rattle.std.proofs.Common.{refl, sym, ◌∙◌}
 use Rattle.pulldown_cmark.specs.Parsing.{reader_for}
 use Rattle.pulldown_cmark.proofs.ParseSteps.{gives-or-err, gives-over, going, read-by}
 use Rattle.pulldown_cmark.proofs.parse.Parser.next_short.Goals as goal
@@ -6,12 +6,20 @@ use Rattle.pulldown_cmark.proofs.parse.Parser.next_short.Goals as goal
 pub next_short-given-requires : goal.next_short-given-requires
 next_short-given-requires g c κs = ((refl, tt), going g.E.EntityLookup.replacement c.args.self.now c.if-not-self.true c.requires)
 
-pub returns-then-not-self : goal.returns-then-not-self
-returns-then-not-self g c =
+pub returns-then-is_last : goal.returns-then-is_last
+returns-then-is_last g c =
     let replacement = g.E.EntityLookup.replacement in
     let old = c.args.self.now in
     let e = c.next_short-given.ensures in
-    gives-or-err g.F.BrokenLinkCallback.answers replacement old _ c.if-not-self.true e.source e.definitions e.footnotes c.next_short-given.result c.is_last-self.ensures
+    gives-or-err g.F.BrokenLinkCallback.answers replacement old _ c.if-not-self.true e.source e.definitions e.footnotes c.next_short-given.result (sym c.if-is_last.true ∙ c.is_last.ensures)
+    (e.given (reader_for replacement old) (read-by replacement old c.if-not-self.true c.requires)) e.fewer e.ends e.asked
+
+pub returns-else-is_last : goal.returns-else-is_last
+returns-else-is_last g c =
+    let replacement = g.E.EntityLookup.replacement in
+    let old = c.args.self.now in
+    let e = c.next_short-given.ensures in
+    gives-or-err g.F.BrokenLinkCallback.answers replacement old _ c.if-not-self.true e.source e.definitions e.footnotes c.next_short-given.result (c.if-not-self.true ∙ sym c.if-is_last.false ∙ c.is_last.ensures)
     (e.given (reader_for replacement old) (read-by replacement old c.if-not-self.true c.requires)) e.fewer e.ends e.asked
 
 pub returns : goal.returns
