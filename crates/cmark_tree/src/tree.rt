@@ -189,6 +189,7 @@ impl<T: Drop> Tree<T> {
     /// A node after the focus, and the path down to it.
     ///
     /// Refused, the tree is as it was, or the node stands there and is the focus.
+    #[inline(always)]
     pub fn open(&mut self, item: T) -> Result<(), AllocError>
         requires { IsPlaced self.old }
         ensures ok { OnOk result ((here : Forest T) (up : List (Opened T)) → Is self.old here up → Is self.new Nil (record { left = here; item = item } ∷ up)) }

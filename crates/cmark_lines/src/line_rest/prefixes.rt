@@ -113,7 +113,7 @@ impl<'a> LineRest<'a> {
     }
 
     /// The list item that the line begins, indented by at most three columns, and the line behind the marker.
-    #[inline]
+    #[inline(always)]
     pub(crate) fn behind_item(self) -> Option<(ItemStart, LineRest<'a>)>
         ensures item { option_map shown_begun result ≡ begun_item (row_of self.entry) }
         ensures inside { IfSome result (EntersItem (row_of self.entry)) }
