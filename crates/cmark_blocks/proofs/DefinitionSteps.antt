@@ -60,7 +60,7 @@ module _ {E : Type 0} (replacement : E → Lookup) (text : List ℕ) (options : 
   -- another table of definitions
   pub runs-references : (table : RefDefs) (refs : List Reference) → Runs replacement text options lookup m pass →
       ((folded : List ℕ) → option_map shown_definition (definition table folded) ≡ option_map shown_reference (first_with fold folded refs)) →
-      Runs replacement text options lookup (record m { references = refs }) (record pass { builder = record pass.builder { allocations = record pass.builder.allocations { refdefs = table } } })
+      Runs replacement text options lookup (record m { references = refs }) (record pass { builder = record pass.builder { allocations = record pass.builder.allocations { references = table } } })
   runs-references table refs runs same = record {
     text_is = runs.text_is;
     options_is = runs.options_is;

@@ -13,7 +13,6 @@ use Rattle.cmark_items.specs.Footnotes.{footnote}
 use Rattle.cmark_items.specs.declared.footnotes.FootnoteDef.{FootnoteDef}
 use Rattle.cmark_items.specs.declared.footnotes.FootnoteDefs.{FootnoteDefs}
 use Rattle.cmark_items.specs.ItemNodes.{ranged, text_at}
-use Rattle.cmark_items.specs.Tables.{tables}
 use Rattle.cmark_grammar.specs.Answers.{Lookup}
 use Rattle.cmark_grammar.specs.BlockDocument.{FootnoteDefinition}
 use Rattle.cmark_grammar.specs.Labels.{fold, normal_form}
@@ -33,16 +32,16 @@ use Rattle.cmark_blocks.proofs.ReferenceSteps.{fold-again, eq-sym}
 
 -- a label was kept, and a node of the footnote's definition was opened with it
 pub draws-footnote : (text : List ℕ) (old new : Builder) (kept : Allocations) (index : CowIndex) (start : ℕ) (bytes : List ℕ) (d : Drawing) →
-    index.0 ≡ length (tables old.allocations).texts → KeepsText bytes (tables old.allocations) (tables kept) →
+    index.0 ≡ length old.allocations.texts → KeepsText bytes old.allocations kept →
     ((here : Forest Item) (up : List (Opened Item)) → Is old.tree here up → Is new.tree forest.Nil (record { left = here; item = item_at start start (body.FootnoteDefinition index) } ∷ up)) →
     new.allocations ≡ kept → Draws text old d → Draws text new (opened start (FootnoteDefinition bytes) d)
 draws-footnote text old new kept index start bytes d at keeps step same draws =
     let name = keeps.0 in
     let mid : Builder = record { tree = old.tree; allocations = kept } in
-    let texts : (tables kept).texts ≡ (tables old.allocations).texts ++ name ∷ [] = keeps.2 in
+    let texts : kept.texts ≡ old.allocations.texts ++ name ∷ [] = keeps.2 in
     draws-open text mid new start (body.FootnoteDefinition index) (FootnoteDefinition bytes) d step same
     (ap (λ o. option_map (ranged start start) (option_map FootnoteDefinition o)) (
-    ap (λ t. text_at t index.0) texts ∙ ap (text_at ((tables old.allocations).texts ++ name ∷ [])) at ∙ last-text (tables old.allocations).texts name ∙ ap Some keeps.1))
+    ap (λ t. text_at t index.0) texts ∙ ap (text_at (old.allocations.texts ++ name ∷ [])) at ∙ last-text old.allocations.texts name ∙ ap Some keeps.1))
     (draws-text text old mid name d refl texts draws)
 
 -- one more label behind the others
@@ -72,8 +71,8 @@ labels-noted label labels old new has notes folded =
 
 module _ {E : Type 0} (replacement : E → Lookup) (text : List ℕ) (options : Options) (lookup : Lookup) (m : model.Pass) (pass : Pass E) where
   -- something was drawn, and a footnote's label was noted
-  pub runs-footnote : (label : List ℕ) (b : Builder) (d : Drawing) → Runs replacement text options lookup m pass → Draws text b d → (tables b.allocations).references ≡ (tables pass.builder.allocations).references →
-      Notes label (tables pass.builder.allocations).footnotes (tables b.allocations).footnotes →
+  pub runs-footnote : (label : List ℕ) (b : Builder) (d : Drawing) → Runs replacement text options lookup m pass → Draws text b d → b.allocations.references ≡ pass.builder.allocations.references →
+      Notes label pass.builder.allocations.footnotes b.allocations.footnotes →
       Runs replacement text options lookup (record m { drawing = d; footnotes = m.footnotes ++ normal_form label ∷ [] }) (record pass { builder = b })
   runs-footnote label b d runs draws same notes = record {
     text_is = runs.text_is;
@@ -86,5 +85,5 @@ module _ {E : Type 0} (replacement : E → Lookup) (text : List ℕ) (options : 
     leaf = runs.leaf;
     line_end = runs.line_end;
     references = λ folded. ap (λ r. option_map shown_definition (definition r folded)) same ∙ runs.references folded;
-    footnotes = labels-noted label m.footnotes (tables pass.builder.allocations).footnotes (tables b.allocations).footnotes runs.footnotes notes;
+    footnotes = labels-noted label m.footnotes pass.builder.allocations.footnotes b.allocations.footnotes runs.footnotes notes;
   }

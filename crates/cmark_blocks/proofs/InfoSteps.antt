@@ -11,7 +11,7 @@ use Rattle.cmark_items.specs.declared.allocations.CowIndex.{CowIndex}
 use Rattle.cmark_items.specs.declared.item.Item.{Item}
 use Rattle.cmark_items.specs.declared.item.ItemBody.TheVariants as body
 use Rattle.cmark_items.specs.ItemNodes.{ranged, text_at}
-use Rattle.cmark_items.specs.Tables.{tables, with_text}
+use Rattle.cmark_items.specs.Tables.{with_text}
 use Rattle.cmark_grammar.specs.BlockDocument.{FencedCode}
 use Rattle.cmark_block_model.specs.Drawing.{Drawing, opened}
 use Rattle.cmark_builder.specs.declared.builder.Builder.{Builder}
@@ -55,13 +55,13 @@ info-slice text rest fence words read stands begin =
 
 -- a text was kept, and a node of fenced code with it as its info string was opened
 pub draws-fenced : (text : List ℕ) (old new : Builder) (kept : Allocations) (info : CowStr) (index : CowIndex) (start : ℕ) (bytes : List ℕ) (d : Drawing) →
-    index.0 ≡ length (tables old.allocations).texts → tables kept ≡ with_text info (tables old.allocations) → text_bytes info ≡ bytes →
+    index.0 ≡ length old.allocations.texts → kept ≡ with_text info old.allocations → text_bytes info ≡ bytes →
     ((here : Forest Item) (up : List (Opened Item)) → Is old.tree here up → Is new.tree forest.Nil (record { left = here; item = item_at start start (body.FencedCodeBlock index) } ∷ up)) →
     new.allocations ≡ kept → Draws text old d → Draws text new (opened start (FencedCode bytes) d)
 draws-fenced text old new kept info index start bytes d at is read step same draws =
     let mid : Builder = record { tree = old.tree; allocations = kept } in
-    let texts : (tables kept).texts ≡ (tables old.allocations).texts ++ info ∷ [] = ap (λ t. t.texts) is in
+    let texts : kept.texts ≡ old.allocations.texts ++ info ∷ [] = ap (λ t. t.texts) is in
     draws-open text mid new start (body.FencedCodeBlock index) (FencedCode bytes) d step same
     (ap (λ o. option_map (ranged start start) (option_map FencedCode o)) (
-    ap (λ t. text_at t index.0) texts ∙ ap (text_at ((tables old.allocations).texts ++ info ∷ [])) at ∙ last-text (tables old.allocations).texts info ∙ ap Some read))
+    ap (λ t. text_at t index.0) texts ∙ ap (text_at (old.allocations.texts ++ info ∷ [])) at ∙ last-text old.allocations.texts info ∙ ap Some read))
     (draws-text text old mid info d refl texts draws)

@@ -9,7 +9,6 @@ use Rattle.cmark_grammar.specs.SpanDocuments.{has_label}
 use Rattle.cmark_items.specs.ItemNodes.{shown_forest}
 use Rattle.cmark_items.specs.Definitions.{definition, shown_definition}
 use Rattle.cmark_items.specs.Footnotes.{footnote}
-use Rattle.cmark_items.specs.Tables.{tables}
 use Rattle.cmark_builder.specs.Drawn.{shown_open, open_node}
 use Rattle.cmark_block_model.specs.BlockPass.{pass_over, all_closed, lines_fed}
 use Rattle.cmark_block_model.specs.OpenBlocks.{at_start}
@@ -36,14 +35,14 @@ module _ {E : Type 0} (replacement : E → Lookup) (text : List ℕ) (options : 
   leaves there tree allocations = record {
     forest = runs.drawing.here;
     tree_is = subst (λ t. Is t runs.drawing.here []) (sym tree) (subst (λ up. Is pass.builder.tree runs.drawing.here up) none runs.drawing.is);
-    drawn = ap (λ a. shown_forest text (tables a).texts runs.drawing.here) allocations ∙ runs.drawing.here_is;
-    few = drawn-few text options lookup (tables pass.builder.allocations).texts runs.drawing.here runs.drawing.here_is;
+    drawn = ap (λ a. shown_forest text a.texts runs.drawing.here) allocations ∙ runs.drawing.here_is;
+    few = drawn-few text options lookup pass.builder.allocations.texts runs.drawing.here runs.drawing.here_is;
     references = λ folded.
-        ap (λ a. option_map shown_definition (definition (tables a).references folded)) allocations
+        ap (λ a. option_map shown_definition (definition a.references folded)) allocations
         ∙ runs.references folded
         ∙ ap (λ rs. option_map shown_reference (first_with fold folded rs)) (pass-draws text options lookup).2;
     footnotes = λ folded.
-        ap (λ a. footnote (tables a).footnotes folded) allocations
+        ap (λ a. footnote a.footnotes folded) allocations
         ∙ runs.footnotes folded
         ∙ ap (λ labels. unused_if (has_label folded labels)) (pass-draws text options lookup).3;
   }
@@ -52,4 +51,4 @@ module _ {E : Type 0} (replacement : E → Lookup) (text : List ℕ) (options : 
       runs = subst (λ p. Runs replacement text options lookup p pass) (sym (over-is text options lookup)) there
 
       none : runs.drawing.up ≡ []
-      none = none-mapped (shown_open text (tables pass.builder.allocations).texts) open_node runs.drawing.up (pass_over text options lookup).drawing.up runs.drawing.up_is (pass-draws text options lookup).1
+      none = none-mapped (shown_open text pass.builder.allocations.texts) open_node runs.drawing.up (pass_over text options lookup).drawing.up runs.drawing.up_is (pass-draws text options lookup).1

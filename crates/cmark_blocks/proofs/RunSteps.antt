@@ -4,7 +4,7 @@ use Rattle.cmark_grammar.specs.Options.{Options}
 use Rattle.cmark_grammar.specs.Answers.{Lookup}
 use Rattle.cmark_items.specs.Definitions.{definition, shown_definition}
 use Rattle.cmark_items.specs.Footnotes.{footnote}
-use Rattle.cmark_items.specs.Tables.{tables, defined}
+use Rattle.cmark_items.specs.Tables.{defined}
 use Rattle.cmark_block_model.specs.Drawing.{Drawing}
 use Rattle.cmark_block_model.specs.OpenBlocks as model
 use Rattle.cmark_builder.specs.declared.builder.Builder.{Builder}
@@ -59,7 +59,7 @@ module _ (delimiter : ℕ) (number : Option ℕ) (start : ℕ) (p : model.Pass) 
 
 module _ {E : Type 0} (replacement : E → Lookup) (text : List ℕ) (options : Options) (lookup : Lookup) (m : model.Pass) (pass : Pass E) where
   -- something was drawn
-  pub runs-builder : (b : Builder) (d : Drawing) → Runs replacement text options lookup m pass → Draws text b d → defined (tables b.allocations) ≡ defined (tables pass.builder.allocations) → Runs replacement text options lookup (record m { drawing = d }) (record pass { builder = b })
+  pub runs-builder : (b : Builder) (d : Drawing) → Runs replacement text options lookup m pass → Draws text b d → defined b.allocations ≡ defined pass.builder.allocations → Runs replacement text options lookup (record m { drawing = d }) (record pass { builder = b })
   runs-builder b d runs draws same = record {
     text_is = runs.text_is;
     options_is = runs.options_is;

@@ -8,7 +8,7 @@ use Rattle.cmark_grammar.specs.Options.{Options}
 use Rattle.cmark_grammar.specs.Rows.{Row, start_of, last_line_end}
 use Rattle.cmark_grammar.specs.TableRows.{count_missing, most_filled, one_more_if}
 use Rattle.cmark_grammar.specs.TableTokens.{row_cells, row_tokens}
-use Rattle.cmark_items.specs.Tables.{tables, defined}
+use Rattle.cmark_items.specs.Tables.{defined}
 use Rattle.cmark_lines.specs.declared.line_rest.LineRest.{LineRest}
 use Rattle.cmark_block_model.specs.BlockPass.{ahead_in}
 use Rattle.cmark_block_model.specs.Drawing.{Drawing, drawn}
@@ -37,7 +37,7 @@ module _ {E : Type 0} (replacement : E → Lookup) (text : List ℕ) (options : 
       rows_taken options columns left (ahead_in text options lookup m.outer (lines_at text last.line_end)) ≡ row ∷ rows_taken options columns (left - count_missing columns row) (ahead_in text options lookup m.outer (lines_at text row.line_end)) →
       missing ≡ count_missing columns row →
       ((d : Drawing) → Draws text old.builder d → Draws text b (drawn (Node (node TableRow (start_of row) row.line_end) (row_cells text columns row) Nil) d)) →
-      defined (tables b.allocations) ≡ defined (tables old.builder.allocations) →
+      defined b.allocations ≡ defined old.builder.allocations →
       RowsLeft replacement text options lookup m columns (left - missing) (count + 1) delimiter row (record old { builder = b })
   one-row-more left count missing last row old b before next same draws references =
       subst (λ n. RowsLeft replacement text options lookup m columns (left - n) (count + 1) delimiter row (record old { builder = b })) (sym same)

@@ -12,7 +12,6 @@ use Rattle.cmark_grammar.specs.SpanDocuments.{footnote_labels}
 use Rattle.cmark_items.specs.declared.item.Item.{Item}
 use Rattle.cmark_items.specs.Definitions.{definition, shown_definition}
 use Rattle.cmark_items.specs.ItemNodes.{shown_forest, nodes_of}
-use Rattle.cmark_items.specs.Tables.{tables}
 use Rattle.cmark_block_model.specs.BlockPass.{pass_over}
 use Rattle.cmark_blocks.specs.declared.first_pass.FirstPass.{FirstPass}
 use Rattle.cmark_blocks.specs.Footnotes.{HasLabels}
@@ -24,7 +23,7 @@ use Rattle.cmark_blocks.specs.Runs.{shown_reference}
 pub record Leaves (text : List ℕ) (options : Options) (lookup : Lookup) (pass : FirstPass) : Type 0 where
   pub forest : Forest Item
   pub tree_is : Is pass.tree forest []
-  pub drawn : shown_forest text (tables pass.allocations).texts forest ≡ nodes_of (pass_over text options lookup).drawing.here
+  pub drawn : shown_forest text pass.allocations.texts forest ≡ nodes_of (pass_over text options lookup).drawing.here
   pub few : size forest ≤ 4 * length text + 262144 * count_tables (document text options lookup)
-  pub references : (folded : List ℕ) → option_map shown_definition (definition (tables pass.allocations).references folded) ≡ option_map shown_reference (first_with fold folded (references (document text options lookup)))
-  pub footnotes : HasLabels (footnote_labels (document text options lookup)) (tables pass.allocations).footnotes
+  pub references : (folded : List ℕ) → option_map shown_definition (definition pass.allocations.references folded) ≡ option_map shown_reference (first_with fold folded (references (document text options lookup)))
+  pub footnotes : HasLabels (footnote_labels (document text options lookup)) pass.allocations.footnotes

@@ -8,7 +8,6 @@ use Rattle.cmark_grammar.specs.Labels.{fold}
 use Rattle.cmark_grammar.specs.References.{first_with}
 use Rattle.cmark_grammar.specs.BlockDocument.{Reference}
 use Rattle.cmark_items.specs.Definitions.{definition, ShownDefinition, shown_definition}
-use Rattle.cmark_items.specs.Tables.{tables}
 use Rattle.cmark_builder.specs.Drawn.{Draws}
 use Rattle.cmark_lines.specs.Rests.{row_of}
 use Rattle.cmark_lines.specs.declared.line_rest.LineRest.{LineRest}
@@ -90,5 +89,5 @@ module _ {E : Type 0} (replacement : E → Lookup) where
     pub bare : pass.bare ≡ m.bare
     pub leaf : ShowsLeaf text pass.leaf pass.blank_lines.items m.leaf
     pub line_end : pass.line_end ≡ m.line_end
-    pub references : (folded : List ℕ) → option_map shown_definition (definition (tables pass.builder.allocations).references folded) ≡ option_map shown_reference (first_with fold folded m.references)
-    pub footnotes : HasLabels m.footnotes (tables pass.builder.allocations).footnotes
+    pub references : (folded : List ℕ) → option_map shown_definition (definition pass.builder.allocations.references folded) ≡ option_map shown_reference (first_with fold folded m.references)
+    pub footnotes : HasLabels m.footnotes pass.builder.allocations.footnotes

@@ -2,7 +2,7 @@
 
 ghost use Rattle.std.specs.Prelude.{◌≡◌, List, ℕ, Option, OnOk, IfOk, false, map, slice_range};
 ghost use Rattle.cmark_tree.specs.Building.{IsPlaced};
-ghost use Rattle.cmark_items.specs.Tables.{tables, defined};
+ghost use Rattle.cmark_items.specs.Tables.{defined};
 ghost use Rattle.cmark_grammar.specs.Leaves as grammar;
 ghost use Rattle.cmark_grammar.specs.Leaves.{code_continuation};
 ghost use Rattle.cmark_lines.specs.Rests.{row_of};
@@ -44,7 +44,7 @@ fn draw_blank_lines(
     requires { IsPlaced builder.old.tree }
     ensures placed { IsPlaced builder.new.tree }
     ensures lines { IfOk result (λ left. (text : List ℕ) → DrawsLines text builder.old builder.new (map row_of lines.now) waits left) }
-    ensures definitions { defined (tables builder.new.allocations) ≡ defined (tables builder.old.allocations) }
+    ensures definitions { defined builder.new.allocations ≡ defined builder.old.allocations }
 {
     let mut left = waits;
     for line in lines {

@@ -4,7 +4,6 @@ ghost use Rattle.std.specs.Prelude.{◌≡◌, length, OnOk, IfOk};
 ghost use Rattle.cmark_grammar.specs.Labels.{normal_form};
 ghost use Rattle.cmark_grammar.specs.Rows.{words_of};
 ghost use Rattle.cmark_block_model.specs.BlockPass.{container_begun};
-ghost use Rattle.cmark_items.specs.Tables.{tables};
 ghost use Rattle.cmark_lines.specs.Rests.{row_of};
 ghost use Rattle.cmark_lines.specs.Starts.{shown_footnote};
 ghost use Rattle.cmark_scan_parts.specs.Footnotes.{marked, IsClosed};
@@ -34,10 +33,10 @@ fn keep_label(
     allocations: &mut Allocations<'_>,
     label: &str,
 ) -> Result<CowIndex, AllocError>
-    ensures index { IfOk result (λ index. index.0 ≡ length (tables allocations.old).texts) }
-    ensures kept { OnOk result (KeepsText (normal_form label.now) (tables allocations.old) (tables allocations.new)) }
-    ensures noted { OnOk result (Notes label.now (tables allocations.old).footnotes (tables allocations.new).footnotes) }
-    ensures references { OnOk result ((tables allocations.new).references ≡ (tables allocations.old).references) }
+    ensures index { IfOk result (λ index. index.0 ≡ length allocations.old.texts) }
+    ensures kept { OnOk result (KeepsText (normal_form label.now) allocations.old allocations.new) }
+    ensures noted { OnOk result (Notes label.now allocations.old.footnotes allocations.new.footnotes) }
+    ensures references { OnOk result (allocations.new.references ≡ allocations.old.references) }
 {
     let label = FootnoteLabel::new(alloc, label)?;
     let name = CowStr::Borrowed(label.as_str()).into_static(alloc)?;
@@ -64,7 +63,7 @@ impl<'a, E: EntityLookup> Pass<'a, E> {
         ensures good { IsGood self.new }
         ensures runs { OnOk result (Steps E.replacement self.old self.new (container_begun (shown_footnote (row_of rest.entry) footnote.label_size footnote.old) (row_of rest.entry))) }
         ensures noted { OnOk result (Notes (marked (words_of (row_of rest.entry)) footnote.label_size).bytes
-            (tables self.old.builder.allocations).footnotes (tables self.new.builder.allocations).footnotes) }
+            self.old.builder.allocations.footnotes self.new.builder.allocations.footnotes) }
         ensures text { self.new.text ≡ self.old.text }
         ensures leaf { self.new.leaf ≡ self.old.leaf }
         ensures bare { self.new.bare ≡ self.old.bare }

@@ -7,7 +7,7 @@ ghost use Rattle.cmark_grammar.specs.BlockDocument.{Heading};
 ghost use Rattle.cmark_block_model.specs.Drawing.{Drawing, unbraced};
 ghost use Rattle.cmark_builder.specs.Drawn.{Draws};
 ghost use Rattle.cmark_items.specs.ItemNodes.{shape, kind_of};
-ghost use Rattle.cmark_items.specs.Tables.{tables, defined};
+ghost use Rattle.cmark_items.specs.Tables.{defined};
 ghost use Rattle.cmark_leaves.specs.Contents.{AreRead, content_columns as setext_columns};
 ghost use Rattle.cmark_leaves.specs.TextColumns.{IsRead};
 ghost use Rattle.cmark_blocks.specs.Setext.{FindsIf};
@@ -46,10 +46,10 @@ pub(crate) fn heading_body<'a>(
     level: HeadingLevel,
     words: CowStr<'a>,
 ) -> Result<ItemBody, AllocError>
-    ensures kind { IfOk result (λ body. kind_of (tables builder.new.allocations).texts (shape body) ≡ Some (Heading (level_number level) (attributes_of (text_bytes words.entry)))) }
+    ensures kind { IfOk result (λ body. kind_of builder.new.allocations.texts (shape body) ≡ Some (Heading (level_number level) (attributes_of (text_bytes words.entry)))) }
     ensures drawn { OnOk result ((text : List ℕ) (d : Drawing) → Draws text builder.old d → Draws text builder.new d) }
     ensures tree { builder.new.tree ≡ builder.old.tree }
-    ensures definitions { defined (tables builder.new.allocations) ≡ defined (tables builder.old.allocations) }
+    ensures definitions { defined builder.new.allocations ≡ defined builder.old.allocations }
 {
     if words.as_str().is_empty() {
         return Ok(ItemBody::Heading(level));
@@ -86,10 +86,10 @@ fn setext_body(
     requires { IsPlaced builder.old.tree }
     ensures placed { IsPlaced builder.new.tree }
     ensures kind { IfOk result (λ body. (attributes : Bool) (before : List LineRest) (last : LineRest) → FindsIf attributes before last found
-        → kind_of (tables builder.new.allocations).texts (shape body) ≡ Some (Heading (level_number level) (setext_attributes attributes (setext_columns before last)))) }
+        → kind_of builder.new.allocations.texts (shape body) ≡ Some (Heading (level_number level) (setext_attributes attributes (setext_columns before last)))) }
     ensures drawn { OnOk result ((attributes : Bool) (before : List LineRest) (last : LineRest) → FindsIf attributes before last found → (text : List ℕ) (d : Drawing) → Draws text builder.old d
         → Draws text builder.new (unbraced text attributes (setext_columns before last) d.here d.up)) }
-    ensures definitions { defined (tables builder.new.allocations) ≡ defined (tables builder.old.allocations) }
+    ensures definitions { defined builder.new.allocations ≡ defined builder.old.allocations }
 {
     let Some(SetextAttributes { words, place }) = found else {
         return Ok(ItemBody::Heading(level));

@@ -7,7 +7,7 @@ ghost use Rattle.cmark_grammar.specs.BlockDocument.{Table};
 ghost use Rattle.cmark_grammar.specs.TableRows.{count_missing};
 ghost use Rattle.cmark_grammar.specs.Tables.{delimiter_row};
 ghost use Rattle.cmark_items.specs.ItemNodes.{columns_of, kind_of, shape};
-ghost use Rattle.cmark_items.specs.Tables.{tables, defined};
+ghost use Rattle.cmark_items.specs.Tables.{defined};
 ghost use Rattle.cmark_lines.specs.Rests.{IsIn, row_of};
 ghost use Rattle.cmark_text.specs.Shown.{shown_options};
 
@@ -46,10 +46,10 @@ fn misses_too_many(row: LineRest<'_>, columns: usize, left: usize) -> bool
 
 /// The body of a table with this delimiter row, which is kept in the table of texts.
 fn table_body<'a>(builder: &mut Builder<'a>, row: &'a str) -> Result<ItemBody, AllocError>
-    ensures kind { IfOk result (λ body. kind_of (tables builder.new.allocations).texts (shape body) ≡ Some (Table (columns_of (delimiter_row row.entry.now)))) }
+    ensures kind { IfOk result (λ body. kind_of builder.new.allocations.texts (shape body) ≡ Some (Table (columns_of (delimiter_row row.entry.now)))) }
     ensures drawn { OnOk result ((text : List ℕ) (d : Drawing) → Draws text builder.old d → Draws text builder.new d) }
     ensures tree { builder.new.tree ≡ builder.old.tree }
-    ensures definitions { defined (tables builder.new.allocations) ≡ defined (tables builder.old.allocations) }
+    ensures definitions { defined builder.new.allocations ≡ defined builder.old.allocations }
 {
     let index = builder.allocations.allocate_cow(CowStr::Borrowed(row))?;
     Ok(ItemBody::Table(index))

@@ -12,7 +12,6 @@ use Rattle.cmark_grammar.specs.Tokens.{stretch_then}
 use Rattle.cmark_items.specs.declared.item.Item.{Item}
 use Rattle.cmark_items.specs.Spans.{spans}
 use Rattle.cmark_items.specs.ItemNodes.{shape, shown_inside, shown_item, shown_forest, nodes_of}
-use Rattle.cmark_items.specs.Tables.{tables}
 use Rattle.cmark_block_model.specs.Drawing.{OpenNode, Drawing, drawn, cut_at, texts_cut}
 use Rattle.cmark_builder.specs.declared.builder.Builder.{Builder}
 use Rattle.cmark_builder.specs.Drawn.{shown_open, open_node, Draws}
@@ -122,14 +121,14 @@ module _ (text : List ℕ) (old new : Builder) (place : ℕ) (answer : Option �
   draws-cut d step none same draws = go draws.here draws.up draws.is draws.here_is d.up draws.up_is
     where
       t : List CowStr
-      t = (tables old.allocations).texts
+      t = old.allocations.texts
 
       go : (here : Forest Item) (up : List (Opened Item)) → Is old.tree here up → shown_forest text t here ≡ nodes_of d.here → (levels : List OpenNode) → map (shown_open text t) up ≡ map open_node levels → Draws text new (left_at place d.here levels)
       go here [] is h [] u = record {
         here = here;
         up = [];
         is = subst (λ tree. Is tree here []) (sym (none here is).0) is;
-        here_is = subst (λ a. shown_forest text (tables a).texts here ≡ nodes_of d.here) (sym same) h;
+        here_is = subst (λ a. shown_forest text a.texts here ≡ nodes_of d.here) (sym same) h;
         up_is = refl;
       }
       go here [] is h (v ∷ levels) u = absurd (let q : [] ≡ open_node v ∷ map open_node levels = u in cc)
@@ -138,8 +137,8 @@ module _ (text : List ℕ) (old new : Builder) (place : ℕ) (answer : Option �
         here = ending_before spans place here;
         up = v ∷ up;
         is = step here v up is;
-        here_is = subst (λ a. shown_forest text (tables a).texts (ending_before spans place here) ≡ nodes_of (ended_before place d.here)) (sym same) (shown-before text t place here d.here h);
-        up_is = subst (λ a. map (shown_open text (tables a).texts) (v ∷ up) ≡ map open_node (w ∷ levels)) (sym same) u;
+        here_is = subst (λ a. shown_forest text a.texts (ending_before spans place here) ≡ nodes_of (ended_before place d.here)) (sym same) (shown-before text t place here d.here h);
+        up_is = subst (λ a. map (shown_open text a.texts) (v ∷ up) ≡ map open_node (w ∷ levels)) (sym same) u;
       }
 
   -- and that is where the first of them began
@@ -150,7 +149,7 @@ module _ (text : List ℕ) (old new : Builder) (place : ℕ) (answer : Option �
   draws-start d start none draws = go draws.here draws.up draws.is draws.here_is d.up draws.up_is
     where
       t : List CowStr
-      t = (tables old.allocations).texts
+      t = old.allocations.texts
 
       go : (here : Forest Item) (up : List (Opened Item)) → Is old.tree here up → shown_forest text t here ≡ nodes_of d.here → (levels : List OpenNode) → map (shown_open text t) up ≡ map open_node levels → answer ≡ start_at place d.here levels
       go here [] is h [] u = (none here is).1

@@ -12,7 +12,6 @@ use Rattle.cmark_items.specs.declared.item.Item.{Item}
 use Rattle.cmark_items.specs.declared.item.ItemBody.{ItemBody}
 use Rattle.cmark_items.specs.declared.item.ItemBody.TheVariants as body
 use Rattle.cmark_items.specs.ItemNodes.{Shape, Element, Spelt, TextSlice, HtmlSlice, ParagraphOf, TitleOf, NoNode, shape, kind_of, kind_over, ranged, text_at, one_text, shown_inside, shown_element, shown_item, shown_forest, nodes_of}
-use Rattle.cmark_items.specs.Tables.{tables}
 use Rattle.cmark_block_model.specs.Drawing.{OpenNode, Drawing, nothing_drawn, drawn, opened, close_as, closed_as, close_at, closed_at, last_or, last_of, before_last, as_kind, start_in, retitled, enclosed, release_as, released}
 use Rattle.cmark_tree.proofs.Items.{one_inj, none_last}
 use Rattle.cmark_builder.specs.declared.builder.Builder.{Builder}
@@ -68,34 +67,34 @@ module _ (text : List ℕ) (old new : Builder) where
   -- a node was added
   pub draws-add : (item : Item) (n : BlockNode) (d : Drawing) →
       ((here : Forest Item) (up : List (Opened Item)) → Is old.tree here up → Is new.tree (join_forests here (one item forest.Nil)) up) →
-      new.allocations ≡ old.allocations → shown_item text (tables old.allocations).texts item ≡ Some n → shown_inside text item.start (shape item.body) forest.Nil ≡ forest.Nil →
+      new.allocations ≡ old.allocations → shown_item text old.allocations.texts item ≡ Some n → shown_inside text item.start (shape item.body) forest.Nil ≡ forest.Nil →
       Draws text old d → Draws text new (drawn (Node n Nil Nil) d)
   draws-add item n d step same shows nothing draws = record {
     here = join_forests draws.here (one item forest.Nil);
     up = draws.up;
     is = step draws.here draws.up draws.is;
-    here_is = subst (λ a. shown_forest text (tables a).texts (join_forests draws.here (one item forest.Nil)) ≡ nodes_of (join d.here (Node n Nil Nil))) (sym same)
-        (shown_forest-join text (tables old.allocations).texts draws.here (one item forest.Nil)
-        ∙ ap (λ f. join_forests f (shown_forest text (tables old.allocations).texts (one item forest.Nil))) draws.here_is
+    here_is = subst (λ a. shown_forest text a.texts (join_forests draws.here (one item forest.Nil)) ≡ nodes_of (join d.here (Node n Nil Nil))) (sym same)
+        (shown_forest-join text old.allocations.texts draws.here (one item forest.Nil)
+        ∙ ap (λ f. join_forests f (shown_forest text old.allocations.texts (one item forest.Nil))) draws.here_is
         ∙ ap (λ x. join_forests (nodes_of d.here) (one x (shown_inside text item.start (shape item.body) forest.Nil))) shows
         ∙ ap (λ f. join_forests (nodes_of d.here) (one (Some n) f)) nothing
         ∙ sym (nodes_of-join d.here (Node n Nil Nil)));
-    up_is = subst (λ a. map (shown_open text (tables a).texts) draws.up ≡ map open_node d.up) (sym same) draws.up_is;
+    up_is = subst (λ a. map (shown_open text a.texts) draws.up ≡ map open_node d.up) (sym same) draws.up_is;
   }
 
   -- a node was opened
   pub draws-open : (start : ℕ) (body : ItemBody) (kind : BlockKind) (d : Drawing) →
       ((here : Forest Item) (up : List (Opened Item)) → Is old.tree here up → Is new.tree forest.Nil (record { left = here; item = item_at start start body } ∷ up)) →
-      new.allocations ≡ old.allocations → shown_element (tables old.allocations).texts (item_at start start body) ≡ Some (node kind start start) →
+      new.allocations ≡ old.allocations → shown_element old.allocations.texts (item_at start start body) ≡ Some (node kind start start) →
       Draws text old d → Draws text new (opened start kind d)
   draws-open start body kind d step same shows draws = record {
     here = forest.Nil;
     up = record { left = draws.here; item = item_at start start body } ∷ draws.up;
     is = step draws.here draws.up draws.is;
     here_is = refl;
-    up_is = subst (λ a. map (shown_open text (tables a).texts) (record { left = draws.here; item = item_at start start body } ∷ draws.up) ≡ map open_node (record { left = d.here; node = node kind start start } ∷ d.up)) (sym same)
-        (ap (λ x. record { left = shown_forest text (tables old.allocations).texts draws.here; item = x } ∷ map (shown_open text (tables old.allocations).texts) draws.up) shows
-        ∙ ap (λ f. record { left = f; item = Some (node kind start start) } ∷ map (shown_open text (tables old.allocations).texts) draws.up) draws.here_is
+    up_is = subst (λ a. map (shown_open text a.texts) (record { left = draws.here; item = item_at start start body } ∷ draws.up) ≡ map open_node (record { left = d.here; node = node kind start start } ∷ d.up)) (sym same)
+        (ap (λ x. record { left = shown_forest text old.allocations.texts draws.here; item = x } ∷ map (shown_open text old.allocations.texts) draws.up) shows
+        ∙ ap (λ f. record { left = f; item = Some (node kind start start) } ∷ map (shown_open text old.allocations.texts) draws.up) draws.here_is
         ∙ ap (λ u. record { left = nodes_of d.here; item = Some (node kind start start) } ∷ u) draws.up_is);
   }
 
@@ -106,19 +105,19 @@ module _ (text : List ℕ) (old new : Builder) where
   pub draws-close_as : (end : ℕ) (body : ItemBody) (kind : BlockKind) (d : Drawing) →
       ((here : Forest Item) (v : Opened Item) (up : List (Opened Item)) → Is old.tree here (v ∷ up) → Is new.tree (closed (ended end body v) here) up) →
       ((here : Forest Item) → Is old.tree here [] → new.tree ≡ old.tree) →
-      new.allocations ≡ old.allocations → kind_of (tables old.allocations).texts (shape body) ≡ Some kind →
+      new.allocations ≡ old.allocations → kind_of old.allocations.texts (shape body) ≡ Some kind →
       Draws text old d → Draws text new (closed_as kind end d)
   draws-close_as end body kind d step none same shows draws = go draws.here draws.up draws.is draws.here_is d.up draws.up_is
     where
       t : List CowStr
-      t = (tables old.allocations).texts
+      t = old.allocations.texts
 
       go : (here : Forest Item) (up : List (Opened Item)) → Is old.tree here up → shown_forest text t here ≡ nodes_of d.here → (levels : List OpenNode) → map (shown_open text t) up ≡ map open_node levels → Draws text new (close_as kind end d.here levels)
       go here [] is h [] u = record {
         here = here;
         up = [];
         is = subst (λ tree. Is tree here []) (sym (none here is)) is;
-        here_is = subst (λ a. shown_forest text (tables a).texts here ≡ nodes_of d.here) (sym same) h;
+        here_is = subst (λ a. shown_forest text a.texts here ≡ nodes_of d.here) (sym same) h;
         up_is = refl;
       }
       go here [] is h (v ∷ levels) u = absurd (let q : [] ≡ open_node v ∷ map open_node levels = u in cc)
@@ -135,13 +134,13 @@ module _ (text : List ℕ) (old new : Builder) where
             here = closed (ended end body v) here;
             up = up;
             is = step here v up is;
-            here_is = subst (λ a. shown_forest text (tables a).texts (join_forests v.left (one item here)) ≡ nodes_of (join w.left (Node (node kind w.node.start end) d.here Nil))) (sym same)
+            here_is = subst (λ a. shown_forest text a.texts (join_forests v.left (one item here)) ≡ nodes_of (join w.left (Node (node kind w.node.start end) d.here Nil))) (sym same)
                 (shown_forest-join text t v.left (one item here)
                 ∙ ap (λ f. join_forests f (shown_forest text t (one item here))) left
                 ∙ ap (join_forests (nodes_of w.left)) (element-one text t item (node kind w.node.start end) here element)
                 ∙ ap (λ f. join_forests (nodes_of w.left) (one (Some (node kind w.node.start end)) f)) h
                 ∙ sym (nodes_of-join w.left (Node (node kind w.node.start end) d.here Nil)));
-            up_is = subst (λ a. map (shown_open text (tables a).texts) up ≡ map open_node levels) (sym same) rest;
+            up_is = subst (λ a. map (shown_open text a.texts) up ≡ map open_node levels) (sym same) rest;
           }
         where
           opens : (k : Option BlockKind) → option_map (ranged v.item.start v.item.end) k ≡ Some w.node → v.item.start ≡ w.node.start
@@ -157,14 +156,14 @@ module _ (text : List ℕ) (old new : Builder) where
   draws-close end d step none same draws = go draws.here draws.up draws.is draws.here_is d.up draws.up_is
     where
       t : List CowStr
-      t = (tables old.allocations).texts
+      t = old.allocations.texts
 
       go : (here : Forest Item) (up : List (Opened Item)) → Is old.tree here up → shown_forest text t here ≡ nodes_of d.here → (levels : List OpenNode) → map (shown_open text t) up ≡ map open_node levels → Draws text new (close_at end d.here levels)
       go here [] is h [] u = record {
         here = here;
         up = [];
         is = subst (λ tree. Is tree here []) (sym (none here is)) is;
-        here_is = subst (λ a. shown_forest text (tables a).texts here ≡ nodes_of d.here) (sym same) h;
+        here_is = subst (λ a. shown_forest text a.texts here ≡ nodes_of d.here) (sym same) h;
         up_is = refl;
       }
       go here [] is h (v ∷ levels) u = absurd (let q : [] ≡ open_node v ∷ map open_node levels = u in cc)
@@ -180,13 +179,13 @@ module _ (text : List ℕ) (old new : Builder) where
             here = closed (ended end v.item.body v) here;
             up = up;
             is = step here v up is;
-            here_is = subst (λ a. shown_forest text (tables a).texts (join_forests v.left (one item here)) ≡ nodes_of (join w.left (Node n d.here Nil))) (sym same)
+            here_is = subst (λ a. shown_forest text a.texts (join_forests v.left (one item here)) ≡ nodes_of (join w.left (Node n d.here Nil))) (sym same)
                 (shown_forest-join text t v.left (one item here)
                 ∙ ap (λ f. join_forests f (shown_forest text t (one item here))) left
                 ∙ ap (join_forests (nodes_of w.left)) (element-one text t item n here element)
                 ∙ ap (λ f. join_forests (nodes_of w.left) (one (Some n) f)) h
                 ∙ sym (nodes_of-join w.left (Node n d.here Nil)));
-            up_is = subst (λ a. map (shown_open text (tables a).texts) up ≡ map open_node levels) (sym same) rest;
+            up_is = subst (λ a. map (shown_open text a.texts) up ≡ map open_node levels) (sym same) rest;
           }
 
 -- a document is its last sibling behind those before it
@@ -277,26 +276,26 @@ module _ (text : List ℕ) (old new : Builder) where
       ((here : Forest Item) (item : Item) (inside : Forest Item) (up : List (Opened Item)) → Is old.tree (join_forests here (one item inside)) up → Is new.tree (join_forests here (one (item_at item.start item.end (titled item.body)) inside)) up) →
       ((up : List (Opened Item)) → Is old.tree forest.Nil up → new.tree ≡ old.tree) →
       new.allocations ≡ old.allocations → Draws text old d → Draws text new (retitled DefinitionListTitle d)
-  draws-titled d step none same draws = elim (last-shown text (tables old.allocations).texts draws.here d.here draws.here_is) [
+  draws-titled d step none same draws = elim (last-shown text old.allocations.texts draws.here d.here draws.here_is) [
     | inl l ↦ (
-        let t = (tables old.allocations).texts in record {
+        let t = old.allocations.texts in record {
           here = join_forests l.before (one (item_at l.item.start l.item.end (titled l.item.body)) l.inside);
           up = draws.up;
           is = step l.before l.item l.inside draws.up (subst (λ h. Is old.tree h draws.up) l.here_is draws.is);
-          here_is = subst (λ a. shown_forest text (tables a).texts (join_forests l.before (one (item_at l.item.start l.item.end (titled l.item.body)) l.inside)) ≡ nodes_of (join (before_last d.here) (as_kind DefinitionListTitle (last_of d.here)))) (sym same)
+          here_is = subst (λ a. shown_forest text a.texts (join_forests l.before (one (item_at l.item.start l.item.end (titled l.item.body)) l.inside)) ≡ nodes_of (join (before_last d.here) (as_kind DefinitionListTitle (last_of d.here)))) (sym same)
               (shown_forest-join text t l.before (one (item_at l.item.start l.item.end (titled l.item.body)) l.inside)
               ∙ ap (λ f. join_forests f (shown_forest text t (one (item_at l.item.start l.item.end (titled l.item.body)) l.inside))) l.before_is
               ∙ ap (join_forests (nodes_of (before_last d.here))) (titled-one text t l.item l.node l.inside l.inner l.item_is l.inside_is)
               ∙ sym (nodes_of-join (before_last d.here) (Node (record l.node { kind = DefinitionListTitle }) l.inner Nil))
               ∙ ap (λ k. nodes_of (join (before_last d.here) (as_kind DefinitionListTitle k))) (sym l.last_is));
-          up_is = subst (λ a. map (shown_open text (tables a).texts) draws.up ≡ map open_node d.up) (sym same) draws.up_is;
+          up_is = subst (λ a. map (shown_open text a.texts) draws.up ≡ map open_node d.up) (sym same) draws.up_is;
         })
     | inr nil ↦ record {
       here = forest.Nil;
       up = draws.up;
       is = subst (λ tree. Is tree forest.Nil draws.up) (sym (none draws.up (subst (λ h. Is old.tree h draws.up) nil.0 draws.is))) (subst (λ h. Is old.tree h draws.up) nil.0 draws.is);
       here_is = ap (λ k. nodes_of (join (before_last k) (as_kind DefinitionListTitle (last_of k)))) (sym nil.1);
-      up_is = subst (λ a. map (shown_open text (tables a).texts) draws.up ≡ map open_node d.up) (sym same) draws.up_is;
+      up_is = subst (λ a. map (shown_open text a.texts) draws.up ≡ map open_node d.up) (sym same) draws.up_is;
     }
   ]
 
@@ -305,31 +304,31 @@ module _ (text : List ℕ) (old new : Builder) where
       ((here : Forest Item) (item : Item) (inside : Forest Item) (up : List (Opened Item)) → Is old.tree (join_forests here (one item inside)) up
       → Is new.tree (one (item_at item.start item.end (titled item.body)) inside) (record { left = here; item = item_at item.start item.start around } ∷ up)) →
       ((up : List (Opened Item)) → Is old.tree forest.Nil up → Is new.tree forest.Nil (record { left = forest.Nil; item = item_at 0 0 around } ∷ up)) →
-      new.allocations ≡ old.allocations → kind_of (tables old.allocations).texts (shape around) ≡ Some kind_around →
+      new.allocations ≡ old.allocations → kind_of old.allocations.texts (shape around) ≡ Some kind_around →
       Draws text old d → Draws text new (enclosed kind_around DefinitionListTitle d)
-  draws-enclosed around kind_around d step none same shows_around draws = elim (last-shown text (tables old.allocations).texts draws.here d.here draws.here_is) [
+  draws-enclosed around kind_around d step none same shows_around draws = elim (last-shown text old.allocations.texts draws.here d.here draws.here_is) [
     | inl l ↦ (
-        let t = (tables old.allocations).texts in
+        let t = old.allocations.texts in
         let start : l.item.start ≡ l.node.start = (item-range text t l.item l.node l.item_is).0 in record {
           here = one (item_at l.item.start l.item.end (titled l.item.body)) l.inside;
           up = record { left = l.before; item = item_at l.item.start l.item.start around } ∷ draws.up;
           is = step l.before l.item l.inside draws.up (subst (λ h. Is old.tree h draws.up) l.here_is draws.is);
-          here_is = subst (λ a. shown_forest text (tables a).texts (one (item_at l.item.start l.item.end (titled l.item.body)) l.inside) ≡ nodes_of (as_kind DefinitionListTitle (last_of d.here))) (sym same)
+          here_is = subst (λ a. shown_forest text a.texts (one (item_at l.item.start l.item.end (titled l.item.body)) l.inside) ≡ nodes_of (as_kind DefinitionListTitle (last_of d.here))) (sym same)
               (titled-one text t l.item l.node l.inside l.inner l.item_is l.inside_is
               ∙ ap (λ k. nodes_of (as_kind DefinitionListTitle k)) (sym l.last_is));
-          up_is = subst (λ a. map (shown_open text (tables a).texts) (record { left = l.before; item = item_at l.item.start l.item.start around } ∷ draws.up) ≡ map open_node (enclosed kind_around DefinitionListTitle d).up) (sym same)
+          up_is = subst (λ a. map (shown_open text a.texts) (record { left = l.before; item = item_at l.item.start l.item.start around } ∷ draws.up) ≡ map open_node (enclosed kind_around DefinitionListTitle d).up) (sym same)
               (ap (λ x. record { left = shown_forest text t l.before; item = x } ∷ map (shown_open text t) draws.up) (ap (option_map (ranged l.item.start l.item.start)) shows_around ∙ ap (λ s. Some (node kind_around s s)) start)
               ∙ ap (λ f. record { left = f; item = Some (node kind_around l.node.start l.node.start) } ∷ map (shown_open text t) draws.up) l.before_is
               ∙ ap (λ u. record { left = nodes_of (before_last d.here); item = Some (node kind_around l.node.start l.node.start) } ∷ u) draws.up_is
               ∙ ap (λ k. record { left = nodes_of (before_last d.here); item = Some (node kind_around (start_in k) (start_in k)) } ∷ map open_node d.up) (sym l.last_is));
         })
     | inr nil ↦ (
-        let t = (tables old.allocations).texts in record {
+        let t = old.allocations.texts in record {
           here = forest.Nil;
           up = record { left = forest.Nil; item = item_at 0 0 around } ∷ draws.up;
           is = none draws.up (subst (λ h. Is old.tree h draws.up) nil.0 draws.is);
           here_is = ap (λ k. nodes_of (as_kind DefinitionListTitle (last_of k))) (sym nil.1);
-          up_is = subst (λ a. map (shown_open text (tables a).texts) (record { left = forest.Nil; item = item_at 0 0 around } ∷ draws.up) ≡ map open_node (enclosed kind_around DefinitionListTitle d).up) (sym same)
+          up_is = subst (λ a. map (shown_open text a.texts) (record { left = forest.Nil; item = item_at 0 0 around } ∷ draws.up) ≡ map open_node (enclosed kind_around DefinitionListTitle d).up) (sym same)
               (ap (λ x. record { left = forest.Nil; item = x } ∷ map (shown_open text t) draws.up) (ap (option_map (ranged 0 0)) shows_around)
               ∙ ap (λ u. record { left = forest.Nil; item = Some (node kind_around 0 0) } ∷ u) draws.up_is
               ∙ ap (λ k. record { left = nodes_of (before_last k); item = Some (node kind_around (start_in (last_of k)) (start_in (last_of k))) } ∷ map open_node d.up) (sym nil.1));
@@ -341,19 +340,19 @@ module _ (text : List ℕ) (old new : Builder) where
       ((here : Forest Item) (item : Item) (inside : Forest Item) (v : Opened Item) (up : List (Opened Item)) → Is old.tree (join_forests here (one item inside)) (v ∷ up) → Is new.tree (join_forests (closed (ended end body v) here) (one item inside)) up) →
       ((v : Opened Item) (up : List (Opened Item)) → Is old.tree forest.Nil (v ∷ up) → Is new.tree (closed (ended end body v) forest.Nil) up) →
       ((here : Forest Item) → Is old.tree here [] → new.tree ≡ old.tree) →
-      new.allocations ≡ old.allocations → kind_of (tables old.allocations).texts (shape body) ≡ Some kind →
+      new.allocations ≡ old.allocations → kind_of old.allocations.texts (shape body) ≡ Some kind →
       Draws text old d → Draws text new (released kind end d)
   draws-released end body kind d step childless none same shows draws = go draws.up draws.is d.up draws.up_is
     where
       t : List CowStr
-      t = (tables old.allocations).texts
+      t = old.allocations.texts
 
       go : (up : List (Opened Item)) → Is old.tree draws.here up → (levels : List OpenNode) → map (shown_open text t) up ≡ map open_node levels → Draws text new (release_as kind end d.here levels)
       go [] is [] u = record {
         here = draws.here;
         up = [];
         is = subst (λ tree. Is tree draws.here []) (sym (none draws.here is)) is;
-        here_is = subst (λ a. shown_forest text (tables a).texts draws.here ≡ nodes_of d.here) (sym same) draws.here_is;
+        here_is = subst (λ a. shown_forest text a.texts draws.here ≡ nodes_of d.here) (sym same) draws.here_is;
         up_is = refl;
       }
       go [] is (v ∷ levels) u = absurd (let q : [] ≡ open_node v ∷ map open_node levels = u in cc)
@@ -377,7 +376,7 @@ module _ (text : List ℕ) (old new : Builder) where
               here = join_forests (closed (ended end body v) l.before) (one l.item l.inside);
               up = up;
               is = step l.before l.item l.inside v up (subst (λ h. Is old.tree h (v ∷ up)) l.here_is is);
-              here_is = subst (λ a. shown_forest text (tables a).texts (join_forests (closed (ended end body v) l.before) (one l.item l.inside)) ≡ nodes_of (join w.left (Node n (before_last d.here) (last_of d.here)))) (sym same)
+              here_is = subst (λ a. shown_forest text a.texts (join_forests (closed (ended end body v) l.before) (one l.item l.inside)) ≡ nodes_of (join w.left (Node n (before_last d.here) (last_of d.here)))) (sym same)
                   (shown_forest-join text t (closed (ended end body v) l.before) (one l.item l.inside)
                   ∙ ap (λ k. join_forests k (shown_forest text t (one l.item l.inside))) (around l.before (before_last d.here) l.before_is)
                   ∙ ap (λ x. join_forests (nodes_of (join w.left (Node n (before_last d.here) Nil))) (one x (shown_inside text l.item.start (shape l.item.body) (shown_forest text t l.inside)))) l.item_is
@@ -385,15 +384,15 @@ module _ (text : List ℕ) (old new : Builder) where
                   ∙ sym (nodes_of-join (join w.left (Node n (before_last d.here) Nil)) (Node l.node l.inner Nil))
                   ∙ ap nodes_of (rejoin w.left n (before_last d.here) (Node l.node l.inner Nil))
                   ∙ ap (λ k. nodes_of (join w.left (Node n (before_last d.here) k))) (sym l.last_is));
-              up_is = subst (λ a. map (shown_open text (tables a).texts) up ≡ map open_node levels) (sym same) rest;
+              up_is = subst (λ a. map (shown_open text a.texts) up ≡ map open_node levels) (sym same) rest;
             }
             | inr nil ↦ record {
               here = closed (ended end body v) forest.Nil;
               up = up;
               is = childless v up (subst (λ h. Is old.tree h (v ∷ up)) nil.0 is);
-              here_is = subst (λ a. shown_forest text (tables a).texts (closed (ended end body v) forest.Nil) ≡ nodes_of (join w.left (Node n (before_last d.here) (last_of d.here)))) (sym same)
+              here_is = subst (λ a. shown_forest text a.texts (closed (ended end body v) forest.Nil) ≡ nodes_of (join w.left (Node n (before_last d.here) (last_of d.here)))) (sym same)
                   (around forest.Nil Nil refl ∙ ap (λ k. nodes_of (join w.left (Node n (before_last k) (last_of k)))) (sym nil.1));
-              up_is = subst (λ a. map (shown_open text (tables a).texts) up ≡ map open_node levels) (sym same) rest;
+              up_is = subst (λ a. map (shown_open text a.texts) up ≡ map open_node levels) (sym same) rest;
             }
           ]
         where
@@ -484,13 +483,13 @@ module _ (text : List ℕ) (t : List CowStr) (more : CowStr) where
       ∙ ap (λ u. open_node w ∷ u) (up-more up levels rest)
 
 -- a text was kept
-pub draws-text : (text : List ℕ) (old new : Builder) (more : CowStr) (d : Drawing) → new.tree ≡ old.tree → (tables new.allocations).texts ≡ (tables old.allocations).texts ++ more ∷ [] → Draws text old d → Draws text new d
+pub draws-text : (text : List ℕ) (old new : Builder) (more : CowStr) (d : Drawing) → new.tree ≡ old.tree → new.allocations.texts ≡ old.allocations.texts ++ more ∷ [] → Draws text old d → Draws text new d
 draws-text text old new more d same kept draws = record {
   here = draws.here;
   up = draws.up;
   is = subst (λ tree. Is tree draws.here draws.up) (sym same) draws.is;
-  here_is = subst (λ t. shown_forest text t draws.here ≡ nodes_of d.here) (sym kept) (forest-more text (tables old.allocations).texts more draws.here d.here draws.here_is);
-  up_is = subst (λ t. map (shown_open text t) draws.up ≡ map open_node d.up) (sym kept) (up-more text (tables old.allocations).texts more draws.up d.up draws.up_is);
+  here_is = subst (λ t. shown_forest text t draws.here ≡ nodes_of d.here) (sym kept) (forest-more text old.allocations.texts more draws.here d.here draws.here_is);
+  up_is = subst (λ t. map (shown_open text t) draws.up ≡ map open_node d.up) (sym kept) (up-more text old.allocations.texts more draws.up d.up draws.up_is);
 }
 
 -- nothing was drawn yet
@@ -498,7 +497,7 @@ pub draws-nothing : (text : List ℕ) (b : Builder) → Is b.tree forest.Nil [] 
 draws-nothing text b is = record { here = forest.Nil; up = []; is = is; here_is = refl; up_is = refl }
 
 -- the definitions of links are no part of the drawing
-pub draws-same : (text : List ℕ) (old new : Builder) (d : Drawing) → new.tree ≡ old.tree → (tables new.allocations).texts ≡ (tables old.allocations).texts → Draws text old d → Draws text new d
+pub draws-same : (text : List ℕ) (old new : Builder) (d : Drawing) → new.tree ≡ old.tree → new.allocations.texts ≡ old.allocations.texts → Draws text old d → Draws text new d
 draws-same text old new d same kept draws = record {
   here = draws.here;
   up = draws.up;

@@ -16,7 +16,6 @@ use Rattle.cmark_items.specs.declared.item.Item.{Item}
 use Rattle.cmark_items.specs.declared.item.ItemBody.{ItemBody}
 use Rattle.cmark_items.specs.declared.item.ItemBody.TheVariants as body
 use Rattle.cmark_items.specs.ItemNodes.{shape, kind_of, ranged, shown_element, shown_forest, nodes_of}
-use Rattle.cmark_items.specs.Tables.{tables}
 use Rattle.cmark_block_model.specs.Drawing.{OpenNode, Drawing, drawn, close_at, closed_at}
 use Rattle.cmark_builder.specs.declared.builder.Builder.{Builder}
 use Rattle.cmark_builder.specs.Drawn.{shown_open, open_node, Draws}
@@ -82,7 +81,7 @@ module _ (text : List ℕ) (old new : Builder) where
   draws-whole start text_end end d empty step same draws = go draws.here draws.up draws.is (empty draws.here draws.up draws.is) draws.here_is d.up draws.up_is
     where
       t : List CowStr
-      t = (tables old.allocations).texts
+      t = old.allocations.texts
 
       T : BlockDocument
       T = Node (node (Text (slice text start text_end)) start text_end) Nil Nil
@@ -104,7 +103,7 @@ module _ (text : List ℕ) (old new : Builder) where
             here = closed (ended end (body.ParagraphOf text_end) v) forest.Nil;
             up = up;
             is = step forest.Nil v up is;
-            here_is = subst (λ a. shown_forest text (tables a).texts (join_forests v.left (one item forest.Nil)) ≡ nodes_of (join w.left (Node (node w.node.kind w.node.start end) (join d.here T) Nil))) (sym same)
+            here_is = subst (λ a. shown_forest text a.texts (join_forests v.left (one item forest.Nil)) ≡ nodes_of (join w.left (Node (node w.node.kind w.node.start end) (join d.here T) Nil))) (sym same)
                 (shown_forest-join text t v.left (one item forest.Nil)
                 ∙ ap (λ f. join_forests f (shown_forest text t (one item forest.Nil))) left
                 ∙ ap (λ s. join_forests (nodes_of w.left) (one (Some (node Paragraph s end)) (one (Some (node (Text (slice text s text_end)) s text_end)) forest.Nil))) begin
@@ -112,5 +111,5 @@ module _ (text : List ℕ) (old new : Builder) where
                 ∙ ap (λ s. nodes_of (join w.left (Node (node Paragraph s end) T Nil))) (sym (n.1 ∙ begin))
                 ∙ ap (λ k. nodes_of (join w.left (Node (node k w.node.start end) T Nil))) (sym n.0)
                 ∙ ap (λ b. nodes_of (join w.left (Node (node w.node.kind w.node.start end) (join b T) Nil))) (sym (nothing-shown d.here h)));
-            up_is = subst (λ a. map (shown_open text (tables a).texts) up ≡ map open_node levels) (sym same) rest;
+            up_is = subst (λ a. map (shown_open text a.texts) up ≡ map open_node levels) (sym same) rest;
           }

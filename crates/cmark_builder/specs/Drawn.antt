@@ -5,7 +5,6 @@ use Rattle.cmark_tree.specs.Building.{Opened, Is}
 use Rattle.cmark_grammar.specs.BlockDocument.{BlockNode}
 use Rattle.cmark_items.specs.declared.item.Item.{Item}
 use Rattle.cmark_items.specs.ItemNodes.{shown_element, shown_forest, nodes_of}
-use Rattle.cmark_items.specs.Tables.{tables}
 use Rattle.cmark_text.specs.declared.text.CowStr.{CowStr}
 use Rattle.cmark_block_model.specs.Drawing.{OpenNode, Drawing}
 use Rattle.cmark_builder.specs.declared.builder.Builder.{Builder}
@@ -21,5 +20,5 @@ pub record Draws (text : List ℕ) (b : Builder) (d : Drawing) : Type 0 where
   pub here : Forest Item
   pub up : List (Opened Item)
   pub is : Is b.tree here up
-  pub here_is : shown_forest text (tables b.allocations).texts here ≡ nodes_of d.here
-  pub up_is : map (shown_open text (tables b.allocations).texts) up ≡ map open_node d.up
+  pub here_is : shown_forest text b.allocations.texts here ≡ nodes_of d.here
+  pub up_is : map (shown_open text b.allocations.texts) up ≡ map open_node d.up

@@ -1,7 +1,8 @@
 -- What a table of link reference definitions contains (CommonMark 4.7), and one of footnote definitions.
 use Rattle.std.specs.Prelude.{ℕ, List, map, bytes_eq, if◌then◌else◌, Option, Some, None, option_map}
 use Rattle.std.specs.Borrow.{Bor}
-use Rattle.std.specs.BTreeMap.{get_by}
+use Rattle.std.specs.BTreeMap.{is_at}
+use Rattle.std.specs.Map.{lookup}
 use Rattle.std.specs.Cmp.Lexicographic.{slice_cmp}
 use Rattle.std.specs.Ordering.{nat_cmp}
 use Rattle.cmark_text.specs.Labelled.{link_text, link_key}
@@ -13,7 +14,7 @@ use Rattle.cmark_text.specs.Shown.{text_bytes}
 
 -- the definition of a folded label
 abbrev pub definition : RefDefs → List ℕ → Option LinkDef
-definition table folded = get_by (λ label. slice_cmp nat_cmp folded (link_key label)) table.defs
+definition table folded = lookup (is_at (λ label. slice_cmp nat_cmp folded (link_key label))) table
 
 -- a label's normal form with its definition
 abbrev pub entry : LinkLabel × LinkDef → List ℕ × LinkDef
@@ -21,7 +22,7 @@ entry e = (link_text e.0, e.1)
 
 -- all of them
 abbrev pub definitions : RefDefs → List (List ℕ × LinkDef)
-definitions table = map entry table.defs.entries
+definitions table = map entry table
 
 -- what there is, or else this one
 abbrev pub first_of : {D : Type 0} → Option D → Option D → Option D

@@ -1,10 +1,9 @@
 -- What the tables contain.
-use Rattle.std.specs.Prelude.{◌≡◌, ℕ, List, [], ◌∷◌, ◌++◌, map, slice_set}
+use Rattle.std.specs.Prelude.{◌≡◌, ℕ, List, [], ◌∷◌, ◌++◌, slice_set}
 use Rattle.cmark_text.specs.Shown.{text_bytes}
 use Rattle.cmark_text.specs.declared.text.CowStr.{CowStr}
 use Rattle.cmark_text.specs.declared.kind.Alignment.{Alignment}
 use Rattle.cmark_text.specs.declared.kind.LinkType.TheVariants.{ShortcutUnknown}
-use Rattle.cmark_items.specs.declared.allocations.Allocations.{Allocations}
 use Rattle.cmark_items.specs.declared.allocations.Link.{Link}
 use Rattle.cmark_items.specs.declared.definitions.RefDefs.{RefDefs}
 use Rattle.cmark_items.specs.declared.footnotes.FootnoteDefs.{FootnoteDefs}
@@ -17,9 +16,6 @@ pub record Tables : Type 0 where
   pub alignments : List (List Alignment)
   pub references : RefDefs
   pub footnotes : FootnoteDefs
-
-abbrev pub tables : Allocations → Tables
-tables a = record { texts = a.texts.items; links = a.links.items; alignments = map (λ row. row.items) a.alignments.items; references = a.refdefs; footnotes = a.footdefs }
 
 -- the definitions in the tables
 pub record Defined : Type 0 where

@@ -3,12 +3,13 @@
 ghost use Rattle.std.specs.Prelude.{◌≡◌, ◌<◌, ◌++◌, ◌∷◌, [], length, IfOk, OnOk, OnErr, slice_get, Some, None, List, ℕ};
 ghost use Rattle.cmark_items.specs.Definitions.{definition};
 ghost use Rattle.cmark_items.specs.Footnotes.{footnote};
-ghost use Rattle.cmark_items.specs.Tables.{Tables, tables, with_text, with_link, with_alignments, IsUnknown, LeavesNoText, LeavesNoLink, without_alignments};
+ghost use Rattle.cmark_items.specs.Tables.{with_text, with_link, with_alignments, IsUnknown, LeavesNoText, LeavesNoLink, without_alignments};
 
 use crate::definitions::RefDefs;
 use crate::footnotes::FootnoteDefs;
 use cmark_text::{Alignment, CowStr, LinkType};
 use std::alloc::{AllocError, Global};
+use std::marker::Model;
 use std::mem;
 use std::ops::Index;
 
@@ -71,14 +72,30 @@ pub struct Allocations<'a> {
     alloc: Global,
 }
 
+/// The contents of the tables, each at its index, and the definitions.
+impl<'a> Model for Allocations<'a> {
+    ghost use Rattle.std.specs.Prelude.{map};
+    ghost use Rattle.cmark_items.specs.Tables.{Tables};
+
+    ghost Value = { Tables };
+
+    ghost view = { λ a. record {
+      texts = a.texts.items;
+      links = a.links.items;
+      alignments = map (λ row. row.items) a.alignments.items;
+      references = a.refdefs;
+      footnotes = a.footdefs;
+    } };
+}
+
 impl<'a> Allocations<'a> {
     /// Empty tables.
     pub fn new(alloc: Global) -> Allocations<'a>
-        ensures texts { (tables result).texts ≡ [] }
-        ensures links { (tables result).links ≡ [] }
-        ensures alignments { (tables result).alignments ≡ [] }
-        ensures references { (folded : List ℕ) → definition (tables result).references folded ≡ None }
-        ensures footnotes { (folded : List ℕ) → footnote (tables result).footnotes folded ≡ None }
+        ensures texts { result.texts ≡ [] }
+        ensures links { result.links ≡ [] }
+        ensures alignments { result.alignments ≡ [] }
+        ensures references { (folded : List ℕ) → definition result.references folded ≡ None }
+        ensures footnotes { (folded : List ℕ) → footnote result.footnotes folded ≡ None }
     {
         Allocations {
             refdefs: RefDefs::new(alloc),
@@ -92,9 +109,9 @@ impl<'a> Allocations<'a> {
 
     /// Keeps a text. Where memory is refused nothing changes, and the text is dropped.
     pub fn allocate_cow(&mut self, text: CowStr<'a>) -> Result<CowIndex, AllocError>
-        ensures index { IfOk result (λ index. index.0 ≡ length (tables self.old).texts) }
-        ensures kept { OnOk result (tables self.new ≡ with_text text.entry (tables self.old)) }
-        ensures refused { OnErr result (tables self.new ≡ tables self.old) }
+        ensures index { IfOk result (λ index. index.0 ≡ length self.old.texts) }
+        ensures kept { OnOk result (self.new ≡ with_text text.entry self.old) }
+        ensures refused { OnErr result (self.new ≡ self.old) }
     {
         let index = self.texts.len();
         self.texts.push(text)?;
@@ -109,10 +126,10 @@ impl<'a> Allocations<'a> {
         title: CowStr<'a>,
         id: CowStr<'a>,
     ) -> Result<LinkIndex, AllocError>
-        ensures index { IfOk result (λ index. index.0 ≡ length (tables self.old).links) }
-        ensures kept { OnOk result (tables self.new
-            ≡ with_link (record { link_type = link_type; dest_url = dest_url.entry; title = title.entry; id = id.entry }) (tables self.old)) }
-        ensures refused { OnErr result (tables self.new ≡ tables self.old) }
+        ensures index { IfOk result (λ index. index.0 ≡ length self.old.links) }
+        ensures kept { OnOk result (self.new
+            ≡ with_link (record { link_type = link_type; dest_url = dest_url.entry; title = title.entry; id = id.entry }) self.old) }
+        ensures refused { OnErr result (self.new ≡ self.old) }
     {
         let index = self.links.len();
         self.links.push(Link {
@@ -129,9 +146,9 @@ impl<'a> Allocations<'a> {
         &mut self,
         alignments: Vec<Alignment>,
     ) -> Result<AlignmentIndex, AllocError>
-        ensures index { IfOk result (λ index. index.0 ≡ length (tables self.old).alignments) }
-        ensures kept { OnOk result (tables self.new ≡ with_alignments alignments.items (tables self.old)) }
-        ensures refused { OnErr result (tables self.new ≡ tables self.old) }
+        ensures index { IfOk result (λ index. index.0 ≡ length self.old.alignments) }
+        ensures kept { OnOk result (self.new ≡ with_alignments alignments.items self.old) }
+        ensures refused { OnErr result (self.new ≡ self.old) }
     {
         let index = self.alignments.len();
         self.alignments.push(alignments)?;
@@ -141,9 +158,9 @@ impl<'a> Allocations<'a> {
     /// Keeps the words between the braces of a heading's attributes as a text, which `HeadingAttributes::read` reads. Where memory
     /// is refused nothing changes, and the words are dropped.
     pub fn allocate_heading(&mut self, words: CowStr<'a>) -> Result<HeadingIndex, AllocError>
-        ensures index { IfOk result (λ index. index.0 ≡ length (tables self.old).texts) }
-        ensures kept { OnOk result (tables self.new ≡ with_text words.entry (tables self.old)) }
-        ensures refused { OnErr result (tables self.new ≡ tables self.old) }
+        ensures index { IfOk result (λ index. index.0 ≡ length self.old.texts) }
+        ensures kept { OnOk result (self.new ≡ with_text words.entry self.old) }
+        ensures refused { OnErr result (self.new ≡ self.old) }
     {
         let index = self.texts.len();
         self.texts.push(words)?;
@@ -152,27 +169,27 @@ impl<'a> Allocations<'a> {
 
     /// Takes a text out. An empty one is left.
     pub fn take_cow(&mut self, index: CowIndex) -> CowStr<'a>
-        requires { index.0 < length (tables self.old).texts }
-        ensures value { slice_get (tables self.old).texts index.0 ≡ Some result }
-        ensures left { LeavesNoText index.0 (tables self.old) (tables self.new) }
+        requires { index.0 < length self.old.texts }
+        ensures value { slice_get self.old.texts index.0 ≡ Some result }
+        ensures left { LeavesNoText index.0 self.old self.new }
     {
         mem::replace(&mut self.texts[index.0], CowStr::Borrowed(""))
     }
 
     /// Takes a link or an image out. One of an unknown shortcut without texts is left.
     pub fn take_link(&mut self, index: LinkIndex) -> Link<'a>
-        requires { index.0 < length (tables self.old).links }
-        ensures value { slice_get (tables self.old).links index.0 ≡ Some result }
-        ensures left { LeavesNoLink index.0 (tables self.old) (tables self.new) }
+        requires { index.0 < length self.old.links }
+        ensures value { slice_get self.old.links index.0 ≡ Some result }
+        ensures left { LeavesNoLink index.0 self.old self.new }
     {
         mem::replace(&mut self.links[index.0], Link::none())
     }
 
     /// Takes a table's alignments out. None are left.
     pub fn take_alignment(&mut self, index: AlignmentIndex) -> Vec<Alignment>
-        requires { index.0 < length (tables self.old).alignments }
-        ensures value { slice_get (tables self.old).alignments index.0 ≡ Some result.items }
-        ensures left { tables self.new ≡ without_alignments index.0 (tables self.old) }
+        requires { index.0 < length self.old.alignments }
+        ensures value { slice_get self.old.alignments index.0 ≡ Some result.items }
+        ensures left { self.new ≡ without_alignments index.0 self.old }
     {
         let none = Vec::new(self.alloc);
         mem::replace(&mut self.alignments[index.0], none)
@@ -182,9 +199,9 @@ impl<'a> Allocations<'a> {
 impl<'a> Index<CowIndex> for Allocations<'a> {
     type Output = CowStr<'a>;
 
-    ghost can_index = { λ a index. index.0 < length (tables a).texts };
+    ghost can_index = { λ a index. index.0 < length a.texts };
 
-    ghost index_gives = { λ a index text. slice_get (tables a).texts index.0 ≡ Some text };
+    ghost index_gives = { λ a index text. slice_get a.texts index.0 ≡ Some text };
 
     fn index(&self, index: CowIndex) -> &CowStr<'a> {
         &self.texts[index.0]
@@ -194,9 +211,9 @@ impl<'a> Index<CowIndex> for Allocations<'a> {
 impl<'a> Index<HeadingIndex> for Allocations<'a> {
     type Output = CowStr<'a>;
 
-    ghost can_index = { λ a index. index.0 < length (tables a).texts };
+    ghost can_index = { λ a index. index.0 < length a.texts };
 
-    ghost index_gives = { λ a index words. slice_get (tables a).texts index.0 ≡ Some words };
+    ghost index_gives = { λ a index words. slice_get a.texts index.0 ≡ Some words };
 
     fn index(&self, heading: HeadingIndex) -> &CowStr<'a> {
         &self.texts[heading.0]
@@ -206,9 +223,9 @@ impl<'a> Index<HeadingIndex> for Allocations<'a> {
 impl<'a> Index<LinkIndex> for Allocations<'a> {
     type Output = Link<'a>;
 
-    ghost can_index = { λ a index. index.0 < length (tables a).links };
+    ghost can_index = { λ a index. index.0 < length a.links };
 
-    ghost index_gives = { λ a index link. slice_get (tables a).links index.0 ≡ Some link };
+    ghost index_gives = { λ a index link. slice_get a.links index.0 ≡ Some link };
 
     fn index(&self, index: LinkIndex) -> &Link<'a> {
         &self.links[index.0]
@@ -218,9 +235,9 @@ impl<'a> Index<LinkIndex> for Allocations<'a> {
 impl<'a> Index<AlignmentIndex> for Allocations<'a> {
     type Output = Vec<Alignment>;
 
-    ghost can_index = { λ a index. index.0 < length (tables a).alignments };
+    ghost can_index = { λ a index. index.0 < length a.alignments };
 
-    ghost index_gives = { λ a index row. slice_get (tables a).alignments index.0 ≡ Some row.items };
+    ghost index_gives = { λ a index row. slice_get a.alignments index.0 ≡ Some row.items };
 
     fn index(&self, index: AlignmentIndex) -> &Vec<Alignment> {
         &self.alignments[index.0]

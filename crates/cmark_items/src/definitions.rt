@@ -9,6 +9,7 @@ ghost use Rattle.cmark_items.specs.Definitions.{definition, definitions, first_o
 use cmark_text::{CowStr, LinkLabel};
 use std::alloc::{AllocError, Global};
 use std::collections::btree_map::{self, BTreeMap};
+use std::marker::Model;
 use std::ops::Range;
 
 /// A link reference definition, without its label.
@@ -28,6 +29,17 @@ pub struct LinkDef<'a> {
 pub struct RefDefs<'a> {
     defs: BTreeMap<LinkLabel, LinkDef<'a>>,
     alloc: Global,
+}
+
+/// The definitions, each with its label.
+impl<'a> Model for RefDefs<'a> {
+    ghost use Rattle.std.specs.Prelude.{List};
+    ghost use Rattle.cmark_text.specs.declared.label.LinkLabel.{LinkLabel};
+    ghost use Rattle.cmark_items.specs.declared.definitions.LinkDef.{LinkDef};
+
+    ghost Value = { List (LinkLabel × LinkDef) };
+
+    ghost view = { λ table. table.defs.entries };
 }
 
 impl<'a> RefDefs<'a> {
@@ -62,16 +74,17 @@ impl<'a> RefDefs<'a> {
             ≡ first_of (definition self.old folded) (at_label (link_key label) def.entry folded)) }
         ensures refused { OnErr result ((folded : List ℕ) → definition self.new folded ≡ definition self.old folded) }
     {
-        if !self.defs.contains_key(&label) {
-            self.defs.insert(label, def)?;
+        if self.defs.contains_key(&label) {
+            return Ok(());
         }
+        self.defs.insert(label, def)?;
         Ok(())
     }
 
     /// All definitions, each with its label's normal form, in no order that is promised.
     pub fn iter(&self) -> RefDefsIter<'_, 'a>
         ensures all { left result ≡ definitions self.now }
-        ensures found { All (λ e. definition self.now (link_key e.0) ≡ Some e.1) self.now.defs.entries }
+        ensures found { All (λ e. definition self.now (link_key e.0) ≡ Some e.1) self.now }
     {
         RefDefsIter {
             entries: self.defs.iter(),

@@ -10,6 +10,7 @@ ghost use Rattle.cmark_items.specs.Footnotes.{footnote, with_use, Counts, Keeps}
 use cmark_text::FootnoteLabel;
 use std::alloc::{AllocError, Global};
 use std::collections::BTreeMap;
+use std::marker::Model;
 
 /// What is known of a footnote that is defined.
 #[derive(Clone, Copy)]
@@ -35,6 +36,17 @@ impl FootnoteDef {
 pub struct FootnoteDefs {
     defs: BTreeMap<FootnoteLabel, FootnoteDef>,
     alloc: Global,
+}
+
+/// The definitions, each with its label.
+impl Model for FootnoteDefs {
+    ghost use Rattle.std.specs.Prelude.{List};
+    ghost use Rattle.cmark_text.specs.declared.label.FootnoteLabel.{FootnoteLabel};
+    ghost use Rattle.cmark_items.specs.declared.footnotes.FootnoteDef.{FootnoteDef};
+
+    ghost Value = { List (FootnoteLabel × FootnoteDef) };
+
+    ghost view = { λ table. table.defs.entries };
 }
 
 impl FootnoteDefs {
@@ -88,9 +100,10 @@ impl FootnoteDefs {
             ≡ first_of (footnote self.old folded) (at_label (footnote_key label) def folded)) }
         ensures refused { OnErr result (Keeps self.old self.new) }
     {
-        if !self.defs.contains_key(&label) {
-            self.defs.insert(label, def)?;
+        if self.defs.contains_key(&label) {
+            return Ok(());
         }
+        self.defs.insert(label, def)?;
         Ok(())
     }
 }

@@ -13,7 +13,7 @@ use Rattle.cmark_items.specs.declared.allocations.CowIndex.{CowIndex}
 use Rattle.cmark_items.specs.declared.item.Item.{Item}
 use Rattle.cmark_items.specs.declared.item.ItemBody.TheVariants as body
 use Rattle.cmark_items.specs.ItemNodes.{ranged, text_at}
-use Rattle.cmark_items.specs.Tables.{tables, with_text}
+use Rattle.cmark_items.specs.Tables.{with_text}
 use Rattle.cmark_block_model.specs.Drawing.{Drawing, drawn}
 use Rattle.cmark_block_model.specs.CodeLines.{texts_of}
 use Rattle.cmark_builder.specs.declared.builder.Builder.{Builder}
@@ -33,15 +33,15 @@ Adds old new item = (here : Forest Item) (up : List (Opened Item)) → Is old.tr
 
 -- a text of the tables as a node
 pub draws-owned : (text : List ℕ) (old new : Builder) (kept : Allocations) (owned : CowStr) (index : CowIndex) (start end : ℕ) (d : Drawing) →
-    index.0 ≡ length (tables old.allocations).texts → tables kept ≡ with_text owned (tables old.allocations) →
+    index.0 ≡ length old.allocations.texts → kept ≡ with_text owned old.allocations →
     Adds old new (item_at start end (body.SynthesizeText index)) → new.allocations ≡ kept →
     Draws text old d → Draws text new (drawn (Node (node (OwnedText (text_bytes owned)) start end) Nil Nil) d)
 draws-owned text old new kept owned index start end d at is step same draws =
     let mid : Builder = record { tree = old.tree; allocations = kept } in
-    let texts : (tables kept).texts ≡ (tables old.allocations).texts ++ owned ∷ [] = ap (λ t. t.texts) is in
+    let texts : kept.texts ≡ old.allocations.texts ++ owned ∷ [] = ap (λ t. t.texts) is in
     draws-add text mid new (item_at start end (body.SynthesizeText index)) (node (OwnedText (text_bytes owned)) start end) d step same
     (ap (λ o. option_map (ranged start end) (option_map OwnedText o)) (
-    ap (λ t. text_at t index.0) texts ∙ ap (text_at ((tables old.allocations).texts ++ owned ∷ [])) at ∙ last-text (tables old.allocations).texts owned))
+    ap (λ t. text_at t index.0) texts ∙ ap (text_at (old.allocations.texts ++ owned ∷ [])) at ∙ last-text old.allocations.texts owned))
     refl (draws-text text old mid owned d refl texts draws)
 
 -- a text as it is, as a node

@@ -3,7 +3,7 @@
 
 ghost use Rattle.std.specs.Prelude.{◌≡◌, ℕ, List, [], Some, MatchOption, IfOk, OnOk};
 ghost use Rattle.cmark_tree.specs.Building.{IsPlaced};
-ghost use Rattle.cmark_items.specs.Tables.{tables, defined};
+ghost use Rattle.cmark_items.specs.Tables.{defined};
 ghost use Rattle.cmark_grammar.specs.Rows.{begin_of};
 ghost use Rattle.cmark_grammar.specs.Tokens.{piece_if, spaces_if, left_columns};
 ghost use Rattle.cmark_block_model.specs.Drawing.{Drawing, drawn};
@@ -24,7 +24,7 @@ pub fn draw_stretch(builder: &mut Builder<'_>, waits: Option<Stretch>) -> Result
     ensures placed { IsPlaced builder.new.tree }
     ensures drawn { OnOk result ((text : List ℕ) (d : Drawing) → Draws text builder.old d
         → Draws text builder.new (drawn (texts_of (rest_of (shown_waits text waits))) d)) }
-    ensures definitions { defined (tables builder.new.allocations) ≡ defined (tables builder.old.allocations) }
+    ensures definitions { defined builder.new.allocations ≡ defined builder.old.allocations }
 {
     match waits {
         Some(stretch) => builder.add(
@@ -64,7 +64,7 @@ fn add_stretch(
     requires { IsPlaced builder.old.tree }
     ensures placed { IsPlaced builder.new.tree }
     ensures goes { IfOk result (λ left. (text : List ℕ) → Goes text builder.old builder.new waits left (piece_if text next.start next.end [])) }
-    ensures definitions { defined (tables builder.new.allocations) ≡ defined (tables builder.old.allocations) }
+    ensures definitions { defined builder.new.allocations ≡ defined builder.old.allocations }
 {
     if next.start == next.end {
         return Ok(waits);
@@ -86,7 +86,7 @@ fn add_left_columns(
     ensures placed { IsPlaced builder.new.tree }
     ensures goes { IfOk result (λ left. (text : List ℕ) → Goes text builder.old builder.new waits left
         (spaces_if (left_columns (row_of rest.entry).columns) (begin_of (row_of rest.entry)) [])) }
-    ensures definitions { defined (tables builder.new.allocations) ≡ defined (tables builder.old.allocations) }
+    ensures definitions { defined builder.new.allocations ≡ defined builder.old.allocations }
 {
     let count = rest.remaining_space();
     if count == 0 {
@@ -111,7 +111,7 @@ pub fn draw_code_line(
     ensures drawn { OnOk result ((text : List ℕ) (d : Drawing) → Draws text builder.old d
         → Draws text builder.new (drawn (texts_of (code_line text most (row_of rest.entry) (shown_waits text waits)).done) d)) }
     ensures waits { IfOk result (λ left. (text : List ℕ) → shown_waits text left ≡ (code_line text most (row_of rest.entry) (shown_waits text waits)).waits) }
-    ensures definitions { defined (tables builder.new.allocations) ≡ defined (tables builder.old.allocations) }
+    ensures definitions { defined builder.new.allocations ≡ defined builder.old.allocations }
 {
     let rest = rest.without_indent_upto(most);
     let waits = add_left_columns(builder, waits, rest)?;

@@ -2,7 +2,7 @@
 
 ghost use Rattle.std.specs.Prelude.{◌≡◌, ℕ, List, [], OnOk};
 ghost use Rattle.cmark_tree.specs.Building.{IsPlaced};
-ghost use Rattle.cmark_items.specs.Tables.{tables, defined};
+ghost use Rattle.cmark_items.specs.Tables.{defined};
 ghost use Rattle.cmark_grammar.specs.BlockDocument.{Nil};
 ghost use Rattle.cmark_grammar.specs.Rows.{begin_of};
 ghost use Rattle.cmark_grammar.specs.Tokens.{piece_if, spaces_if, left_columns, verbatim_line, html_then};
@@ -22,7 +22,7 @@ fn draw_html(builder: &mut Builder<'_>, stretch: Stretch) -> Result<(), AllocErr
     ensures placed { IsPlaced builder.new.tree }
     ensures drawn { OnOk result ((text : List ℕ) (d : Drawing) → Draws text builder.old d
         → Draws text builder.new (drawn (html_then (piece_if text stretch.start stretch.end []) Nil) d)) }
-    ensures definitions { defined (tables builder.new.allocations) ≡ defined (tables builder.old.allocations) }
+    ensures definitions { defined builder.new.allocations ≡ defined builder.old.allocations }
 {
     if stretch.start == stretch.end {
         return Ok(());
@@ -36,7 +36,7 @@ fn draw_left_columns(builder: &mut Builder<'_>, rest: LineRest<'_>) -> Result<()
     ensures placed { IsPlaced builder.new.tree }
     ensures drawn { OnOk result ((text : List ℕ) (d : Drawing) → Draws text builder.old d
         → Draws text builder.new (drawn (html_then (spaces_if (left_columns (row_of rest.entry).columns) (begin_of (row_of rest.entry)) []) Nil) d)) }
-    ensures definitions { defined (tables builder.new.allocations) ≡ defined (tables builder.old.allocations) }
+    ensures definitions { defined builder.new.allocations ≡ defined builder.old.allocations }
 {
     let count = rest.remaining_space();
     if count == 0 {
@@ -53,7 +53,7 @@ pub fn draw_html_line(builder: &mut Builder<'_>, rest: LineRest<'_>) -> Result<(
     ensures placed { IsPlaced builder.new.tree }
     ensures drawn { OnOk result ((text : List ℕ) (d : Drawing) → Draws text builder.old d
         → Draws text builder.new (drawn (html_then (verbatim_line text (row_of rest.entry).columns (row_of rest.entry)) Nil) d)) }
-    ensures definitions { defined (tables builder.new.allocations) ≡ defined (tables builder.old.allocations) }
+    ensures definitions { defined builder.new.allocations ≡ defined builder.old.allocations }
 {
     draw_left_columns(builder, rest)?;
     let (content, ending) = stretches_of(rest);

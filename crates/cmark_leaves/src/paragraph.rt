@@ -3,7 +3,7 @@
 
 ghost use Rattle.std.specs.Prelude.{◌≡◌, ℕ, List, OnOk};
 ghost use Rattle.cmark_tree.specs.Building.{IsPlaced};
-ghost use Rattle.cmark_items.specs.Tables.{tables, defined};
+ghost use Rattle.cmark_items.specs.Tables.{defined};
 ghost use Rattle.cmark_grammar.specs.BlockDocument.{Nil};
 ghost use Rattle.cmark_grammar.specs.Tokens.{words_end, stretch_then};
 ghost use Rattle.cmark_block_model.specs.Drawing.{Drawing, closed_at, drawn, texts_cut};
@@ -37,7 +37,7 @@ pub fn draw_last_lines(
     ensures placed { IsPlaced builder.new.tree }
     ensures drawn { OnOk result ((text : List ℕ) (d : Drawing) → Draws text builder.old d
         → Draws text builder.new (drawn (stretch_then text from (words_end (row_of last.entry)) Nil) d)) }
-    ensures definitions { defined (tables builder.new.allocations) ≡ defined (tables builder.old.allocations) }
+    ensures definitions { defined builder.new.allocations ≡ defined builder.old.allocations }
 {
     draw_words(builder, from, words_end(last))
 }
@@ -55,7 +55,7 @@ pub fn close_lines(
     ensures placed { IsPlaced builder.new.tree }
     ensures drawn { OnOk result ((text : List ℕ) (d : Drawing) → Draws text builder.old d
         → Draws text builder.new (closed_at end (drawn (stretch_then text from (words_end (row_of last.entry)) Nil) d))) }
-    ensures definitions { defined (tables builder.new.allocations) ≡ defined (tables builder.old.allocations) }
+    ensures definitions { defined builder.new.allocations ≡ defined builder.old.allocations }
 {
     let text_end = words_end(last);
     if from < text_end && builder.close_whole(from, text_end, end) {
@@ -78,7 +78,7 @@ pub fn draw_lines(
     ensures placed { IsPlaced builder.new.tree }
     ensures drawn { OnOk result ((text : List ℕ) (d : Drawing) → Draws text builder.old d
         → Draws text builder.new (drawn (stretch_then text from (row_of last.entry).line_end Nil) d)) }
-    ensures definitions { defined (tables builder.new.allocations) ≡ defined (tables builder.old.allocations) }
+    ensures definitions { defined builder.new.allocations ≡ defined builder.old.allocations }
 {
     draw_words(builder, from, last.line_end())
 }
@@ -90,7 +90,7 @@ pub fn cut_lines(builder: &mut Builder<'_>, at: usize) -> Result<(), AllocError>
     ensures placed { IsPlaced builder.new.tree }
     ensures drawn { OnOk result ((text : List ℕ) (d : Drawing) → Draws text builder.old d
         → Draws text builder.new (texts_cut text at d)) }
-    ensures definitions { defined (tables builder.new.allocations) ≡ defined (tables builder.old.allocations) }
+    ensures definitions { defined builder.new.allocations ≡ defined builder.old.allocations }
 {
     match builder.cut(at) {
         Some(start) => draw_words(builder, start, at),

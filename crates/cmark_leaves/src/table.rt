@@ -2,7 +2,7 @@
 
 ghost use Rattle.std.specs.Prelude.{◌≡◌, ◌≤◌, ◌+◌, ◌-◌, ℕ, suc, List, length, IfOk, OnOk};
 ghost use Rattle.cmark_tree.specs.Building.{IsPlaced};
-ghost use Rattle.cmark_items.specs.Tables.{tables, defined};
+ghost use Rattle.cmark_items.specs.Tables.{defined};
 ghost use Rattle.cmark_grammar.specs.BlockDocument.{TableHead, TableRow, TableCell, Node, Nil, node};
 ghost use Rattle.cmark_grammar.specs.Rows.{start_of};
 ghost use Rattle.cmark_grammar.specs.TableRows.{count_missing};
@@ -28,7 +28,7 @@ fn draw_cell(builder: &mut Builder<'_>, at: usize, cell: &[u8]) -> Result<(), Al
     ensures placed { IsPlaced builder.new.tree }
     ensures drawn { OnOk result ((text : List ℕ) (d : Drawing) → Draws text builder.old d
         → Draws text builder.new (drawn (Node (node TableCell at (at + length cell.now)) (cell_tokens text at cell.now) Nil) d)) }
-    ensures definitions { defined (tables builder.new.allocations) ≡ defined (tables builder.old.allocations) }
+    ensures definitions { defined builder.new.allocations ≡ defined builder.old.allocations }
 {
     builder.open(at, ItemBody::TableCell)?;
     let start = at + count_blanks(cell);
@@ -55,7 +55,7 @@ fn draw_next_cell<'a>(
         × (drawn (cells_then text (suc left) (content_end - length cells.now) line_end (cells_behind cells.now)) d ≡ drawn (cells_then text left (content_end - length next.0.now) line_end (cells_behind next.0.now)) e)) }
     ensures filled { IfOk result (λ next. (left : ℕ) → next.1 + (left - length (cells_behind next.0.now)) ≡ suc left - length (cells_behind cells.now)) }
     ensures few { IfOk result (λ next. next.1 ≤ 1) }
-    ensures definitions { defined (tables builder.new.allocations) ≡ defined (tables builder.old.allocations) }
+    ensures definitions { defined builder.new.allocations ≡ defined builder.old.allocations }
 {
     match next_cell(cells) {
         Some((size, behind)) => {
@@ -81,7 +81,7 @@ fn draw_cells(
     ensures drawn { OnOk result ((text : List ℕ) (d : Drawing) → Draws text builder.old d
         → Draws text builder.new (drawn (row_cells text columns (row_of rest.entry)) d)) }
     ensures filled { IfOk result (λ filled. filled ≡ count_missing columns (row_of rest.entry)) }
-    ensures definitions { defined (tables builder.new.allocations) ≡ defined (tables builder.old.allocations) }
+    ensures definitions { defined builder.new.allocations ≡ defined builder.old.allocations }
 {
     let content_end = rest.content_end();
     let line_end = rest.line_end();
@@ -107,7 +107,7 @@ pub fn draw_head(
     ensures placed { IsPlaced builder.new.tree }
     ensures drawn { OnOk result ((text : List ℕ) (d : Drawing) → Draws text builder.old d
         → Draws text builder.new (drawn (Node (node TableHead (start_of (row_of rest.entry)) (row_of rest.entry).line_end) (row_cells text columns (row_of rest.entry)) Nil) d)) }
-    ensures definitions { defined (tables builder.new.allocations) ≡ defined (tables builder.old.allocations) }
+    ensures definitions { defined builder.new.allocations ≡ defined builder.old.allocations }
 {
     builder.open(rest.words_begin(), ItemBody::TableHead)?;
     draw_cells(builder, rest, columns)?;
@@ -126,7 +126,7 @@ pub fn draw_row(
     ensures drawn { OnOk result ((text : List ℕ) (d : Drawing) → Draws text builder.old d
         → Draws text builder.new (drawn (Node (node TableRow (start_of (row_of rest.entry)) (row_of rest.entry).line_end) (row_cells text columns (row_of rest.entry)) Nil) d)) }
     ensures filled { IfOk result (λ filled. filled ≡ count_missing columns (row_of rest.entry)) }
-    ensures definitions { defined (tables builder.new.allocations) ≡ defined (tables builder.old.allocations) }
+    ensures definitions { defined builder.new.allocations ≡ defined builder.old.allocations }
 {
     builder.open(rest.words_begin(), ItemBody::TableRow)?;
     let filled = draw_cells(builder, rest, columns)?;

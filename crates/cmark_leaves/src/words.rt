@@ -2,7 +2,7 @@
 
 ghost use Rattle.std.specs.Prelude.{◌≡◌, [], List, ℕ, OnOk};
 ghost use Rattle.cmark_tree.specs.Building.{IsPlaced};
-ghost use Rattle.cmark_items.specs.Tables.{tables, defined};
+ghost use Rattle.cmark_items.specs.Tables.{defined};
 ghost use Rattle.cmark_grammar.specs.Tokens.{piece_if};
 ghost use Rattle.cmark_block_model.specs.Drawing.{Drawing, drawn};
 ghost use Rattle.cmark_block_model.specs.CodeLines.{texts_of};
@@ -23,7 +23,7 @@ pub(crate) fn draw_words(
     ensures placed { IsPlaced builder.new.tree }
     ensures drawn { OnOk result ((text : List ℕ) (d : Drawing) → Draws text builder.old d
         → Draws text builder.new (drawn (texts_of (piece_if text start end [])) d)) }
-    ensures definitions { defined (tables builder.new.allocations) ≡ defined (tables builder.old.allocations) }
+    ensures definitions { defined builder.new.allocations ≡ defined builder.old.allocations }
 {
     if start >= end {
         return Ok(());

@@ -34,7 +34,6 @@ use Rattle.cmark_items.specs.declared.item.ItemBody.TheVariants as body
 use Rattle.cmark_text.specs.declared.event.Tag.{Tag as TextTag}
 use Rattle.cmark_text.specs.Shown.{shown_tag}
 use Rattle.cmark_items.specs.ItemNodes.{shown_item}
-use Rattle.cmark_items.specs.Tables.{tables}
 use Rattle.cmark_leaf_text.specs.declared.stretch.LeafLine.{LeafLine}
 use Rattle.cmark_leaf_text.specs.Stretches.{AreLines}
 use Rattle.cmark_walk.specs.declared.walk.Walk.{Walk}
@@ -194,11 +193,11 @@ abbrev pub text_of : Walk → List ℕ
 text_of walk = walk.text.now
 
 abbrev pub texts_of : Walk → List CowStr
-texts_of walk = (tables walk.allocations).texts
+texts_of walk = walk.allocations.texts
 
 -- the definitions of links
 abbrev pub definitions_of : Walk → RefDefs
-definitions_of walk = (tables walk.allocations).references
+definitions_of walk = walk.allocations.references
 
 -- the item is a node of a document of the walk's text
 abbrev pub IsDrawn : Walk → Item → Type 0

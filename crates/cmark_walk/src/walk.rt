@@ -10,7 +10,6 @@ ghost use Rattle.cmark_grammar.specs.Ranges.{InOrder, AllAt};
 ghost use Rattle.cmark_grammar.specs.SpanDocuments.{Segment, segments};
 ghost use Rattle.cmark_grammar.specs.Event as event;
 ghost use Rattle.cmark_items.specs.ItemNodes.{shown_forest, nodes_of};
-ghost use Rattle.cmark_items.specs.Tables.{tables};
 ghost use Rattle.cmark_text.specs.ZeroCopy.{IsZeroCopy};
 ghost use Rattle.cmark_leaf_text.specs.declared.stretch.LeafLine.{LeafLine};
 ghost use Rattle.cmark_walk.specs.declared.reading.Met.TheVariants as met;
@@ -50,11 +49,11 @@ impl<'a> Walk<'a> {
     ) -> Walk<'a>
         ensures remains { (forest : Forest Item) (document : BlockDocument)
             → Is tree forest []
-            → shown_forest text.entry.now (tables allocations.entry).texts forest ≡ nodes_of document
+            → shown_forest text.entry.now allocations.entry.texts forest ≡ nodes_of document
             → InOrder 0 document (length text.entry.now)
             → AllAt (IsCharBoundary text.entry.now) document
             → Remains result (segments (settled false document)) }
-        ensures definitions { definitions_of result ≡ (tables allocations.entry).references }
+        ensures definitions { definitions_of result ≡ allocations.entry.references }
         ensures text { text_of result ≡ text.entry.now }
     {
         let mut tree = tree;

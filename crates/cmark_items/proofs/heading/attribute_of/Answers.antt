@@ -1,4 +1,4 @@
-use Rattle.std.proofs.Common.{◌≡◌, ◌<◌, length, get_or, sym, ap, ◌∙◌, subst}
+use Rattle.std.proofs.Common.{◌<◌, length, get_or, sym, ap, ◌∙◌, subst}
 use Rattle.std.specs.List.{take_while}
 use Rattle.cmark_grammar.specs.Attributes.{is_no_equals}
 use Rattle.cmark_items.proofs.HeadingSteps.{behind-fails, equals-ascii}

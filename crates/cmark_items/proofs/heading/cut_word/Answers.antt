@@ -1,4 +1,4 @@
-use Rattle.std.proofs.Common.{◌≡◌, ◌<◌, ◌∷◌, length, take, drop, get_or, sym, ap, ◌∙◌, subst}
+use Rattle.std.proofs.Common.{◌<◌, ◌∷◌, length, take, drop, get_or, sym, ap, ◌∙◌, subst}
 use Rattle.std.specs.List.{take_while}
 use Rattle.cmark_grammar.specs.Attributes.{value_behind}
 use Rattle.cmark_items.specs.Headings.{is_in_word, words_behind}

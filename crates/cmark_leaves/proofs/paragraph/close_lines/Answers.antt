@@ -1,7 +1,6 @@
 use Rattle.std.proofs.Common.{sym, ap, ◌∙◌, subst}
 use Rattle.cmark_grammar.specs.BlockDocument.{Nil}
 use Rattle.cmark_grammar.specs.Tokens.{stretch_then}
-use Rattle.cmark_items.specs.Tables.{tables}
 use Rattle.cmark_block_model.specs.Drawing.{Drawing, closed_at, drawn}
 use Rattle.cmark_builder.specs.Drawn.{Draws}
 use Rattle.cmark_builder.proofs.DrawnSteps.{draws-close, draws-same}
@@ -25,7 +24,7 @@ returns-clause-drawn c text d draws =
     let mid = c.else-from-text_end.builder in
     let same : Draws text mid d = elim c.else-from-text_end.branch [
       | else-from-text_end-via-then-from-text_end+else-close_whole w ↦
-          subst (λ b. Draws text b d) (sym w.builder-is) (draws-same text old w.close_whole.new.self d (w.close_whole.ensures.unchanged w.if-close_whole.false) (ap (λ a. (tables a).texts) w.close_whole.ensures.tables) draws)
+          subst (λ b. Draws text b d) (sym w.builder-is) (draws-same text old w.close_whole.new.self d (w.close_whole.ensures.unchanged w.if-close_whole.false) (ap (λ a. a.texts) w.close_whole.ensures.tables) draws)
       | else-from-text_end-via-else-from-text_end w ↦ subst (λ b. Draws text b d) (sym w.builder-is) draws
     ] in
     let line : Drawing = drawn (stretch_then text c.args.from c.words_end-text_end.result Nil) d in

@@ -1,6 +1,6 @@
 use Rattle.std.proofs.Common.{◌≡◌, ◌-◌, ◌+◌, ◌≤◌, ℕ, List, length}
 use Rattle.cmark_tree.specs.Building.{IsPlaced}
-use Rattle.cmark_items.specs.Tables.{tables, defined}
+use Rattle.cmark_items.specs.Tables.{defined}
 use Rattle.cmark_grammar.specs.TableRows.{count_missing}
 use Rattle.cmark_grammar.specs.TableTokens.{cells_then, row_cells}
 use Rattle.cmark_scan.specs.TableCells.{cells_behind}
@@ -17,7 +17,7 @@ invariant-loop-left l = record {
       × (drawn (row_cells text l.fn.columns (row_of l.fn.rest)) d ≡ drawn (cells_then text l.left (l.content_end - length l.cells) l.line_end (cells_behind l.cells)) e);
   filled : l.filled + (l.left - length (cells_behind l.cells)) ≡ count_missing l.fn.columns (row_of l.fn.rest);
   few : l.filled + l.left ≤ l.fn.columns;
-  definitions : defined (tables l.builder.allocations) ≡ defined (tables l.fn.builder.allocations);
+  definitions : defined l.builder.allocations ≡ defined l.fn.builder.allocations;
 }
 
 abbrev pub decreases-loop-left : goal.decreases-loop-left

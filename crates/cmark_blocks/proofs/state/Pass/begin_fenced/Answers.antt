@@ -2,7 +2,7 @@ use Rattle.std.proofs.Common.{None, refl, ap, ◌∙◌, subst}
 use Rattle.cmark_grammar.specs.BlockDocument.{FencedCode}
 use Rattle.cmark_grammar.specs.Rows.{start_of, words_of}
 use Rattle.cmark_grammar.specs.Tokens.{resolved}
-use Rattle.cmark_items.specs.Tables.{tables, defined}
+use Rattle.cmark_items.specs.Tables.{defined}
 use Rattle.cmark_lines.specs.Rests.{row_of}
 use Rattle.cmark_scan.specs.LeafLines.{shown_fence}
 use Rattle.cmark_block_model.specs.BlockPass.{block_begun}
@@ -31,5 +31,5 @@ returns-clause-runs g c more text options lookup m ahead runs =
     let none = ap (λ b. b.items) c.begin_block.ensures.others.blank_lines ∙ none_behind_closed replacement text options lookup m c.args.self.now c.requires.closed runs in
     runs-leaf replacement text options lookup _ _ (leaf.Fenced c.args.fence.delimiter c.args.fence.run_length c.args.indent None) (model.InFenced fence None)
     (runs-builder replacement text options lookup (block_begun m) before c.open.new.self begun r draws
-    (ap (λ a. defined (tables a)) c.in_ok-open.ensures.tables ∙ ap defined c.in_ok-index.ensures.kept))
+    (ap defined c.in_ok-open.ensures.tables ∙ ap defined c.in_ok-index.ensures.kept))
     (fence, (refl, refl, refl), refl, none)

@@ -2,7 +2,6 @@ use Rattle.std.proofs.Common.{refl, ap, sym, ◌∙◌, subst}
 use Rattle.cmark_grammar.specs.BlockDocument.{FootnoteDefinition}
 use Rattle.cmark_grammar.specs.Labels.{normal_form}
 use Rattle.cmark_grammar.specs.Rows.{start_of, words_of}
-use Rattle.cmark_items.specs.Tables.{tables}
 use Rattle.cmark_lines.specs.Rests.{row_of}
 use Rattle.cmark_lines.specs.Starts.{shown_footnote}
 use Rattle.cmark_scan_parts.specs.Footnotes.{marked}
@@ -19,9 +18,9 @@ returns-clause-noted g c =
     let label = (marked (words_of row) c.args.footnote.label_size).bytes in
     let before = c.args.self.now.builder.allocations in
     let kept = c.keep_label.new.allocations in
-    subst (λ a. Notes label (tables before).footnotes (tables a).footnotes) (sym (c.enter.ensures.tables ∙ c.in_ok-open.ensures.tables))
-    (subst (λ a. Notes label (tables a).footnotes (tables kept).footnotes) c.begin_block.ensures.others.tables
-    (subst (λ l. Notes l (tables c.begin_block.new.self.builder.allocations).footnotes (tables kept).footnotes) c.label_in-label.ensures c.in_ok-index.ensures.noted))
+    subst (λ a. Notes label before.footnotes a.footnotes) (sym (c.enter.ensures.tables ∙ c.in_ok-open.ensures.tables))
+    (subst (λ a. Notes label a.footnotes kept.footnotes) c.begin_block.ensures.others.tables
+    (subst (λ l. Notes l c.begin_block.new.self.builder.allocations.footnotes kept.footnotes) c.label_in-label.ensures c.in_ok-index.ensures.noted))
 
 pub returns-clause-runs : goal.returns-clause-runs
 returns-clause-runs g c text options lookup m runs =
@@ -32,11 +31,11 @@ returns-clause-runs g c text options lookup m runs =
     let label = (marked (words_of row) c.args.footnote.label_size).bytes in
     let kind = FootnoteDefinition (normal_form label) in
     let r = c.begin_block.ensures.runs text options lookup m runs in
-    let keeps = subst (λ l. KeepsText (normal_form l) (tables before.builder.allocations) (tables c.keep_label.new.allocations)) c.label_in-label.ensures c.in_ok-index.ensures.kept in
+    let keeps = subst (λ l. KeepsText (normal_form l) before.builder.allocations c.keep_label.new.allocations) c.label_in-label.ensures c.in_ok-index.ensures.kept in
     let draws = subst (λ start. Draws text c.open.new.self (opened start kind d)) c.words_begin.ensures.place
     (draws-footnote text before.builder c.open.new.self c.keep_label.new.allocations c.in_ok-index.index c.words_begin.result (normal_form label) d c.in_ok-index.ensures.index keeps c.in_ok-open.ensures.ok c.in_ok-open.ensures.tables r.drawing) in
     c.in_ok-enter.ensures.runs (shown_footnote row c.args.footnote.label_size c.args.footnote.old) refl text options lookup _
     (runs-footnote replacement text options lookup (block_begun m) before label c.open.new.self (opened (start_of row) kind d) r draws
-    (ap (λ a. (tables a).references) c.in_ok-open.ensures.tables ∙ c.in_ok-index.ensures.references)
-    (subst (λ a. Notes label (tables before.builder.allocations).footnotes (tables a).footnotes) (sym c.in_ok-open.ensures.tables)
-    (subst (λ l. Notes l (tables before.builder.allocations).footnotes (tables c.keep_label.new.allocations).footnotes) c.label_in-label.ensures c.in_ok-index.ensures.noted)))
+    (ap (λ a. a.references) c.in_ok-open.ensures.tables ∙ c.in_ok-index.ensures.references)
+    (subst (λ a. Notes label before.builder.allocations.footnotes a.footnotes) (sym c.in_ok-open.ensures.tables)
+    (subst (λ l. Notes l before.builder.allocations.footnotes c.keep_label.new.allocations.footnotes) c.label_in-label.ensures c.in_ok-index.ensures.noted)))

@@ -14,7 +14,7 @@ use Rattle.cmark_builder.specs.Drawn.{Draws}
 use Rattle.cmark_builder.proofs.DrawnSteps.{draws-open, draws-close}
 use Rattle.cmark_blocks.proofs.RunSteps.{runs-builder}
 use Rattle.cmark_blocks.proofs.state.Pass.begin_heading.Goals as goal
-use Rattle.cmark_items.specs.Tables.{tables, defined}
+use Rattle.cmark_items.specs.Tables.{defined}
 
 pub returns-clause-runs : goal.returns-clause-runs
 returns-clause-runs g c text options lookup m ahead runs =
@@ -41,4 +41,4 @@ returns-clause-runs g c text options lookup m ahead runs =
     let draws = subst (λ line_end. Draws text c.close.new.self (closed_at line_end (drawn (heading_tokens text on n row) begun))) c.line_end.ensures.place
     (draws-close text c.draw_heading.new.builder c.close.new.self c.line_end.result (drawn (heading_tokens text on n row) begun) c.close.ensures.closed c.close.ensures.none c.close.ensures.tables level) in
     runs-builder replacement text options lookup (block_begun m) before c.close.new.self (drawn (Node (node kind (start_of row) row.line_end) (heading_tokens text on n row) Nil) d) r draws
-    (ap (λ a. defined (tables a)) c.close.ensures.tables ∙ c.in_ok-draw_heading.ensures.definitions ∙ ap (λ a. defined (tables a)) c.in_ok-open.ensures.tables ∙ c.in_ok-body.ensures.definitions)
+    (ap defined c.close.ensures.tables ∙ c.in_ok-draw_heading.ensures.definitions ∙ ap defined c.in_ok-open.ensures.tables ∙ c.in_ok-body.ensures.definitions)

@@ -13,7 +13,7 @@ use Rattle.cmark_blocks.specs.declared.state.OpenLeaf.TheVariants as leaf
 use Rattle.cmark_blocks.specs.Runs.{Runs}
 use Rattle.cmark_blocks.proofs.RunSteps.{runs-builder, runs-leaf, none_behind_closed}
 use Rattle.cmark_blocks.proofs.state.Pass.begin_html.Goals as goal
-use Rattle.cmark_items.specs.Tables.{tables, defined}
+use Rattle.cmark_items.specs.Tables.{defined}
 
 pub returns-then-ends_at_once-clause-runs : goal.returns-then-ends_at_once-clause-runs
 returns-then-ends_at_once-clause-runs g c more text options lookup m ahead runs =
@@ -33,7 +33,7 @@ returns-then-ends_at_once-clause-runs g c more text options lookup m ahead runs 
     (sym c.if-ends_at_once.true ∙ c.ends_at_once.ensures)
     (runs-leaf replacement text options lookup _ _ leaf.Closed model.Closed
     (runs-builder replacement text options lookup (block_begun m) before c.close.new.self (closed_at row.line_end line) r draws
-    (ap (λ a. defined (tables a)) c.close.ensures.tables ∙ c.in_ok-draw_html_line.ensures.definitions ∙ ap (λ a. defined (tables a)) c.in_ok-open.ensures.tables))
+    (ap defined c.close.ensures.tables ∙ c.in_ok-draw_html_line.ensures.definitions ∙ ap defined c.in_ok-open.ensures.tables))
     (refl, ap (λ b. b.items) c.begin_block.ensures.others.blank_lines ∙ none_behind_closed replacement text options lookup m c.args.self.now c.requires.closed runs))
 
 pub returns-else-ends_at_once-clause-runs : goal.returns-else-ends_at_once-clause-runs
@@ -52,5 +52,5 @@ returns-else-ends_at_once-clause-runs g c more text options lookup m ahead runs 
     (sym c.if-ends_at_once.false ∙ c.ends_at_once.ensures)
     (runs-leaf replacement text options lookup _ _ (leaf.Html c.args.kind) (model.InHtml kind)
     (runs-builder replacement text options lookup (block_begun m) before c.draw_html_line.new.builder line r (c.in_ok-draw_html_line.ensures.drawn text begun first)
-    (c.in_ok-draw_html_line.ensures.definitions ∙ ap (λ a. defined (tables a)) c.in_ok-open.ensures.tables))
+    (c.in_ok-draw_html_line.ensures.definitions ∙ ap defined c.in_ok-open.ensures.tables))
     (refl, ap (λ b. b.items) c.begin_block.ensures.others.blank_lines ∙ none_behind_closed replacement text options lookup m c.args.self.now c.requires.closed runs))

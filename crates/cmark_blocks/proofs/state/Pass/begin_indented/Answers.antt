@@ -13,7 +13,7 @@ use Rattle.cmark_blocks.specs.declared.state.OpenLeaf.TheVariants as leaf
 use Rattle.cmark_blocks.proofs.CodeSteps.{code-place, indented-shown}
 use Rattle.cmark_blocks.proofs.RunSteps.{runs-builder, runs-leaf, none_behind_closed}
 use Rattle.cmark_blocks.proofs.state.Pass.begin_indented.Goals as goal
-use Rattle.cmark_items.specs.Tables.{tables, defined}
+use Rattle.cmark_items.specs.Tables.{defined}
 
 pub returns-clause-runs : goal.returns-clause-runs
 returns-clause-runs g c more text options lookup m ahead runs =
@@ -30,5 +30,5 @@ returns-clause-runs g c more text options lookup m ahead runs =
     let none = ap (λ b. b.items) c.begin_block.ensures.others.blank_lines ∙ none_behind_closed replacement text options lookup m c.args.self.now c.requires.closed runs in
     runs-leaf replacement text options lookup _ _ (leaf.Indented c.in_ok-waits.waits c.line_end.result) (model.InIndented run.waits row.line_end [])
     (runs-builder replacement text options lookup (block_begun m) before c.draw_code_line.new.builder (drawn (texts_of run.done) begun) r (c.in_ok-waits.ensures.drawn text begun first)
-    (c.in_ok-waits.ensures.definitions ∙ ap (λ a. defined (tables a)) c.in_ok-open.ensures.tables))
+    (c.in_ok-waits.ensures.definitions ∙ ap defined c.in_ok-open.ensures.tables))
     (indented-shown text c.in_ok-waits.waits run.waits c.line_end.result row.line_end before.blank_lines.items [] (c.in_ok-waits.ensures.waits text) c.line_end.ensures.place (ap (map row_of) none))

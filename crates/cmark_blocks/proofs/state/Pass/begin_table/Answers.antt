@@ -3,7 +3,7 @@ use Rattle.cmark_grammar.specs.BlockDocument.{Table, TableHead, Nil, Node, node}
 use Rattle.cmark_grammar.specs.Openings.{count_rows}
 use Rattle.cmark_grammar.specs.Rows.{start_of, last_line_end, words_of}
 use Rattle.cmark_grammar.specs.TableRows.{most_filled}
-use Rattle.cmark_items.specs.Tables.{tables, defined}
+use Rattle.cmark_items.specs.Tables.{defined}
 use Rattle.cmark_grammar.specs.Tables.{delimiter_row}
 use Rattle.cmark_grammar.specs.TableTokens.{row_cells, row_tokens, table_tokens}
 use Rattle.cmark_items.specs.ItemNodes.{columns_of, ranged}
@@ -41,7 +41,7 @@ returns-clause-runs g c text options lookup m runs many =
     let first = subst (λ start. Draws text c.open.new.self (opened start kind d)) c.words_begin.ensures.place
     (draws-open text c.table_body.new.builder c.open.new.self c.words_begin.result _ kind d c.in_ok-open.ensures.ok c.in_ok-open.ensures.tables (ap (option_map (ranged c.words_begin.result c.words_begin.result)) is_table) (c.in_ok-body.ensures.drawn text d r.drawing)) in
     let mid = runs-builder replacement text options lookup (block_begun m) before c.draw_head.new.builder head r (c.in_ok-draw_head.ensures.drawn text begun first)
-    (c.in_ok-draw_head.ensures.definitions ∙ ap (λ a. defined (tables a)) c.in_ok-open.ensures.tables ∙ c.in_ok-body.ensures.definitions) in
+    (c.in_ok-draw_head.ensures.definitions ∙ ap defined c.in_ok-open.ensures.tables ∙ c.in_ok-body.ensures.definitions) in
     let rows = c.in_ok-count.ensures.runs text options lookup _ mid in
     let none = none_behind_closed replacement text options lookup _ drew (c.in_ok-count.ensures.leaf ∙ c.begin_block.ensures.others.leaf ∙ c.requires.closed) rows.0 in
     let whole : Drawing = drawn (Node (node kind (start_of row) (last_line_end next taken)) (table_tokens text columns row (next ∷ taken)) Nil) d in
@@ -50,5 +50,5 @@ returns-clause-runs g c text options lookup m runs many =
     subst (λ (k : ℕ). Runs replacement text options lookup (record (with_drawn (Node (node kind (start_of row) (last_line_end next taken)) (table_tokens text k row (next ∷ taken)) Nil) (block_begun m)) { leaf = model.InTable (suc (count_rows options columns most_filled behind)) }) (record drew { builder = new; leaf = leaf.Table (c.in_ok-count.count + 1) }))
     (sym many)
     (runs-leaf replacement text options lookup _ _ (leaf.Table (c.in_ok-count.count + 1)) (model.InTable (suc (count_rows options columns most_filled behind)))
-    (runs-builder replacement text options lookup _ drew new whole rows.0 closed (ap (λ a. defined (tables a)) c.close.ensures.tables))
+    (runs-builder replacement text options lookup _ drew new whole rows.0 closed (ap defined c.close.ensures.tables))
     (in_table text options columns c.in_ok-count.count behind _ rows.1 none))

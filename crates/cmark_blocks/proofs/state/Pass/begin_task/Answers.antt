@@ -7,7 +7,7 @@ use Rattle.cmark_builder.specs.Drawn.{Draws}
 use Rattle.cmark_builder.proofs.DrawnSteps.{draws-add}
 use Rattle.cmark_blocks.proofs.RunSteps.{runs-builder}
 use Rattle.cmark_blocks.proofs.state.Pass.begin_task.Goals as goal
-use Rattle.cmark_items.specs.Tables.{tables, defined}
+use Rattle.cmark_items.specs.Tables.{defined}
 
 pub returns-clause-runs : goal.returns-clause-runs
 returns-clause-runs g c text options lookup m runs =
@@ -18,4 +18,4 @@ returns-clause-runs g c text options lookup m runs =
     let draws = subst (λ end. Draws text new (drawn (Node (node kind start end) Nil Nil) m.drawing)) c.begin.ensures.place
     (draws-add text before.builder new _ (node kind start c.begin.result) m.drawing c.in_ok-add.ensures.ok c.in_ok-add.ensures.tables refl refl runs.drawing) in
     c.in_ok-begin_paragraph.ensures.runs text options lookup _
-    (runs-builder g.E.EntityLookup.replacement text options lookup m before new (drawn (Node (node kind start (begin_of (row_of c.args.behind))) Nil Nil) m.drawing) runs draws (ap (λ a. defined (tables a)) c.in_ok-add.ensures.tables))
+    (runs-builder g.E.EntityLookup.replacement text options lookup m before new (drawn (Node (node kind start (begin_of (row_of c.args.behind))) Nil Nil) m.drawing) runs draws (ap defined c.in_ok-add.ensures.tables))

@@ -10,7 +10,7 @@ use Rattle.cmark_blocks.specs.Runs.{Runs, ShowsLeaf}
 use Rattle.cmark_blocks.specs.declared.state.OpenLeaf.TheVariants as leaf
 use Rattle.cmark_blocks.proofs.RunSteps.{runs-builder, runs-inner, runs-closed}
 use Rattle.cmark_blocks.proofs.state.Pass.close_indented.Goals as goal
-use Rattle.cmark_items.specs.Tables.{tables, defined}
+use Rattle.cmark_items.specs.Tables.{defined}
 
 pub returns-clause-runs : goal.returns-clause-runs
 returns-clause-runs g c text options lookup m runs =
@@ -23,6 +23,6 @@ returns-clause-runs g c text options lookup m runs =
     subst (λ l. Runs replacement text options lookup (close_leaf text options lookup l m) (record before { builder = c.close.new.self; inner = record before.inner { blank = c.has_lines-self.result }; blank_lines = c.clear.new.self; leaf = leaf.Closed })) (sym shows)
     (runs-closed replacement text options lookup _ _ c.clear.new.self
     (runs-inner replacement text options lookup _ _ (record before.inner { blank = c.has_lines-self.result }) _
-    (runs-builder replacement text options lookup m before c.close.new.self (closed_at c.args.end d) runs draws (ap (λ a. defined (tables a)) c.close.ensures.tables ∙ c.in_ok-draw_stretch.ensures.definitions))
+    (runs-builder replacement text options lookup m before c.close.new.self (closed_at c.args.end d) runs draws (ap defined c.close.ensures.tables ∙ c.in_ok-draw_stretch.ensures.definitions))
     (ap {A = model.Siblings} {B = model.Siblings} (λ s. record s { blank = c.has_lines-self.result }) runs.inner ∙ ap {B = model.Siblings} (λ b. record m.inner { blank = b }) (c.has_lines-self.ensures ∙ ap (λ xs. is_some (map row_of xs)) c.deref.ensures.value)))
     c.clear.ensures.items)

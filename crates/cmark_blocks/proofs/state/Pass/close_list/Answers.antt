@@ -7,7 +7,7 @@ use Rattle.cmark_builder.proofs.DrawnSteps.{draws-close_as}
 use Rattle.cmark_blocks.specs.Shown.{shown_list}
 use Rattle.cmark_blocks.specs.Runs.{Runs}
 use Rattle.cmark_blocks.proofs.RunSteps.{runs-builder, list_is}
-use Rattle.cmark_items.specs.Tables.{tables, defined}
+use Rattle.cmark_items.specs.Tables.{defined}
 use Rattle.cmark_blocks.proofs.state.Pass.close_list.Goals as goal
 
 pub returns-in-Some-clause-runs : goal.returns-in-Some-clause-runs
@@ -19,8 +19,8 @@ returns-in-Some-clause-runs g c text options lookup m runs =
     let there : Some (shown_list l) ≡ m.inner.list = ap (option_map shown_list) (sym c.in-Some.is) ∙ list_is g.E.EntityLookup.replacement text options lookup (record m { drawing = d }) mid r in
     runs-builder g.E.EntityLookup.replacement text options lookup (record m { drawing = d }) mid c.close_as.new.self (list_closed m.inner.list d) r
     (subst (λ o. Draws text c.close_as.new.self (list_closed o d)) there
-    (draws-close_as text mid.builder c.close_as.new.self l.end _ (list_kind l.delimiter (list_number l.delimiter l.number) (not l.loose)) d c.close_as.ensures.closed c.close_as.ensures.none c.close_as.ensures.tables (ap (kind_of (tables mid.builder.allocations).texts) c.body.ensures) r.drawing))
-    (ap (λ a. defined (tables a)) c.close_as.ensures.tables)
+    (draws-close_as text mid.builder c.close_as.new.self l.end _ (list_kind l.delimiter (list_number l.delimiter l.number) (not l.loose)) d c.close_as.ensures.closed c.close_as.ensures.none c.close_as.ensures.tables (ap (kind_of mid.builder.allocations.texts) c.body.ensures) r.drawing))
+    (ap defined c.close_as.ensures.tables)
 
 pub returns-in_default-clause-runs : goal.returns-in_default-clause-runs
 returns-in_default-clause-runs g c text options lookup m runs =

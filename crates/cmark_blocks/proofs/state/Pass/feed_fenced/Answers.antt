@@ -12,7 +12,7 @@ use Rattle.cmark_blocks.specs.declared.state.OpenLeaf.TheVariants as leaf
 use Rattle.cmark_blocks.proofs.CodeSteps.{fence-closes, fence-goes-on}
 use Rattle.cmark_blocks.proofs.RunSteps.{runs-builder, runs-leaf}
 use Rattle.cmark_blocks.proofs.state.Pass.feed_fenced.Goals as goal
-use Rattle.cmark_items.specs.Tables.{tables, defined}
+use Rattle.cmark_items.specs.Tables.{defined}
 
 pub returns-in-Closes-clause-runs : goal.returns-in-Closes-clause-runs
 returns-in-Closes-clause-runs g c text options lookup m runs =
@@ -27,7 +27,7 @@ returns-in-Closes-clause-runs g c text options lookup m runs =
     let fed = fence-closes text options lookup shows.0 waits row (lines_at text row.line_end) m c.continuation.result c.args.delimiter c.args.run_length c.args.indent shows.1 shows.2 c.continuation.ensures c.in-Closes.is in
     subst (λ p. Runs replacement text options lookup p (record before { builder = c.close.new.self; leaf = leaf.Closed })) (sym fed)
     (runs-leaf replacement text options lookup _ _ leaf.Closed model.Closed
-    (runs-builder replacement text options lookup m before c.close.new.self (closed_at row.line_end d) runs draws (ap (λ a. defined (tables a)) c.close.ensures.tables ∙ c.in_ok-draw_stretch.ensures.definitions))
+    (runs-builder replacement text options lookup m before c.close.new.self (closed_at row.line_end d) runs draws (ap defined c.close.ensures.tables ∙ c.in_ok-draw_stretch.ensures.definitions))
     (refl, shows.3))
 
 pub returns-clause-runs : goal.returns-clause-runs

@@ -13,7 +13,7 @@ use Rattle.cmark_blocks.specs.declared.state.OpenLeaf.TheVariants as leaf
 use Rattle.cmark_blocks.proofs.HtmlSteps.{html-goes-on, html-closes, html-stops}
 use Rattle.cmark_blocks.proofs.RunSteps.{runs-builder, runs-leaf}
 use Rattle.cmark_blocks.proofs.state.Pass.feed_html.Goals as goal
-use Rattle.cmark_items.specs.Tables.{tables, defined}
+use Rattle.cmark_items.specs.Tables.{defined}
 
 pub returns-in_default-continuation-clause-runs : goal.returns-in_default-continuation-clause-runs
 returns-in_default-continuation-clause-runs g c text options lookup m runs =
@@ -40,7 +40,7 @@ returns-in-Closes-clause-runs g c text options lookup m runs =
     subst (λ p. Runs replacement text options lookup p (record before { builder = c.close.new.self; leaf = leaf.Closed })) (sym fed)
     (runs-leaf replacement text options lookup _ _ leaf.Closed model.Closed
     (runs-builder replacement text options lookup m before c.close.new.self (closed_at row.line_end line) runs draws
-    (ap (λ a. defined (tables a)) c.close.ensures.tables ∙ c.in_ok-draw_html_line.ensures.definitions))
+    (ap defined c.close.ensures.tables ∙ c.in_ok-draw_html_line.ensures.definitions))
     (refl, shows.1))
 
 pub returns-in-Stops-clause-runs : goal.returns-in-Stops-clause-runs

@@ -13,7 +13,7 @@ use Rattle.cmark_blocks.specs.declared.state.OpenLeaf.TheVariants as leaf
 use Rattle.cmark_blocks.proofs.MetadataSteps.{metadata-closes, metadata-goes-on}
 use Rattle.cmark_blocks.proofs.RunSteps.{runs-builder, runs-leaf}
 use Rattle.cmark_blocks.proofs.state.Pass.feed_metadata.Goals as goal
-use Rattle.cmark_items.specs.Tables.{tables, defined}
+use Rattle.cmark_items.specs.Tables.{defined}
 
 pub returns-then-ends_metadata-clause-runs : goal.returns-then-ends_metadata-clause-runs
 returns-then-ends_metadata-clause-runs g c text options lookup m runs =
@@ -29,7 +29,7 @@ returns-then-ends_metadata-clause-runs g c text options lookup m runs =
     let fed = metadata-closes text options lookup kind waits row (lines_at text row.line_end) m shows.0 (sym c.ends_metadata.ensures ∙ c.if-ends_metadata.true) in
     subst (λ p. Runs replacement text options lookup p (record before { builder = c.close.new.self; leaf = leaf.Closed })) (sym fed)
     (runs-leaf replacement text options lookup _ _ leaf.Closed model.Closed
-    (runs-builder replacement text options lookup m before c.close.new.self (closed_at row.line_end d) runs draws (ap (λ a. defined (tables a)) c.close.ensures.tables ∙ c.in_ok-draw_stretch.ensures.definitions))
+    (runs-builder replacement text options lookup m before c.close.new.self (closed_at row.line_end d) runs draws (ap defined c.close.ensures.tables ∙ c.in_ok-draw_stretch.ensures.definitions))
     (refl, shows.1))
 
 pub returns-clause-runs : goal.returns-clause-runs

@@ -1,10 +1,10 @@
-use Rattle.std.proofs.Common.{◌≡◌, ◌++◌, ◌∷◌, [], Some, option_map, sym, ap, ◌∙◌}
+use Rattle.std.proofs.Common.{◌≡◌, ◌++◌, ◌∷◌, [], Some, option_map, sym, ap, subst, ◌∙◌}
 use Rattle.cmark_grammar.specs.Labels.{fold}
 use Rattle.cmark_grammar.specs.References.{first_with}
 use Rattle.cmark_grammar.specs.Derivation.{reference_of}
 use Rattle.cmark_items.specs.Definitions.{definition, shown_definition, first_of, at_label}
 use Rattle.cmark_definitions.specs.Shown.{written}
-use Rattle.cmark_blocks.specs.Runs.{shown_reference}
+use Rattle.cmark_blocks.specs.Runs.{Runs, shown_reference}
 use Rattle.cmark_blocks.proofs.DefinitionSteps.{runs-references}
 use Rattle.cmark_blocks.proofs.ReferenceSteps.{fold-again, with-more, with-known, known-some, known-reference}
 use Rattle.cmark_blocks.proofs.state.Pass.keep_definition.Goals as goal
@@ -12,17 +12,17 @@ use Rattle.cmark_blocks.proofs.state.Pass.keep_definition.Goals as goal
 pub returns-clause-runs : goal.returns-clause-runs
 returns-clause-runs g c text options lookup m runs =
     let replacement = g.E.EntityLookup.replacement in
-    let before = c.args.self.now in
+    let opened = subst (Runs replacement text options lookup m) (sym c.self.view_is) runs in
     let found = written c.args.definition.now in
     let reference = reference_of lookup found c.args.span.start c.args.span.end in
     let kept = c.in_ok-label.kept in
     let made = c.in_ok-label.ensures in
-    runs-references replacement text options lookup m before c.insert.new.self (m.references ++ reference ∷ []) runs
+    runs-references replacement text options lookup m _ c.insert.new.self (m.references ++ reference ∷ []) opened
     (λ folded.
     ap (option_map shown_definition) (c.in_ok-insert.ensures.first_stays folded
-    ∙ ap (λ key. first_of (definition before.builder.allocations.refdefs folded) (at_label key kept folded)) (made.key ∙ sym (fold-again found.label)))
-    ∙ with-more folded m.references reference (definition before.builder.allocations.refdefs folded) kept (runs.references folded)
-    (ap shown_reference (made.value ∙ ap (λ k. reference_of k found c.args.span.start c.args.span.end) runs.lookup_is)))
+    ∙ ap (first_of _) (ap (λ key. at_label key kept folded) (made.key ∙ sym (fold-again found.label))))
+    ∙ with-more folded m.references reference _ kept (opened.references folded)
+    (ap shown_reference (made.value ∙ ap (λ k. reference_of k found c.args.span.start c.args.span.end) opened.lookup_is)))
 
 pub returns-then-is_some-clause-runs : goal.returns-then-is_some-clause-runs
 returns-then-is_some-clause-runs g c text options lookup m runs =
@@ -30,8 +30,9 @@ returns-then-is_some-clause-runs g c text options lookup m runs =
     let before = c.args.self.now in
     let found = written c.args.definition.now in
     let reference = reference_of lookup found c.args.span.start c.args.span.end in
-    let table = before.builder.allocations.refdefs in
-    let there = known-some c.in_ok-known.known (definition table (fold found.label)) (sym c.is_some.ensures ∙ c.if-is_some.true) c.in_ok-known.ensures in
+    let table = before.builder.allocations.references in
+    let there_is = ap (λ pass. definition pass.builder.allocations.references (fold found.label)) c.self.view_is in
+    let there = known-some c.in_ok-known.known (definition table (fold found.label)) (sym c.is_some.ensures ∙ c.if-is_some.true) (c.in_ok-known.ensures ∙ there_is) in
     let known = known-reference (definition table (fold found.label)) there.0 (first_with fold (fold found.label) m.references) there.1 (runs.references (fold found.label)) in
     let same : first_with fold (fold reference.label) m.references ≡ Some known.0 = ap (λ key. first_with fold key m.references) (fold-again found.label) ∙ known.1 in
     runs-references replacement text options lookup m before table (m.references ++ reference ∷ []) runs

@@ -9,7 +9,7 @@ use Rattle.cmark_blocks.specs.Runs.{Runs}
 use Rattle.cmark_blocks.specs.Titles.{list_around}
 use Rattle.cmark_blocks.proofs.RunSteps.{runs-builder}
 use Rattle.cmark_blocks.proofs.TitleSteps.{released-around}
-use Rattle.cmark_items.specs.Tables.{tables, defined}
+use Rattle.cmark_items.specs.Tables.{defined}
 use Rattle.cmark_blocks.proofs.state.Pass.release_title.Goals as goal
 
 pub returns-in-Some-clause-runs : goal.returns-in-Some-clause-runs
@@ -19,8 +19,8 @@ returns-in-Some-clause-runs g c text options lookup m runs =
     let there : Some (shown_list l) ≡ list_around m.inner.title = ap (option_map shown_list) (sym c.in-Some.is) ∙ c.list_around.ensures ∙ ap (λ s. list_around s.title) runs.inner in
     runs-builder g.E.EntityLookup.replacement text options lookup m c.args.self.now c.release_last.new.self (title_released m.inner.title m.drawing) runs
     (subst (Draws text c.release_last.new.self) (ap (λ o. released_from o m.drawing) there ∙ sym (released-around m.inner.title m.drawing))
-    (draws-released text before c.release_last.new.self l.end c.body.result (list_kind l.delimiter (list_number l.delimiter l.number) (not l.loose)) m.drawing c.release_last.ensures.released c.release_last.ensures.childless c.release_last.ensures.none c.release_last.ensures.tables (ap (kind_of (tables before.allocations).texts) c.body.ensures) runs.drawing))
-    (ap (λ a. defined (tables a)) c.release_last.ensures.tables)
+    (draws-released text before c.release_last.new.self l.end c.body.result (list_kind l.delimiter (list_number l.delimiter l.number) (not l.loose)) m.drawing c.release_last.ensures.released c.release_last.ensures.childless c.release_last.ensures.none c.release_last.ensures.tables (ap (kind_of before.allocations.texts) c.body.ensures) runs.drawing))
+    (ap defined c.release_last.ensures.tables)
 
 pub returns-in_default-clause-runs : goal.returns-in_default-clause-runs
 returns-in_default-clause-runs g c text options lookup m runs =

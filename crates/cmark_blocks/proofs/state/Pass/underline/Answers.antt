@@ -2,7 +2,7 @@ use Rattle.std.proofs.Common.{◌≡◌, None, sym, ap, ◌∙◌, subst}
 use Rattle.cmark_grammar.specs.BlockDocument.{Heading, Nil}
 use Rattle.cmark_grammar.specs.SetextAttributes.{setext_attributes}
 use Rattle.cmark_grammar.specs.Tokens.{words_end, stretch_then}
-use Rattle.cmark_items.specs.Tables.{tables, defined}
+use Rattle.cmark_items.specs.Tables.{defined}
 use Rattle.cmark_text.specs.Shown.{level_number}
 use Rattle.cmark_lines.specs.Rests.{row_of}
 use Rattle.cmark_leaves.specs.Contents.{AreRead, content_columns}
@@ -41,7 +41,7 @@ returns-clause-runs g c text options lookup m runs =
     (c.in_ok-body.ensures.kind on items last found) (c.in_ok-body.ensures.drawn on items last found text whole line)) in
     let built_heading = runs-builder replacement text options lookup m roomy c.close_as.new.self (closed_as kind (row_of c.args.rest).line_end d)
     (runs-room replacement text options lookup m before c.setext_attributes.new.room runs) draws
-    (ap (λ a. defined (tables a)) c.close_as.ensures.tables ∙ c.in_ok-body.ensures.definitions ∙ c.in_ok-draw_last_lines.ensures.definitions) in
+    (ap defined c.close_as.ensures.tables ∙ c.in_ok-body.ensures.definitions ∙ c.in_ok-draw_last_lines.ensures.definitions) in
     let r = c.release_title.ensures.runs text options lookup _ built_heading in
     runs-closed replacement text options lookup _ _ c.clear.new.self
     (runs-inner replacement text options lookup _ c.release_title.new.self (record c.release_title.new.self.inner { title = None }) (record m.inner { title = None }) r (ap {A = model.Siblings} {B = model.Siblings} (λ s. record s { title = None }) r.inner))

@@ -1,7 +1,10 @@
+use Rattle.std.proofs.Common.{ap, ◌∙◌}
 use Rattle.cmark_text.specs.Labelled.{link_key}
+use Rattle.cmark_items.specs.Definitions.{definition, first_of, at_label}
 use Rattle.cmark_items.proofs.DefinitionSteps.{kept, none_there}
 use Rattle.cmark_items.proofs.definitions.RefDefs.insert.Goals as goal
 
--- src/definitions.rt:52:5
-pub returns-in_ok-insert-clause-first_stays : goal.returns-in_ok-insert-clause-first_stays
-returns-in_ok-insert-clause-first_stays c = kept link_key c.args.label c.args.def c.args.self.now.defs c.insert.new.self (none_there _ c.contains_key.result c.contains_key.ensures c.if-not-contains_key.true) c.in_ok-insert.ensures.updates
+pub returns-clause-first_stays : goal.returns-clause-first_stays
+returns-clause-first_stays c folded =
+    kept link_key c.args.label c.args.def c.self.inside.defs c.insert.new.self (none_there _ c.contains_key.result c.contains_key.ensures c.if-contains_key.false) c.in_ok-insert.ensures.updates folded
+    ∙ ap (λ table. first_of (definition table folded) (at_label (link_key c.args.label) c.args.def folded)) c.self.view_is

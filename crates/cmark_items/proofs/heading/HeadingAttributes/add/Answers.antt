@@ -1,8 +1,5 @@
-use Rattle.std.proofs.Common.{◌≡◌, ◌∷◌, [], ◌++◌, map, get_or, sym, ap, ◌∙◌, arith}
+use Rattle.std.proofs.Common.{◌≡◌, get_or, sym, ap, ◌∙◌, arith}
 use Rattle.std.proofs.lemmas.Str.{IsCharBoundary-after_ascii}
-use Rattle.cmark_text.specs.Shown.{text_bytes, shown_attribute}
-use Rattle.cmark_items.specs.Headings.{shown_heading}
-use Rattle.cmark_items.proofs.HeadingSteps.{with-other}
 use Rattle.cmark_items.proofs.heading.HeadingAttributes.add.Goals as goal
 
 pub range_from-requires : goal.range_from-requires

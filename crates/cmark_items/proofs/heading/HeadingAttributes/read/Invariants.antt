@@ -1,5 +1,4 @@
-use Rattle.std.proofs.Common.{◌≡◌, ℕ, fold, option_map}
-use Rattle.std.specs.Prelude.{Option}
+use Rattle.std.proofs.Common.{◌≡◌, fold, option_map}
 use Rattle.cmark_grammar.specs.Attributes.{words, with_word, no_attributes}
 use Rattle.cmark_items.specs.Headings.{shown_heading, str_bytes, words_behind}
 use Rattle.cmark_items.proofs.HeadingSteps.{left_size}

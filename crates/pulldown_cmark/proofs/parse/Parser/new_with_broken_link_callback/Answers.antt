@@ -15,6 +15,8 @@ use Rattle.cmark_items.specs.Definitions.{definition, shown_definition}
 use Rattle.cmark_items.specs.declared.definitions.RefDefs.{RefDefs}
 use Rattle.cmark_items.specs.declared.footnotes.FootnoteDefs.{FootnoteDefs}
 use Rattle.cmark_items.specs.Footnotes.{footnote}
+use Rattle.cmark_items.specs.ItemNodes.{shown_forest}
+use Rattle.cmark_items.specs.Tables.{Tables}
 use Rattle.cmark_walk.specs.Walking.{Remains}
 use Rattle.pulldown_cmark.specs.Walking.{reader_by}
 use Rattle.pulldown_cmark.specs.declared.parse.Parser.{Parser}
@@ -25,6 +27,7 @@ use Rattle.pulldown_cmark.proofs.parse.Parser.new_with_broken_link_callback.Goal
 pub returns-clause-definitions : goal.returns-clause-definitions
 returns-clause-definitions g c = λ d derives folded.
     ap (λ (r : RefDefs). option_map shown_definition (definition r folded)) (c.new.ensures.definitions ∙ c.new-walk.ensures.definitions)
+    ∙ ap (λ (t : Tables). option_map shown_definition (definition t.references folded)) c.allocations.view_is
     ∙ c.in_ok-tree.ensures.document.references folded
     ∙ ap (λ (e : BlockDocument). option_map shown_reference (first_with fold folded (references e)))
     (sym (document-only c.args.text.now (shown_options c.args.options) (g.E.EntityLookup.replacement c.args.entities.now) d derives))
@@ -32,6 +35,7 @@ returns-clause-definitions g c = λ d derives folded.
 pub returns-clause-footnotes : goal.returns-clause-footnotes
 returns-clause-footnotes g c = λ d derives folded.
     ap (λ (f : FootnoteDefs). footnote f folded) (c.new.ensures.footnotes ∙ c.replace-footnotes.ensures.value)
+    ∙ ap (λ (t : Tables). footnote t.footnotes folded) c.allocations.view_is
     ∙ c.in_ok-tree.ensures.document.footnotes folded
     ∙ ap (λ (e : BlockDocument). unused_if (has_label folded (footnote_labels e)))
     (sym (document-only c.args.text.now (shown_options c.args.options) (g.E.EntityLookup.replacement c.args.entities.now) d derives))
@@ -45,8 +49,9 @@ returns-clause-reads g c =
     let d = document text options lookup in
     let left = segments d in
     let leaves = c.in_ok-tree.ensures.document in
+    let shown = ap (λ (t : Tables). shown_forest text t.texts leaves.forest) c.allocations.view_is in
     let drawn =
-    c.new-walk.ensures.remains leaves.forest (pass_over text options lookup).drawing.here leaves.tree_is leaves.drawn (drawn-order text options lookup)
+    c.new-walk.ensures.remains leaves.forest (pass_over text options lookup).drawing.here leaves.tree_is (shown ∙ leaves.drawn) (drawn-order text options lookup)
     (drawn-edges text options lookup c.utf8.text) in
     let remains = subst (Remains c.new-walk.result) (drawn-segments text options lookup) drawn in
     let n = c.new.ensures in
