@@ -19,6 +19,8 @@ const CHUNK: usize = 8_192;
 /// The notes of the reader start afresh. Answers `Read` where a read failed, where `PATIENCE` reads in a row were
 /// interrupted, or where more than `limit` bytes came, and `Memory` where memory was refused. The bytes that were read
 /// before are then lost.
+// The chunk stands on the stack while the text is read, and not while it is rendered.
+#[inline(never)]
 pub fn read_all<R: Read>(
     alloc: Global,
     reader: &mut Watched<R>,

@@ -127,6 +127,24 @@ pub fn parse_line<'a, S: AsStr>(
     if let [_] = words {
         return Ok(Settings::none());
     }
+    read_words(alloc, name, about, words)
+}
+
+/// The same, by a command that reads the words. It is apart, so that a run without words needs no stack for the command.
+#[inline(never)]
+fn read_words<'a, S: AsStr>(
+    alloc: Global,
+    name: &'a str,
+    about: &'a str,
+    words: &'a [S],
+) -> Result<Settings, LineFault>
+    ensures options { IfOk result (λ s. option_bits s.options
+        ≡ bits_given flags (matches_of (line_command name.entry.now) (map S.text words.entry.now))) }
+    ensures file { IfOk result (λ s. option_map string_bytes s.entities
+        ≡ file_given (matches_of (line_command name.entry.now) (map S.text words.entry.now))) }
+    ensures faults { AnswersBy (fault_of (line_command name.entry.now) (map S.text words.entry.now)) result }
+    ensures passes { takes (line_command name.entry.now) (map S.text words.entry.now) ≡ true → IfErr result (λ f. f ≡ Memory) }
+{
     let command = line_reader(alloc, name, about)?;
     match command.try_get_matches_from(words) {
         Ok(matches) => {

@@ -80,6 +80,7 @@ impl From<LineFault> for Stop {
 ///
 /// The notes of the reader start afresh. Answers `Entities` where the file cannot be read, is too long, or is no such object as
 /// [`read_entities`] takes, and `Memory` where memory was refused.
+#[inline(never)]
 pub fn read_entity_file<R: Read>(
     alloc: Global,
     reader: &mut Watched<R>,
