@@ -199,6 +199,11 @@ fn leaf_blocks(rt: HostRuntime) -> Result<(), Fail> {
         ),
         true
     );
+    Ok(())
+}
+
+#[test]
+fn html_and_brackets_begin_blocks(rt: HostRuntime) -> Result<(), Fail> {
     assert_eq!(rt;
         matches!(
             what_opens(LineRest::new(b" <div", 0), Options::empty()),
@@ -249,7 +254,7 @@ fn a_fence_with_an_info_string(rt: HostRuntime) -> Result<(), Fail> {
 }
 
 #[test]
-fn what_interrupts_a_paragraph(rt: HostRuntime) -> Result<(), Fail> {
+fn items_that_interrupt_a_paragraph(rt: HostRuntime) -> Result<(), Fail> {
     // CommonMark 0.31.2, examples 187, 285, 304 and 305
     assert_eq!(rt;
         interrupts(LineRest::new(b"14.  The number", 0), true, Options::empty()),
@@ -271,6 +276,11 @@ fn what_interrupts_a_paragraph(rt: HostRuntime) -> Result<(), Fail> {
         interrupts(LineRest::new(b"*", 0), true, Options::empty()),
         false
     );
+    Ok(())
+}
+
+#[test]
+fn html_and_quotes_beside_a_paragraph(rt: HostRuntime) -> Result<(), Fail> {
     assert_eq!(rt;
         interrupts(LineRest::new(b"<a>", 0), true, Options::empty()),
         false
@@ -312,7 +322,7 @@ fn setext_underlines(rt: HostRuntime) -> Result<(), Fail> {
 }
 
 #[test]
-fn continuation_lines_of_code(rt: HostRuntime) -> Result<(), Fail> {
+fn continuation_lines_of_indented_code(rt: HostRuntime) -> Result<(), Fail> {
     let code = CodeOrHtml::Indented;
     assert!(rt;
         matches!(
@@ -332,6 +342,11 @@ fn continuation_lines_of_code(rt: HostRuntime) -> Result<(), Fail> {
             Continuation::Stops
         )
     );
+    Ok(())
+}
+
+#[test]
+fn continuation_lines_of_fenced_code(rt: HostRuntime) -> Result<(), Fail> {
     let fenced = CodeOrHtml::Fenced {
         delimiter: b'`',
         run_length: 4,

@@ -156,6 +156,12 @@ fn runs_beside_characters(rt: HostRuntime) -> Result<(), Fail> {
         can(flanking_of(none, b'_', 1, Some('-'), Some('('))),
         (true, true)
     );
+    Ok(())
+}
+
+#[test]
+fn runs_of_tildes_beside_a_letter(rt: HostRuntime) -> Result<(), Fail> {
+    let none = Options::empty();
     assert_eq!(rt;
         can(flanking_of(none, b'~', 2, None, Some('f'))),
         (false, false)
