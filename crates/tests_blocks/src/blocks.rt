@@ -4,7 +4,7 @@ ghost use Rattle.std.specs.Prelude.{IfOk};
 ghost use Rattle.cmark_tree.specs.Tree.{IsTree};
 
 use bitflags::Flags;
-use cmark_blocks::{run_first_pass, scan_containers, skip_container_prefixes};
+use cmark_blocks::{FirstPass, run_first_pass, scan_containers, skip_container_prefixes};
 use cmark_builder::Builder;
 use cmark_items::{Item, ItemBody, ListFlags};
 use cmark_scan::LineStart;
@@ -16,11 +16,16 @@ use std::test::Fail;
 #[test]
 fn a_text_leaves_its_blocks_and_definitions(rt: HostRuntime) -> Result<(), Fail> {
     let text = "[a]: b\n\n# c\n";
-    let pass = run_first_pass(rt.alloc(), text, Options::empty(), &BasicEntities)?;
-    assert!(rt; pass.allocations.refdefs.get("A")?.is_some());
-    assert!(rt; pass.tree.cur().is_some());
-    if let Some(ix) = pass.tree.cur() {
-        let heading = *pass.tree.item(ix);
+    let FirstPass { tree, allocations } = run_first_pass(
+        rt.alloc(),
+        text,
+        Options::empty(),
+        &BasicEntities,
+    )?;
+    assert!(rt; allocations.refdefs.get("A")?.is_some());
+    assert!(rt; tree.cur().is_some());
+    if let Some(ix) = tree.cur() {
+        let heading = *tree.item(ix);
         assert_eq!(rt; (heading.start, heading.end), (8, 12));
         assert!(rt; matches!(heading.body, ItemBody::Heading(HeadingLevel::H1)));
     }

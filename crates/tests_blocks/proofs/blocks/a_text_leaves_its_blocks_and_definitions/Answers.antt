@@ -19,7 +19,7 @@ focus-node tree (Node p inside after) ix stands e =
 
 pub item-heading-requires : goal.item-heading-requires
 item-heading-requires g c =
-    let is = c.in_ok-pass.ensures.document.tree_is in
-    let tree = c.in_ok-pass.pass.tree in
+    let is = c.in_ok-tree.ensures.document.tree_is in
+    let tree = c.in_ok-tree.field-0.tree in
     focus-node tree is.z.right c.in-Some.ix (Stands-right (entry_at tree) is.z.left is.z.right (Stands-inner (entry_at tree) is.z.up (siblings is.z) is.holds.forest.stands))
     (c.in-Some.ensures is.z is.holds)
