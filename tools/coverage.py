@@ -34,8 +34,8 @@ def is_covered(stands, crate, kind, parts):
     at = folder / "src"
     while len(parts) > 1 and ((at / parts[0]).with_suffix(".rt").is_file() or (at / parts[0]).is_dir()):
         at, parts = at / parts[0], parts[1:]
-    # what the toolchain makes of a file or of types, as what drops them, is no item
-    if "+" in parts[0] or parts[0].startswith("The"):
+    # what the toolchain makes of a crate's root, of a file or of types, as what drops them, is no item
+    if not parts or "+" in parts[0] or parts[0].startswith("The"):
         return True
     names = {(item.name, item.owner) for item, _ in stands.pieces if item.file.is_relative_to(folder)}
     if not parts[0][0].isupper():
