@@ -53,11 +53,9 @@ gate:
 	(rt ci; echo $$? > bin/gate.status) 2>&1 | tee bin/gate.log
 	exit "$$(cat bin/gate.status)"
 
-# The gate leaves the programs and the libraries that it built, and nothing is proved a second time for them.
+# The gate leaves the object code and the libraries that it built, and nothing is proved a second time for what is linked of them.
 programs:
-	mkdir -p bin
-	cp crates/mdhtml/out/mdhtml bin/mdhtml
-	cp crates/mdevents/out/mdevents bin/mdevents
+	tools/link mdhtml mdevents
 
 # Edits that the prover has to refuse, over the libraries that are built.
 wrong:
