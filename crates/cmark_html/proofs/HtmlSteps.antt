@@ -16,6 +16,15 @@ moved_all-more : (w : Writing) (es : List GrammarEvent) (e : GrammarEvent) → m
 moved_all-more w [] e = refl
 moved_all-more w (x ∷ es) e = moved_all-more (moved w x) es e
 
+-- events, and others behind them
+pub pieces_from-joined : (w : Writing) (xs ys : List GrammarEvent) → pieces_from w (xs ++ ys) ≡ pieces_from w xs ++ pieces_from (moved_all w xs) ys
+pieces_from-joined w [] ys = refl
+pieces_from-joined w (x ∷ xs) ys = ap (λ l. piece w x ++ l) (pieces_from-joined (moved w x) xs ys) ∙ sym (append_assoc (piece w x) (pieces_from (moved w x) xs) (pieces_from (moved_all (moved w x) xs) ys))
+
+pub moved_all-joined : (w : Writing) (xs ys : List GrammarEvent) → moved_all w (xs ++ ys) ≡ moved_all (moved_all w xs) ys
+moved_all-joined w [] ys = refl
+moved_all-joined w (x ∷ xs) ys = moved_all-joined (moved w x) xs ys
+
 -- events of the grammar, and one more
 module _ (w : Writing) (es : List GrammarEvent) (e : GrammarEvent) (state : w ≡ moved_all at_line_start es) where
   piece-on : pieces es ++ piece w e ≡ pieces (es ++ e ∷ [])

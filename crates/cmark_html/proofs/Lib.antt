@@ -2,4 +2,3 @@ pub mod FootnoteSteps
 pub mod FrontSteps
 pub mod HtmlSteps
 pub mod WordSteps
-mod ImageTexts

@@ -1,8 +1,8 @@
 //! The pieces of events that own nothing.
 
-ghost use Rattle.std.specs.Prelude.{◌≡◌, ◌++◌, true, IfOk, OnOk, OnErr, None, codes, is_some, string_bytes};
+ghost use Rattle.std.specs.Prelude.{◌≡◌, ◌++◌, true, OnOk, OnErr, None, codes, string_bytes};
 ghost use Rattle.cmark_grammar.specs.Event.{Code, End, Html, Start, Text};
-ghost use Rattle.cmark_grammar.specs.Html.{piece, piece_outside, moved, moved_outside};
+ghost use Rattle.cmark_grammar.specs.Html.{piece_outside, moved_outside};
 ghost use Rattle.cmark_text.specs.Appended.{AppendsFront};
 ghost use Rattle.cmark_text.specs.Short.{shown_plain, shown_short};
 ghost use Rattle.cmark_text.specs.Shown.{shown_end};
@@ -12,88 +12,19 @@ use crate::end::{append_end, line_start_after_end};
 use crate::parts::{append, append_on_line};
 use crate::start::{append_plain_start, line_start_after_plain};
 use crate::state::Writer;
-use crate::writer::{ends_in_line_feed, line_start_after_html, write_in_image};
-use cmark_text::escape::{escape_html, escape_html_body_text};
+use crate::writer::{ends_in_line_feed, line_start_after_html};
+use cmark_text::escape::escape_html_body_text;
 use cmark_text::{PlainTag, Short, TagEnd};
 use std::alloc::AllocError;
 
-/// Appends the piece of an event that owns nothing.
+/// Appends the piece of an event that owns nothing, outside of images: inside of one, [`write_event`](crate::write_event) writes it.
 #[inline(always)]
 pub fn write_short<'a>(
     out: &mut String,
     writer: &mut Writer<'a>,
     short: Short<'a>,
 ) -> Result<(), AllocError>
-    ensures ok { OnOk result (string_bytes out.new ≡ string_bytes out.old ++ piece (writing writer.old) (shown_short short.entry)) }
-    ensures state { OnOk result (writing writer.new ≡ moved (writing writer.old) (shown_short short.entry)) }
-    ensures err { OnErr result (AppendsFront (string_bytes out.old) (string_bytes out.new) (piece (writing writer.old) (shown_short short.entry))) }
-{
-    if writer.image.is_none() {
-        write_short_outside(out, writer, short)
-    } else {
-        write_short_inside(out, writer, short)
-    }
-}
-
-/// Appends the piece of such an event inside of an image. The value that it lends stands in a function of its own, so that its room is
-/// cleared for events inside of images alone.
-#[inline(always)]
-fn write_short_inside<'a>(
-    out: &mut String,
-    writer: &mut Writer<'a>,
-    short: Short<'a>,
-) -> Result<(), AllocError>
-    requires { is_some writer.old.image ≡ true }
-    ensures ok { OnOk result (string_bytes out.new ≡ string_bytes out.old ++ piece (writing writer.old) (shown_short short.entry)) }
-    ensures state { OnOk result (writing writer.new ≡ moved (writing writer.old) (shown_short short.entry)) }
-    ensures err { OnErr result (AppendsFront (string_bytes out.old) (string_bytes out.new) (piece (writing writer.old) (shown_short short.entry))) }
-{
-    write_short_in_image(out, writer, short)
-}
-
-/// Appends the piece of such an event inside of an image. It is apart, so that no other piece waits for the room that an event takes.
-#[inline(never)]
-fn write_short_in_image<'a>(
-    out: &mut String,
-    writer: &mut Writer<'a>,
-    short: Short<'a>,
-) -> Result<(), AllocError>
-    requires { is_some writer.old.image ≡ true }
-    ensures ok { OnOk result (string_bytes out.new ≡ string_bytes out.old ++ piece (writing writer.old) (shown_short short.entry)) }
-    ensures state { OnOk result (writing writer.new ≡ moved (writing writer.old) (shown_short short.entry)) }
-    ensures err { OnErr result (AppendsFront (string_bytes out.old) (string_bytes out.new) (piece (writing writer.old) (shown_short short.entry))) }
-{
-    if let Short::Text(text) = short {
-        return write_text_in_image(out, writer, text);
-    }
-    let event = short.event(*out.allocator());
-    write_in_image(out, writer, event)
-}
-
-/// Appends the piece of a text inside of an image, of which the image keeps nothing.
-fn write_text_in_image(
-    out: &mut String,
-    writer: &mut Writer<'_>,
-    text: &str,
-) -> Result<(), AllocError>
-    requires { is_some writer.old.image ≡ true }
-    ensures ok { OnOk result (string_bytes out.new ≡ string_bytes out.old ++ piece (writing writer.old) (Text text.now)) }
-    ensures state { OnOk result (writing writer.new ≡ moved (writing writer.old) (Text text.now)) }
-    ensures err { OnErr result (AppendsFront (string_bytes out.old) (string_bytes out.new) (piece (writing writer.old) (Text text.now))) }
-{
-    escape_html(out, text)?;
-    writer.line_start = false;
-    Ok(())
-}
-
-/// Appends the piece of such an event outside of images.
-#[inline(always)]
-fn write_short_outside<'a>(
-    out: &mut String,
-    writer: &mut Writer<'a>,
-    short: Short<'a>,
-) -> Result<(), AllocError>
-    requires { writer.old.image ≡ None }
+    requires outside { writer.old.image ≡ None }
     ensures ok { OnOk result (string_bytes out.new ≡ string_bytes out.old ++ piece_outside (writing writer.old) (shown_short short.entry)) }
     ensures state { OnOk result (writing writer.new ≡ moved_outside (writing writer.old) (shown_short short.entry)) }
     ensures err { OnErr result (AppendsFront (string_bytes out.old) (string_bytes out.new) (piece_outside (writing writer.old) (shown_short short.entry))) }

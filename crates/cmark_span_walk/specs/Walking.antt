@@ -39,6 +39,8 @@ use Rattle.cmark_text.specs.declared.short.Short.{Short}
 use Rattle.cmark_text.specs.declared.text.CowStr.{CowStr}
 use Rattle.cmark_walk.specs.Walking as walking
 use Rattle.cmark_walk.specs.Walking.{AreLinesOf}
+use Rattle.cmark_span_walk.specs.declared.coming.Coming.{Coming}
+use Rattle.cmark_span_walk.specs.declared.coming.Coming.TheVariants as coming
 use Rattle.cmark_span_walk.specs.declared.span_walk.SpanWalk.{SpanWalk}
 
 -- ## Events and leaves
@@ -208,6 +210,13 @@ module _ {E F : Type 0} (replacement : E → Lookup) (reader : Reader) where
   KeepsBehindLeaf old next.Over new = KeepsLeft old new
 
 -- ## What a call gives
+
+-- what comes, whether it is of the spans or of the blocks
+abbrev pub as_next : Coming → Next
+as_next (coming.Span short) = next.Short short
+as_next (coming.Block short) = next.Short short
+as_next coming.Long = next.Long
+as_next coming.Over = next.Over
 
 -- a callback was asked some questions, one after the other
 abbrev pub HasAsked : {F : Type 0} → (F → BrokenLink → Option (CowStr × CowStr) → F → Type 0) → (before after : F) → Type 0

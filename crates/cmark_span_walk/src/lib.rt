@@ -2,7 +2,9 @@
 #![tactic(auto)]
 
 mod callback;
+mod coming;
 mod span_walk;
 
 pub use callback::OptionalCallback;
+pub use coming::Coming;
 pub use span_walk::SpanWalk;

@@ -16,6 +16,7 @@ ghost use Rattle.cmark_text.specs.Ranged.{IsRangedZeroCopy};
 ghost use Rattle.cmark_text.specs.Shown.{shown_options};
 ghost use Rattle.cmark_span_walk.specs.Walking.{ArePlaced, HasAsked, HasPlaces, IsOnlyLine};
 
+use crate::coming::Coming;
 use cmark_inline::{BrokenLinkCallback, InlineState, Reader, SpecialBytes, special_bytes};
 use cmark_items::{FootnoteDefs, RefDefs};
 use cmark_leaf_text::{LeafLine, LeafText};
@@ -46,7 +47,7 @@ pub struct SpanWalk<'input, 'e, E, F> {
 }
 
 impl<'input, 'e, E: EntityLookup, F: BrokenLinkCallback<'input> + Drop> SpanWalk<'input, 'e, E, F> {
-    ghost use Rattle.cmark_span_walk.specs.Walking.{BeforeLeaf, KeepsAround, EntersLeaf, Gives, GivesInLeaf, GivesNext, GivesSpan, IsReadBy, KeepsBehindLeaf, KeepsLeft, LeavesFewer, LeavesLeaf, NoEndIsNext, ReadsLeaf, ReadsSame, Remains, Stands, callback_of, definitions_of, events_left, expansion_left_of, footnotes_of, options_of, source_of};
+    ghost use Rattle.cmark_span_walk.specs.Walking.{BeforeLeaf, KeepsAround, EntersLeaf, Gives, GivesInLeaf, GivesNext, GivesSpan, IsReadBy, KeepsBehindLeaf, KeepsLeft, LeavesFewer, LeavesLeaf, NoEndIsNext, ReadsLeaf, ReadsSame, Remains, Stands, as_next, callback_of, definitions_of, events_left, expansion_left_of, footnotes_of, options_of, source_of};
 
     /// A walk over what this walk over the text meets, which are fewer events and leaves than `budget`. `entities` says what the
     /// entity names stand for; `footnotes` are those that the text defines, of which each counts its references; `callback` is asked
@@ -138,11 +139,11 @@ impl<'input, 'e, E: EntityLookup, F: BrokenLinkCallback<'input> + Drop> SpanWalk
 
     /// What `next` would give, where no event is made: one that owns nothing counts as given then, and one of another kind does not.
     #[inline(always)]
-    pub fn next_short(&mut self) -> Result<Next<'input>, AllocError>
+    pub fn next_short(&mut self) -> Result<Coming<'input>, AllocError>
         requires { Stands self.old }
         ensures stands { OnOk result (Stands self.new) }
-        ensures given { (reader : GrammarReader) → IsReadBy E.replacement reader self.old → IfOk result (λ next. GivesNext F.answers E.replacement reader self.old next self.new) }
-        ensures fewer { IfOk result (λ next. LeavesFewer self.old next self.new) }
+        ensures given { (reader : GrammarReader) → IsReadBy E.replacement reader self.old → IfOk result (λ coming. GivesNext F.answers E.replacement reader self.old (as_next coming) self.new) }
+        ensures fewer { IfOk result (λ coming. LeavesFewer self.old (as_next coming) self.new) }
         ensures ends { OnErr result ((reader : GrammarReader) → NoEndIsNext E.replacement reader self.old) }
         ensures asked { OnErr result (HasAsked F.answers (callback_of self.old) (callback_of self.new)) }
         ensures definitions { definitions_of self.new ≡ definitions_of self.old }
@@ -151,24 +152,24 @@ impl<'input, 'e, E: EntityLookup, F: BrokenLinkCallback<'input> + Drop> SpanWalk
     {
         loop {
             match self.next_in_leaf()? {
-                Next::Short(short) => return Ok(Next::Short(short)),
-                Next::Long => return Ok(Next::Long),
+                Next::Short(short) => return Ok(Coming::Span(short)),
+                Next::Long => return Ok(Coming::Long),
                 Next::Over => {}
             }
             match self.walk.next_short(&mut self.lines)? {
                 Brief::Short(short) => {
                     self.budget -= 1;
-                    return Ok(Next::Short(short));
+                    return Ok(Coming::Block(short));
                 }
                 Brief::Leaf { is_cell } => {
                     self.budget -= 1;
                     if let Some(text) = self.plain_text() {
-                        return Ok(Next::Short(Short::Text(text)));
+                        return Ok(Coming::Span(Short::Text(text)));
                     }
                     self.enter_leaf(is_cell)?;
                 }
-                Brief::Long => return Ok(Next::Long),
-                Brief::Over => return Ok(Next::Over),
+                Brief::Long => return Ok(Coming::Long),
+                Brief::Over => return Ok(Coming::Over),
             }
         }
     }

@@ -41,13 +41,15 @@ use Rattle.cmark_span_walk.specs.Walking as walking
 use Rattle.cmark_span_walk.specs.Walking.{ArePlaced}
 use Rattle.cmark_span_walk.specs.declared.callback.OptionalCallback.{OptionalCallback}
 use Rattle.cmark_text.specs.Shown.{text_bytes}
-use Rattle.cmark_text.specs.declared.short.Next.{Next}
 use Rattle.cmark_text.specs.declared.short.Next.TheVariants as next
+use Rattle.cmark_text.specs.declared.short.Short.{Short}
 use Rattle.cmark_text.specs.declared.text.CowStr.{CowStr}
 use Rattle.cmark_text.specs.declared.ranged.Ranged.{Ranged as Item}
 use Rattle.cmark_text.specs.Ranged.{IsRangedZeroCopy, shown_ranged}
 use Rattle.pulldown_cmark.specs.declared.parse.Parser.{Parser}
 use Rattle.pulldown_cmark.specs.Walking.{GoesOn, SomeLeft, reader_by}
+use Rattle.cmark_span_walk.specs.declared.coming.Coming.{Coming}
+use Rattle.cmark_span_walk.specs.declared.coming.Coming.TheVariants as coming
 use Rattle.pulldown_cmark.specs.Parsing.{CanGo, IsOver, GivesAs, GivesOrErr, GivesStep, Left, Passes, Reads, Remains, definitions, footnotes, events_left, is_last, lookup_of, options_of, reader_for, text_of}
 
 -- ## Questions
@@ -218,8 +220,8 @@ module _ {E F : Type 0} (Says : F → BrokenLink → Option (CowStr × CowStr) �
 
   -- what the walk gives is handed on
   module _ (old new : Parser E F) (e : old.is_over ≡ false) (text : text_of new ≡ text_of old) (same : definitions new ≡ definitions old) (known : SameFootnotes (footnotes old) (footnotes new)) where
-    gives-next : (next : Next) → new.is_over ≡ is_last (Ok next) → walking.GivesNext (SaysIfAny Says) replacement (reader_for replacement old) old.spans next new.spans → walking.LeavesFewer old.spans next new.spans → GivesAs Says replacement old next new
-    gives-next (next.Short short) n h less = record {
+    gives-short : (short : Short) → new.is_over ≡ false → walking.GivesShort (SaysIfAny Says) replacement (reader_for replacement old) old.spans short new.spans → walking.events_left new.spans < walking.events_left old.spans → GivesAs Says replacement old (next.Short short) new
+    gives-short short n h less = record {
       answers = record {
         given = h.given;
         is = h.is;
@@ -233,7 +235,12 @@ module _ {E F : Type 0} (Says : F → BrokenLink → Option (CowStr × CowStr) �
       definitions = same;
       footnotes = known;
     }
-    gives-next next.Long n h most = record {
+
+    gives-coming : (coming : Coming) → new.is_over ≡ is_last (Ok coming) → walking.GivesNext (SaysIfAny Says) replacement (reader_for replacement old) old.spans (walking.as_next coming) new.spans → walking.LeavesFewer old.spans (walking.as_next coming) new.spans
+        → GivesAs Says replacement old (walking.as_next coming) new
+    gives-coming (coming.Span short) n h less = gives-short short n h less
+    gives-coming (coming.Block short) n h less = gives-short short n h less
+    gives-coming coming.Long n h most = record {
       answers = record {
         passes = passes-of [] old new e n h;
         most = let a = left-of old e in let b = left-of new n in omega (arith, a, b, most);
@@ -243,7 +250,7 @@ module _ {E F : Type 0} (Says : F → BrokenLink → Option (CowStr × CowStr) �
       definitions = same;
       footnotes = known;
     }
-    gives-next next.Over n h none = record {
+    gives-coming coming.Over n h none = record {
       answers = record {
         taken = h.taken;
         asks = asked-of Says h.taken old.spans.callback new.spans.callback h.answered;
@@ -256,9 +263,10 @@ module _ {E F : Type 0} (Says : F → BrokenLink → Option (CowStr × CowStr) �
       footnotes = known;
     }
 
-    pub gives-or-err : (o : Result Next AllocError) → new.is_over ≡ is_last o → IfOk o (λ next. walking.GivesNext (SaysIfAny Says) replacement (reader_for replacement old) old.spans next new.spans) → IfOk o (λ next. walking.LeavesFewer old.spans next new.spans)
+    pub gives-or-err : (o : Result Coming AllocError) → new.is_over ≡ is_last o → IfOk o (λ coming. walking.GivesNext (SaysIfAny Says) replacement (reader_for replacement old) old.spans (walking.as_next coming) new.spans)
+        → IfOk o (λ coming. walking.LeavesFewer old.spans (walking.as_next coming) new.spans)
         → OnErr o ((reader : Reader) → walking.NoEndIsNext replacement reader old.spans) → OnErr o (walking.HasAsked (SaysIfAny Says) old.spans.callback new.spans.callback) → GivesOrErr Says replacement old o new
-    gives-or-err (Ok next) n h less ends asked = gives-next next n h less
+    gives-or-err (Ok coming) n h less ends asked = gives-coming coming n h less
     gives-or-err (Err error) n h less ends asked = gives-error old new error e n ends asked text same known
 
 -- ## A parser at the start

@@ -1,44 +1,86 @@
 -- The HTML of a parser's events is the HTML of its text.
-use Rattle.std.proofs.Common.{◌≡◌, ℕ, List, [], ◌∷◌, ◌++◌, Option, None, Some, Ok, true, refl, sym, ap, ◌∙◌, append_assoc, append-nil, subst}
-use Rattle.std.proofs.lemmas.List.{map_push}
+use Rattle.std.proofs.Common.{◌≡◌, ℕ, List, [], ◌∷◌, ◌++◌, Option, None, Some, Ok, option_map, true, false, true≢false, refl, sym, ap, ◌∙◌, append_assoc, append-nil, subst}
+use Rattle.std.proofs.lemmas.List.{map-append}
+use Rattle.std.specs.Prelude.{is_some}
 use Rattle.cmark_grammar.specs.Answers.{Lookup}
 use Rattle.cmark_grammar.specs.Event.{Ranged}
-use Rattle.cmark_grammar.specs.Html.{Writing, at_line_start, piece, pieces, moved, moved_all, last_piece, html}
+use Rattle.cmark_grammar.specs.Html.{Writing, at_line_start, piece, piece_in, piece_outside, pieces_from, moved, moved_all, moved_in, moved_outside, opened_by, opened_image, last_piece, html}
 use Rattle.cmark_grammar.specs.Options.{Options}
 use Rattle.cmark_grammar.specs.Questions.{Exchange}
-use Rattle.cmark_html.proofs.HtmlSteps.{kept_on, written_on, written_end}
+use Rattle.cmark_html.proofs.HtmlSteps.{moved_all-joined, pieces_from-joined, written_end}
+use Rattle.cmark_html.specs.Writer.{shown_image}
+use Rattle.cmark_html.specs.declared.state.OpenImage.{OpenImage}
 use Rattle.cmark_inline.specs.Resolved.{Answered}
 use Rattle.cmark_inline.specs.declared.callback.BrokenLink.{BrokenLink}
 use Rattle.cmark_inline_model.proofs.SilentReadings.{reading-silent}
 use Rattle.cmark_span_walk.specs.Callback.{AnswersIfAny}
 use Rattle.cmark_span_walk.proofs.Readings.{answered-on}
 use Rattle.cmark_text.specs.declared.short.Next.TheVariants as next
+use Rattle.cmark_text.specs.declared.short.PlainTag.{PlainTag}
+use Rattle.cmark_text.specs.declared.short.PlainTag.TheVariants as plain
 use Rattle.cmark_text.specs.declared.short.Short.{Short}
+use Rattle.cmark_text.specs.declared.short.Short.TheVariants as short
 use Rattle.cmark_text.specs.declared.text.CowStr.{CowStr}
-use Rattle.cmark_text.specs.Short.{shown_short}
+use Rattle.cmark_text.specs.Short.{shown_plain, shown_short}
 use Rattle.cmark_text.specs.Shown.{shown}
 use Rattle.cmark_text.specs.declared.ranged.Ranged.{Ranged as Item}
 use Rattle.pulldown_cmark.specs.declared.parse.Parser.{Parser}
 use Rattle.pulldown_cmark.specs.Parsing.{Asks, CanGo, GivesAs, GivesStep, Passes, Reads, Remains, callback_of}
-use Rattle.pulldown_cmark.specs.Rendering.{IsHtmlOf, events_of}
+use Rattle.pulldown_cmark.specs.Rendering.{IsHtmlOf, WritesSome, Written, events_of, written}
 use Rattle.pulldown_cmark.specs.Walking.{profile}
 use Rattle.pulldown_cmark.proofs.ParseSteps.{none-answered}
+
+-- an image that is not there
+pub none-shown : (image : Option OpenImage) → is_some image ≡ false → option_map shown_image image ≡ None
+none-shown None e = refl
+none-shown (Some image) e = absurd (true≢false e)
+
+-- no element without a text of its own is an image
+plain-opens-none : (tag : PlainTag) → opened_by (shown_plain tag) ≡ None
+plain-opens-none plain.Paragraph = refl
+plain-opens-none (plain.Heading level) = refl
+plain-opens-none (plain.BlockQuote kind) = refl
+plain-opens-none plain.IndentedCode = refl
+plain-opens-none plain.HtmlBlock = refl
+plain-opens-none (plain.List first) = refl
+plain-opens-none plain.Item = refl
+plain-opens-none plain.DefinitionList = refl
+plain-opens-none plain.DefinitionListTitle = refl
+plain-opens-none plain.DefinitionListDefinition = refl
+plain-opens-none plain.TableHead = refl
+plain-opens-none plain.TableRow = refl
+plain-opens-none plain.TableCell = refl
+plain-opens-none plain.Emphasis = refl
+plain-opens-none plain.Strong = refl
+plain-opens-none plain.Strikethrough = refl
+plain-opens-none plain.Superscript = refl
+plain-opens-none plain.Subscript = refl
+plain-opens-none (plain.MetadataBlock kind) = refl
+
+-- so no event that owns nothing opens an image
+short-opens-none : (short : Short) → opened_image (shown_short short) ≡ None
+short-opens-none (short.Start tag) = plain-opens-none tag
+short-opens-none (short.End tag) = refl
+short-opens-none (short.Text text) = refl
+short-opens-none (short.Code text) = refl
+short-opens-none (short.Html text) = refl
+short-opens-none (short.InlineHtml text) = refl
+short-opens-none short.SoftBreak = refl
+short-opens-none short.HardBreak = refl
+short-opens-none short.Rule = refl
+
+-- so none is open behind one
+pub none-open : (w next : Writing) (short : Short) → next ≡ moved_outside w (shown_short short) → next.image ≡ None
+none-open w next short is = ap Writing.image is ∙ short-opens-none short
 
 module _ {E F : Type 0} (Says : F → BrokenLink → Option (CowStr × CowStr) → F → Type 0) (replacement : E → Lookup) where
   -- questions behind others
   pub asks-on : (old mid new : Parser E F) (xs ys : List Exchange) → Asks Says old xs mid → Asks Says mid ys new → Asks Says old (xs ++ ys) new
   asks-on old mid new xs ys h k = answered-on (AnswersIfAny Says) xs ys (callback_of old) (callback_of mid) (callback_of new) h k
 
-  -- some events were given, and their HTML stands behind the old bytes
-  pub record SoFar (first parser : Parser E F) (w : Writing) (old out : List ℕ) : Type 0 where
-    pub given : List Ranged
-    pub passes : Passes Says replacement given first parser
-    pub out_is : out ≡ old ++ pieces (events_of given)
-    pub writing_is : w ≡ moved_all at_line_start (events_of given)
-    pub can : CanGo replacement parser
-
-  pub so-far-none : (parser : Parser E F) (w : Writing) (old : List ℕ) → CanGo replacement parser → w ≡ at_line_start → SoFar parser parser w old old
-  so-far-none parser w old can is = record { given = []; passes = record { taken = []; asks = refl; back = λ rest events r. r }; out_is = sym (append-nil old); writing_is = is; can = can }
+  -- nothing was given yet
+  pub none-written : (parser : Parser E F) (s : Written) → CanGo replacement parser → WritesSome Says replacement parser s parser s
+  none-written parser s can = record { given = []; passes = record { taken = []; asks = refl; back = λ rest events r. r }; bytes = sym (append-nil s.bytes); writing = refl; can = can }
 
   passes-on : (first parser new : Parser E F) (given more : List Ranged) → Passes Says replacement given first parser → Passes Says replacement more parser new → Passes Says replacement (given ++ more) first new
   passes-on first parser new given more p q = record {
@@ -49,54 +91,69 @@ module _ {E F : Type 0} (Says : F → BrokenLink → Option (CowStr × CowStr) �
         (subst (Remains replacement first (p.taken ++ (q.taken ++ rest))) (sym (append_assoc given more events)) (p.back (q.taken ++ rest) (more ++ events) (q.back rest events r)));
   }
 
-  more-written : (first parser new : Parser E F) (r : Ranged) (w kept : Writing) (old mid out : List ℕ) → SoFar first parser w old mid → Passes Says replacement (r ∷ []) parser new → CanGo replacement new
-      → out ≡ mid ++ piece w r.event → kept ≡ moved w r.event → SoFar first new kept old out
-  more-written first parser new r w kept old mid out s p can out_is kept_is =
-      let more : events_of (s.given ++ r ∷ []) ≡ events_of s.given ++ r.event ∷ [] = map_push Ranged.event s.given r in
+  -- some events, and then some more
+  pub joined : (first parser new : Parser E F) (a b c : Written) → WritesSome Says replacement first a parser b → WritesSome Says replacement parser b new c → WritesSome Says replacement first a new c
+  joined first parser new a b c p q =
+      let both : events_of (p.given ++ q.given) ≡ events_of p.given ++ events_of q.given = map-append Ranged.event p.given q.given in
       record {
-        given = s.given ++ r ∷ [];
-        passes = passes-on first parser new s.given (r ∷ []) s.passes p;
-        out_is = written_on w (events_of s.given) r.event s.writing_is old mid out s.out_is out_is ∙ ap (λ es. old ++ pieces es) (sym more);
-        writing_is = kept_on w (events_of s.given) r.event s.writing_is kept kept_is ∙ ap (moved_all at_line_start) (sym more);
-        can = can;
+        given = p.given ++ q.given;
+        passes = passes-on first parser new p.given q.given p.passes q.passes;
+        bytes =
+            q.bytes
+            ∙ ap (λ l. l ++ pieces_from b.writing (events_of q.given)) p.bytes
+            ∙ append_assoc a.bytes (pieces_from a.writing (events_of p.given)) (pieces_from b.writing (events_of q.given))
+            ∙ ap (λ w. a.bytes ++ (pieces_from a.writing (events_of p.given) ++ pieces_from w (events_of q.given))) p.writing
+            ∙ ap (λ l. a.bytes ++ l) (sym (pieces_from-joined a.writing (events_of p.given) (events_of q.given)))
+            ∙ ap (λ es. a.bytes ++ pieces_from a.writing es) (sym both);
+        writing =
+            q.writing
+            ∙ ap (λ w. moved_all w (events_of q.given)) p.writing
+            ∙ sym (moved_all-joined a.writing (events_of p.given) (events_of q.given))
+            ∙ ap (moved_all a.writing) (sym both);
+        can = q.can;
       }
 
-  -- one event more
-  pub so-far-more : (first parser new : Parser E F) (item : Item) (w next : Writing) (old mid out : List ℕ) → SoFar first parser w old mid → GivesStep Says replacement parser (Some (Ok item)) new
-      → out ≡ mid ++ piece w (shown item.event) → next ≡ moved w (shown item.event) → SoFar first new next old out
-  so-far-more first parser new item w next old mid out s gives out_is next_is =
+  one-written : (parser new : Parser E F) (r : Ranged) (mid after : Written) → Passes Says replacement (r ∷ []) parser new → CanGo replacement new
+      → after.bytes ≡ mid.bytes ++ piece mid.writing r.event → after.writing ≡ moved mid.writing r.event → WritesSome Says replacement parser mid new after
+  one-written parser new r mid after p can bytes writing = record {
+    given = r ∷ [];
+    passes = p;
+    bytes = bytes ∙ ap (λ l. mid.bytes ++ l) (sym (append-nil (piece mid.writing r.event)));
+    writing = writing;
+    can = can;
+  }
+
+  -- one event
+  pub more-written : (parser new : Parser E F) (item : Item) (mid after : Written) → GivesStep Says replacement parser (Some (Ok item)) new
+      → after.bytes ≡ mid.bytes ++ piece mid.writing (shown item.event) → after.writing ≡ moved mid.writing (shown item.event) → WritesSome Says replacement parser mid new after
+  more-written parser new item mid after gives bytes writing =
       let f = gives.next.first in
       let same : shown item.event ≡ f.1.0.event = ap Ranged.event f.1.1.is in
-      more-written first parser new f.1.0 w next old mid out s (record { taken = gives.next.taken; asks = f.0; back = f.1.2 }) (record { goes = gives.next.goes_on }) (out_is ∙ ap (λ e. mid ++ piece w e) same) (next_is ∙ ap (moved w) same)
+      one-written parser new f.1.0 mid after (record { taken = gives.next.taken; asks = f.0; back = f.1.2 }) (record { goes = gives.next.goes_on }) (bytes ∙ ap (λ e. mid.bytes ++ piece mid.writing e) same) (writing ∙ ap (moved mid.writing) same)
 
-  -- an event more that owns nothing
-  pub so-far-short : (first parser new : Parser E F) (short : Short) (w kept : Writing) (old mid out : List ℕ) → SoFar first parser w old mid → GivesAs Says replacement parser (next.Short short) new
-      → out ≡ mid ++ piece w (shown_short short) → kept ≡ moved w (shown_short short) → SoFar first new kept old out
-  so-far-short first parser new short w kept old mid out s h out_is next_is =
+  -- an event that owns nothing, where no image is open
+  pub short-written : (parser new : Parser E F) (short : Short) (mid after : Written) → GivesAs Says replacement parser (next.Short short) new → mid.writing.image ≡ None
+      → after.bytes ≡ mid.bytes ++ piece_outside mid.writing (shown_short short) → after.writing ≡ moved_outside mid.writing (shown_short short) → WritesSome Says replacement parser mid new after
+  short-written parser new short mid after h outside bytes writing =
+      let w = mid.writing in
       let same : shown_short short ≡ h.answers.given.event = sym h.answers.is in
-      more-written first parser new h.answers.given w kept old mid out s h.answers.passes h.can (out_is ∙ ap (λ e. mid ++ piece w e) same) (next_is ∙ ap (moved w) same)
+      one-written parser new h.answers.given mid after h.answers.passes h.can
+      (bytes ∙ ap (λ i. mid.bytes ++ piece_in i w (shown_short short)) (sym outside) ∙ ap (λ e. mid.bytes ++ piece w e) same)
+      (writing ∙ ap (λ i. moved_in i w (shown_short short)) (sym outside) ∙ ap (moved w) same)
 
   -- an event of another kind was not given yet
-  pub so-far-long : (first parser new : Parser E F) (w : Writing) (old out : List ℕ) → SoFar first parser w old out → GivesAs Says replacement parser next.Long new → SoFar first new w old out
-  so-far-long first parser new w old out s h =
-      let all = append-nil s.given in
-      record {
-        given = s.given;
-        passes = subst (λ given. Passes Says replacement given first new) all (passes-on first parser new s.given [] s.passes h.answers.passes);
-        out_is = s.out_is;
-        writing_is = s.writing_is;
-        can = h.can;
-      }
+  pub long-kept : (parser new : Parser E F) (s : Written) → GivesAs Says replacement parser next.Long new → WritesSome Says replacement parser s new s
+  long-kept parser new s h = record { given = []; passes = h.answers.passes; bytes = sym (append-nil s.bytes); writing = refl; can = h.can }
 
   -- behind the last event
-  pub so-far-end : (first parser new : Parser E F) (taken : List Exchange) (w : Writing) (old mid out : List ℕ) → SoFar first parser w old mid → Asks Says parser taken new → Remains replacement parser taken [] → out ≡ mid ++ last_piece w.image
-      → (exchanges : List Exchange) × (events : List Ranged) × Remains replacement first exchanges events × Asks Says first exchanges new × (out ≡ old ++ html (events_of events))
-  so-far-end first parser new taken w old mid out s asks none out_is = (
-    s.passes.taken ++ taken,
-    s.given,
-    subst (Remains replacement first (s.passes.taken ++ taken)) (append-nil s.given) (s.passes.back taken [] none),
-    asks-on first parser new s.passes.taken taken s.passes.asks asks,
-    written_end w (events_of s.given) old mid out s.out_is s.writing_is out_is,
+  pub all-written : (first parser new : Parser E F) (taken : List Exchange) (old out : List ℕ) (s : Written) → WritesSome Says replacement first (written at_line_start old) parser s → Asks Says parser taken new → Remains replacement parser taken []
+      → out ≡ s.bytes ++ last_piece s.writing.image → (exchanges : List Exchange) × (events : List Ranged) × Remains replacement first exchanges events × Asks Says first exchanges new × (out ≡ old ++ html (events_of events))
+  all-written first parser new taken old out s some asks none out_is = (
+    some.passes.taken ++ taken,
+    some.given,
+    subst (Remains replacement first (some.passes.taken ++ taken)) (append-nil some.given) (some.passes.back taken [] none),
+    asks-on first parser new some.passes.taken taken some.passes.asks asks,
+    written_end s.writing (events_of some.given) old s.bytes out some.bytes some.writing out_is,
   )
 
   -- where the HTML of all events of a parser at its start stands behind nothing, and it has no callback, it is the HTML of the parser's text

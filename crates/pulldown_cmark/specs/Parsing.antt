@@ -23,6 +23,8 @@ use Rattle.cmark_items.specs.declared.definitions.RefDefs.{RefDefs}
 use Rattle.cmark_items.specs.declared.footnotes.FootnoteDefs.{FootnoteDefs}
 use Rattle.cmark_span_walk.specs.Callback.{AnswersIfAny}
 use Rattle.cmark_span_walk.specs.Walking as walking
+use Rattle.cmark_span_walk.specs.declared.coming.Coming.{Coming}
+use Rattle.cmark_span_walk.specs.declared.coming.Coming.TheVariants as coming
 use Rattle.cmark_text.specs.declared.event.Event.{Event}
 use Rattle.cmark_text.specs.declared.short.Next.{Next}
 use Rattle.cmark_text.specs.declared.short.Next.TheVariants as next
@@ -67,10 +69,11 @@ CutNone text [] = Unit {0}
 CutNone text (item ∷ items) = IsRange text item.1.start item.1.end × CutNone text items
 
 -- nothing is given behind such an answer
-abbrev pub is_last : Result Next AllocError → Bool
-is_last (Ok (next.Short short)) = false
-is_last (Ok next.Long) = false
-is_last (Ok next.Over) = true
+abbrev pub is_last : Result Coming AllocError → Bool
+is_last (Ok (coming.Span short)) = false
+is_last (Ok (coming.Block short)) = false
+is_last (Ok coming.Long) = false
+is_last (Ok coming.Over) = true
 is_last (Err e) = true
 
 module _ {E F : Type 0} where
@@ -232,8 +235,8 @@ module _ {E F : Type 0} (Says : F → BrokenLink → Option (CowStr × CowStr) �
     pub footnotes : SameFootnotes (footnotes old) (footnotes new)
 
   -- such an answer is given, or the error item, and nothing any more
-  abbrev pub GivesOrErr : Parser E F → Result Next AllocError → Parser E F → Type 0
-  GivesOrErr old (Ok next) new = GivesAs old next new
+  abbrev pub GivesOrErr : Parser E F → Result Coming AllocError → Parser E F → Type 0
+  GivesOrErr old (Ok coming) new = GivesAs old (walking.as_next coming) new
   GivesOrErr old (Err e) new = GivesStep old (Some (Err e)) new
 
   pub record GivesRanged (old : OffsetIter E F) (given : Option (Result (Event × Range ℕ) AllocError)) (new : OffsetIter E F) : Type 0 where

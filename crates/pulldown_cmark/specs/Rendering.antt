@@ -1,16 +1,17 @@
 -- The HTML of a text.
-use Rattle.std.specs.Prelude.{◌≡◌, ℕ, Bool, true, false, List, [], ◌++◌, map, Option, None, Some, Ok}
+use Rattle.std.specs.Prelude.{◌≡◌, ◌<◌, ℕ, Bool, true, false, List, [], ◌++◌, map, Option, None, Some, Ok}
 use Rattle.cmark_grammar.specs.Answers.{Lookup}
 use Rattle.cmark_grammar.specs.Event.{Event, Ranged}
-use Rattle.cmark_grammar.specs.Html.{Writing, html, moved, piece}
+use Rattle.cmark_grammar.specs.Html.{Writing, html, moved, moved_all, piece, pieces_from}
 use Rattle.cmark_grammar.specs.Options.{Options}
+use Rattle.cmark_grammar.specs.Questions.{Exchange}
 use Rattle.cmark_grammar.specs.SpanDocuments.{IsReading}
 use Rattle.cmark_inline.specs.declared.callback.BrokenLink.{BrokenLink}
 use Rattle.cmark_text.specs.Shown.{shown}
 use Rattle.cmark_text.specs.declared.text.CowStr.{CowStr}
 use Rattle.cmark_text.specs.declared.ranged.Ranged.{Ranged as Given}
 use Rattle.pulldown_cmark.specs.declared.parse.Parser.{Parser}
-use Rattle.pulldown_cmark.specs.Parsing.{GivesStep}
+use Rattle.pulldown_cmark.specs.Parsing.{Asks, CanGo, GivesStep, Passes, Remains, events_left}
 use Rattle.pulldown_cmark.specs.Walking.{profile}
 
 -- the events without their ranges
@@ -39,7 +40,34 @@ module _ {E F : Type 0} (Says : F → BrokenLink → Option (CowStr × CowStr) �
     pub bytes : after.bytes ≡ before.bytes ++ piece before.writing (shown given.event)
     pub writing : after.writing ≡ moved before.writing (shown given.event)
 
-  -- so it was, or nothing was left, and nothing was appended
+  -- these events were given, and their pieces were appended
+  pub record WritesSome (old : Parser E F) (before : Written) (new : Parser E F) (after : Written) : Type 0 where
+    pub given : List Ranged
+    pub passes : Passes Says replacement given old new
+    pub bytes : after.bytes ≡ before.bytes ++ pieces_from before.writing (events_of given)
+    pub writing : after.writing ≡ moved_all before.writing (events_of given)
+    pub can : CanGo replacement new
+
+  -- so it was with one event or more, and no image is open behind them
+  pub record WritesWhole (old : Parser E F) (before : Written) (new : Parser E F) (after : Written) : Type 0 where
+    pub some : WritesSome old before new after
+    pub closed : after.writing.image ≡ None
+    pub fewer : events_left new < events_left old
+
+  -- so it was with all events that were left
+  pub record WritesLast (old : Parser E F) (before : Written) (new : Parser E F) (after : Written) : Type 0 where
+    pub last : Parser E F
+    pub some : WritesSome old before last after
+    pub taken : List Exchange
+    pub asks : Asks Says last taken new
+    pub none : Remains replacement last taken []
+
+  -- events were given up to one behind which no image is open, or all that were left
+  abbrev pub WritesLong : (is_given : Bool) → Parser E F → Written → Parser E F → Written → Type 0
+  WritesLong true old before new after = WritesWhole old before new after
+  WritesLong false old before new after = WritesLast old before new after
+
+  -- the first event was given, or nothing was left, and nothing was appended
   abbrev pub WritesNext : (is_given : Bool) → Parser E F → Written → Parser E F → Written → Type 0
   WritesNext true old before new after = WritesEvent old before new after
   WritesNext false old before new after = GivesStep Says replacement old None new × (after ≡ before)

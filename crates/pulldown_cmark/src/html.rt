@@ -7,13 +7,14 @@ ghost use Rattle.cmark_grammar.specs.Questions.{Exchange};
 ghost use Rattle.cmark_html.specs.Writer.{writing};
 ghost use Rattle.cmark_text.specs.Shown.{shown_options};
 ghost use Rattle.pulldown_cmark.specs.Parsing.{Asks, CanGo, Remains};
-ghost use Rattle.pulldown_cmark.specs.Rendering.{IsHtmlOf, WritesNext, events_of, written};
+ghost use Rattle.pulldown_cmark.specs.Rendering.{IsHtmlOf, WritesLong, WritesNext, events_of, written};
 
 use crate::parse::Parser;
 pub use cmark_html::push_html;
 use cmark_html::{Writer, finish, write_event, write_short};
 use cmark_inline::BrokenLinkCallback;
-use cmark_text::{EntityLookup, Next, Options};
+use cmark_span_walk::Coming;
+use cmark_text::{EntityLookup, Options};
 use std::alloc::{AllocError, Global};
 
 /// The HTML of a text with these options. `entities` says what the entity names stand for. Fails where memory is refused.
@@ -50,14 +51,37 @@ fn render<'a, E: EntityLookup, F: BrokenLinkCallback<'a> + Drop>(
     let mut writer = Writer::new(*out.allocator());
     loop {
         match parser.next_short()? {
-            Next::Short(short) => write_short(out, &mut writer, short)?,
-            Next::Long => {
-                let is_given = write_next(out, &mut writer, parser)?;
+            // The two calls are inlined, each for what comes there: a span is followed by other events than a block.
+            Coming::Span(short) => write_short(out, &mut writer, short)?,
+            Coming::Block(short) => write_short(out, &mut writer, short)?,
+            Coming::Long => {
+                let is_given = write_long(out, &mut writer, parser)?;
                 if !is_given {
                     return finish(out, &writer);
                 }
             }
-            Next::Over => return finish(out, &writer),
+            Coming::Over => return finish(out, &writer),
+        }
+    }
+}
+
+// Appends the piece of the next event, of any kind, and where that opens an image those of the events up to the image's end, so that no
+// image is open behind it. Says whether there was one behind which that is so: where not, the text is over.
+fn write_long<'a, E: EntityLookup, F: BrokenLinkCallback<'a> + Drop>(
+    out: &mut String,
+    writer: &mut Writer<'a>,
+    parser: &mut Parser<'a, E, F>,
+) -> Result<bool, AllocError>
+    requires { CanGo E.replacement parser.old }
+    ensures { IfOk result (λ is_given. WritesLong F.answers E.replacement is_given parser.old (written (writing writer.old) (string_bytes out.old)) parser.new (written (writing writer.new) (string_bytes out.new))) }
+{
+    loop {
+        let is_given = write_next(out, writer, parser)?;
+        if !is_given {
+            return Ok(false);
+        }
+        if writer.image.is_none() {
+            return Ok(true);
         }
     }
 }

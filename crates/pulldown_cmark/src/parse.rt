@@ -10,8 +10,8 @@ use bitflags::Flags;
 use cmark_blocks::{FirstPass, run_first_pass};
 use cmark_inline::{BrokenLinkCallback, DefaultBrokenLinkCallback};
 use cmark_items::{FootnoteDefs, RefDefs};
-use cmark_span_walk::{OptionalCallback, SpanWalk};
-use cmark_text::{EntityLookup, Event, Next, Options, Ranged};
+use cmark_span_walk::{Coming, OptionalCallback, SpanWalk};
+use cmark_text::{EntityLookup, Event, Options, Ranged};
 use cmark_walk::Walk;
 use std::alloc::{AllocError, Global};
 use std::mem;
@@ -134,7 +134,7 @@ impl<'input, E: EntityLookup, F: BrokenLinkCallback<'input> + Drop> Parser<'inpu
     // What `next` would give, where no event is made: one that owns nothing counts as given then, and one of another kind does not. Where
     // memory is refused, nothing is given any more.
     #[inline(always)]
-    pub(crate) fn next_short(&mut self) -> Result<Next<'input>, AllocError>
+    pub(crate) fn next_short(&mut self) -> Result<Coming<'input>, AllocError>
         requires { CanGo E.replacement self.old }
         ensures { GivesOrErr F.answers E.replacement self.old result self.new }
     {
@@ -145,7 +145,7 @@ impl<'input, E: EntityLookup, F: BrokenLinkCallback<'input> + Drop> Parser<'inpu
             }
             return given;
         }
-        Ok(Next::Over)
+        Ok(Coming::Over)
     }
 
     // The next event with its range. Where memory is refused, this is the last item.
@@ -173,12 +173,12 @@ impl<'input, E: EntityLookup, F: BrokenLinkCallback<'input> + Drop> Parser<'inpu
 
 // Whether nothing is given behind this: it says that the document is over, or that memory was refused.
 #[inline(always)]
-fn is_last(given: &Result<Next<'_>, AllocError>) -> bool
+fn is_last(given: &Result<Coming<'_>, AllocError>) -> bool
     ensures { result ≡ is_last given.now }
 {
     match given {
-        Ok(Next::Short(_) | Next::Long) => false,
-        Ok(Next::Over) | Err(_) => true,
+        Ok(Coming::Span(_) | Coming::Block(_) | Coming::Long) => false,
+        Ok(Coming::Over) | Err(_) => true,
     }
 }
 

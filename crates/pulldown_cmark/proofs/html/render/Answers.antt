@@ -1,44 +1,92 @@
-use Rattle.std.proofs.Common.{◌++◌, ap, ◌∙◌, string_bytes, subst}
+use Rattle.std.proofs.Common.{sym, ap, string_bytes, subst}
 use Rattle.std.proofs.lemmas.Result.{on_ok_weaker}
-use Rattle.cmark_grammar.specs.Html.{last_piece}
+use Rattle.cmark_grammar.specs.Html.{Writing, at_line_start}
 use Rattle.cmark_html.specs.Writer.{writing}
+use Rattle.cmark_span_walk.specs.Walking.{as_next}
 use Rattle.pulldown_cmark.specs.Parsing.{GivesAs}
-use Rattle.pulldown_cmark.specs.Rendering.{WritesNext, Written, written}
-use Rattle.pulldown_cmark.proofs.RenderSteps.{so-far-end, so-far-long, so-far-more, so-far-none, so-far-short}
+use Rattle.pulldown_cmark.specs.Rendering.{WritesLong, WritesSome, written}
+use Rattle.pulldown_cmark.proofs.RenderSteps.{all-written, joined, long-kept, none-open, none-written, short-written}
 use Rattle.pulldown_cmark.proofs.html.render.Goals as goal
 
 pub loop-writer-init : goal.loop-writer-init
-loop-writer-init g c = so-far-none g.F.BrokenLinkCallback.answers g.E.EntityLookup.replacement c.args.parser.now (writing c.new-writer.result) (string_bytes c.args.out.now) c.requires c.new-writer.ensures
+loop-writer-init g c =
+    let Says = g.F.BrokenLinkCallback.answers in
+    let replacement = g.E.EntityLookup.replacement in
+    let parser = c.args.parser.now in
+    let bytes = string_bytes c.args.out.now in
+    let old = written at_line_start bytes in
+    (subst (λ w. WritesSome Says replacement parser old parser (written w bytes)) (sym c.new-writer.ensures) (none-written Says replacement parser old c.requires), ap Writing.image c.new-writer.ensures)
 
 pub loop-writer-preserved-in-Continue-branch-3 : goal.loop-writer-preserved-in-Continue-branch-3
 loop-writer-preserved-in-Continue-branch-3 g c =
-    let h = subst (λ n. GivesAs g.F.BrokenLinkCallback.answers g.E.EntityLookup.replacement c.loop-writer.parser n c.next_short.new.self) c.in-Short.is c.in_ok-short.ensures in
-    so-far-short g.F.BrokenLinkCallback.answers g.E.EntityLookup.replacement c.args.parser.now c.loop-writer.parser c.next_short.new.self c.in-Short.short (writing c.loop-writer.writer) (writing c.write_short.new.writer) (string_bytes c.args.out.now) (string_bytes c.loop-writer.out)
-    (string_bytes c.write_short.new.out) c.loop-writer.invariant h c.in_ok-write_short-in-Short.ensures.ok c.in_ok-write_short-in-Short.ensures.state
+    let Says = g.F.BrokenLinkCallback.answers in
+    let replacement = g.E.EntityLookup.replacement in
+    let parser = c.loop-writer.parser in
+    let behind = c.next_short.new.self in
+    let short = c.in-Span.short in
+    let old = written at_line_start (string_bytes c.args.out.now) in
+    let mid = written (writing c.loop-writer.writer) (string_bytes c.loop-writer.out) in
+    let new = written (writing c.write_short.new.writer) (string_bytes c.write_short.new.out) in
+    let e = c.in_ok-write_short-in-Span.ensures in
+    let h = subst (λ n. GivesAs Says replacement parser (as_next n) behind) c.in-Span.is c.in_ok-short.ensures in (
+      joined Says replacement c.args.parser.now parser behind old mid new c.loop-writer.invariant.0 (short-written Says replacement parser behind short mid new h c.loop-writer.invariant.1 e.ok e.state),
+      none-open mid.writing new.writing short e.state,
+    )
+
+pub loop-writer-preserved-in-Continue-branch-4 : goal.loop-writer-preserved-in-Continue-branch-4
+loop-writer-preserved-in-Continue-branch-4 g c =
+    let Says = g.F.BrokenLinkCallback.answers in
+    let replacement = g.E.EntityLookup.replacement in
+    let parser = c.loop-writer.parser in
+    let behind = c.next_short.new.self in
+    let short = c.in-Block.short in
+    let old = written at_line_start (string_bytes c.args.out.now) in
+    let mid = written (writing c.loop-writer.writer) (string_bytes c.loop-writer.out) in
+    let new = written (writing c.write_short-in-Block.new.writer) (string_bytes c.write_short-in-Block.new.out) in
+    let e = c.in_ok-write_short-in-Block.ensures in
+    let h = subst (λ n. GivesAs Says replacement parser (as_next n) behind) c.in-Block.is c.in_ok-short.ensures in (
+      joined Says replacement c.args.parser.now parser behind old mid new c.loop-writer.invariant.0 (short-written Says replacement parser behind short mid new h c.loop-writer.invariant.1 e.ok e.state),
+      none-open mid.writing new.writing short e.state,
+    )
 
 pub loop-writer-preserved : goal.loop-writer-preserved
 loop-writer-preserved g c =
-    let w = writing c.loop-writer.writer in
-    let old = string_bytes c.args.out.now in
-    let mid = string_bytes c.loop-writer.out in
-    let h = subst (λ n. GivesAs g.F.BrokenLinkCallback.answers g.E.EntityLookup.replacement c.loop-writer.parser n c.next_short.new.self) c.in-Long.is c.in_ok-short.ensures in
-    let long = so-far-long g.F.BrokenLinkCallback.answers g.E.EntityLookup.replacement c.args.parser.now c.loop-writer.parser c.next_short.new.self w old mid c.loop-writer.invariant h in
-    let wrote = subst (λ b. WritesNext g.F.BrokenLinkCallback.answers g.E.EntityLookup.replacement b c.next_short.new.self (written w mid) c.write_next.new.parser (written (writing c.write_next.new.writer) (string_bytes c.write_next.new.out))) c.if-not-is_given.false c.in_ok-is_given-in-Long.ensures in
-    so-far-more g.F.BrokenLinkCallback.answers g.E.EntityLookup.replacement c.args.parser.now c.next_short.new.self c.write_next.new.parser wrote.given w (writing c.write_next.new.writer) old mid (string_bytes c.write_next.new.out) long wrote.gives wrote.bytes wrote.writing
+    let Says = g.F.BrokenLinkCallback.answers in
+    let replacement = g.E.EntityLookup.replacement in
+    let first = c.args.parser.now in
+    let parser = c.loop-writer.parser in
+    let behind = c.next_short.new.self in
+    let old = written at_line_start (string_bytes c.args.out.now) in
+    let mid = written (writing c.loop-writer.writer) (string_bytes c.loop-writer.out) in
+    let new = written (writing c.write_long.new.writer) (string_bytes c.write_long.new.out) in
+    let h = subst (λ n. GivesAs Says replacement parser (as_next n) behind) c.in-Long.is c.in_ok-short.ensures in
+    let kept = joined Says replacement first parser behind old mid mid c.loop-writer.invariant.0 (long-kept Says replacement parser behind mid h) in
+    let wrote = subst (λ b. WritesLong Says replacement b behind mid c.write_long.new.parser new) c.if-not-is_given.false c.in_ok-is_given-in-Long.ensures in
+    (joined Says replacement first behind c.write_long.new.parser old mid new kept wrote.some, wrote.closed)
 
 pub returns-then-not-is_given : goal.returns-then-not-is_given
 returns-then-not-is_given g c =
-    let w = writing c.loop-writer.writer in
-    let old = string_bytes c.args.out.now in
-    let mid = string_bytes c.loop-writer.out in
-    let h = subst (λ n. GivesAs g.F.BrokenLinkCallback.answers g.E.EntityLookup.replacement c.loop-writer.parser n c.next_short.new.self) c.in-Long.is c.in_ok-short.ensures in
-    let long = so-far-long g.F.BrokenLinkCallback.answers g.E.EntityLookup.replacement c.args.parser.now c.loop-writer.parser c.next_short.new.self w old mid c.loop-writer.invariant h in
-    let wrote = subst (λ b. WritesNext g.F.BrokenLinkCallback.answers g.E.EntityLookup.replacement b c.next_short.new.self (written w mid) c.write_next.new.parser (written (writing c.write_next.new.writer) (string_bytes c.write_next.new.out))) c.if-not-is_given.true c.in_ok-is_given-in-Long.ensures in
+    let Says = g.F.BrokenLinkCallback.answers in
+    let replacement = g.E.EntityLookup.replacement in
+    let first = c.args.parser.now in
+    let parser = c.loop-writer.parser in
+    let behind = c.next_short.new.self in
+    let old = written at_line_start (string_bytes c.args.out.now) in
+    let mid = written (writing c.loop-writer.writer) (string_bytes c.loop-writer.out) in
+    let new = written (writing c.write_long.new.writer) (string_bytes c.write_long.new.out) in
+    let h = subst (λ n. GivesAs Says replacement parser (as_next n) behind) c.in-Long.is c.in_ok-short.ensures in
+    let kept = joined Says replacement first parser behind old mid mid c.loop-writer.invariant.0 (long-kept Says replacement parser behind mid h) in
+    let wrote = subst (λ b. WritesLong Says replacement b behind mid c.write_long.new.parser new) c.if-not-is_given.true c.in_ok-is_given-in-Long.ensures in
     on_ok_weaker c.finish.result
-    (λ more. so-far-end g.F.BrokenLinkCallback.answers g.E.EntityLookup.replacement c.args.parser.now c.next_short.new.self c.write_next.new.parser wrote.0.next.taken w old mid (string_bytes c.finish.new.out) long wrote.0.next.first.0 wrote.0.next.first.1 (more ∙ ap (λ (s : Written). s.bytes ++ last_piece s.writing.image) wrote.1)) c.finish.ensures.ok
+    (all-written Says replacement first wrote.last c.write_long.new.parser wrote.taken (string_bytes c.args.out.now) (string_bytes c.finish.new.out) new (joined Says replacement first behind wrote.last old mid new kept wrote.some) wrote.asks wrote.none) c.finish.ensures.ok
 
 pub returns-in-Over : goal.returns-in-Over
 returns-in-Over g c =
-    let h = subst (λ n. GivesAs g.F.BrokenLinkCallback.answers g.E.EntityLookup.replacement c.loop-writer.parser n c.next_short.new.self) c.in-Over.is c.in_ok-short.ensures in
+    let Says = g.F.BrokenLinkCallback.answers in
+    let replacement = g.E.EntityLookup.replacement in
+    let parser = c.loop-writer.parser in
+    let behind = c.next_short.new.self in
+    let mid = written (writing c.loop-writer.writer) (string_bytes c.loop-writer.out) in
+    let h = subst (λ n. GivesAs Says replacement parser (as_next n) behind) c.in-Over.is c.in_ok-short.ensures in
     on_ok_weaker c.finish-in-Over.result
-    (λ more. so-far-end g.F.BrokenLinkCallback.answers g.E.EntityLookup.replacement c.args.parser.now c.loop-writer.parser c.next_short.new.self h.answers.taken (writing c.loop-writer.writer) (string_bytes c.args.out.now) (string_bytes c.loop-writer.out) (string_bytes c.finish-in-Over.new.out) c.loop-writer.invariant h.answers.asks h.answers.none more) c.finish-in-Over.ensures.ok
+    (all-written Says replacement c.args.parser.now parser behind h.answers.taken (string_bytes c.args.out.now) (string_bytes c.finish-in-Over.new.out) mid c.loop-writer.invariant.0 h.answers.asks h.answers.none) c.finish-in-Over.ensures.ok
