@@ -26,7 +26,7 @@ use Rattle.cmark_text.specs.Shown.{shown}
 use Rattle.cmark_text.specs.declared.ranged.Ranged.{Ranged as Item}
 use Rattle.pulldown_cmark.specs.declared.parse.Parser.{Parser}
 use Rattle.pulldown_cmark.specs.Parsing.{Asks, CanGo, GivesAs, GivesStep, Passes, Reads, Remains, callback_of}
-use Rattle.pulldown_cmark.specs.Rendering.{IsHtmlOf, WritesSome, Written, events_of, written}
+use Rattle.pulldown_cmark.specs.Rendering.{IsHtmlOf, IsHtmlOfRest, WritesSome, Written, events_of, written}
 use Rattle.pulldown_cmark.specs.Walking.{profile}
 use Rattle.pulldown_cmark.proofs.ParseSteps.{none-answered}
 
@@ -147,22 +147,22 @@ module _ {E F : Type 0} (Says : F → BrokenLink → Option (CowStr × CowStr) �
 
   -- behind the last event
   pub all-written : (first parser new : Parser E F) (taken : List Exchange) (old out : List ℕ) (s : Written) → WritesSome Says replacement first (written at_line_start old) parser s → Asks Says parser taken new → Remains replacement parser taken []
-      → out ≡ s.bytes ++ last_piece s.writing.image → (exchanges : List Exchange) × (events : List Ranged) × Remains replacement first exchanges events × Asks Says first exchanges new × (out ≡ old ++ html (events_of events))
-  all-written first parser new taken old out s some asks none out_is = (
-    some.passes.taken ++ taken,
-    some.given,
-    subst (Remains replacement first (some.passes.taken ++ taken)) (append-nil some.given) (some.passes.back taken [] none),
-    asks-on first parser new some.passes.taken taken some.passes.asks asks,
-    written_end s.writing (events_of some.given) old s.bytes out some.bytes some.writing out_is,
-  )
+      → out ≡ s.bytes ++ last_piece s.writing.image → IsHtmlOfRest Says replacement first new old out
+  all-written first parser new taken old out s some asks none out_is = record {
+    exchanges = some.passes.taken ++ taken;
+    events = some.given;
+    left = subst (Remains replacement first (some.passes.taken ++ taken)) (append-nil some.given) (some.passes.back taken [] none);
+    asks = asks-on first parser new some.passes.taken taken some.passes.asks asks;
+    bytes = written_end s.writing (events_of some.given) old s.bytes out some.bytes some.writing out_is;
+  }
 
   -- where the HTML of all events of a parser at its start stands behind nothing, and it has no callback, it is the HTML of the parser's text
-  pub rendered : (parser last : Parser E F) (text : List ℕ) (options : Options) (lookup : Lookup) (old new : List ℕ) → Reads replacement text options lookup parser → callback_of parser ≡ None → old ≡ []
-      → (exchanges : List Exchange) × (events : List Ranged) × Remains replacement parser exchanges events × Asks Says parser exchanges last × (new ≡ old ++ html (events_of events)) → IsHtmlOf text options lookup new
-  rendered parser last text options lookup old new reads silent none pushed =
-      let unanswered = none-answered Says pushed.0 (callback_of last) (subst (λ (o : Option F). Answered (AnswersIfAny Says) pushed.0 o (callback_of last)) silent pushed.3) in
+  pub rendered : (parser last : Parser E F) (text : List ℕ) (options : Options) (lookup : Lookup) (out : List ℕ) → Reads replacement text options lookup parser → callback_of parser ≡ None → IsHtmlOfRest Says replacement parser last [] out
+      → IsHtmlOf text options lookup out
+  rendered parser last text options lookup out reads silent all =
+      let unanswered = none-answered Says all.exchanges (callback_of last) (subst (λ (o : Option F). Answered (AnswersIfAny Says) all.exchanges o (callback_of last)) silent all.asks) in
       record {
-        events = pushed.1;
-        reading = reading-silent text (profile text options lookup true) pushed.0 pushed.1 unanswered (reads.reads pushed.0 pushed.1 pushed.2);
-        output_is = pushed.4 ∙ ap (λ bytes. bytes ++ html (events_of pushed.1)) none;
+        events = all.events;
+        reading = reading-silent text (profile text options lookup true) all.exchanges all.events unanswered (reads.reads all.exchanges all.events all.left);
+        output_is = all.bytes;
       }

@@ -40,6 +40,14 @@ module _ {E F : Type 0} (Says : F → BrokenLink → Option (CowStr × CowStr) �
     pub bytes : after.bytes ≡ before.bytes ++ piece before.writing (shown given.event)
     pub writing : after.writing ≡ moved before.writing (shown given.event)
 
+  -- behind the old bytes stands the HTML of all events that were left, with the questions that were put
+  pub record IsHtmlOfRest (old new : Parser E F) (before after : List ℕ) : Type 0 where
+    pub exchanges : List Exchange
+    pub events : List Ranged
+    pub left : Remains replacement old exchanges events
+    pub asks : Asks Says old exchanges new
+    pub bytes : after ≡ before ++ html (events_of events)
+
   -- these events were given, and their pieces were appended
   pub record WritesSome (old : Parser E F) (before : Written) (new : Parser E F) (after : Written) : Type 0 where
     pub given : List Ranged

@@ -1,13 +1,11 @@
 //! The HTML of events, and of a text.
 
-ghost use Rattle.std.specs.Prelude.{◌≡◌, ◌++◌, List, IfOk, OnOk, string_bytes};
-ghost use Rattle.cmark_grammar.specs.Event.{Ranged};
-ghost use Rattle.cmark_grammar.specs.Html.{html};
-ghost use Rattle.cmark_grammar.specs.Questions.{Exchange};
+ghost use Rattle.std.specs.Prelude.{◌≡◌, [], IfOk, OnOk, string_bytes};
+ghost use Rattle.cmark_grammar.specs.Html.{at_line_start};
 ghost use Rattle.cmark_html.specs.Writer.{writing};
 ghost use Rattle.cmark_text.specs.Shown.{shown_options};
-ghost use Rattle.pulldown_cmark.specs.Parsing.{Asks, CanGo, Remains};
-ghost use Rattle.pulldown_cmark.specs.Rendering.{IsHtmlOf, WritesLong, WritesNext, events_of, written};
+ghost use Rattle.pulldown_cmark.specs.Parsing.{CanGo};
+ghost use Rattle.pulldown_cmark.specs.Rendering.{IsHtmlOf, IsHtmlOfRest, WritesLong, WritesNext, written};
 
 use crate::parse::Parser;
 pub use cmark_html::push_html;
@@ -30,37 +28,61 @@ pub fn to_html<E: EntityLookup>(
 ) -> Result<String, AllocError>
     ensures { IfOk result (λ html. IsHtmlOf text.now (shown_options options) (E.replacement entities.now) (string_bytes html)) }
 {
-    let parser = Parser::new_ext(alloc, text, options, entities)?;
+    let mut parser = Parser::new_ext(alloc, text, options, entities)?;
     // There is room at once for the HTML of most texts, which are longer by their elements: a string that grows is there twice.
     let room = text.len().saturating_add(text.len() / 8);
-    let mut html = String::with_capacity(alloc, room)?;
-    let mut parser = parser;
-    render(&mut html, &mut parser)?;
-    Ok(html)
+    // The parser is lent, so that it is let go at one place: each way out of a function lets go all that it holds.
+    html_of(alloc, room, &mut parser)
 }
 
-// Appends the HTML of the events that a parser still has to give. Of most of them no event is made.
+// The HTML of the events that a parser still has to give, in a string that has room for so many bytes at once.
+fn html_of<'a, E: EntityLookup, F: BrokenLinkCallback<'a> + Drop>(
+    alloc: Global,
+    room: usize,
+    parser: &mut Parser<'a, E, F>,
+) -> Result<String, AllocError>
+    requires { CanGo E.replacement parser.old }
+    ensures { IfOk result (λ output. IsHtmlOfRest F.answers E.replacement parser.old parser.new [] (string_bytes output)) }
+{
+    let mut output = String::with_capacity(alloc, room)?;
+    render(&mut output, parser)?;
+    Ok(output)
+}
+
+// Appends the same.
 fn render<'a, E: EntityLookup, F: BrokenLinkCallback<'a> + Drop>(
     out: &mut String,
     parser: &mut Parser<'a, E, F>,
 ) -> Result<(), AllocError>
     requires { CanGo E.replacement parser.old }
-    ensures { OnOk result ((exchanges : List Exchange) × (events : List Ranged) × Remains E.replacement parser.old exchanges events
-        × Asks F.answers parser.old exchanges parser.new × (string_bytes out.new ≡ string_bytes out.old ++ html (events_of events))) }
+    ensures { OnOk result (IsHtmlOfRest F.answers E.replacement parser.old parser.new (string_bytes out.old) (string_bytes out.new)) }
 {
-    let mut writer = Writer::new(*out.allocator());
+    let mut writer: Writer<'a> = Writer::new(*out.allocator());
+    write_all(out, &mut writer, parser)
+}
+
+// Appends the HTML of the events that a parser still has to give, by a writer that has written nothing yet. Of most of them no event is made.
+fn write_all<'a, E: EntityLookup, F: BrokenLinkCallback<'a> + Drop>(
+    out: &mut String,
+    writer: &mut Writer<'a>,
+    parser: &mut Parser<'a, E, F>,
+) -> Result<(), AllocError>
+    requires goes { CanGo E.replacement parser.old }
+    requires begins { writing writer.old ≡ at_line_start }
+    ensures { OnOk result (IsHtmlOfRest F.answers E.replacement parser.old parser.new (string_bytes out.old) (string_bytes out.new)) }
+{
     loop {
         match parser.next_short()? {
             // The two calls are inlined, each for what comes there: a span is followed by other events than a block.
-            Coming::Span(short) => write_short(out, &mut writer, short)?,
-            Coming::Block(short) => write_short(out, &mut writer, short)?,
+            Coming::Span(short) => write_short(out, writer, short)?,
+            Coming::Block(short) => write_short(out, writer, short)?,
             Coming::Long => {
-                let is_given = write_long(out, &mut writer, parser)?;
+                let is_given = write_long(out, writer, parser)?;
                 if !is_given {
-                    return finish(out, &writer);
+                    return finish(out, writer);
                 }
             }
-            Coming::Over => return finish(out, &writer),
+            Coming::Over => return finish(out, writer),
         }
     }
 }

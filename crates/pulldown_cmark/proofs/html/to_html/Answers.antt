@@ -1,5 +1,7 @@
+use Rattle.std.proofs.Common.{string_bytes}
+use Rattle.std.proofs.lemmas.Result.{IfOk-weaker}
 use Rattle.pulldown_cmark.proofs.RenderSteps.{rendered}
 use Rattle.pulldown_cmark.proofs.html.to_html.Goals as goal
 
 pub returns : goal.returns
-returns g c = rendered _ _ c.in_ok-parser.parser c.render.new.parser c.args.text.now _ _ _ _ c.in_ok-parser.ensures.reads c.in_ok-parser.ensures.callback c.in_ok-html.ensures.bytes c.in_ok-render.ensures
+returns g c = IfOk-weaker c.html_of.result _ _ (λ output all. rendered _ _ c.in_ok-parser.parser c.html_of.new.parser c.args.text.now _ _ (string_bytes output) c.in_ok-parser.ensures.reads c.in_ok-parser.ensures.callback all) c.html_of.ensures

@@ -3,11 +3,11 @@ use Rattle.cmark_grammar.specs.Html.{at_line_start}
 use Rattle.cmark_html.specs.Writer.{writing}
 use Rattle.pulldown_cmark.specs.Parsing.{events_left}
 use Rattle.pulldown_cmark.specs.Rendering.{WritesSome, written}
-use Rattle.pulldown_cmark.proofs.html.render.Given as goal
+use Rattle.pulldown_cmark.proofs.html.write_all.Given as goal
 
-abbrev pub invariant-loop-writer : goal.invariant-loop-writer
-invariant-loop-writer g l =
+abbrev pub invariant-loop-short : goal.invariant-loop-short
+invariant-loop-short g l =
     WritesSome g.F.BrokenLinkCallback.answers g.E.EntityLookup.replacement l.initial.parser (written at_line_start (string_bytes l.initial.out)) l.parser (written (writing l.writer) (string_bytes l.out)) × ((writing l.writer).image ≡ None)
 
-abbrev pub decreases-loop-writer : goal.decreases-loop-writer
-decreases-loop-writer g l = events_left l.parser
+abbrev pub decreases-loop-short : goal.decreases-loop-short
+decreases-loop-short g l = events_left l.parser

@@ -6,61 +6,61 @@ use Rattle.cmark_span_walk.specs.Walking.{as_next}
 use Rattle.pulldown_cmark.specs.Parsing.{GivesAs}
 use Rattle.pulldown_cmark.specs.Rendering.{WritesLong, WritesSome, written}
 use Rattle.pulldown_cmark.proofs.RenderSteps.{all-written, joined, long-kept, none-open, none-written, short-written}
-use Rattle.pulldown_cmark.proofs.html.render.Goals as goal
+use Rattle.pulldown_cmark.proofs.html.write_all.Goals as goal
 
-pub loop-writer-init : goal.loop-writer-init
-loop-writer-init g c =
+pub loop-short-init : goal.loop-short-init
+loop-short-init g c =
     let Says = g.F.BrokenLinkCallback.answers in
     let replacement = g.E.EntityLookup.replacement in
     let parser = c.args.parser.now in
     let bytes = string_bytes c.args.out.now in
     let old = written at_line_start bytes in
-    (subst (λ w. WritesSome Says replacement parser old parser (written w bytes)) (sym c.new-writer.ensures) (none-written Says replacement parser old c.requires), ap Writing.image c.new-writer.ensures)
+    (subst (λ w. WritesSome Says replacement parser old parser (written w bytes)) (sym c.requires.begins) (none-written Says replacement parser old c.requires.goes), ap Writing.image c.requires.begins)
 
-pub loop-writer-preserved-in-Continue-branch-3 : goal.loop-writer-preserved-in-Continue-branch-3
-loop-writer-preserved-in-Continue-branch-3 g c =
+pub loop-short-preserved-in-Continue-branch-3 : goal.loop-short-preserved-in-Continue-branch-3
+loop-short-preserved-in-Continue-branch-3 g c =
     let Says = g.F.BrokenLinkCallback.answers in
     let replacement = g.E.EntityLookup.replacement in
-    let parser = c.loop-writer.parser in
+    let parser = c.loop-short.parser in
     let behind = c.next_short.new.self in
     let short = c.in-Span.short in
     let old = written at_line_start (string_bytes c.args.out.now) in
-    let mid = written (writing c.loop-writer.writer) (string_bytes c.loop-writer.out) in
+    let mid = written (writing c.loop-short.writer) (string_bytes c.loop-short.out) in
     let new = written (writing c.write_short.new.writer) (string_bytes c.write_short.new.out) in
     let e = c.in_ok-write_short-in-Span.ensures in
     let h = subst (λ n. GivesAs Says replacement parser (as_next n) behind) c.in-Span.is c.in_ok-short.ensures in (
-      joined Says replacement c.args.parser.now parser behind old mid new c.loop-writer.invariant.0 (short-written Says replacement parser behind short mid new h c.loop-writer.invariant.1 e.ok e.state),
+      joined Says replacement c.args.parser.now parser behind old mid new c.loop-short.invariant.0 (short-written Says replacement parser behind short mid new h c.loop-short.invariant.1 e.ok e.state),
       none-open mid.writing new.writing short e.state,
     )
 
-pub loop-writer-preserved-in-Continue-branch-4 : goal.loop-writer-preserved-in-Continue-branch-4
-loop-writer-preserved-in-Continue-branch-4 g c =
+pub loop-short-preserved-in-Continue-branch-4 : goal.loop-short-preserved-in-Continue-branch-4
+loop-short-preserved-in-Continue-branch-4 g c =
     let Says = g.F.BrokenLinkCallback.answers in
     let replacement = g.E.EntityLookup.replacement in
-    let parser = c.loop-writer.parser in
+    let parser = c.loop-short.parser in
     let behind = c.next_short.new.self in
     let short = c.in-Block.short in
     let old = written at_line_start (string_bytes c.args.out.now) in
-    let mid = written (writing c.loop-writer.writer) (string_bytes c.loop-writer.out) in
+    let mid = written (writing c.loop-short.writer) (string_bytes c.loop-short.out) in
     let new = written (writing c.write_short-in-Block.new.writer) (string_bytes c.write_short-in-Block.new.out) in
     let e = c.in_ok-write_short-in-Block.ensures in
     let h = subst (λ n. GivesAs Says replacement parser (as_next n) behind) c.in-Block.is c.in_ok-short.ensures in (
-      joined Says replacement c.args.parser.now parser behind old mid new c.loop-writer.invariant.0 (short-written Says replacement parser behind short mid new h c.loop-writer.invariant.1 e.ok e.state),
+      joined Says replacement c.args.parser.now parser behind old mid new c.loop-short.invariant.0 (short-written Says replacement parser behind short mid new h c.loop-short.invariant.1 e.ok e.state),
       none-open mid.writing new.writing short e.state,
     )
 
-pub loop-writer-preserved : goal.loop-writer-preserved
-loop-writer-preserved g c =
+pub loop-short-preserved : goal.loop-short-preserved
+loop-short-preserved g c =
     let Says = g.F.BrokenLinkCallback.answers in
     let replacement = g.E.EntityLookup.replacement in
     let first = c.args.parser.now in
-    let parser = c.loop-writer.parser in
+    let parser = c.loop-short.parser in
     let behind = c.next_short.new.self in
     let old = written at_line_start (string_bytes c.args.out.now) in
-    let mid = written (writing c.loop-writer.writer) (string_bytes c.loop-writer.out) in
+    let mid = written (writing c.loop-short.writer) (string_bytes c.loop-short.out) in
     let new = written (writing c.write_long.new.writer) (string_bytes c.write_long.new.out) in
     let h = subst (λ n. GivesAs Says replacement parser (as_next n) behind) c.in-Long.is c.in_ok-short.ensures in
-    let kept = joined Says replacement first parser behind old mid mid c.loop-writer.invariant.0 (long-kept Says replacement parser behind mid h) in
+    let kept = joined Says replacement first parser behind old mid mid c.loop-short.invariant.0 (long-kept Says replacement parser behind mid h) in
     let wrote = subst (λ b. WritesLong Says replacement b behind mid c.write_long.new.parser new) c.if-not-is_given.false c.in_ok-is_given-in-Long.ensures in
     (joined Says replacement first behind c.write_long.new.parser old mid new kept wrote.some, wrote.closed)
 
@@ -69,13 +69,13 @@ returns-then-not-is_given g c =
     let Says = g.F.BrokenLinkCallback.answers in
     let replacement = g.E.EntityLookup.replacement in
     let first = c.args.parser.now in
-    let parser = c.loop-writer.parser in
+    let parser = c.loop-short.parser in
     let behind = c.next_short.new.self in
     let old = written at_line_start (string_bytes c.args.out.now) in
-    let mid = written (writing c.loop-writer.writer) (string_bytes c.loop-writer.out) in
+    let mid = written (writing c.loop-short.writer) (string_bytes c.loop-short.out) in
     let new = written (writing c.write_long.new.writer) (string_bytes c.write_long.new.out) in
     let h = subst (λ n. GivesAs Says replacement parser (as_next n) behind) c.in-Long.is c.in_ok-short.ensures in
-    let kept = joined Says replacement first parser behind old mid mid c.loop-writer.invariant.0 (long-kept Says replacement parser behind mid h) in
+    let kept = joined Says replacement first parser behind old mid mid c.loop-short.invariant.0 (long-kept Says replacement parser behind mid h) in
     let wrote = subst (λ b. WritesLong Says replacement b behind mid c.write_long.new.parser new) c.if-not-is_given.true c.in_ok-is_given-in-Long.ensures in
     on_ok_weaker c.finish.result
     (all-written Says replacement first wrote.last c.write_long.new.parser wrote.taken (string_bytes c.args.out.now) (string_bytes c.finish.new.out) new (joined Says replacement first behind wrote.last old mid new kept wrote.some) wrote.asks wrote.none) c.finish.ensures.ok
@@ -84,9 +84,9 @@ pub returns-in-Over : goal.returns-in-Over
 returns-in-Over g c =
     let Says = g.F.BrokenLinkCallback.answers in
     let replacement = g.E.EntityLookup.replacement in
-    let parser = c.loop-writer.parser in
+    let parser = c.loop-short.parser in
     let behind = c.next_short.new.self in
-    let mid = written (writing c.loop-writer.writer) (string_bytes c.loop-writer.out) in
+    let mid = written (writing c.loop-short.writer) (string_bytes c.loop-short.out) in
     let h = subst (λ n. GivesAs Says replacement parser (as_next n) behind) c.in-Over.is c.in_ok-short.ensures in
     on_ok_weaker c.finish-in-Over.result
-    (all-written Says replacement c.args.parser.now parser behind h.answers.taken (string_bytes c.args.out.now) (string_bytes c.finish-in-Over.new.out) mid c.loop-writer.invariant.0 h.answers.asks h.answers.none) c.finish-in-Over.ensures.ok
+    (all-written Says replacement c.args.parser.now parser behind h.answers.taken (string_bytes c.args.out.now) (string_bytes c.finish-in-Over.new.out) mid c.loop-short.invariant.0 h.answers.asks h.answers.none) c.finish-in-Over.ensures.ok
