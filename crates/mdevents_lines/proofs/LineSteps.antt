@@ -9,7 +9,6 @@ use Rattle.cmark_grammar.specs.Options.{Options}
 use Rattle.cmark_text.specs.declared.event.Event.{Event}
 use Rattle.cmark_text.specs.declared.text.CowStr.{CowStr}
 use Rattle.cmark_inline.specs.declared.callback.BrokenLink.{BrokenLink}
-use Rattle.cmark_inline.specs.declared.callback.DefaultBrokenLinkCallback.{DefaultBrokenLinkCallback}
 use Rattle.cmark_json.specs.Lines.{line, lines}
 use Rattle.mdevents_lines.specs.Renders.{AreLinesOf}
 use Rattle.pulldown_cmark.specs.declared.parse.OffsetIter.{OffsetIter}
@@ -31,10 +30,6 @@ written_more items item mid new before more =
 pub given_more : {E : Type 0} (all : List (Result (Event × Range ℕ) E)) (one : Result (Event × Range ℕ) E) (items : List (Event × Range ℕ)) (item : Event × Range ℕ) → all ≡ map Ok items → one ≡ Ok item
     → all ++ one ∷ [] ≡ map Ok (items ++ item ∷ [])
 given_more all one items item p q = ap (λ l. l ++ one ∷ []) p ∙ ap (λ z. map Ok items ++ z ∷ []) q ∙ sym (map_push Ok items item)
-
--- what the callback answers that stands for none
-abbrev pub says-nothing : DefaultBrokenLinkCallback → BrokenLink → Option (CowStr × CowStr) → DefaultBrokenLinkCallback → Type 0
-says-nothing before link answer after = answer ≡ None
 
 module _ {E F : Type 0} (Says : F → BrokenLink → Option (CowStr × CowStr) → F → Type 0) (replacement : E → Lookup) where
   -- the lines of all items of a walk from its start, without a callback, are what its text is rendered as

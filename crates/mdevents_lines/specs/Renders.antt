@@ -1,10 +1,18 @@
 -- What a text is rendered as.
-use Rattle.std.specs.Prelude.{◌≡◌, ℕ, false, List, []}
+use Rattle.std.specs.Prelude.{◌≡◌, ℕ, false, List, [], map, Option, None, Ok}
+use Rattle.std.specs.Iterator.{YieldsThen}
+use Rattle.std.specs.declared.ops.Range.{Range}
 use Rattle.cmark_grammar.specs.Answers.{Lookup}
 use Rattle.cmark_grammar.specs.Event.{Ranged}
 use Rattle.cmark_grammar.specs.Options.{Options}
 use Rattle.cmark_grammar.specs.SpanDocuments.{IsReading}
+use Rattle.cmark_inline.specs.declared.callback.BrokenLink.{BrokenLink}
+use Rattle.cmark_inline.specs.declared.callback.DefaultBrokenLinkCallback.{DefaultBrokenLinkCallback}
 use Rattle.cmark_json.specs.Lines.{lines}
+use Rattle.cmark_text.specs.declared.event.Event.{Event}
+use Rattle.cmark_text.specs.declared.text.CowStr.{CowStr}
+use Rattle.pulldown_cmark.specs.declared.parse.OffsetIter.{OffsetIter}
+use Rattle.pulldown_cmark.specs.Parsing.{GivesRanged, shown_item}
 use Rattle.pulldown_cmark.specs.Walking.{profile}
 
 -- the output is a line for each event of the reading of the text, without a callback
@@ -12,3 +20,13 @@ pub record AreLinesOf (text : List ℕ) (options : Options) (lookup : Lookup) (o
   pub events : List Ranged
   pub reading : IsReading text (profile text options lookup false) [] events
   pub output_is : output ≡ lines events
+
+-- what the callback answers that stands for none
+abbrev pub says-nothing : DefaultBrokenLinkCallback → BrokenLink → Option (CowStr × CowStr) → DefaultBrokenLinkCallback → Type 0
+says-nothing before link answer after = answer ≡ None
+
+-- a walk without a callback gave all items that were left, and the output is a line for each
+pub record AreLinesOfRest {E : Type 0} (replacement : E → Lookup) (old new : OffsetIter E DefaultBrokenLinkCallback) (output : List ℕ) : Type 0 where
+  pub items : List (Event × Range ℕ)
+  pub yields : YieldsThen (GivesRanged says-nothing replacement) old (map Ok items) None new
+  pub output_is : output ≡ lines (map shown_item items)

@@ -3,10 +3,11 @@
 
 ghost use Rattle.std.specs.Prelude.{IfOk, string_bytes};
 ghost use Rattle.cmark_text.specs.Shown.{shown_options};
-ghost use Rattle.mdevents_lines.specs.Renders.{AreLinesOf};
+ghost use Rattle.pulldown_cmark.specs.Parsing.{CanGoRanged};
+ghost use Rattle.mdevents_lines.specs.Renders.{AreLinesOf, AreLinesOfRest};
 
 use cmark_json::append_given;
-use pulldown_cmark::{EntityLookup, Options, Parser};
+use pulldown_cmark::{EntityLookup, OffsetIter, Options, Parser};
 use std::alloc::{AllocError, Global};
 
 /// A line of JSON for each event of a text, with its range, read with these options. `entities` says what the entity names stand
@@ -20,8 +21,20 @@ pub fn to_json_lines<E: EntityLookup>(
     ensures { IfOk result (λ output. AreLinesOf text.now (shown_options options) (E.replacement entities.now) (string_bytes output)) }
 {
     let parser = Parser::new_ext(alloc, text, options, entities)?;
-    let mut output = String::new(alloc);
     let mut iter = parser.into_offset_iter();
+    // The walk is lent, so that it is let go at one place: each way out of a function lets go all that it holds.
+    lines_of(alloc, &mut iter)
+}
+
+// A line for each event that a walk still has to give.
+fn lines_of<'a, E: EntityLookup>(
+    alloc: Global,
+    iter: &mut OffsetIter<'a, E>,
+) -> Result<String, AllocError>
+    requires { CanGoRanged E.replacement iter.old }
+    ensures { IfOk result (λ output. AreLinesOfRest E.replacement iter.old iter.new (string_bytes output)) }
+{
+    let mut output = String::new(alloc);
     while let Some(item) = iter.next() {
         let (event, range) = item?;
         append_given(&mut output, alloc, event, range)?;

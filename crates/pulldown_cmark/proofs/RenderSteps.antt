@@ -4,7 +4,7 @@ use Rattle.std.proofs.lemmas.List.{map-append}
 use Rattle.std.specs.Prelude.{is_some}
 use Rattle.cmark_grammar.specs.Answers.{Lookup}
 use Rattle.cmark_grammar.specs.Event.{Ranged}
-use Rattle.cmark_grammar.specs.Html.{Writing, at_line_start, piece, piece_in, piece_outside, pieces_from, moved, moved_all, moved_in, moved_outside, opened_by, opened_image, last_piece, html}
+use Rattle.cmark_grammar.specs.Html.{Writing, at_line_start, piece, piece_in, piece_outside, pieces_from, moved, moved_all, moved_in, moved_outside, opened_by, opened_image, last_piece}
 use Rattle.cmark_grammar.specs.Options.{Options}
 use Rattle.cmark_grammar.specs.Questions.{Exchange}
 use Rattle.cmark_html.proofs.HtmlSteps.{moved_all-joined, pieces_from-joined, written_end}

@@ -1,23 +1,11 @@
-use Rattle.std.proofs.Common.{ℕ, [], ◌∷◌, ◌++◌, subst}
-use Rattle.std.specs.Iterator.{Yields}
-use Rattle.std.specs.declared.ops.Range.{Range}
-use Rattle.cmark_text.specs.declared.event.Event.{Event}
-use Rattle.pulldown_cmark.specs.Parsing.{GivesRanged}
-use Rattle.mdevents_lines.proofs.LineSteps.{given_more, rendered, says-nothing, written_more}
+use Rattle.std.proofs.Common.{string_bytes}
+use Rattle.std.proofs.lemmas.Result.{IfOk-weaker}
+use Rattle.mdevents_lines.specs.Renders.{says-nothing}
+use Rattle.mdevents_lines.proofs.LineSteps.{rendered}
 use Rattle.mdevents_lines.proofs.to_json_lines.Goals as goal
-
-pub loop-item-preserved : goal.loop-item-preserved
-loop-item-preserved g c =
-    let i = c.loop-item.invariant.so_far in
-    let item : Event × Range ℕ = (c.in_ok-event.event, c.in_ok-event.range) in
-    record {
-      can = c.in-Some.ensures.goes.keeps;
-      so_far = (i.0 ++ item ∷ [], given_more _ _ i.0 item i.1 c.in_ok-event.was, written_more i.0 item _ _ i.2 c.in_ok-append_given.ensures);
-    }
 
 pub returns : goal.returns
 returns g c =
-    let i = c.loop-item.invariant.so_far in
-    let given = subst (λ items. Yields (GivesRanged says-nothing g.E.EntityLookup.replacement) c.into_offset_iter-iter.result items c.loop-item.iter) i.1 c.loop-item.yielded_by in
-    rendered says-nothing g.E.EntityLookup.replacement c.in_ok-parser.parser c.into_offset_iter-iter.result c.args.text.now _ _ i.0 _ c.into_offset_iter-iter.ensures.walk c.in_ok-parser.ensures.callback c.in_ok-parser.ensures.reads
-    (c.next.new.self, (c.loop-item.iter, given, c.in_default.ensures.steps)) i.2
+    IfOk-weaker c.lines_of.result _ _
+    (λ output all. rendered says-nothing g.E.EntityLookup.replacement c.in_ok-parser.parser c.into_offset_iter-iter.result c.args.text.now _ _ all.items (string_bytes output) c.into_offset_iter-iter.ensures.walk c.in_ok-parser.ensures.callback c.in_ok-parser.ensures.reads (c.lines_of.new.iter, all.yields) all.output_is)
+    c.lines_of.ensures
