@@ -9,44 +9,62 @@ use cmark_tree::TreeSpan;
 use std::alloc::{AllocError, Global};
 use std::test::Fail;
 
-#[test]
-fn texts_are_kept_and_taken(rt: HostRuntime) -> Result<(), Fail> {
-    let mut tables = Allocations::new(rt.alloc());
+// The tables are lent to what is asked of them, and let go before it is said whether that holds: each way out of a function lets go all that
+// the function holds, and its proof is as long as that.
+
+fn keeps_texts(tables: &mut Allocations<'static>) -> Result<bool, AllocError> {
     let one = tables.allocate_cow(CowStr::Borrowed("one"))?;
     let two = tables.allocate_cow(CowStr::Borrowed("two"))?;
-    assert_eq!(rt; tables[one].as_str(), "one");
-    assert_eq!(rt; tables[two].as_str(), "two");
-    assert_eq!(rt; tables.take_cow(one).as_str(), "one");
-    assert_eq!(rt; tables[one].as_str(), "");
-    assert_eq!(rt; tables[two].as_str(), "two");
-    Ok(())
+    let are_kept = tables[one].as_str() == "one" && tables[two].as_str() == "two";
+    let is_taken = tables.take_cow(one).as_str() == "one";
+    Ok(are_kept && is_taken && tables[one].as_str() == "" && tables[two].as_str() == "two")
 }
 
 #[test]
-fn links_are_kept_and_taken(rt: HostRuntime) -> Result<(), Fail> {
+fn texts_are_kept_and_taken(rt: HostRuntime) -> Result<(), Fail> {
     let mut tables = Allocations::new(rt.alloc());
+    let holds = keeps_texts(&mut tables);
+    drop(tables);
+    assert!(rt; holds?);
+    Ok(())
+}
+
+fn keeps_links(tables: &mut Allocations<'static>) -> Result<bool, AllocError> {
     let index = tables.allocate_link(
         LinkType::Inline,
         CowStr::Borrowed("/u"),
         CowStr::Borrowed("t"),
         CowStr::Borrowed(""),
     )?;
-    assert_eq!(rt; tables[index].dest_url.as_str(), "/u");
-    let link = tables.take_link(index);
-    assert_eq!(rt; link.title.as_str(), "t");
-    assert_eq!(rt; tables[index].link_type, LinkType::ShortcutUnknown);
-    assert_eq!(rt; tables[index].dest_url.as_str(), "");
+    let is_kept = tables[index].dest_url.as_str() == "/u";
+    let is_taken = tables.take_link(index).title.as_str() == "t";
+    let is_none = tables[index].link_type == LinkType::ShortcutUnknown;
+    Ok(is_kept && is_taken && is_none && tables[index].dest_url.as_str() == "")
+}
+
+#[test]
+fn links_are_kept_and_taken(rt: HostRuntime) -> Result<(), Fail> {
+    let mut tables = Allocations::new(rt.alloc());
+    let holds = keeps_links(&mut tables);
+    drop(tables);
+    assert!(rt; holds?);
     Ok(())
+}
+
+fn keeps_alignments(alloc: Global, tables: &mut Allocations<'static>) -> Result<bool, AllocError> {
+    let row = Vec::from_slice(alloc, &[Alignment::Left, Alignment::None])?;
+    let index = tables.allocate_alignment(row)?;
+    let is_kept = tables[index].len() == 2;
+    let is_taken = tables.take_alignment(index).len() == 2;
+    Ok(is_kept && is_taken && tables[index].is_empty())
 }
 
 #[test]
 fn alignments_are_kept_and_taken(rt: HostRuntime) -> Result<(), Fail> {
     let mut tables = Allocations::new(rt.alloc());
-    let row = Vec::from_slice(rt.alloc(), &[Alignment::Left, Alignment::None])?;
-    let index = tables.allocate_alignment(row)?;
-    assert_eq!(rt; tables[index].len(), 2);
-    assert_eq!(rt; tables.take_alignment(index).len(), 2);
-    assert_eq!(rt; tables[index].len(), 0);
+    let holds = keeps_alignments(rt.alloc(), &mut tables);
+    drop(tables);
+    assert!(rt; holds?);
     Ok(())
 }
 
@@ -89,18 +107,27 @@ fn copies_of_a_definition_are_equal(rt: HostRuntime) -> Result<(), Fail> {
     Ok(())
 }
 
+fn keeps_the_first_footnote(alloc: Global, defs: &mut FootnoteDefs) -> Result<bool, AllocError> {
+    defs.insert(
+        FootnoteLabel::new(alloc, "A  b")?,
+        FootnoteDef { use_count: 4 },
+    )?;
+    defs.insert(
+        FootnoteLabel::new(alloc, "a B")?,
+        FootnoteDef { use_count: 0 },
+    )?;
+    let is_counted = defs.count_use("a b")? && !defs.count_use("c")?;
+    let is_there = !defs.contains("c")? && defs.contains(" A b")?;
+    let uses = defs.get_mut("a b")?.map(|def| def.use_count);
+    Ok(is_counted && is_there && uses == Some(5))
+}
+
 #[test]
 fn the_first_footnote_of_a_label_stays(rt: HostRuntime) -> Result<(), Fail> {
     let mut defs = FootnoteDefs::new(rt.alloc());
-    let first = FootnoteLabel::new(rt.alloc(), "A  b")?;
-    defs.insert(first, FootnoteDef { use_count: 4 })?;
-    let second = FootnoteLabel::new(rt.alloc(), "a B")?;
-    defs.insert(second, FootnoteDef { use_count: 0 })?;
-    assert_eq!(rt; defs.count_use("a b")?, true);
-    assert_eq!(rt; defs.count_use("c")?, false);
-    assert_eq!(rt; defs.contains("c")?, false);
-    assert_eq!(rt; defs.contains(" A b")?, true);
-    assert_eq!(rt; defs.get_mut("a b")?.map(|def| def.use_count), Some(5));
+    let holds = keeps_the_first_footnote(rt.alloc(), &mut defs);
+    drop(defs);
+    assert!(rt; holds?);
     Ok(())
 }
 

@@ -4,7 +4,6 @@ use cmark_merge::{TextMergeStream, TextMergeWithOffset};
 use cmark_text::{CowStr, Event};
 use std::alloc::AllocError;
 use std::ops::Range;
-use std::test::Fail;
 
 /// A borrowed text at a place.
 fn text_at(text: &str, range: Range<usize>) -> Result<(Event<'_>, Range<usize>), AllocError> {
@@ -20,8 +19,24 @@ fn is_text(event: &Event<'_>, text: &str, is_owned: bool) -> bool {
     }
 }
 
+// What a stream gives is asked of each item in turn, by a function that is lent it: so an item is let go at one place, and the proof of a
+// test is as long as that.
+
+/// Whether an item is what stands at this place of the merged items.
+fn is_merged(place: usize, item: &Result<(Event<'_>, Range<usize>), AllocError>) -> bool {
+    match item {
+        Ok((event, range)) if place == 0 => {
+            is_text(event, "ab", true) && range.start == 1 && range.end == 5
+        }
+        Err(_) => place == 1,
+        Ok((event, range)) => {
+            place == 2 && is_text(event, "c", false) && range.start == 5 && range.end == 6
+        }
+    }
+}
+
 #[test]
-fn merges_runs_with_their_ranges(rt: HostRuntime) -> Result<(), Fail> {
+fn merges_runs_with_their_ranges(rt: HostRuntime) {
     let items = [
         text_at("a", 1..2),
         text_at("", 3..3),
@@ -29,24 +44,28 @@ fn merges_runs_with_their_ranges(rt: HostRuntime) -> Result<(), Fail> {
         Err(AllocError),
         text_at("c", 5..6),
     ];
-    let mut merged = TextMergeWithOffset::new(rt.alloc(), items.into_iter());
-    let Some(Ok((event, range))) = merged.next() else {
-        return Err(Fail::from(AllocError));
-    };
-    assert!(rt; is_text(&event, "ab", true));
-    assert_eq!(rt; (range.start, range.end), (1, 5));
-    assert!(rt; matches!(merged.next(), Some(Err(_))));
-    let Some(Ok((event, range))) = merged.next() else {
-        return Err(Fail::from(AllocError));
-    };
-    assert!(rt; is_text(&event, "c", false));
-    assert_eq!(rt; (range.start, range.end), (5, 6));
-    assert!(rt; merged.next().is_none());
-    Ok(())
+    let mut count = 0usize;
+    let mut holds = true;
+    for item in TextMergeWithOffset::new(rt.alloc(), items.into_iter()) {
+        holds = holds && is_merged(count, &item);
+        drop(item);
+        count = count.saturating_add(1);
+    }
+    assert!(rt; holds);
+    assert_eq!(rt; count, 3);
+}
+
+/// Whether an item is what stands at this place behind the runs of empty texts.
+fn is_kept(place: usize, item: &Result<Event<'_>, AllocError>) -> bool {
+    match item {
+        Ok(Event::Rule) => place < 2,
+        Ok(event) => place == 2 && is_text(event, "", false),
+        Err(_) => false,
+    }
 }
 
 #[test]
-fn drops_runs_of_empty_texts(rt: HostRuntime) -> Result<(), Fail> {
+fn drops_runs_of_empty_texts(rt: HostRuntime) {
     let items = [
         Ok(Event::Rule),
         Ok(Event::Text(CowStr::Borrowed(""))),
@@ -54,10 +73,13 @@ fn drops_runs_of_empty_texts(rt: HostRuntime) -> Result<(), Fail> {
         Ok(Event::Rule),
         Ok(Event::Text(CowStr::Borrowed(""))),
     ];
-    let mut merged = TextMergeStream::new(rt.alloc(), items.into_iter());
-    assert!(rt; matches!(merged.next(), Some(Ok(Event::Rule))));
-    assert!(rt; matches!(merged.next(), Some(Ok(Event::Rule))));
-    assert!(rt; matches!(merged.next(), Some(Ok(Event::Text(CowStr::Borrowed(""))))));
-    assert!(rt; merged.next().is_none());
-    Ok(())
+    let mut count = 0usize;
+    let mut holds = true;
+    for item in TextMergeStream::new(rt.alloc(), items.into_iter()) {
+        holds = holds && is_kept(count, &item);
+        drop(item);
+        count = count.saturating_add(1);
+    }
+    assert!(rt; holds);
+    assert_eq!(rt; count, 3);
 }

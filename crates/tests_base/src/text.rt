@@ -5,7 +5,7 @@ use cmark_text::{
     MetadataBlockKind, Options, StringTooLongError, Tag, TagEnd, escape_href, escape_html,
     escape_html_body_text,
 };
-use std::alloc::AllocError;
+use std::alloc::{AllocError, Global};
 use std::borrow;
 use std::hash::{DefaultHasher, Hash, Hasher};
 use std::test::Fail;
@@ -108,27 +108,37 @@ fn options(rt: HostRuntime) {
     assert!(rt; Options::from_name("ENABLE_MATH") == Some(Options::ENABLE_MATH));
 }
 
+/// Whether two link labels are equal, and whether their hashes are.
+fn compared(alloc: Global, one: &str, other: &str) -> Result<(bool, bool), AllocError> {
+    let one = LinkLabel::new(alloc, one)?;
+    let other = LinkLabel::new(alloc, other)?;
+    Ok((one == other, hash_of(&one) == hash_of(&other)))
+}
+
 #[test]
 fn link_labels(rt: HostRuntime) -> Result<(), AllocError> {
-    let label = LinkLabel::new(rt.alloc(), " a\t b ")?;
-    assert_eq!(rt; label.as_str(), "a b");
-    assert!(rt; label == LinkLabel::new(rt.alloc(), "A B")?);
-    assert!(rt; label != LinkLabel::new(rt.alloc(), "ab")?);
-    let sharp = LinkLabel::new(rt.alloc(), "ẞ")?;
-    let double = LinkLabel::new(rt.alloc(), "SS")?;
-    assert!(rt; sharp == double);
-    assert_eq!(rt; hash_of(&sharp), hash_of(&double));
+    let alloc = rt.alloc();
+    assert_eq!(rt; LinkLabel::new(alloc, " a\t b ")?.as_str(), "a b");
+    assert!(rt; compared(alloc, " a\t b ", "A B")?.0);
+    assert!(rt; !compared(alloc, " a\t b ", "ab")?.0);
+    assert_eq!(rt; compared(alloc, "ẞ", "SS")?, (true, true));
     Ok(())
+}
+
+/// The same of footnote labels.
+fn compared_footnotes(alloc: Global, one: &str, other: &str) -> Result<(bool, bool), AllocError> {
+    let one = FootnoteLabel::new(alloc, one)?;
+    let other = FootnoteLabel::new(alloc, other)?;
+    Ok((one == other, hash_of(&one) == hash_of(&other)))
 }
 
 #[test]
 fn footnote_labels(rt: HostRuntime) -> Result<(), AllocError> {
-    let label = FootnoteLabel::new(rt.alloc(), "\u{c}Ab\r\n\tc")?;
-    assert_eq!(rt; label.as_str(), "Ab c");
-    let folded = FootnoteLabel::new(rt.alloc(), "aB C")?;
-    assert!(rt; label == folded);
-    assert_eq!(rt; hash_of(&label), hash_of(&folded));
-    assert!(rt; label != FootnoteLabel::new(rt.alloc(), "Ab\u{b}c")?);
+    let alloc = rt.alloc();
+    let written = "\u{c}Ab\r\n\tc";
+    assert_eq!(rt; FootnoteLabel::new(alloc, written)?.as_str(), "Ab c");
+    assert_eq!(rt; compared_footnotes(alloc, written, "aB C")?, (true, true));
+    assert!(rt; !compared_footnotes(alloc, written, "Ab\u{b}c")?.0);
     Ok(())
 }
 
