@@ -164,32 +164,59 @@ fn entities(rt: HostRuntime) {
     assert_eq!(rt; BasicEntities.get_entity("Copy"), None);
 }
 
+/// A heading with an attribute of each kind.
+fn heading(alloc: Global) -> Result<Tag<'static>, AllocError> {
+    let classes = vec![in alloc; CowStr::from("wide")]?;
+    let attrs = vec![in alloc; (CowStr::from("lang"), Some(CowStr::from("la")))]?;
+    Ok(Tag::Heading {
+        level: HeadingLevel::H2,
+        id: Some(CowStr::from("top")),
+        classes,
+        attrs,
+    })
+}
+
+/// Whether copies of a tag are equal to it.
+fn has_equal_copies(alloc: Global, tag: &Tag<'_>) -> Result<bool, AllocError> {
+    let copy = tag.clone(alloc)?;
+    let is_equal = copy == *tag;
+    let owned = copy.into_static(alloc)?;
+    Ok(is_equal && owned == *tag)
+}
+
+/// Whether this is a tag's end.
+fn ends_by(tag: Tag<'_>, end: TagEnd) -> bool {
+    let is_end = tag.to_end() == end;
+    is_end && TagEnd::from(tag) == end
+}
+
 #[test]
 fn tags(rt: HostRuntime) -> Result<(), Fail> {
     let alloc = rt.alloc();
-    let heading = Tag::Heading {
-        level: HeadingLevel::H2,
-        id: Some(CowStr::from("top")),
-        classes: vec![in alloc; CowStr::from("wide")]?,
-        attrs: vec![in alloc; (CowStr::from("lang"), Some(CowStr::from("la")))]?,
-    };
-    assert_eq!(rt; heading.to_end(), TagEnd::Heading(HeadingLevel::H2));
-    let copy = heading.clone(alloc)?;
-    assert!(rt; copy == heading);
-    assert!(rt; copy.into_static(alloc)? == heading);
-    assert_eq!(rt; TagEnd::from(heading), TagEnd::Heading(HeadingLevel::H2));
-    assert_eq!(rt; Tag::List(Some(1)).to_end(), TagEnd::List(true));
-    assert_eq!(rt; Tag::List(None).to_end(), TagEnd::List(false));
-    let quote = Tag::BlockQuote(Some(BlockQuoteKind::Tip));
-    assert_eq!(rt;
-        quote.to_end(),
-        TagEnd::BlockQuote(Some(BlockQuoteKind::Tip))
-    );
+    let heading = heading(alloc)?;
+    let holds = has_equal_copies(alloc, &heading);
+    let ends = ends_by(heading, TagEnd::Heading(HeadingLevel::H2));
+    assert!(rt; ends && holds?);
     let table = Tag::Table(vec![in alloc; Alignment::None, Alignment::Right]?);
-    assert!(rt; table.clone(alloc)? == table);
+    let holds = has_equal_copies(alloc, &table);
+    drop(table);
+    assert!(rt; holds?);
+    assert!(rt; ends_by(Tag::List(Some(1)), TagEnd::List(true)));
+    assert!(rt; ends_by(Tag::List(None), TagEnd::List(false)));
+    let kind = Some(BlockQuoteKind::Tip);
+    assert!(rt; ends_by(Tag::BlockQuote(kind), TagEnd::BlockQuote(kind)));
     let metadata = Tag::MetadataBlock(MetadataBlockKind::YamlStyle);
-    assert!(rt; metadata.to_end() != TagEnd::MetadataBlock(MetadataBlockKind::PlusesStyle));
+    let other = TagEnd::MetadataBlock(MetadataBlockKind::PlusesStyle);
+    assert!(rt; !ends_by(metadata, other));
     Ok(())
+}
+
+/// Whether copies of an event are equal to it.
+fn has_equal_event_copies(alloc: Global, event: &Event<'_>) -> Result<bool, AllocError> {
+    let copy = event.clone(alloc)?;
+    let is_equal = copy == *event;
+    let owned = copy.into_static(alloc)?;
+    Ok(is_equal && owned == *event)
 }
 
 #[test]
@@ -201,9 +228,9 @@ fn events(rt: HostRuntime) -> Result<(), Fail> {
         title: CowStr::from(LONG),
         id: CowStr::from(""),
     });
-    let copy = start.clone(alloc)?;
-    assert!(rt; copy == start);
-    assert!(rt; copy.into_static(alloc)? == start);
-    assert!(rt; start != Event::SoftBreak);
+    let holds = has_equal_event_copies(alloc, &start);
+    let differs = start != Event::SoftBreak;
+    drop(start);
+    assert!(rt; differs && holds?);
     Ok(())
 }
