@@ -1,7 +1,16 @@
 //! Which texts of leaves are parts of the source.
 
 use pulldown_cmark::{BasicEntities, CowStr, Event, Parser};
+use std::alloc::AllocError;
 use std::test::Fail;
+
+/// Of HTML inside a line, whether it is a part of the source.
+fn is_part(item: &Result<Event<'_>, AllocError>) -> Option<bool> {
+    match item {
+        Ok(Event::InlineHtml(html)) => Some(matches!(html, CowStr::Borrowed(_))),
+        _ => None,
+    }
+}
 
 #[test]
 fn lends_html_of_the_source(rt: HostRuntime) -> Result<(), Fail> {
@@ -12,15 +21,18 @@ fn lends_html_of_the_source(rt: HostRuntime) -> Result<(), Fail> {
         ("x <a\n   b>", true),
         ("> x <a\n>   b>", false),
     ] {
-        let mut is_found = false;
+        let mut parts = 0usize;
+        let mut others = 0usize;
         for item in Parser::new(rt.alloc(), text, &BasicEntities)? {
-            if let Event::InlineHtml(html) = item? {
-                assert_eq!(rt; is_found, false, "twice in {text:?}");
-                is_found = true;
-                assert_eq!(rt; matches!(html, CowStr::Borrowed(_)), is_lent, "of {text:?}");
+            match is_part(&item) {
+                Some(true) => parts = parts.saturating_add(1),
+                Some(false) => others = others.saturating_add(1),
+                None => {}
             }
+            drop(item);
         }
-        assert_eq!(rt; is_found, true, "of {text:?}");
+        let wanted = if is_lent { (1, 0) } else { (0, 1) };
+        assert_eq!(rt; (parts, others), wanted, "of {text:?}");
     }
     Ok(())
 }

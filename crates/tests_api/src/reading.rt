@@ -107,7 +107,7 @@ fn definitions_are_there_at_every_point(rt: HostRuntime) -> Result<(), Fail> {
         None,
         (0, 27),
     );
-    let _first = parser.next();
+    drop(parser.next());
     let later = is_defined(
         parser.reference_definitions(),
         "final one",
