@@ -206,8 +206,9 @@ fn tags(rt: HostRuntime) -> Result<(), Fail> {
     let kind = Some(BlockQuoteKind::Tip);
     assert!(rt; ends_by(Tag::BlockQuote(kind), TagEnd::BlockQuote(kind)));
     let metadata = Tag::MetadataBlock(MetadataBlockKind::YamlStyle);
-    let other = TagEnd::MetadataBlock(MetadataBlockKind::PlusesStyle);
-    assert!(rt; !ends_by(metadata, other));
+    let end = TagEnd::MetadataBlock(MetadataBlockKind::YamlStyle);
+    assert!(rt; ends_by(metadata, end));
+    assert!(rt; end != TagEnd::MetadataBlock(MetadataBlockKind::PlusesStyle));
     Ok(())
 }
 
