@@ -1,11 +1,11 @@
 -- Sets of ASCII bytes, asked for sixteen lanes at once.
 use borrow.Rule.Slice.PartMut.{put_mid, post_of}
-use Rattle.std.proofs.Common.{◌≡◌, ℕ, zero, suc, ◌+◌, ◌-◌, ◌*◌, ◌/◌, ◌%◌, ◌^◌, ◌<◌, ◌≤◌, Bool, true, false, not, ◌==◌, ◌&&◌, nat_lt, if◌then◌else◌, pow_pos, cond, eqb, List, [], ◌∷◌, ◌++◌, length, min, get_or, map, replicate, drop, take, append_assoc, drop-drop, take-append-drop, length-append, refl, sym, ap, subst, ◌∙◌, arith, w8, bit_and, Fits, inl, inr, Option, Some, None}
+use Rattle.std.proofs.Common.{◌≡◌, ℕ, zero, suc, ◌+◌, ◌-◌, ◌*◌, ◌/◌, ◌%◌, ◌^◌, ◌<◌, ◌≤◌, Bool, true, false, not, ◌==◌, ◌&&◌, nat_lt, if◌then◌else◌, pow_pos, cond, eqb, List, [], ◌∷◌, ◌++◌, length, min, get_or, map, replicate, drop, take, append_assoc, drop-drop, take-append-drop, length-append, length-drop, refl, sym, ap, subst, ◌∙◌, arith, w8, bit_and, Fits, inl, inr, Option, Some, None}
 use Rattle.std.specs.Int.{bit_at}
 use Rattle.std.specs.List.{position_or_len}
 use Rattle.std.specs.Simd.Lanes.{zip2, mask_l, top, Each1}
 use Rattle.std.proofs.lemmas.Bool.{agree_below_at, and_parts, both_ways, cases_lt, eqb-true, ltb-true, lt-ltb, ne_eqb}
-use Rattle.std.proofs.lemmas.List.{get_or_append_left, length-map, length-take-le, map-id, take-append-le}
+use Rattle.std.proofs.lemmas.List.{get_or_append_left, get_or-drop, get_or-take, length-map, length-take-le, map-id, take-append-le}
 use Rattle.std.proofs.lemmas.List.Sums.{fails_before_first, passes_at_first, position_or_len_is}
 use Rattle.std.proofs.lemmas.Nat.{and_mask, and_le_r}
 use Rattle.std.proofs.lemmas.Nat.Bits.{and_pow, bit_at-lt}
@@ -199,6 +199,44 @@ module _ (p : ℕ → Bool) (bs : List ℕ) (at passed : ℕ) (room : at + 16 �
             | inl found ↦ run_in_chunk_stops p bs at 16 passed 0 room is found
             | inr none ↦ absurd (let end = last (omega arith) in omega arith)
           ]
+
+-- `n` bytes from a place on were looked at, and this many stand before the first of the set; so do all from an earlier place on
+module _ (p : ℕ → Bool) (bs : List ℕ) (from at n passed : ℕ) (room : at + n ≤ length bs) (is : passed ≡ position_or_len p (take n (drop at bs))) (before : (k : ℕ) → from ≤ k → k < at → p (get_or bs k 0) ≡ false) where
+  pub chunk-fails : (k : ℕ) → from ≤ k → k < at + passed → p (get_or bs k 0) ≡ false
+  chunk-fails k high low =
+      elim (cases_lt k at) [
+        | inl below ↦ before k high below
+        | inr behind ↦ run_in_chunk_fails p bs at n passed 0 room is k (omega arith) low
+      ]
+
+  pub chunk-le : passed ≤ n
+  chunk-le = run_in_chunk_le p bs at n passed 0 room is
+
+  pub chunk-stops : passed < n → p (get_or bs (at + passed) 0) ≡ true
+  chunk-stops found = run_in_chunk_stops p bs at n passed 0 room is found
+
+-- a search from a place on and before another ends where the first of the set stands, or at that other place
+pub place-within : (p : ℕ → Bool) (bs : List ℕ) (from at to : ℕ) → from ≤ at → at ≤ to → to ≤ length bs
+    → ((k : ℕ) → from ≤ k → k < at → p (get_or bs k 0) ≡ false) → (at < to → p (get_or bs at 0) ≡ true)
+    → at ≡ from + position_or_len p (drop from (take to bs))
+place-within p bs from at to order within inside fails here =
+    let is = position_or_len_is p rest (at - from) 0 (omega (arith, long)) (λ k low. ap p (read k (omega arith)) ∙ fails (from + k) (omega arith) (omega arith)) stops in
+    omega (arith, is)
+  where
+    rest : List ℕ
+    rest = drop from (take to bs)
+
+    long : length rest ≡ to - from
+    long = length-drop from (take to bs) ∙ ap (λ n. n - from) (length-take-le to bs inside)
+
+    read : (k : ℕ) → from + k < to → get_or rest k 0 ≡ get_or bs (from + k) 0
+    read k low = get_or-drop from (take to bs) k 0 ∙ get_or-take to bs (from + k) 0 low
+
+    stops : at - from < length rest → p (get_or rest (at - from) 0) ≡ true
+    stops low =
+        let place : from + (at - from) ≡ at = omega arith in
+        let below : at < to = omega (arith, long, low) in
+        ap p (read (at - from) (omega arith)) ∙ ap (λ n. p (get_or bs n 0)) place ∙ here below
 
 -- the first of the set among bytes, sought in longer ones that begin with these
 pub front-place : (p : ℕ → Bool) (bs more : List ℕ) → min (position_or_len p (bs ++ more)) (length bs) ≡ position_or_len p bs

@@ -3,4 +3,6 @@
 
 mod search;
 
-pub use search::{AsciiSet, find_backtick, find_escape, find_first, find_line_end, find_pipe};
+pub use search::{
+    AsciiSet, find_backtick, find_escape, find_first, find_first_within, find_line_end, find_pipe,
+};

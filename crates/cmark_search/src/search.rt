@@ -1,6 +1,6 @@
 //! Searches for the first byte of a set, sixteen bytes a step. They are made for short ways: a line has some sixty bytes.
 
-ghost use Rattle.std.specs.Prelude.{◌≡◌, ◌+◌, ◌<◌, ◌≤◌, if◌then◌else◌, ℕ, Bool, List, ◌++◌, None, IfSome, false, length, map, drop, replicate, take, slice_index, slice_index_or};
+ghost use Rattle.std.specs.Prelude.{◌≡◌, ◌+◌, ◌<◌, ◌≤◌, if◌then◌else◌, ℕ, Bool, List, ◌++◌, None, IfSome, true, false, length, map, drop, replicate, take, slice_index, slice_index_or};
 ghost use Rattle.std.specs.List.{position_or_len};
 ghost use Rattle.std.specs.Simd.Lanes.{mask_l};
 ghost use Rattle.memchr.specs.Find.{IsFirstByte, is_byte, is_byte2};
@@ -60,6 +60,20 @@ impl AsciiSet {
         ensures ascii { result < length bytes.now → slice_index bytes.now result < 128 }
     {
         from + find_ascii(&self.rows, &bytes[from..])
+    }
+
+    /// The first place from `from` on and before `to` whose byte is in the set; `to`, where there is none. Bytes behind `to` are looked at
+    /// together with the last ones before it, since sixteen that stand in memory cost less than a few that have to be put together; they do
+    /// not count.
+    #[inline(always)]
+    pub fn find_within(&self, bytes: &[u8], from: usize, to: usize) -> usize
+        requires ordered { from ≤ to }
+        requires inside { to ≤ length bytes.now }
+        ensures value { result ≡ from + position_or_len (in_rows self.now) (drop from (take to bytes.now)) }
+        ensures within { result ≤ to }
+        ensures ascii { result < to → slice_index bytes.now result < 128 }
+    {
+        find_between(&Rows { rows: &self.rows }, bytes, from, to)
     }
 }
 
@@ -251,6 +265,30 @@ fn copy_ends(lanes: &mut [u8; 16], bytes: &[u8], size: usize)
     lanes[len - size..len].copy_from_slice(&bytes[len - size..]);
 }
 
+/// The first place from `from` on and before `to` whose byte is in the set; `to`, where there is none. Each step looks at sixteen bytes, as
+/// long as so many stand there, those behind `to` among them.
+#[inline(always)]
+fn find_between<S: LaneSet>(set: &S, bytes: &[u8], from: usize, to: usize) -> usize
+    requires ordered { from ≤ to }
+    requires inside { to ≤ length bytes.now }
+    ensures value { result ≡ from + position_or_len (S.has set.now) (drop from (take to bytes.now)) }
+    ensures before { from ≤ result }
+    ensures within { result ≤ to }
+    ensures here { result < to → S.has set.now (slice_index bytes.now result) ≡ true }
+{
+    let mut at = from;
+    while at < to {
+        if bytes.len() - at < 16 {
+            return at + find_in_few(set, &bytes[at..to]);
+        }
+        if let Some(passed) = first_from(set, bytes, at) {
+            return to.min(at + passed);
+        }
+        at += 16;
+    }
+    to
+}
+
 /// The same; and where such a byte stands, it is ASCII.
 #[inline(always)]
 fn find_ascii(rows: &[u8; 16], bytes: &[u8]) -> usize
@@ -268,6 +306,16 @@ pub fn find_first(keys: &[u8; 16], bytes: &[u8]) -> Option<usize>
 {
     let at = find(&Keys { keys }, bytes);
     if at < bytes.len() { Some(at) } else { None }
+}
+
+/// The same before `to`. Bytes behind `to` are looked at together with the last ones before it, and do not count.
+#[inline(always)]
+pub fn find_first_within(keys: &[u8; 16], bytes: &[u8], to: usize) -> Option<usize>
+    requires { to ≤ length bytes.now }
+    ensures { IsFirstByte (in_keys keys.now) (take to bytes.now) result }
+{
+    let at = find_between(&Keys { keys }, bytes, 0, to);
+    if at < to { Some(at) } else { None }
 }
 
 /// Where the first backtick stands.
