@@ -13,10 +13,10 @@ use Rattle.cmark_grammar.specs.Letters.{first_is, is_letter}
 use Rattle.cmark_grammar.specs.Openings.{leaf_of, text_of}
 use Rattle.cmark_grammar.specs.Rows.{Row, indent_of, words_of}
 use Rattle.cmark_scan.specs.LeafLines.{atx_level}
-use Rattle.cmark_lines.specs.Starts.{begun_container, begun_footnote, begins_marker, is_letter_or_pipe}
+use Rattle.cmark_lines.specs.Starts.{begun_container, begun_footnote, is_letter_or_pipe}
 use Rattle.cmark_lines.proofs.FootnoteStarts.{begun-other}
 use Rattle.cmark_lines.proofs.OpeningRows.{leaf-text}
-use Rattle.cmark_lines.proofs.PlainRows.{apart, letter-or, digit-none, no-bullet, no-container}
+use Rattle.cmark_lines.proofs.PlainRows.{apart, begins_marker, letter-or, digit-none, no-bullet, no-container}
 
 and-false : (z : Bool) → (z && false) ≡ false
 and-false true = refl

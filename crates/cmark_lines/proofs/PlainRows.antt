@@ -2,6 +2,7 @@
 -- neither a bullet, a digit nor `>` begins no container.
 use Rattle.std.proofs.Common.{◌≡◌, ℕ, Bool, true, false, ◌==◌, ◌&&◌, ◌||◌, List, [], ◌∷◌, length, drop, take_while, Option, Some, None, refl, sym, ap, ◌∙◌, arith, cond, true≢false}
 use Rattle.std.specs.Prelude.{if◌then◌else◌, nat_lt, nat_le, count_by}
+use Rattle.std.proofs.lemmas.Bool.{eqb-true}
 use Rattle.std.proofs.lemmas.List.Sums.{take_while-cons}
 use Rattle.cmark_grammar.specs.Options.{Options}
 use Rattle.cmark_grammar.specs.Columns.{Column, is_blank_byte, without_indent, bytes_of}
@@ -16,8 +17,12 @@ use Rattle.cmark_grammar.specs.Footnotes.{Footnotes, footnotes_in, do_interrupt,
 use Rattle.cmark_grammar.specs.Openings.{footnote_interrupts, item_interrupts, is_some_fence, html_interrupts, interrupts, table_if, leaf_of}
 use Rattle.cmark_grammar.specs.TableRows.{begins_with_pipe, is_some_head, table_head, table_interrupts}
 use Rattle.cmark_scan.specs.LeafLines.{atx_level}
-use Rattle.cmark_lines.specs.Starts.{begun_marked, begins_marker, is_letter_or_pipe}
+use Rattle.cmark_lines.specs.Starts.{begun_item, begun_marked, is_letter_or_pipe}
 use Rattle.cmark_lines.proofs.OpeningRows.{leaf-plain, no-bracket}
+
+-- a bullet, a digit of an ordered item's number, or `>`
+abbrev pub begins_marker : ℕ → Bool
+begins_marker b = is_bullet b || (is_digit b || (b == 62))
 
 -- a letter or a pipe is no other byte
 pub apart : (b k : ℕ) → is_letter_or_pipe b ≡ true → is_letter_or_pipe k ≡ false → (b == k) ≡ false
@@ -70,6 +75,18 @@ unmarked : (b : ℕ) (bs : List ℕ) → is_bullet b ≡ false → is_digit b �
 unmarked b bs bullet digit =
     ap (λ z. if z then Some (record { delimiter = b; number = None; size = 1 }) else delimited (digits (b ∷ bs)) (drop (length (digits (b ∷ bs))) (b ∷ bs))) bullet
     ∙ ap (λ ds. delimited ds (drop (length ds) (b ∷ bs))) (take_while-cons is_digit b bs ∙ ap (λ z. cond z (b ∷ take_while is_digit bs) []) digit)
+
+-- a line whose words begin with the marker of a block quote begins no item
+pub quote-no-item : (r : Row) → begins_with 62 (words_of r) ≡ true → begun_item r ≡ None
+quote-no-item r e = ap (λ m. if nat_le (indent_of r) 3 then item_with r m else None) (none (words_of r) e) ∙ go (nat_le (indent_of r) 3)
+  where
+    none : (words : List ℕ) → begins_with 62 words ≡ true → marker_of words ≡ None
+    none [] is = absurd (true≢false (sym is))
+    none (b ∷ bs) is = ap (λ c. marker_of (c ∷ bs)) (eqb-true b 62 is) ∙ unmarked 62 bs refl refl
+
+    go : (z : Bool) → (if z then item_with r None else None) ≡ None
+    go true = refl
+    go false = refl
 
 neither : (words : List ℕ) → first_is begins_marker words ≡ false → (marker_of words ≡ None) × (begins_with 62 words ≡ false)
 neither [] e = (refl, refl)

@@ -93,9 +93,9 @@ IsMarkerClosed r begun = IsClosed (words_of r) begun.0
 abbrev pub begun_container : Options → Row → Option grammar.Container
 begun_container options r = if nat_le (indent_of r) 3 then container_of options r else None
 
--- a bullet, a digit of an ordered item's number, or `>`
-abbrev pub begins_marker : ℕ → Bool
-begins_marker b = grammar.is_bullet b || (grammar.is_digit b || (b == 62))
+-- a bullet, or a digit of an ordered item's number
+abbrev pub begins_item : ℕ → Bool
+begins_item b = grammar.is_bullet b || grammar.is_digit b
 
 -- an ASCII letter, or the pipe in front of a table's row
 abbrev pub is_letter_or_pipe : ℕ → Bool

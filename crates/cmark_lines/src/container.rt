@@ -1,14 +1,14 @@
 //! Containers: which lines they keep, and which lines begin them (CommonMark 5).
 
-ghost use Rattle.std.specs.Prelude.{◌≡◌, ℕ, List, option_map, IfSome};
+ghost use Rattle.std.specs.Prelude.{◌≡◌, ℕ, List, true, false, option_map, IfSome};
 ghost use Rattle.cmark_grammar.specs.Containers as grammar;
-ghost use Rattle.cmark_grammar.specs.Containers.{keeps};
+ghost use Rattle.cmark_grammar.specs.Containers.{begins_with, keeps};
 ghost use Rattle.cmark_grammar.specs.Letters.{first_is};
 ghost use Rattle.cmark_grammar.specs.Rows.{words_of};
 ghost use Rattle.cmark_grammar.specs.Options as profile;
 ghost use Rattle.cmark_lines.specs.Rests.{row_of, IsIn};
 ghost use Rattle.cmark_text.specs.Shown.{shown_options};
-ghost use Rattle.cmark_lines.specs.Starts.{Shows, shown_start, begun_container, begun_footnote, begun_marked, begins_marker, Enters, HasMarker};
+ghost use Rattle.cmark_lines.specs.Starts.{Shows, shown_start, begun_container, begun_footnote, begun_marked, begins_item, Enters, HasMarker};
 
 use crate::footnotes::{reads_footnotes, reads_old_footnotes};
 use crate::line_rest::LineRest;
@@ -151,34 +151,58 @@ fn marker_start<'a>(rest: LineRest<'a>, words: &[u8]) -> Option<ContainerStart<'
     ensures inside { IfSome result (Enters (row_of rest.entry)) }
     ensures marker { IfSome result (HasMarker (row_of rest.entry)) }
 {
-    if !may_begin_container(words) {
+    if begins_with_quote_mark(words) {
+        return block_quote_start(rest);
+    }
+    if !may_begin_item(words) {
         return None;
     }
-    marked_start(rest)
+    item_start(rest)
 }
 
-/// The same, whatever the words begin with. The lines that it looks into stand in a function of its own, so that their room is cleared where a marker
-/// may stand alone.
+/// The block quote that a line whose words begin with its marker begins, indented by at most three columns, and the line behind the marker.
 #[inline(always)]
-fn marked_start<'a>(rest: LineRest<'a>) -> Option<ContainerStart<'a>>
+fn block_quote_start<'a>(rest: LineRest<'a>) -> Option<ContainerStart<'a>>
+    requires { begins_with 62 (words_of (row_of rest)) ≡ true }
     ensures container { (options : profile.Options) → option_map (shown_start options (row_of rest.entry)) result ≡ begun_marked options (row_of rest.entry) }
     ensures inside { IfSome result (Enters (row_of rest.entry)) }
     ensures marker { IfSome result (HasMarker (row_of rest.entry)) }
 {
-    if let Some((item, inside)) = rest.behind_item() {
-        return Some(ContainerStart::Item(item, inside));
-    }
     let inside = rest.behind_block_quote()?;
     Some(ContainerStart::BlockQuote(inside))
 }
 
-/// Whether the words of a line may begin with the marker of a list item or a block quote, by their first byte alone.
+/// The list item that a line begins whose words do not begin with the marker of a block quote, indented by at most three columns, and the line
+/// behind its marker.
+#[inline(always)]
+fn item_start<'a>(rest: LineRest<'a>) -> Option<ContainerStart<'a>>
+    requires { begins_with 62 (words_of (row_of rest)) ≡ false }
+    ensures container { (options : profile.Options) → option_map (shown_start options (row_of rest.entry)) result ≡ begun_marked options (row_of rest.entry) }
+    ensures inside { IfSome result (Enters (row_of rest.entry)) }
+    ensures marker { IfSome result (HasMarker (row_of rest.entry)) }
+{
+    let (item, inside) = rest.behind_item()?;
+    Some(ContainerStart::Item(item, inside))
+}
+
+/// Whether the words of a line begin with the marker of a block quote.
 #[inline]
-fn may_begin_container(words: &[u8]) -> bool
-    ensures { result ≡ first_is begins_marker words.now }
+pub(crate) fn begins_with_quote_mark(words: &[u8]) -> bool
+    ensures { result ≡ begins_with 62 words.now }
 {
     match words {
-        [b'-' | b'+' | b'*' | b'0'..=b'9' | b'>', ..] => true,
+        [first, ..] => *first == b'>',
+        [] => false,
+    }
+}
+
+/// Whether the words of a line may begin with the marker of a list item, by their first byte alone.
+#[inline]
+pub(crate) fn may_begin_item(words: &[u8]) -> bool
+    ensures { result ≡ first_is begins_item words.now }
+{
+    match words {
+        [b'-' | b'+' | b'*' | b'0'..=b'9', ..] => true,
         [..] => false,
     }
 }

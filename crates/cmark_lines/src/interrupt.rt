@@ -3,7 +3,7 @@
 ghost use Rattle.std.specs.Prelude.{◌≡◌, ℕ, List, option_map};
 ghost use Rattle.cmark_grammar.specs.Footnotes.{footnotes_in};
 ghost use Rattle.cmark_grammar.specs.Letters.{is_letter, first_is};
-ghost use Rattle.cmark_grammar.specs.Rows.{Row};
+ghost use Rattle.cmark_grammar.specs.Rows.{Row, words_of};
 ghost use Rattle.cmark_grammar.specs.Leaves.{is_atx_heading, fence_of, underlines};
 ghost use Rattle.cmark_grammar.specs.Containers.{is_block_quote};
 ghost use Rattle.cmark_grammar.specs.Openings.{interrupts, footnote_interrupts, is_one, item_interrupts, is_some_fence, html_interrupts};
@@ -13,11 +13,11 @@ ghost use Rattle.cmark_lines.specs.Rests.{row_of};
 ghost use Rattle.cmark_lines.specs.Starts.{begun_item, is_letter_or_pipe};
 ghost use Rattle.cmark_lines.specs.Opened.{leaf_interrupts};
 
+use crate::container::{begins_with_quote_mark, may_begin_item};
 use crate::footnotes::reads_gfm_footnotes;
 use crate::line_rest::LineRest;
-use cmark_scan::{
-    HtmlKind, html_kind, scan_atx_heading, scan_code_fence, scan_hrule, scan_setext_heading,
-};
+use crate::opening::{fence_in, heading_in, html_in, is_break};
+use cmark_scan::{HtmlKind, scan_setext_heading};
 use cmark_text::{HeadingLevel, Options};
 
 /// Whether the line interrupts a paragraph, which stands in the same container (`same`), or further in, so that the line
@@ -27,15 +27,16 @@ use cmark_text::{HeadingLevel, Options};
 pub fn interrupts(rest: LineRest<'_>, same: bool, options: Options) -> bool
     ensures { (ahead : List Row) → result ≡ interrupts (shown_options options) same (row_of rest.entry) ahead }
 {
-    if begins_with_letter_or_pipe(rest.words()) {
+    let words = rest.words();
+    if begins_with_letter_or_pipe(words) {
         return false;
     }
     rest.is_blank()
         || footnote_interrupts(rest, options)
         || (rest.indent_upto(4) < 4
-            && (is_block_quote(rest)
-                || item_interrupts(rest, same)
-                || leaf_interrupts(rest.words())))
+            && (is_block_quote(rest, words)
+                || item_interrupts(rest, words, same)
+                || leaf_interrupts(words)))
 }
 
 /// Whether the line begins a footnote definition that interrupts a paragraph (this profile's own).
@@ -69,17 +70,27 @@ fn begins_with_letter_or_pipe(words: &[u8]) -> bool
     }
 }
 
-/// Whether the line begins a block quote.
+/// Whether the line with these words begins a block quote.
 #[inline]
-fn is_block_quote(rest: LineRest<'_>) -> bool
+fn is_block_quote(rest: LineRest<'_>, words: &[u8]) -> bool
+    requires { words.now ≡ words_of (row_of rest) }
     ensures { result ≡ is_block_quote (row_of rest.entry) }
 {
-    rest.behind_block_quote().is_some()
+    begins_with_quote_mark(words) && rest.behind_block_quote().is_some()
 }
 
-/// Whether the line begins a list item that interrupts a paragraph.
+/// Whether the line with these words begins a list item that interrupts a paragraph.
 #[inline]
-fn item_interrupts(rest: LineRest<'_>, same: bool) -> bool
+fn item_interrupts(rest: LineRest<'_>, words: &[u8], same: bool) -> bool
+    requires { words.now ≡ words_of (row_of rest) }
+    ensures { result ≡ item_interrupts same (row_of rest.entry) (begun_item (row_of rest.entry)) }
+{
+    may_begin_item(words) && marked_item_interrupts(rest, same)
+}
+
+/// The same, whatever the words begin with.
+#[inline]
+fn marked_item_interrupts(rest: LineRest<'_>, same: bool) -> bool
     ensures { result ≡ item_interrupts same (row_of rest.entry) (begun_item (row_of rest.entry)) }
 {
     match rest.behind_item() {
@@ -103,7 +114,7 @@ fn is_one(number: Option<u64>) -> bool
 fn leaf_interrupts(words: &[u8]) -> bool
     ensures { (indent : ℕ) → result ≡ leaf_interrupts indent words.now }
 {
-    scan_hrule(words) || is_atx_heading(words) || is_code_fence(words) || html_interrupts(words)
+    is_break(words) || is_atx_heading(words) || is_code_fence(words) || html_interrupts(words)
 }
 
 /// Whether the words of a line are an ATX heading.
@@ -111,7 +122,7 @@ fn leaf_interrupts(words: &[u8]) -> bool
 fn is_atx_heading(words: &[u8]) -> bool
     ensures { result ≡ is_atx_heading words.now }
 {
-    scan_atx_heading(words).is_some()
+    heading_in(words).is_some()
 }
 
 /// Whether the words of a line are a code fence that opens a block.
@@ -119,7 +130,7 @@ fn is_atx_heading(words: &[u8]) -> bool
 fn is_code_fence(words: &[u8]) -> bool
     ensures { (indent : ℕ) → result ≡ is_some_fence (fence_of indent words.now) }
 {
-    scan_code_fence(words).is_some()
+    fence_in(words).is_some()
 }
 
 /// Whether the words of a line begin an HTML block that interrupts a paragraph: one of kinds 1 to 6.
@@ -127,7 +138,7 @@ fn is_code_fence(words: &[u8]) -> bool
 fn html_interrupts(words: &[u8]) -> bool
     ensures { result ≡ html_interrupts (html_kind words.now) }
 {
-    match html_kind(words) {
+    match html_in(words) {
         Some(kind) => kind != HtmlKind::Tag,
         None => false,
     }

@@ -111,7 +111,7 @@ fn leaf_opening<'a>(words: &[u8], indent: usize, options: Options) -> Opening<'a
 
 /// The kind of the HTML block that the words of a line begin, if they begin one.
 #[inline(always)]
-fn html_in(words: &[u8]) -> Option<HtmlKind>
+pub(crate) fn html_in(words: &[u8]) -> Option<HtmlKind>
     ensures { option_map kind_number result ≡ html_kind words.now }
 {
     match words {
@@ -122,7 +122,7 @@ fn html_in(words: &[u8]) -> Option<HtmlKind>
 
 /// Whether the words of a line are a thematic break.
 #[inline(always)]
-fn is_break(words: &[u8]) -> bool
+pub(crate) fn is_break(words: &[u8]) -> bool
     ensures { result ≡ is_thematic_break words.now }
 {
     match words {
@@ -133,7 +133,7 @@ fn is_break(words: &[u8]) -> bool
 
 /// The level of the ATX heading that the words of a line are, if they are one.
 #[inline(always)]
-fn heading_in(words: &[u8]) -> Option<HeadingLevel>
+pub(crate) fn heading_in(words: &[u8]) -> Option<HeadingLevel>
     ensures { option_map level_number result ≡ atx_level words.now }
 {
     match words {
@@ -144,7 +144,7 @@ fn heading_in(words: &[u8]) -> Option<HeadingLevel>
 
 /// The code fence that the words of a line are, if they open a code block.
 #[inline(always)]
-fn fence_in(words: &[u8]) -> Option<CodeFence>
+pub(crate) fn fence_in(words: &[u8]) -> Option<CodeFence>
     ensures fence { (indent : ℕ) → option_map (shown_fence indent words.now) result ≡ fence_of indent words.now }
     ensures place { IfSome result (HasPlace words.now) }
 {

@@ -9,4 +9,4 @@ use Rattle.cmark_lines.proofs.interrupt.interrupts.Goals as goal
 pub returns-then-begins_with_letter_or_pipe : goal.returns-then-begins_with_letter_or_pipe
 returns-then-begins_with_letter_or_pipe c ahead =
     sym (plain-interrupts-not (shown_options c.args.options) c.args.same (row_of c.args.rest) ahead
-    (ap (first_is is_letter_or_pipe) (sym c.words.ensures) ∙ sym c.begins_with_letter_or_pipe.ensures ∙ c.if-begins_with_letter_or_pipe.true))
+    (ap (first_is is_letter_or_pipe) (sym c.words-words.ensures) ∙ sym c.begins_with_letter_or_pipe.ensures ∙ c.if-begins_with_letter_or_pipe.true))

@@ -2,7 +2,7 @@ use Rattle.std.proofs.Common.{not, sym, ap, ◌∙◌}
 use Rattle.cmark_grammar.specs.Openings.{item_interrupts}
 use Rattle.cmark_lines.specs.Rests.{row_of}
 use Rattle.cmark_lines.proofs.OpeningRows.{item-goes}
-use Rattle.cmark_lines.proofs.interrupt.item_interrupts.Goals as goal
+use Rattle.cmark_lines.proofs.interrupt.marked_item_interrupts.Goals as goal
 
 pub returns-then-is_one : goal.returns-then-is_one
 returns-then-is_one c =

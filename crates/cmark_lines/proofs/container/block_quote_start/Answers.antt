@@ -1,10 +1,11 @@
-use Rattle.std.proofs.Common.{None}
+use Rattle.std.proofs.Common.{None, sym}
 use Rattle.cmark_lines.specs.Rests.{row_of}
 use Rattle.cmark_lines.proofs.OpeningRows.{block_quote-begun, block_quote-inside}
-use Rattle.cmark_lines.proofs.container.marked_start.Goals as goal
+use Rattle.cmark_lines.proofs.PlainRows.{quote-no-item}
+use Rattle.cmark_lines.proofs.container.block_quote_start.Goals as goal
 
 pub returns-clause-container : goal.returns-clause-container
-returns-clause-container c options = block_quote-begun options (row_of c.args.rest) (row_of c.in_ok-inside.inside) c.in_default.ensures.item c.in_ok-inside.ensures
+returns-clause-container c options = block_quote-begun options (row_of c.args.rest) (row_of c.in_ok-inside.inside) (sym (quote-no-item (row_of c.args.rest) c.requires)) c.in_ok-inside.ensures
 
 pub returns-clause-inside : goal.returns-clause-inside
 returns-clause-inside c options = block_quote-inside (row_of c.args.rest) (row_of c.in_ok-inside.inside) None c.in_ok-inside.ensures
