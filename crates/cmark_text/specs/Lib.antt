@@ -1,6 +1,7 @@
 pub mod Appended
 pub mod Folding
 pub mod InPlace
+pub mod LabelOrder
 pub mod Labelled
 pub mod Marks
 pub mod Ranged

@@ -1,5 +1,5 @@
 -- The events that own nothing, as those of the definitions, and the zero-copy law of them.
-use Rattle.std.specs.Prelude.{◌≡◌, ℕ, List, [], None, option_map}
+use Rattle.std.specs.Prelude.{◌≡◌, ℕ, List, option_map}
 use Rattle.cmark_grammar.specs.Attributes.{no_attributes}
 use Rattle.cmark_grammar.specs.CodeBlockKind as code_kind
 use Rattle.cmark_grammar.specs.Event as event
