@@ -1,7 +1,7 @@
 -- The order of labels: by the number of bytes first, and then by the bytes.
 use Rattle.std.specs.Prelude.{◌≡◌, ℕ, Bool, true, false, ◌&&◌, List, ◌∷◌, length, nat_eq, Some, refl}
-use Rattle.std.specs.Cmp.{IsPartialOrder, nat_eq_equiv, on_po}
-use Rattle.std.specs.Cmp.Lexicographic.{as_long, pointwise, slice_cmp, texts_po, texts_ties}
+use Rattle.std.specs.Cmp.{IsPartialOrder, IsTotalOrder, nat_eq_equiv, on_po, on_total}
+use Rattle.std.specs.Cmp.Lexicographic.{as_long, nat_list_cmp_total, pointwise, slice_cmp, texts_po, texts_ties}
 use Rattle.std.specs.Ordering.{eq_by_cmp, nat_cmp}
 use Rattle.std.specs.declared.cmp.Ordering.{Ordering}
 use Rattle.std.proofs.Common.{ap, subst, sym, ◌∙◌}
@@ -31,3 +31,6 @@ by_length_ties xs ys = sym (counted_same xs ys) ∙ texts_ties (counted xs) (cou
 
 pub by_length_po : IsPartialOrder (pointwise nat_eq) (λ xs ys. Some (by_length xs ys))
 by_length_po = subst (λ (E : List ℕ → List ℕ → Bool). IsPartialOrder E (λ xs ys. Some (by_length xs ys))) (λ i xs ys. counted_same xs ys i) (on_po counted texts_po)
+
+pub by_length_total : IsTotalOrder by_length
+by_length_total = on_total counted nat_list_cmp_total

@@ -3,13 +3,13 @@
 ghost use Rattle.std.specs.Prelude.{◌≡◌, ◌<◌, ◌∷◌, ◌++◌, IfOk, OnOk, length, position, string_bytes, nat_eq, Some, refl};
 ghost use Rattle.std.specs.Char.{is_ascii_whitespace};
 ghost use Rattle.std.specs.Cmp.{on_equiv, on_per, on_po, on_total, partial_equiv_from_equiv};
-ghost use Rattle.std.specs.Cmp.Lexicographic.{pointwise, nat_list_eq_equiv, nat_list_cmp_total};
+ghost use Rattle.std.specs.Cmp.Lexicographic.{pointwise, nat_list_eq_equiv};
 ghost use Rattle.std.specs.Cmp.Rules.{hashing};
 ghost use Rattle.std.specs.Hash as fed;
 ghost use Rattle.std.proofs.Common.{rules};
 ghost use Rattle.cmark_grammar.specs.Labels.{normal_form, case_folded, fold};
 ghost use Rattle.cmark_text.specs.Folding.{compared, may_fold};
-ghost use Rattle.cmark_text.specs.LabelOrder.{by_length, by_length_po, by_length_ties, counted};
+ghost use Rattle.cmark_text.specs.LabelOrder.{by_length, by_length_po, by_length_ties, by_length_total};
 
 use caseless::default_case_fold_str;
 use std::alloc::{AllocError, Global};
@@ -136,7 +136,7 @@ impl PartialOrd for Label {
 impl Ord for Label {
     ghost cmp = { λ a b. by_length (case_folded (string_bytes a.text)) (case_folded (string_bytes b.text)) };
 
-    ghost total = { on_total (λ label. counted (case_folded (string_bytes label.text))) nat_list_cmp_total };
+    ghost total = { on_total (λ label. case_folded (string_bytes label.text)) by_length_total };
 
     ghost matches_partial_cmp = { λ a b. refl };
 
