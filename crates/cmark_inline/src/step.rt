@@ -1,6 +1,6 @@
 //! One pass over a leaf's text, from special byte to special byte.
 
-ghost use Rattle.std.specs.Prelude.{◌≡◌, ◌==◌, true, false, ◌<◌, ◌≤◌, ◌+◌, ◌++◌, ◌∷◌, ℕ, [], drop, length, slice_index, IfOk, IsOk, OnOk};
+ghost use Rattle.std.specs.Prelude.{◌≡◌, ◌==◌, true, false, ◌<◌, ◌≤◌, ◌+◌, ◌++◌, ◌∷◌, ℕ, [], drop, length, take, slice_index, IfOk, IsOk, OnOk};
 ghost use Rattle.std.specs.Str.{IsCharBoundary};
 ghost use Rattle.cmark_finds.specs.Backticks.{AreRunsOf};
 ghost use Rattle.cmark_finds.specs.Dollars.{AreDollarsOf};
@@ -82,9 +82,19 @@ impl<'a> InlineState<'a> {
             dollars: Dollars::new(self.alloc),
             unclosed: Unclosed::none(),
         };
+        let ahead = leaf.ahead();
         let mut cursor = Cursor { pending: 0, at: 0 };
         while cursor.at < text.len() {
-            cursor = self.step(leaf, reader, footnotes, callback, &mut sought, text, cursor)?;
+            cursor = self.step(
+                leaf,
+                reader,
+                footnotes,
+                callback,
+                &mut sought,
+                text,
+                ahead,
+                cursor,
+            )?;
         }
         self.flush(text, cursor, text.len())?;
         self.quotes.resolve(0, &mut self.slots)?;
@@ -94,7 +104,7 @@ impl<'a> InlineState<'a> {
     }
 
     // Reads on to behind the next special byte, and what begins there; where none is left, to the end, and the bytes up to there stay
-    // pending. It stands in the one loop that calls it.
+    // pending. `ahead` begins with the text, and may go on behind it. It stands in the one loop that calls it.
     #[inline(always)]
     fn step<E: EntityLookup, F: BrokenLinkCallback<'a>>(
         &mut self,
@@ -104,6 +114,7 @@ impl<'a> InlineState<'a> {
         callback: &mut F,
         sought: &mut Sought,
         text: &str,
+        ahead: &[u8],
         cursor: Cursor,
     ) -> Result<Cursor, AllocError>
         requires runs { AreRunsOf text.now sought.old.runs }
@@ -113,6 +124,7 @@ impl<'a> InlineState<'a> {
         requires more { cursor.at < length text.now }
         requires read { IsRead leaf.now }
         requires same { text.now ≡ text_of leaf.now }
+        requires ahead { take (length text.now) ahead.now ≡ text.now }
         requires kept { AreUnclosed leaf.now cursor.at sought.old.unclosed }
         requires sound { IsSound self.old }
         ensures sound { OnOk result (IsSound self.new) }
@@ -130,7 +142,7 @@ impl<'a> InlineState<'a> {
         ensures token { (at : ℕ) → at ≡ cursor.at + position_or_len (in_rows reader.now.special.now) (drop cursor.at text.now) → at < length text.now → is_special (shown_options reader.now.options) (slice_index text.now at) ≡ true → (slice_index text.now at == 93) ≡ false → IfOk result (ReadsSpecial (shown_options reader.now.options) (E.replacement reader.now.entities.now) leaf.now (record { pending = cursor.pending; at = at }) self.old self.new) }
     {
         let bytes = text.as_bytes();
-        let at = reader.special.next(bytes, cursor.at);
+        let at = reader.special.next(bytes, ahead, cursor.at);
         if at >= bytes.len() {
             return Ok(Cursor {
                 pending: cursor.pending,

@@ -1,6 +1,6 @@
 //! The text of a leaf.
 
-ghost use Rattle.std.specs.Prelude.{ℕ, ◌≡◌, ◌<◌, ◌≤◌, ◌+◌, ◌-◌, ◌++◌, ◌≢◌, [], length, IsOk, OnOk, IfOk, IfSome, None, ◌∷◌, string_bytes};
+ghost use Rattle.std.specs.Prelude.{ℕ, ◌≡◌, ◌<◌, ◌≤◌, ◌+◌, ◌-◌, ◌++◌, ◌≢◌, [], drop, length, take, IsOk, OnOk, IfOk, IfSome, None, ◌∷◌, string_bytes};
 ghost use Rattle.cmark_grammar.specs.Tokens.{slice};
 ghost use Rattle.cmark_leaf_text.specs.Reads.{IsRead, IsPart, IsFirstFrom, is_cell_of, text_of, source_of, place_of};
 ghost use Rattle.std.specs.Str.{IsCharBoundary};
@@ -68,6 +68,20 @@ impl<'a> LeafText<'a> {
         match self.as_source() {
             Some(text) => text,
             None => self.copied.as_str(),
+        }
+    }
+
+    /// The bytes from the first of the text on, as far as the memory goes in which they stand, so that a search may look at more of them than
+    /// the text has: the rest of the source, where the lines touch there, and else the copied text.
+    #[inline(always)]
+    pub fn ahead(&self) -> &[u8]
+        requires { IsRead self.now }
+        ensures begins { take (length (text_of self.now)) result.now ≡ text_of self.now }
+        ensures within { length (text_of self.now) ≤ length result.now }
+    {
+        match self.stretches.as_slice() {
+            [one] => self.source_from(one.start),
+            _ => self.copied.as_bytes(),
         }
     }
 
@@ -164,6 +178,15 @@ impl<'a> LeafText<'a> {
         ensures { result.now ≡ slice (source_of self.now) start end }
     {
         &self.source[start..end]
+    }
+
+    /// The bytes of the source from a place on.
+    #[inline(always)]
+    pub fn source_from(&self, start: usize) -> &'a [u8]
+        requires { start ≤ length (source_of self.now) }
+        ensures { result.now ≡ drop start (source_of self.now) }
+    {
+        &self.source.as_bytes()[start..]
     }
 
     /// The first byte of the text that stands at or behind a place of the source; the text's length, where none does.

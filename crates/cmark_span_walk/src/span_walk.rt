@@ -246,7 +246,8 @@ impl<'input, 'e, E: EntityLookup, F: BrokenLinkCallback<'input> + Drop> SpanWalk
             return None;
         }
         let text = self.leaf.source_at(line.start, line.content_end);
-        if self.special.next(text.as_bytes(), 0) < text.len() {
+        let ahead = self.leaf.source_from(line.start);
+        if self.special.next(text.as_bytes(), ahead, 0) < text.len() {
             return None;
         }
         Some(text)
