@@ -1,6 +1,6 @@
 //! The text of a leaf.
 
-ghost use Rattle.std.specs.Prelude.{ℕ, ◌≡◌, ◌<◌, ◌≤◌, ◌+◌, ◌-◌, ◌++◌, ◌≢◌, [], length, IsOk, OnOk, IfOk, IfSome, None, ◌∷◌, string_bytes};
+ghost use Rattle.std.specs.Prelude.{ℕ, ◌≡◌, ◌<◌, ◌≤◌, ◌+◌, ◌-◌, ◌++◌, ◌≢◌, [], drop, length, take, IsOk, OnOk, IfOk, IfSome, None, ◌∷◌, string_bytes};
 ghost use Rattle.cmark_grammar.specs.Tokens.{slice};
 ghost use Rattle.cmark_leaf_text.specs.Reads.{IsRead, IsPart, IsFirstFrom, is_cell_of, text_of, source_of, place_of};
 ghost use Rattle.std.specs.Str.{IsCharBoundary};
@@ -124,9 +124,24 @@ impl<'a> LeafText<'a> {
         ensures text { IfSome result (λ part. part.now ≡ slice (text_of self.now) from to) }
         ensures apart { result ≡ None → place_of self.now (to - 1) + 1 ≢ place_of self.now from + (to - from) }
     {
+        let ahead = self.slice_ahead(from, to)?;
+        Some(&ahead[..to - from])
+    }
+
+    /// The source from the first of these bytes of the text on, if they stand there without a gap: it begins with them.
+    #[inline(always)]
+    pub fn slice_ahead(&self, from: usize, to: usize) -> Option<&'a str>
+        requires read { IsRead self.now }
+        requires part { IsPart (text_of self.now) from to }
+        ensures ahead { IfSome result (λ ahead. ahead.now ≡ drop (place_of self.now from) (source_of self.now)) }
+        ensures source { IfSome result (λ ahead. take (to - from) ahead.now ≡ slice (source_of self.now) (place_of self.now from) (place_of self.now (to - 1) + 1)) }
+        ensures text { IfSome result (λ ahead. take (to - from) ahead.now ≡ slice (text_of self.now) from to) }
+        ensures ends { IfSome result (λ ahead. IsCharBoundary ahead.now (to - from)) }
+        ensures apart { result ≡ None → place_of self.now (to - 1) + 1 ≢ place_of self.now from + (to - from) }
+    {
         let range = self.range(from, to);
         if range.end - range.start == to - from {
-            Some(&self.source[range.start..range.end])
+            Some(self.source_ahead(range.start))
         } else {
             None
         }
@@ -164,6 +179,15 @@ impl<'a> LeafText<'a> {
         ensures { result.now ≡ slice (source_of self.now) start end }
     {
         &self.source[start..end]
+    }
+
+    /// The source from this place on, which is inside no character.
+    #[inline(always)]
+    pub fn source_ahead(&self, start: usize) -> &'a str
+        requires { IsCharBoundary (source_of self.now) start }
+        ensures { result.now ≡ drop start (source_of self.now) }
+    {
+        &self.source[start..]
     }
 
     /// The first byte of the text that stands at or behind a place of the source; the text's length, where none does.

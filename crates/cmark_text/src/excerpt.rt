@@ -26,6 +26,15 @@ impl<'a> Excerpt<'a> {
         Excerpt { ahead, len }
     }
 
+    /// A whole text, with nothing behind it.
+    #[inline(always)]
+    pub fn whole(text: &'a str) -> Excerpt<'a>
+        ensures { excerpt_bytes result ≡ text.entry.now }
+    {
+        let len = text.len();
+        Excerpt { ahead: text, len }
+    }
+
     /// The part alone.
     #[inline(always)]
     pub fn as_str(self) -> &'a str

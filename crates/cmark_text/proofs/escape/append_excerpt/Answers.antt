@@ -1,4 +1,4 @@
-use Rattle.std.proofs.Common.{◌≡◌, ◌++◌, ◌+◌, ◌<◌, ◌≤◌, ℕ, List, length, string_bytes, slice_index, take, get_or, subst, sym, ap, ◌∙◌, arith}
+use Rattle.std.proofs.Common.{◌≡◌, ◌++◌, ◌+◌, ◌<◌, ◌≤◌, ℕ, List, length, string_bytes, slice_index, take, subst, sym, ap, ◌∙◌, arith}
 use Rattle.std.proofs.Math.Seq.{take-append-add}
 use Rattle.std.proofs.lemmas.List.{get_or-append-add, get_or-take, length-append, length-take-le, take-take}
 use Rattle.std.specs.Str.{IsCharBoundary}
