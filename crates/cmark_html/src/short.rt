@@ -4,6 +4,7 @@ ghost use Rattle.std.specs.Prelude.{◌≡◌, ◌++◌, true, OnOk, OnErr, None
 ghost use Rattle.cmark_grammar.specs.Event.{Code, End, Html, Start, Text};
 ghost use Rattle.cmark_grammar.specs.Html.{piece_outside, moved_outside};
 ghost use Rattle.cmark_text.specs.Appended.{AppendsFront};
+ghost use Rattle.cmark_text.specs.Excerpt.{excerpt_bytes};
 ghost use Rattle.cmark_text.specs.Short.{shown_plain, shown_short};
 ghost use Rattle.cmark_text.specs.Shown.{shown_end};
 ghost use Rattle.cmark_html.specs.Writer.{at_start, writing};
@@ -13,8 +14,8 @@ use crate::parts::{append, append_on_line};
 use crate::start::{append_plain_start, line_start_after_plain};
 use crate::state::Writer;
 use crate::writer::{ends_in_line_feed, line_start_after_html};
-use cmark_text::escape::escape_html_body_text;
-use cmark_text::{PlainTag, Short, TagEnd};
+use cmark_text::escape::{escape_excerpt, escape_html_body_text};
+use cmark_text::{Excerpt, PlainTag, Short, TagEnd};
 use std::alloc::AllocError;
 
 /// Appends the piece of an event that owns nothing, outside of images: inside of one, [`write_event`](crate::write_event) writes it.
@@ -48,17 +49,21 @@ pub fn write_short<'a>(
 
 /// Appends the piece of a text.
 #[inline(always)]
-fn write_text(out: &mut String, writer: &mut Writer<'_>, text: &str) -> Result<(), AllocError>
+fn write_text(
+    out: &mut String,
+    writer: &mut Writer<'_>,
+    text: Excerpt<'_>,
+) -> Result<(), AllocError>
     requires { writer.old.image ≡ None }
-    ensures ok { OnOk result (string_bytes out.new ≡ string_bytes out.old ++ piece_outside (writing writer.old) (Text text.now)) }
-    ensures state { OnOk result (writing writer.new ≡ moved_outside (writing writer.old) (Text text.now)) }
-    ensures err { OnErr result (AppendsFront (string_bytes out.old) (string_bytes out.new) (piece_outside (writing writer.old) (Text text.now))) }
+    ensures ok { OnOk result (string_bytes out.new ≡ string_bytes out.old ++ piece_outside (writing writer.old) (Text (excerpt_bytes text.entry))) }
+    ensures state { OnOk result (writing writer.new ≡ moved_outside (writing writer.old) (Text (excerpt_bytes text.entry))) }
+    ensures err { OnErr result (AppendsFront (string_bytes out.old) (string_bytes out.new) (piece_outside (writing writer.old) (Text (excerpt_bytes text.entry)))) }
 {
     if writer.in_metadata {
         return Ok(());
     }
-    escape_html_body_text(out, text)?;
-    writer.line_start = ends_in_line_feed(text);
+    escape_excerpt(out, text)?;
+    writer.line_start = ends_in_line_feed(text.as_str());
     Ok(())
 }
 

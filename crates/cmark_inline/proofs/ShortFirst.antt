@@ -19,6 +19,7 @@ use Rattle.cmark_text.specs.declared.short.PlainTag.{PlainTag}
 use Rattle.cmark_text.specs.declared.short.Short.{Short}
 use Rattle.cmark_text.specs.declared.short.Short.TheVariants as short
 use Rattle.cmark_text.specs.declared.text.CowStr.{CowStr}
+use Rattle.cmark_text.specs.Excerpt.{excerpt_bytes}
 use Rattle.cmark_text.specs.Short.{IsShortZeroCopy, shown_plain, shown_short}
 use Rattle.cmark_text.specs.Shown.{shown_end}
 use Rattle.cmark_inline.specs.Elements.{emphasis_tag}
@@ -66,7 +67,7 @@ module _ (leaf : LeafText) (texts : List CowStr) (links : List Link) (slot : Slo
   code-first k part ends h = absurd h
 
   short-first : (s : Short) → StandsFor leaf slot s → IsInline (shown_short s) → events_of leaf texts links (slot ∷ slots) opened ≡ here (shown_short s) ∷ events_of leaf texts links slots opened
-  short-first (short.Text part) h i = text-first slot.kind part.now (shown_opened opened) h
+  short-first (short.Text part) h i = text-first slot.kind (excerpt_bytes part) (shown_opened opened) h
   short-first (short.Code part) h i = code-first slot.kind part.now (shown_opened opened) h
   short-first (short.InlineHtml part) h i = ap (λ k. from k (shown_opened opened)) h.0 ∙ ap (λ p. here (event.InlineHtml p) ∷ behind (shown_opened opened)) (sym h.1)
   short-first short.SoftBreak h i = ap (λ k. from k (shown_opened opened)) h

@@ -10,6 +10,7 @@ use Rattle.cmark_text.specs.declared.short.Next.{Next}
 use Rattle.cmark_text.specs.declared.short.Next.TheVariants as next
 use Rattle.cmark_text.specs.declared.short.Short.{Short}
 use Rattle.cmark_text.specs.declared.short.Short.TheVariants as short
+use Rattle.cmark_text.specs.Excerpt.{excerpt_bytes}
 use Rattle.cmark_text.specs.Short.{IsShortZeroCopy, shown_plain, shown_short}
 use Rattle.cmark_inline.specs.declared.event.Opened.{Opened}
 use Rattle.cmark_inline.specs.declared.slot.Element.{Element}
@@ -33,7 +34,7 @@ IsCodeOf leaf _ part = ⊥
 
 -- an event stands for this slot of a leaf's text; an end stands for the element that is open
 abbrev pub StandsFor : LeafText → Slot → Short → Type 0
-StandsFor leaf slot (short.Text part) = IsTextOf leaf slot slot.kind part.now
+StandsFor leaf slot (short.Text part) = IsTextOf leaf slot slot.kind (excerpt_bytes part)
 StandsFor leaf slot (short.Code part) = IsCodeOf leaf slot.kind part.now
 StandsFor leaf slot (short.InlineHtml part) = (slot.kind ≡ kind.InlineHtml) × (part.now ≡ slice (text_of leaf) slot.start slot.end)
 StandsFor leaf slot short.SoftBreak = slot.kind ≡ kind.SoftBreak

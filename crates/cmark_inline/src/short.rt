@@ -30,7 +30,7 @@ use crate::slot::{Element, Slot, SlotKind};
 use crate::state::InlineState;
 use cmark_finds::code_part;
 use cmark_leaf_text::LeafText;
-use cmark_text::{Next, PlainTag, Short, TagEnd};
+use cmark_text::{Excerpt, Next, PlainTag, Short, TagEnd};
 use std::alloc::AllocError;
 
 impl<'a> InlineState<'a> {
@@ -172,12 +172,18 @@ fn part_of<'a>(leaf: &LeafText<'a>, slot: Slot) -> Option<Short<'a>>
     ensures lent { IfSome result (λ short. IsShortZeroCopy (source_of leaf.now) short (place_of leaf.now slot.start) (place_of leaf.now (slot.end - 1) + 1)) }
 {
     match slot.kind {
-        SlotKind::Text => Some(Short::Text(leaf.slice(slot.start, slot.end)?)),
+        SlotKind::Text => {
+            let ahead = leaf.slice_ahead(slot.start, slot.end)?;
+            Some(Short::Text(Excerpt::new(ahead, slot.end - slot.start)))
+        }
         SlotKind::SoftBreak => Some(Short::SoftBreak),
         SlotKind::HardBreak => Some(Short::HardBreak),
         SlotKind::Code(from, to) => Some(Short::Code(code_in(leaf, from, to)?)),
         SlotKind::InlineHtml => Some(Short::InlineHtml(leaf.slice(slot.start, slot.end)?)),
-        SlotKind::Whole(_) => Some(Short::Text(leaf.source_between(slot.start, slot.end))),
+        SlotKind::Whole(_) => {
+            let text = leaf.source_between(slot.start, slot.end);
+            Some(Short::Text(Excerpt::whole(text)))
+        }
         _ => None,
     }
 }

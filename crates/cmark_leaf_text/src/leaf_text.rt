@@ -80,7 +80,7 @@ impl<'a> LeafText<'a> {
         ensures within { length (text_of self.now) ≤ length result.now }
     {
         match self.stretches.as_slice() {
-            [one] => self.source_from(one.start),
+            [one] => self.source_ahead(one.start).as_bytes(),
             _ => self.copied.as_bytes(),
         }
     }
@@ -138,9 +138,24 @@ impl<'a> LeafText<'a> {
         ensures text { IfSome result (λ part. part.now ≡ slice (text_of self.now) from to) }
         ensures apart { result ≡ None → place_of self.now (to - 1) + 1 ≢ place_of self.now from + (to - from) }
     {
+        let ahead = self.slice_ahead(from, to)?;
+        Some(&ahead[..to - from])
+    }
+
+    /// The source from the first of these bytes of the text on, if they stand there without a gap: it begins with them.
+    #[inline(always)]
+    pub fn slice_ahead(&self, from: usize, to: usize) -> Option<&'a str>
+        requires read { IsRead self.now }
+        requires part { IsPart (text_of self.now) from to }
+        ensures ahead { IfSome result (λ ahead. ahead.now ≡ drop (place_of self.now from) (source_of self.now)) }
+        ensures source { IfSome result (λ ahead. take (to - from) ahead.now ≡ slice (source_of self.now) (place_of self.now from) (place_of self.now (to - 1) + 1)) }
+        ensures text { IfSome result (λ ahead. take (to - from) ahead.now ≡ slice (text_of self.now) from to) }
+        ensures ends { IfSome result (λ ahead. IsCharBoundary ahead.now (to - from)) }
+        ensures apart { result ≡ None → place_of self.now (to - 1) + 1 ≢ place_of self.now from + (to - from) }
+    {
         let range = self.range(from, to);
         if range.end - range.start == to - from {
-            Some(&self.source[range.start..range.end])
+            Some(self.source_ahead(range.start))
         } else {
             None
         }
@@ -180,13 +195,13 @@ impl<'a> LeafText<'a> {
         &self.source[start..end]
     }
 
-    /// The bytes of the source from a place on.
+    /// The source from this place on, which is inside no character.
     #[inline(always)]
-    pub fn source_from(&self, start: usize) -> &'a [u8]
-        requires { start ≤ length (source_of self.now) }
+    pub fn source_ahead(&self, start: usize) -> &'a str
+        requires { IsCharBoundary (source_of self.now) start }
         ensures { result.now ≡ drop start (source_of self.now) }
     {
-        &self.source.as_bytes()[start..]
+        &self.source[start..]
     }
 
     /// The first byte of the text that stands at or behind a place of the source; the text's length, where none does.

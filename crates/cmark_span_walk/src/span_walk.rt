@@ -12,6 +12,7 @@ ghost use Rattle.cmark_inline.specs.Footnoted.{SameFootnotes};
 ghost use Rattle.cmark_inline.specs.PlainStretches.{IsSetOf, StandUpTo};
 ghost use Rattle.cmark_leaf_text.specs.Stretches.{AreLines};
 ghost use Rattle.cmark_walk.specs.Walking.{Remains as BlocksRemain, definitions_of as block_definitions, text_of};
+ghost use Rattle.cmark_text.specs.Excerpt.{excerpt_bytes};
 ghost use Rattle.cmark_text.specs.Ranged.{IsRangedZeroCopy};
 ghost use Rattle.cmark_text.specs.Shown.{shown_options};
 ghost use Rattle.cmark_span_walk.specs.Walking.{ArePlaced, HasAsked, HasPlaces, IsOnlyLine};
@@ -20,7 +21,7 @@ use crate::coming::Coming;
 use cmark_inline::{BrokenLinkCallback, InlineState, Reader, SpecialBytes, special_bytes};
 use cmark_items::{FootnoteDefs, RefDefs};
 use cmark_leaf_text::{LeafLine, LeafText};
-use cmark_text::{EntityLookup, Next, Options, Ranged, Short};
+use cmark_text::{EntityLookup, Excerpt, Next, Options, Ranged, Short};
 use cmark_walk::{Brief, Met, Walk};
 use std::alloc::{AllocError, Global};
 
@@ -233,11 +234,11 @@ impl<'input, 'e, E: EntityLookup, F: BrokenLinkCallback<'input> + Drop> SpanWalk
     // The text of the leaf whose lines were met, if that is one short line in which no byte may begin a span, as that of most cells of
     // tables: its one event is a part of the source.
     #[inline(always)]
-    fn plain_text(&self) -> Option<&'input str>
+    fn plain_text(&self) -> Option<Excerpt<'input>>
         requires { AreLines (source_of self.now) 0 self.now.lines.items }
-        ensures line { IfSome result (λ text. IsOnlyLine (source_of self.now) self.now.lines.items text.now) }
+        ensures line { IfSome result (λ text. IsOnlyLine (source_of self.now) self.now.lines.items (excerpt_bytes text)) }
         ensures plain { IfSome result (λ text. (options : Extensions) (lookup : Lookup) (is_cell : Bool) → IsSetOf options self.now.special
-            → StandUpTo options lookup is_cell text.now 0 (length text.now)) }
+            → StandUpTo options lookup is_cell (excerpt_bytes text) 0 (length (excerpt_bytes text))) }
     {
         let [line] = self.lines.as_slice() else {
             return None;
@@ -246,11 +247,11 @@ impl<'input, 'e, E: EntityLookup, F: BrokenLinkCallback<'input> + Drop> SpanWalk
             return None;
         }
         let text = self.leaf.source_at(line.start, line.content_end);
-        let ahead = self.leaf.source_from(line.start);
-        if self.special.next(text.as_bytes(), ahead, 0) < text.len() {
+        let ahead = self.leaf.source_ahead(line.start);
+        if self.special.next(text.as_bytes(), ahead.as_bytes(), 0) < text.len() {
             return None;
         }
-        Some(text)
+        Some(Excerpt::new(ahead, text.len()))
     }
 
     // Into the leaf whose lines were met, perhaps the cell of a table.

@@ -55,6 +55,15 @@ pub on_err : {T E P : Type 0} (r : Result T E) → P → OnErr r P
 on_err (Ok x) p = tt
 on_err (Err e) p = p
 
+-- a fact that follows from one at the same outcome
+pub then_ok : {T E P Q : Type 0} (r : Result T E) → OnOk r P → (P → Q) → OnOk r Q
+then_ok (Ok x) p f = f p
+then_ok (Err e) p f = tt
+
+pub then_err : {T E P Q : Type 0} (r : Result T E) → OnErr r P → (P → Q) → OnErr r Q
+then_err (Ok x) p f = tt
+then_err (Err e) p f = f p
+
 -- the same where what a push leaves follows from the outcome
 pub at_ok : {T E P : Type 0} (r : Result T E) (new more old : List ℕ) → new ≡ (if is_ok r then more else old) → (new ≡ more → P) → OnOk r P
 at_ok (Ok x) new more old e fact = fact e

@@ -1,4 +1,5 @@
 pub mod Appended
+pub mod Excerpt
 pub mod Folding
 pub mod InPlace
 pub mod LabelOrder

@@ -11,6 +11,7 @@ use Rattle.cmark_text.specs.declared.short.PlainTag.{PlainTag}
 use Rattle.cmark_text.specs.declared.short.PlainTag.TheVariants as plain
 use Rattle.cmark_text.specs.declared.short.Short.{Short}
 use Rattle.cmark_text.specs.declared.short.Short.TheVariants as short
+use Rattle.cmark_text.specs.Excerpt.{excerpt_bytes}
 use Rattle.cmark_text.specs.Shown.{level_number, shown_block_quote_kind, shown_end, shown_metadata_block_kind}
 use Rattle.cmark_text.specs.ZeroCopy.{IsPartOf}
 
@@ -48,7 +49,7 @@ MayOwn _ = ⊥
 abbrev pub shown_short : Short → event.Event
 shown_short (short.Start tag) = event.Start (shown_plain tag)
 shown_short (short.End tag) = event.End (shown_end tag)
-shown_short (short.Text text) = event.Text text.now
+shown_short (short.Text text) = event.Text (excerpt_bytes text)
 shown_short (short.Code text) = event.Code text.now
 shown_short (short.Html text) = event.Html text.now
 shown_short (short.InlineHtml text) = event.InlineHtml text.now
@@ -58,7 +59,7 @@ shown_short short.Rule = event.Rule
 
 -- the zero-copy law of an event that owns nothing, which stands over these bytes: all its texts are borrowed
 abbrev pub IsShortZeroCopy : (source : List ℕ) → Short → (start end : ℕ) → Type 0
-IsShortZeroCopy source (short.Text text) start end = text.now ≡ slice source start end
+IsShortZeroCopy source (short.Text text) start end = excerpt_bytes text ≡ slice source start end
 IsShortZeroCopy source (short.Html text) start end = text.now ≡ slice source start end
 IsShortZeroCopy source (short.InlineHtml text) start end = text.now ≡ slice source start end
 IsShortZeroCopy source (short.Code text) start end = IsPartOf source text.now

@@ -1,12 +1,14 @@
 //! Escapes of texts in HTML. Stretches that are kept are copied whole.
 
-ghost use Rattle.std.specs.Prelude.{◌≡◌, ◌+◌, ◌<◌, ◌≤◌, ℕ, true, false, not, ◌++◌, length, position, slice_range, slice_index, OnOk, OnErr, string_bytes};
+ghost use Rattle.std.specs.Prelude.{◌≡◌, ◌+◌, ◌<◌, ◌≤◌, ℕ, true, false, not, ◌++◌, length, position, take, slice_range, slice_index, OnOk, OnErr, string_bytes};
 ghost use Rattle.memchr.specs.Find.{IsFirstByte};
 ghost use Rattle.cmark_grammar.specs.Escapes.{body_text_byte, escaped_body_text, html_byte, escaped_html, is_url_byte, href_byte, escaped_href, hexadecimal_digit, percent_encoded};
 ghost use Rattle.cmark_text.specs.Appended.{AppendsFront};
+ghost use Rattle.cmark_text.specs.Excerpt.{excerpt_bytes};
 ghost use Rattle.cmark_text.specs.Marks.{is_body_text_mark, is_html_mark, is_href_mark};
 
-use cmark_search::find_first;
+use crate::excerpt::Excerpt;
+use cmark_search::{find_first, find_first_within};
 use std::alloc::AllocError;
 
 /// Appends the text as body text of HTML: `&`, `<` and `>` are written as entities.
@@ -21,6 +23,40 @@ pub fn escape_html_body_text(out: &mut String, text: &str) -> Result<(), AllocEr
         None => out.push_str(text),
         Some(at) => escape_from(out, text, at),
     }
+}
+
+/// Appends the excerpt as body text of HTML, as `escape_html_body_text` does a text. A few bytes are looked at together with those that
+/// stand behind them.
+///
+/// Where there is no memory, the old text stands with a beginning of the escaped one.
+#[inline(always)]
+pub fn escape_excerpt(out: &mut String, excerpt: Excerpt<'_>) -> Result<(), AllocError>
+    ensures ok { OnOk result (string_bytes out.new ≡ string_bytes out.old ++ escaped_body_text (excerpt_bytes excerpt.entry)) }
+    ensures err { OnErr result (AppendsFront (string_bytes out.old) (string_bytes out.new) (escaped_body_text (excerpt_bytes excerpt.entry))) }
+{
+    match find_mark_within(excerpt.ahead, excerpt.len) {
+        None => append_excerpt(out, excerpt),
+        Some(at) => escape_from(out, excerpt.as_str(), at),
+    }
+}
+
+/// Appends the excerpt as it is. Where there is no memory, the old text stands as it was.
+///
+/// One of up to sixteen bytes is copied with those that stand behind it, if they are sixteen in all, and then they are cut off: a copy of
+/// a fixed length has no branch on the length.
+#[inline(always)]
+pub fn append_excerpt(out: &mut String, excerpt: Excerpt<'_>) -> Result<(), AllocError>
+    ensures ok { OnOk result (string_bytes out.new ≡ string_bytes out.old ++ excerpt_bytes excerpt.entry) }
+    ensures err { OnErr result (string_bytes out.new ≡ string_bytes out.old) }
+{
+    let ahead = excerpt.ahead;
+    if excerpt.len <= 16 && ahead.len() >= 16 && ahead.is_char_boundary(16) {
+        let len = out.len() + excerpt.len;
+        out.push_str(&ahead[..16])?;
+        out.truncate(len);
+        return Ok(());
+    }
+    out.push_str(excerpt.as_str())
 }
 
 /// The same of a text whose first byte that is not kept stands at a place. It is apart, so that most texts, which have none, are appended
@@ -51,6 +87,15 @@ fn find_body_text_mark(text: &str) -> Option<usize>
     ensures { IsFirstByte is_body_text_mark text.now result }
 {
     find_first(BODY_TEXT_MARKS, text.as_bytes())
+}
+
+/// The same of the first `len` bytes of a text.
+#[inline(always)]
+fn find_mark_within(ahead: &str, len: usize) -> Option<usize>
+    requires { len ≤ length ahead.now }
+    ensures { IsFirstByte is_body_text_mark (take len ahead.now) result }
+{
+    find_first_within(BODY_TEXT_MARKS, ahead.as_bytes(), len)
 }
 
 /// What a byte of body text that is not kept is written as.

@@ -6,6 +6,7 @@ mod copies;
 mod entity;
 pub mod escape;
 mod event;
+mod excerpt;
 mod inline;
 mod kind;
 mod label;
@@ -18,6 +19,7 @@ mod text;
 pub use entity::{BasicEntities, EntityLookup};
 pub use escape::{escape_href, escape_html, escape_html_body_text};
 pub use event::{Event, Tag, TagEnd};
+pub use excerpt::Excerpt;
 pub use inline::{InlineStr, StringTooLongError};
 pub use kind::{
     Alignment, BlockQuoteKind, CodeBlockKind, HeadingLevel, InvalidHeadingLevel, LinkType,

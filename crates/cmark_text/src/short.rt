@@ -5,6 +5,7 @@ ghost use Rattle.cmark_text.specs.Short.{shown_plain, shown_short};
 ghost use Rattle.cmark_text.specs.Shown.{shown, shown_tag};
 
 use crate::event::{Event, Tag, TagEnd};
+use crate::excerpt::Excerpt;
 use crate::kind::{BlockQuoteKind, CodeBlockKind, HeadingLevel, MetadataBlockKind};
 use crate::text::CowStr;
 use std::alloc::Global;
@@ -124,14 +125,14 @@ impl<'a> Tag<'a> {
 }
 
 /// An event that owns nothing. A value has 32 bytes, where one of any kind has 136.
-#[derive(Clone, Copy, Debug)]
+#[derive(Clone, Copy)]
 pub enum Short<'a> {
     /// An element starts that has no text of its own.
     Start(PlainTag),
     /// The element that started last and has not ended ends.
     End(TagEnd),
-    /// Text.
-    Text(&'a str),
+    /// Text, with what stands behind it in the text that it was found in.
+    Text(Excerpt<'a>),
     /// A code span (CommonMark 6.1).
     Code(&'a str),
     /// A part of an HTML block (CommonMark 4.6).
@@ -146,6 +147,8 @@ pub enum Short<'a> {
     Rule,
 }
 
+const _: () = prove!(size_of::<Short<'static>>() == 32);
+
 impl<'a> Short<'a> {
     /// The event that it is.
     pub fn event(self, alloc: Global) -> Event<'a>
@@ -154,7 +157,7 @@ impl<'a> Short<'a> {
         match self {
             Short::Start(tag) => Event::Start(tag.tag(alloc)),
             Short::End(tag) => Event::End(tag),
-            Short::Text(text) => Event::Text(CowStr::Borrowed(text)),
+            Short::Text(text) => Event::Text(CowStr::Borrowed(text.as_str())),
             Short::Code(text) => Event::Code(CowStr::Borrowed(text)),
             Short::Html(text) => Event::Html(CowStr::Borrowed(text)),
             Short::InlineHtml(text) => Event::InlineHtml(CowStr::Borrowed(text)),
@@ -166,7 +169,7 @@ impl<'a> Short<'a> {
 }
 
 /// What comes next of a text, of which no event is made.
-#[derive(Clone, Copy, Debug)]
+#[derive(Clone, Copy)]
 pub enum Next<'a> {
     /// An event that owns nothing.
     Short(Short<'a>),

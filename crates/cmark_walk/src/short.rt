@@ -7,6 +7,7 @@ ghost use Rattle.cmark_grammar.specs.BlockReading.{read_as};
 ghost use Rattle.cmark_grammar.specs.DrawnDocument.{kind_within};
 ghost use Rattle.cmark_grammar.specs.SpanDocuments.{Segment};
 ghost use Rattle.cmark_grammar.specs.Tokens.{slice};
+ghost use Rattle.cmark_text.specs.Excerpt.{excerpt_bytes};
 ghost use Rattle.cmark_leaf_text.specs.declared.stretch.LeafLine.{LeafLine as LeafLines};
 ghost use Rattle.cmark_walk.specs.declared.reading.Stage.TheVariants as stage;
 ghost use Rattle.cmark_walk.specs.Walking.{GoesOn, LeavesTheSame, ComesNearerShort, Drawn, GivesBrief, GivesShortStep, GlancesZeroCopy, Goes, IsAt, IsBelow, IsDrawn, IsPast, NoEndIsNext, Outer, ReadsAs, Remains, StandsBelow, definitions_of, text_of, texts_of, tight_below};
@@ -17,7 +18,7 @@ use crate::reading::{Brief, BriefStep, Glance, Stage};
 use crate::walk::Walk;
 use cmark_items::{Item, ItemBody};
 use cmark_leaf_text::LeafLine;
-use cmark_text::{PlainTag, Short};
+use cmark_text::{Excerpt, PlainTag, Short};
 use cmark_tree::TreeIndex;
 use std::alloc::AllocError;
 
@@ -150,7 +151,7 @@ impl<'a> Walk<'a> {
         ensures lent { GlancesZeroCopy (text_of self.now) item result }
     {
         match item.body {
-            ItemBody::Text { .. } => Glance::Alone(Short::Text(self.part(item))),
+            ItemBody::Text { .. } => Glance::Alone(Short::Text(self.excerpt(item))),
             ItemBody::Html => Glance::Alone(Short::Html(self.part(item))),
             ItemBody::Rule => Glance::Alone(Short::Rule),
             ItemBody::Paragraph | ItemBody::ParagraphOf(_) => {
@@ -189,5 +190,15 @@ impl<'a> Walk<'a> {
         ensures { result.now ≡ slice self.now.text.now item.start item.end }
     {
         &self.text[item.start..item.end]
+    }
+
+    // The same with what stands behind it in the text.
+    #[inline(always)]
+    fn excerpt(&self, item: Item) -> Excerpt<'a>
+        requires { IsDrawn self.now item }
+        ensures { excerpt_bytes result ≡ slice self.now.text.now item.start item.end }
+    {
+        let ahead = &self.text[item.start..];
+        Excerpt::new(ahead, item.end - item.start)
     }
 }

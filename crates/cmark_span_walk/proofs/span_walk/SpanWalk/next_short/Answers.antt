@@ -5,6 +5,7 @@ use Rattle.cmark_grammar.specs.SpanDocuments.{Content, Given as GivenOf}
 use Rattle.cmark_grammar.specs.SpecialBytes.{is_special}
 use Rattle.cmark_items.specs.Footnotes.{footnote}
 use Rattle.cmark_text.specs.declared.short.Next.{Next}
+use Rattle.cmark_text.specs.Excerpt.{excerpt_bytes}
 use Rattle.cmark_text.specs.Short.{IsShortZeroCopy}
 use Rattle.cmark_text.specs.declared.short.Short.TheVariants as short
 use Rattle.cmark_walk.specs.declared.reading.Brief.{Brief}
@@ -171,11 +172,11 @@ returns-in-Some-clause-given g c = λ reader r.
     let plain = c.in-Some.ensures.plain reader.options reader.lookup gives.0.is_cell (λ byte less. special byte less ∙ ap (λ o. is_special o byte) (sym by.same.options_are)) in
     let source = e.around.source ∙ c.loop-short.invariant.lasts.source in
     record {
-      given = record { event = Text c.in-Some.text.now; start = only.line.start; end = only.line.content_end };
+      given = record { event = Text (excerpt_bytes c.in-Some.text); start = only.line.start; end = only.line.content_end };
       is = refl;
-      range = subst (λ t. HasRange t (record { event = Text c.in-Some.text.now; start = only.line.start; end = only.line.content_end })) source (plain-range mid.leaf.source.now lines.items c.in-Some.text.now only);
+      range = subst (λ t. HasRange t (record { event = Text (excerpt_bytes c.in-Some.text); start = only.line.start; end = only.line.content_end })) source (plain-range mid.leaf.source.now lines.items (excerpt_bytes c.in-Some.text) only);
       lent = subst (λ t. IsShortZeroCopy t (short.Text c.in-Some.text) only.line.start only.line.content_end) source only.is;
-      passes = passes-on g.F.BrokenLinkCallback.answers g.E.EntityLookup.replacement reader old mid _ _ q (plain-passes g.F.BrokenLinkCallback.answers g.E.EntityLookup.replacement reader mid walk lines out m.text m.definitions _ gives.0 gives.1 c.in-Some.text.now by gives.2 gives.4 refl only gives.3.are plain);
+      passes = passes-on g.F.BrokenLinkCallback.answers g.E.EntityLookup.replacement reader old mid _ _ q (plain-passes g.F.BrokenLinkCallback.answers g.E.EntityLookup.replacement reader mid walk lines out m.text m.definitions _ gives.0 gives.1 (excerpt_bytes c.in-Some.text) by gives.2 gives.4 refl only gives.3.are plain);
     }
 
 pub returns-in-Some-clause-fewer : goal.returns-in-Some-clause-fewer

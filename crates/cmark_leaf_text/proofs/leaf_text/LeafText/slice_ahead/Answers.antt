@@ -1,9 +1,8 @@
-use Rattle.std.proofs.Common.{◌≡◌, ◌+◌, ◌-◌, ℕ, List, ap, ◌∙◌, arith}
-use Rattle.cmark_grammar.specs.Tokens.{slice}
+use Rattle.std.proofs.Common.{◌≡◌, ◌+◌, ◌-◌, ℕ, List, drop, sym, take, ap, ◌∙◌, arith}
 use Rattle.cmark_leaf_text.specs.Stretches.{place_in}
 use Rattle.cmark_leaf_text.specs.declared.stretch.Stretch.{Stretch}
 use Rattle.cmark_leaf_text.proofs.Gapless.{same-bytes}
-use Rattle.cmark_leaf_text.proofs.leaf_text.LeafText.slice.Goals as goal
+use Rattle.cmark_leaf_text.proofs.leaf_text.LeafText.slice_ahead.Goals as goal
 
 pub returns-then-range-to-clause-text : goal.returns-then-range-to-clause-text
 returns-then-range-to-clause-text c =
@@ -14,7 +13,7 @@ returns-then-range-to-clause-text c =
     let s = c.range-range.ensures.start in
     let e = c.range-range.ensures.end in
     let t = c.if-range-to.true in
-    c.range.ensures.value
-    ∙ ap (λ (k : ℕ). slice source k c.range-range.result.end) s
-    ∙ ap (λ (k : ℕ). slice source first k) e
-    ∙ same-bytes source items c.args.from c.args.to c.requires.read.stretches c.requires.part (let q : last - first ≡ c.args.to - c.args.from = omega (arith, s, e, t) in q)
+    let wide : last - first ≡ c.args.to - c.args.from = omega (arith, s, e, t) in
+    ap (λ (l : List ℕ). take (c.args.to - c.args.from) l) (c.source_ahead.ensures ∙ ap (λ (k : ℕ). drop k source) s)
+    ∙ ap (λ (n : ℕ). take n (drop first source)) (sym wide)
+    ∙ same-bytes source items c.args.from c.args.to c.requires.read.stretches c.requires.part wide
