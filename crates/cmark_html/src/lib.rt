@@ -19,7 +19,7 @@ mod state;
 mod table;
 mod writer;
 
-pub use crate::short::write_short;
+pub use crate::short::{write_link, write_short};
 pub use crate::state::Writer;
 pub use crate::writer::{finish, write_event};
 use cmark_text::Event;

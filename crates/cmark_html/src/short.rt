@@ -1,21 +1,23 @@
-//! The pieces of events that own nothing.
+//! The pieces of events of which none is made: of those that own nothing, and of the start of a link.
 
 ghost use Rattle.std.specs.Prelude.{◌≡◌, ◌++◌, true, OnOk, OnErr, None, codes, string_bytes};
 ghost use Rattle.cmark_grammar.specs.Event.{Code, End, Html, Start, Text};
 ghost use Rattle.cmark_grammar.specs.Html.{piece_outside, moved_outside};
+ghost use Rattle.cmark_grammar.specs.Tag as grammar_tag;
 ghost use Rattle.cmark_text.specs.Appended.{AppendsFront};
 ghost use Rattle.cmark_text.specs.Excerpt.{excerpt_bytes};
 ghost use Rattle.cmark_text.specs.Short.{shown_plain, shown_short};
-ghost use Rattle.cmark_text.specs.Shown.{shown_end};
+ghost use Rattle.cmark_text.specs.Shown.{shown_end, shown_link_type};
+ghost use Rattle.cmark_html.specs.Parts.{linked};
 ghost use Rattle.cmark_html.specs.Writer.{at_start, writing};
 
 use crate::end::{append_end, line_start_after_end};
 use crate::parts::{append, append_on_line};
-use crate::start::{append_plain_start, line_start_after_plain};
+use crate::start::{append_link, append_plain_start, line_start_after_plain};
 use crate::state::Writer;
 use crate::writer::{ends_in_line_feed, line_start_after_html};
 use cmark_text::escape::{escape_excerpt, escape_html_body_text};
-use cmark_text::{Excerpt, PlainTag, Short, TagEnd};
+use cmark_text::{Excerpt, LinkType, PlainTag, Short, TagEnd};
 use std::alloc::AllocError;
 
 /// Appends the piece of an event that owns nothing, outside of images: inside of one, [`write_event`](crate::write_event) writes it.
@@ -45,6 +47,27 @@ pub fn write_short<'a>(
             Ok(())
         }
     }
+}
+
+/// Appends the piece of the start of a link of this type, with this destination and this title, outside of images: inside of one,
+/// [`write_event`](crate::write_event) writes it. What is written does not depend on the link's label. Where memory is refused, a beginning
+/// of the piece was appended.
+#[inline(always)]
+pub fn write_link(
+    out: &mut String,
+    writer: &mut Writer<'_>,
+    link_type: LinkType,
+    dest_url: &str,
+    title: &str,
+) -> Result<(), AllocError>
+    requires outside { writer.old.image ≡ None }
+    ensures ok { OnOk result (string_bytes out.new ≡ string_bytes out.old ++ piece_outside (writing writer.old) (Start (grammar_tag.Link (linked (shown_link_type link_type) dest_url.now title.now)))) }
+    ensures state { OnOk result (writing writer.new ≡ moved_outside (writing writer.old) (Start (grammar_tag.Link (linked (shown_link_type link_type) dest_url.now title.now)))) }
+    ensures err { OnErr result (AppendsFront (string_bytes out.old) (string_bytes out.new) (piece_outside (writing writer.old) (Start (grammar_tag.Link (linked (shown_link_type link_type) dest_url.now title.now))))) }
+{
+    append_link(out, link_type, dest_url, title)?;
+    writer.line_start = false;
+    Ok(())
 }
 
 /// Appends the piece of a text.

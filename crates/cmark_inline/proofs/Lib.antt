@@ -86,3 +86,4 @@ pub mod PlaceEnds
 pub mod ComeLoops
 pub mod ComeCalls
 pub mod NoTails
+pub mod LinkStartSteps

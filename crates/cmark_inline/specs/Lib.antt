@@ -11,6 +11,7 @@ pub mod FormedSlots
 pub mod Hiding
 pub mod LeafViews
 pub mod Linked
+pub mod LinkStarts
 pub mod MarkedSlots
 pub mod MarkupInSource
 pub mod Opens

@@ -13,6 +13,7 @@ mod footnote;
 mod formula;
 pub mod laws;
 mod link;
+mod link_start;
 mod markup;
 pub mod pass_laws;
 mod place;

@@ -1,6 +1,6 @@
 -- Steps of a walk with spans: what it reads.
 use Rattle.std.proofs.Common.{◌≡◌, inl, inr, ℕ, zero, suc, ◌≤◌, ◌-◌, arith, Bool, true, false, List, [], ◌∷◌, ◌++◌, append_assoc, append-nil, length, Option, refl, sym, ap, ◌∙◌, subst}
-use Rattle.std.specs.Prelude.{option_map}
+use Rattle.std.specs.Prelude.{Err, IfSome, None, Ok, OnOk, Result, Some, option_map}
 use Rattle.std.specs.Global.{Vec}
 use Rattle.cmark_grammar.specs.Answers.{Lookup}
 use Rattle.cmark_grammar.specs.Event.{Ranged, Text}
@@ -15,6 +15,8 @@ use Rattle.cmark_grammar.specs.Tokens.{slice}
 use Rattle.cmark_inline.specs.Asking.{AsksOnce, AsksUpTo}
 use Rattle.cmark_inline.specs.Decided.{shown_answer, shown_question}
 use Rattle.cmark_inline.specs.Linked.{said_by}
+use Rattle.cmark_inline.specs.LinkStarts as starts
+use Rattle.cmark_inline.specs.LinkStarts.{IsStartFirst}
 use Rattle.cmark_inline.specs.PlainStretches.{StandUpTo}
 use Rattle.cmark_inline.specs.Resolved.{Answered}
 use Rattle.cmark_inline.specs.SlotViews.{events_to_come}
@@ -27,6 +29,8 @@ use Rattle.cmark_inline_model.proofs.DecisionLaws.{decide-recorded}
 use Rattle.cmark_inline_model.proofs.DecisionShifted.{decide-shifted}
 use Rattle.cmark_inline_model.proofs.PlainLeaves.{plain-leaf}
 use Rattle.cmark_items.specs.Definitions.{definition}
+use Rattle.cmark_items.specs.Links.{shown_link}
+use Rattle.cmark_items.specs.declared.allocations.Link.{Link}
 use Rattle.cmark_items.specs.declared.definitions.RefDefs.{RefDefs}
 use Rattle.cmark_leaf_text.specs.declared.stretch.LeafLine.{LeafLine}
 use Rattle.cmark_text.specs.declared.text.CowStr.{CowStr}
@@ -34,7 +38,7 @@ use Rattle.cmark_walk.specs.declared.walk.Walk.{Walk}
 use Rattle.cmark_walk.specs.Walking as walking
 use Rattle.cmark_walk.specs.Walking.{lines_of}
 use Rattle.cmark_span_walk.specs.declared.span_walk.SpanWalk.{SpanWalk}
-use Rattle.cmark_span_walk.specs.Walking.{ArePlaced, Ends, EntersLeaf, HasAsked, HasRange, IsOnlyLine, IsReadBy, Passes, ReadsLeaf, ReadsSame, Remains, StandsAt, callback_of, definitions_of, expansion_left_of, source_of, spans_to_come}
+use Rattle.cmark_span_walk.specs.Walking.{ArePlaced, Ends, EntersLeaf, GivesStart, HasAsked, HasRange, IsOnlyLine, IsReadBy, Passes, ReadsLeaf, ReadsSame, Remains, StandsAt, callback_of, definitions_of, expansion_left_of, link_in, link_to_come, opened_of, source_of, spans_to_come}
 use Rattle.cmark_span_walk.proofs.Walks.{Lasts, behind-at, closed, closed-at, met-by, one-left, same-at}
 
 -- texts of which each byte stands for itself
@@ -60,6 +64,11 @@ pub plain-range : (source : List ℕ) (lines : List LeafLine) (text : List ℕ) 
 plain-range source lines text only =
     let some = only.part.some in
     record { ordered = (let q : only.line.start ≤ only.line.content_end = omega (arith, some) in q); within = only.part.within; starts = only.part.starts; ends = only.part.ends }
+
+-- two facts of a call in which memory was not refused
+pub on-both : {A B : Type 0} (r : Result A B) (P Q : Type 0) → OnOk r P → OnOk r Q → OnOk r (P × Q)
+on-both (Ok a) P Q p q = (p, q)
+on-both (Err b) P Q p q = tt
 
 module _ {F : Type 0} (Says : F → BrokenLink → Option (CowStr × CowStr) → F → Type 0) where
   -- questions behind others
@@ -159,6 +168,19 @@ module _ {E F : Type 0} (Says : F → BrokenLink → Option (CowStr × CowStr) �
               ∙ ap (λ l. l ++ m.later) (sym first)
               ∙ sym (ap (λ b. spans_to_come b walk ++ m.later) inside);
         }
+
+    -- the start of a link
+    pub start-passes : (walk : SpanWalk E F) (inline : InlineState) (r : IsReadBy replacement reader walk) → walk.in_leaf ≡ true → StandsAt (record walk { inline = inline }) r.left → inline.expansion_left ≡ walk.inline.expansion_left
+        → IfSome (starts.link_to_come walk.inline) (λ link. IsStartFirst (source_of walk) (opened_of walk) (shown_link link) inline.walk.opened.items (events_to_come walk.leaf walk.inline) (events_to_come walk.leaf inline))
+        → IfSome (link_to_come walk) (λ link. GivesStart Says replacement reader walk (shown_link link) (record walk { inline = inline }))
+    start-passes walk inline r inside stands expansion_left first = subst (λ b. IfSome (link_in b walk) Starts) (sym inside) (go (starts.link_to_come walk.inline) first)
+      where
+        Starts : Link → Type 0
+        Starts link = GivesStart Says replacement reader walk (shown_link link) (record walk { inline = inline })
+
+        go : (found : Option Link) → IfSome found (λ link. IsStartFirst (source_of walk) (opened_of walk) (shown_link link) inline.walk.opened.items (events_to_come walk.leaf walk.inline) (events_to_come walk.leaf inline)) → IfSome found Starts
+        go None h = tt
+        go (Some link) h = record { given = h.given; is = h.is; range = h.follows.range; passes = spanned walk inline (h.given ∷ []) r inside stands expansion_left h.first }
 
     -- the leaf has no more
     pub closed-passes : (walk : SpanWalk E F) (inline : InlineState) (r : IsReadBy replacement reader walk) → walk.in_leaf ≡ true → inline.expansion_left ≡ walk.inline.expansion_left → events_to_come walk.leaf walk.inline ≡ []

@@ -1,5 +1,6 @@
 -- Steps of a walk with spans: where it stands.
 use Rattle.std.proofs.Common.{◌≡◌, ◌⊎◌, inl, inr, ℕ, ◌<◌, ◌≤◌, ◌-◌, arith, Bool, true, false, List, [], ◌∷◌, length, refl, sym, ap, ◌∙◌, subst}
+use Rattle.std.specs.Prelude.{is_some}
 use Rattle.std.specs.Global.{Vec}
 use Rattle.cmark_grammar.specs.LeafText.{Leaf}
 use Rattle.cmark_grammar.specs.SpanDocuments.{Segment, Content}
@@ -18,7 +19,7 @@ use Rattle.cmark_walk.specs.Walking as walking
 use Rattle.cmark_walk.specs.Walking.{AreLinesOf}
 use Rattle.cmark_walk.proofs.OneRemainder.{one-remainder}
 use Rattle.cmark_span_walk.specs.declared.span_walk.SpanWalk.{SpanWalk}
-use Rattle.cmark_span_walk.specs.Walking.{BeforeLeaf, BlocksLeft, EntersLeaf, HasSpecialBytes, Stands, StandsAt, StandsIn, StandsInLeaf, definitions_of, events_left, footnotes_of, opened_of, source_of}
+use Rattle.cmark_span_walk.specs.Walking.{BeforeLeaf, BlocksLeft, EntersLeaf, HasSpecialBytes, Stands, StandsAt, StandsIn, StandsInLeaf, definitions_of, events_left, footnotes_of, link_in, link_to_come, opened_of, source_of}
 
 none-opened : (source : List ℕ) (opened : List Opened) → opened ≡ [] → AreOpened source opened
 none-opened source opened e = subst (AreOpened source) (sym e) (λ k d lt. absurd (omega (arith, lt)))
@@ -51,6 +52,14 @@ module _ {E F : Type 0} where
   -- the slots that are left in a leaf can be given
   pub given-left : (walk : SpanWalk E F) (left : List Segment) → StandsAt walk left → walk.in_leaf ≡ true → AreLeft walk.leaf walk.inline
   given-left walk left s inside = (in-leaf walk inside s.leaf).given
+
+  -- the start of a link comes next only in a leaf
+  pub link-inside : (walk : SpanWalk E F) → is_some (link_to_come walk) ≡ true → walk.in_leaf ≡ true
+  link-inside walk h = go walk.in_leaf refl
+    where
+      go : (b : Bool) → walk.in_leaf ≡ b → walk.in_leaf ≡ true
+      go true e = e
+      go false e = let q : false ≡ true = sym (ap (λ b. is_some (link_in b walk)) e) ∙ h in cc
 
   -- a leaf has no more spans
   abbrev pub closed : SpanWalk E F → InlineState → SpanWalk E F

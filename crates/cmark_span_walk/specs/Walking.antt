@@ -1,7 +1,7 @@
 -- Where a walk with spans stands, and what it still has to give.
 use Rattle.std.specs.Prelude.{◌≡◌, ℕ, ◌+◌, ◌*◌, ◌<◌, ◌≤◌, Bool, true, false, List, [], ◌∷◌, ◌++◌, length, Option, Some, None, is_some, option_map}
 use Rattle.cmark_grammar.specs.Answers.{Lookup}
-use Rattle.cmark_grammar.specs.Event.{Ranged}
+use Rattle.cmark_grammar.specs.Event.{Ranged, Start}
 use Rattle.cmark_grammar.specs.LeafSpans.{IsRange}
 use Rattle.cmark_grammar.specs.LeafText.{Leaf}
 use Rattle.cmark_grammar.specs.Options.{Options}
@@ -9,16 +9,20 @@ use Rattle.cmark_grammar.specs.Questions.{Exchange}
 use Rattle.cmark_grammar.specs.Readers.{Reader}
 use Rattle.cmark_grammar.specs.SpanDocuments as documents
 use Rattle.cmark_grammar.specs.SpanDocuments.{Segment, Left}
+use Rattle.cmark_grammar.specs.Tag as tag
+use Rattle.cmark_grammar.specs.Tag.{Linked}
 use Rattle.cmark_grammar.specs.Tokens.{slice}
 use Rattle.cmark_inline_model.specs.FirstEvents.{BeginWithEnd}
 use Rattle.cmark_inline_model.specs.LeafGaps.{HasNoPipesBetween}
 use Rattle.cmark_inline_model.specs.PlacedLeaves.{IsPlaced}
 use Rattle.cmark_items.specs.Definitions.{definition}
 use Rattle.cmark_items.specs.Footnotes.{footnote}
+use Rattle.cmark_items.specs.declared.allocations.Link.{Link}
 use Rattle.cmark_items.specs.declared.definitions.RefDefs.{RefDefs}
 use Rattle.cmark_items.specs.declared.footnotes.FootnoteDefs.{FootnoteDefs}
 use Rattle.cmark_inline.specs.Decided.{said}
 use Rattle.cmark_inline.specs.Linked.{said_by}
+use Rattle.cmark_inline.specs.LinkStarts as starts
 use Rattle.cmark_inline.specs.Opens as opens
 use Rattle.cmark_inline.specs.PlainStretches.{IsSetOf}
 use Rattle.cmark_inline.specs.Resolved.{Answered, ResolvesAs}
@@ -139,6 +143,14 @@ module _ {E F : Type 0} where
   spans_to_come true walk = events_to_come walk.leaf walk.inline
   spans_to_come false walk = []
 
+  -- the link whose start comes next in a leaf, if one does
+  abbrev pub link_in : (in_leaf : Bool) → SpanWalk E F → Option Link
+  link_in true walk = starts.link_to_come walk.inline
+  link_in false walk = None
+
+  abbrev pub link_to_come : SpanWalk E F → Option Link
+  link_to_come walk = link_in walk.in_leaf walk
+
   -- more than the number of all events that are left, where a leaf has fewer than 2^66
   abbrev pub events_left : SpanWalk E F → ℕ
   events_left walk = walk.budget * 73786976294838206464 + opens.events_left walk.inline
@@ -248,6 +260,13 @@ module _ {E F : Type 0} (Says : F → BrokenLink → Option (CowStr × CowStr) �
     pub is : given.event ≡ shown_short short
     pub range : HasRange (source_of old) given
     pub lent : IsShortZeroCopy (source_of old) short given.start given.end
+    pub passes : Passes (given ∷ []) old new
+
+  -- the start of this link, with some range, is the first of those that are left
+  pub record GivesStart (old : SpanWalk E F) (link : Linked) (new : SpanWalk E F) : Type 0 where
+    pub given : Ranged
+    pub is : given.event ≡ Start (tag.Link link)
+    pub range : HasRange (source_of old) given
     pub passes : Passes (given ∷ []) old new
 
   -- an event that owns nothing is the first of those that are left; where it is of another kind, it was not given yet; or nothing was left

@@ -1,6 +1,6 @@
 //! The walk over a document's events with the spans of its leaves.
 
-ghost use Rattle.std.specs.Prelude.{◌≡◌, ◌≢◌, ◌<◌, ◌≤◌, Bool, true, false, List, [], is_some, length, max, IfOk, IfSome, OnErr, OnOk, OnSome};
+ghost use Rattle.std.specs.Prelude.{◌≡◌, ◌≢◌, ◌<◌, ◌≤◌, Bool, true, false, List, [], is_some, length, max, option_map, IfOk, IfSome, OnErr, OnOk, OnSome};
 ghost use Rattle.cmark_grammar.specs.Answers.{Lookup};
 ghost use Rattle.cmark_grammar.specs.Event.{Ranged as Shown};
 ghost use Rattle.cmark_grammar.specs.Questions.{Exchange};
@@ -9,6 +9,7 @@ ghost use Rattle.cmark_grammar.specs.LeafText.{Leaf};
 ghost use Rattle.cmark_grammar.specs.Options.{Options as Extensions};
 ghost use Rattle.cmark_grammar.specs.SpanDocuments.{Left, Segment};
 ghost use Rattle.cmark_inline.specs.Footnoted.{SameFootnotes};
+ghost use Rattle.cmark_items.specs.Links.{shown_link};
 ghost use Rattle.cmark_inline.specs.PlainStretches.{IsSetOf, StandUpTo};
 ghost use Rattle.cmark_leaf_text.specs.Stretches.{AreLines};
 ghost use Rattle.cmark_walk.specs.Walking.{Remains as BlocksRemain, definitions_of as block_definitions, text_of};
@@ -19,7 +20,7 @@ ghost use Rattle.cmark_span_walk.specs.Walking.{ArePlaced, HasAsked, HasPlaces, 
 
 use crate::coming::Coming;
 use cmark_inline::{BrokenLinkCallback, InlineState, Reader, SpecialBytes, special_bytes};
-use cmark_items::{FootnoteDefs, RefDefs};
+use cmark_items::{FootnoteDefs, Link, RefDefs};
 use cmark_leaf_text::{LeafLine, LeafText};
 use cmark_text::{EntityLookup, Excerpt, Next, Options, Ranged, Short};
 use cmark_walk::{Brief, Met, Walk};
@@ -48,7 +49,7 @@ pub struct SpanWalk<'input, 'e, E, F> {
 }
 
 impl<'input, 'e, E: EntityLookup, F: BrokenLinkCallback<'input> + Drop> SpanWalk<'input, 'e, E, F> {
-    ghost use Rattle.cmark_span_walk.specs.Walking.{BeforeLeaf, KeepsAround, EntersLeaf, Gives, GivesInLeaf, GivesNext, GivesSpan, IsReadBy, KeepsBehindLeaf, KeepsLeft, LeavesFewer, LeavesLeaf, NoEndIsNext, ReadsLeaf, ReadsSame, Remains, Stands, as_next, callback_of, definitions_of, events_left, expansion_left_of, footnotes_of, options_of, source_of};
+    ghost use Rattle.cmark_span_walk.specs.Walking.{BeforeLeaf, KeepsAround, EntersLeaf, Gives, GivesInLeaf, GivesNext, GivesSpan, GivesStart, IsReadBy, KeepsBehindLeaf, KeepsLeft, LeavesFewer, LeavesLeaf, NoEndIsNext, ReadsLeaf, ReadsSame, Remains, Stands, as_next, callback_of, definitions_of, events_left, expansion_left_of, footnotes_of, link_to_come, options_of, source_of};
 
     /// A walk over what this walk over the text meets, which are fewer events and leaves than `budget`. `entities` says what the
     /// entity names stand for; `footnotes` are those that the text defines, of which each counts its references; `callback` is asked
@@ -175,7 +176,37 @@ impl<'input, 'e, E: EntityLookup, F: BrokenLinkCallback<'input> + Drop> SpanWalk
         }
     }
 
-    // The same of the leaf at hand; where there is no leaf or it has no more events, nothing is left there, and the walk then stands in none.
+    /// The link whose start comes next, if the walk stands in a leaf in which a link or an autolink comes next. Nothing counts as given then:
+    /// [`pass_link`](SpanWalk::pass_link) goes on behind the start.
+    #[inline(always)]
+    pub fn link_ahead(&self) -> Option<&Link<'input>>
+        ensures { option_map (λ link. link.now) result ≡ link_to_come self.now }
+    {
+        if !self.in_leaf {
+            return None;
+        }
+        self.inline.link_ahead()
+    }
+
+    /// Counts the start of the link that comes next as given, as `next` does with no event made. Where memory is refused, the walk is lost.
+    #[inline(always)]
+    pub fn pass_link(&mut self) -> Result<(), AllocError>
+        requires stands { Stands self.old }
+        requires ahead { is_some (link_to_come self.old) ≡ true }
+        ensures stands { OnOk result (Stands self.new) }
+        ensures given { (reader : GrammarReader) → IsReadBy E.replacement reader self.old → OnOk result (IfSome (link_to_come self.old) (λ link. GivesStart F.answers E.replacement reader self.old (shown_link link) self.new)) }
+        ensures fewer { OnOk result (events_left self.new < events_left self.old) }
+        ensures ends { OnErr result ((reader : GrammarReader) → NoEndIsNext E.replacement reader self.old) }
+        ensures asked { OnErr result (HasAsked F.answers (callback_of self.old) (callback_of self.new)) }
+        ensures definitions { definitions_of self.new ≡ definitions_of self.old }
+        ensures footnotes { SameFootnotes (footnotes_of self.old) (footnotes_of self.new) }
+        ensures source { source_of self.new ≡ source_of self.old }
+    {
+        self.inline.pass_link(&self.leaf)
+    }
+
+    // What `next_short` would give of the leaf at hand; where there is no leaf or it has no more events, nothing is left there, and the walk
+    // then stands in none.
     #[inline(always)]
     fn next_in_leaf(&mut self) -> Result<Next<'input>, AllocError>
         requires { Stands self.old }

@@ -1,5 +1,5 @@
 -- Steps of a walk.
-use Rattle.std.specs.Prelude.{IfOk, OnErr, Option, Result, Err, IsUtf8, is_some, max, option_map}
+use Rattle.std.specs.Prelude.{IfOk, IfSome, OnErr, Option, Result, Err, IsUtf8, is_some, max, option_map}
 use Rattle.std.specs.declared.alloc.AllocError.{AllocError}
 use Rattle.std.proofs.Common.{◌≡◌, ◌+◌, ◌*◌, ◌<◌, ℕ, suc, Bool, true, false, if◌then◌else◌, List, [], ◌∷◌, ◌++◌, length, None, Some, Ok, inl, inr, refl, sym, ap, ◌∙◌, subst, arith}
 use Rattle.cmark_block_model.proofs.Drawings.{derived}
@@ -18,6 +18,7 @@ use Rattle.cmark_grammar.specs.Readers.{Reader}
 use Rattle.cmark_grammar.specs.References.{first_with, references}
 use Rattle.cmark_grammar.specs.SpanDocuments.{Content, Given as GivenOf, Segment, footnote_labels, has_label, segments}
 use Rattle.cmark_grammar.specs.SpanDocuments as documents
+use Rattle.cmark_grammar.specs.Tag.{Linked}
 use Rattle.cmark_inline.specs.Decided.{said}
 use Rattle.cmark_inline.specs.Footnoted.{SameFootnotes}
 use Rattle.cmark_inline.specs.Linked.{Said, said_by, title_or_none}
@@ -34,6 +35,8 @@ use Rattle.cmark_inline_model.proofs.LeafGaps.{derived-no-pipes}
 use Rattle.cmark_inline_model.proofs.PlannedReadings.{left-planned}
 use Rattle.cmark_items.specs.Definitions.{ShownDefinition, definition, shown_definition}
 use Rattle.cmark_items.specs.Footnotes.{footnote}
+use Rattle.cmark_items.specs.Links.{shown_link}
+use Rattle.cmark_items.specs.declared.allocations.Link.{Link}
 use Rattle.cmark_items.specs.declared.definitions.LinkDef.{LinkDef}
 use Rattle.cmark_items.specs.declared.footnotes.FootnoteDef.{FootnoteDef}
 use Rattle.cmark_span_walk.specs.Callback.{AnswersIfAny}
@@ -50,7 +53,7 @@ use Rattle.pulldown_cmark.specs.declared.parse.Parser.{Parser}
 use Rattle.pulldown_cmark.specs.Walking.{GoesOn, SomeLeft, reader_by}
 use Rattle.cmark_span_walk.specs.declared.coming.Coming.{Coming}
 use Rattle.cmark_span_walk.specs.declared.coming.Coming.TheVariants as coming
-use Rattle.pulldown_cmark.specs.Parsing.{CanGo, IsOver, GivesAs, GivesOrErr, GivesStep, Left, Passes, Reads, Remains, definitions, footnotes, events_left, is_last, lookup_of, options_of, reader_for, text_of}
+use Rattle.pulldown_cmark.specs.Parsing.{CanGo, IsOver, GivesAs, GivesOrErr, GivesStart, GivesStep, Left, Passes, Reads, Remains, definitions, footnotes, events_left, is_last, link_to_come, link_unless, lookup_of, options_of, reader_for, text_of}
 
 -- ## Questions
 
@@ -135,6 +138,17 @@ module _ {E F : Type 0} (replacement : E → Lookup) where
 
 left-of : {E F : Type 0} → (parser : Parser E F) → parser.is_over ≡ false → events_left parser ≡ suc (walking.events_left parser.spans)
 left-of parser e = ap (λ b. if b then 0 else suc (walking.events_left parser.spans)) e
+
+-- the start of a link comes next only where the walk is not over
+pub link-going : {E F : Type 0} → (parser : Parser E F) → is_some (link_to_come parser) ≡ true → parser.is_over ≡ false
+link-going parser h = go parser.is_over refl
+  where
+    go : (b : Bool) → parser.is_over ≡ b → parser.is_over ≡ false
+    go true e = let q : false ≡ true = sym (ap (λ b. is_some (link_unless b parser)) e) ∙ h in cc
+    go false e = e
+
+pub link-walked : {E F : Type 0} → (parser : Parser E F) → is_some (link_to_come parser) ≡ true → is_some (walking.link_to_come parser.spans) ≡ true
+link-walked parser h = sym (ap (λ b. is_some (link_unless b parser)) (link-going parser h)) ∙ h
 
 module _ {E F : Type 0} (Says : F → BrokenLink → Option (CowStr × CowStr) → F → Type 0) (replacement : E → Lookup) where
   abbrev WalkPasses : (front : List Ranged) → (old new : Parser E F) → Type 0
@@ -235,6 +249,31 @@ module _ {E F : Type 0} (Says : F → BrokenLink → Option (CowStr × CowStr) �
       definitions = same;
       footnotes = known;
     }
+
+    -- the start of a link
+    gives-start : (link : Linked) → new.is_over ≡ false → walking.GivesStart (SaysIfAny Says) replacement (reader_for replacement old) old.spans link new.spans → walking.events_left new.spans < walking.events_left old.spans → GivesStart Says replacement old link new
+    gives-start link n h less = record {
+      given = h.given;
+      is = h.is;
+      range = h.range;
+      passes = passes-of (h.given ∷ []) old new e n h.passes;
+      fewer = let a = left-of old e in let b = left-of new n in omega (arith, a, b, less);
+      can = record { goes = goes replacement old new n h.passes.read_by };
+      text = text;
+      definitions = same;
+      footnotes = known;
+    }
+
+    pub gives-next-start : new.is_over ≡ false → IfSome (walking.link_to_come old.spans) (λ link. walking.GivesStart (SaysIfAny Says) replacement (reader_for replacement old) old.spans (shown_link link) new.spans)
+        → walking.events_left new.spans < walking.events_left old.spans → IfSome (link_to_come old) (λ link. GivesStart Says replacement old (shown_link link) new)
+    gives-next-start n first less = subst (λ b. IfSome (link_unless b old) Starts) (sym e) (go (walking.link_to_come old.spans) first)
+      where
+        Starts : Link → Type 0
+        Starts link = GivesStart Says replacement old (shown_link link) new
+
+        go : (found : Option Link) → IfSome found (λ link. walking.GivesStart (SaysIfAny Says) replacement (reader_for replacement old) old.spans (shown_link link) new.spans) → IfSome found Starts
+        go None h = tt
+        go (Some link) h = gives-start (shown_link link) n h less
 
     gives-coming : (coming : Coming) → new.is_over ≡ is_last (Ok coming) → walking.GivesNext (SaysIfAny Says) replacement (reader_for replacement old) old.spans (walking.as_next coming) new.spans → walking.LeavesFewer old.spans (walking.as_next coming) new.spans
         → GivesAs Says replacement old (walking.as_next coming) new

@@ -3,16 +3,20 @@ use Rattle.std.proofs.Common.{◌≡◌, ℕ, List, [], ◌∷◌, ◌++◌, Opt
 use Rattle.std.proofs.lemmas.List.{map-append}
 use Rattle.std.specs.Prelude.{is_some}
 use Rattle.cmark_grammar.specs.Answers.{Lookup}
-use Rattle.cmark_grammar.specs.Event.{Ranged}
+use Rattle.cmark_grammar.specs.Event.{Event, Ranged, Start}
 use Rattle.cmark_grammar.specs.Html.{Writing, at_line_start, piece, piece_in, piece_outside, pieces_from, moved, moved_all, moved_in, moved_outside, opened_by, opened_image, last_piece}
 use Rattle.cmark_grammar.specs.Options.{Options}
 use Rattle.cmark_grammar.specs.Questions.{Exchange}
+use Rattle.cmark_grammar.specs.Tag as tag
 use Rattle.cmark_html.proofs.HtmlSteps.{moved_all-joined, pieces_from-joined, written_end}
+use Rattle.cmark_html.specs.Parts.{linked}
 use Rattle.cmark_html.specs.Writer.{shown_image}
 use Rattle.cmark_html.specs.declared.state.OpenImage.{OpenImage}
 use Rattle.cmark_inline.specs.Resolved.{Answered}
 use Rattle.cmark_inline.specs.declared.callback.BrokenLink.{BrokenLink}
 use Rattle.cmark_inline_model.proofs.SilentReadings.{reading-silent}
+use Rattle.cmark_items.specs.Links.{shown_link}
+use Rattle.cmark_items.specs.declared.allocations.Link.{Link}
 use Rattle.cmark_span_walk.specs.Callback.{AnswersIfAny}
 use Rattle.cmark_span_walk.proofs.Readings.{answered-on}
 use Rattle.cmark_text.specs.declared.short.Next.TheVariants as next
@@ -22,11 +26,11 @@ use Rattle.cmark_text.specs.declared.short.Short.{Short}
 use Rattle.cmark_text.specs.declared.short.Short.TheVariants as short
 use Rattle.cmark_text.specs.declared.text.CowStr.{CowStr}
 use Rattle.cmark_text.specs.Short.{shown_plain, shown_short}
-use Rattle.cmark_text.specs.Shown.{shown}
+use Rattle.cmark_text.specs.Shown.{shown, shown_link_type, text_bytes}
 use Rattle.cmark_text.specs.declared.ranged.Ranged.{Ranged as Item}
 use Rattle.pulldown_cmark.specs.declared.parse.Parser.{Parser}
-use Rattle.pulldown_cmark.specs.Parsing.{Asks, CanGo, GivesAs, GivesStep, Passes, Reads, Remains, callback_of}
-use Rattle.pulldown_cmark.specs.Rendering.{IsHtmlOf, IsHtmlOfRest, WritesSome, Written, events_of, written}
+use Rattle.pulldown_cmark.specs.Parsing.{Asks, CanGo, GivesAs, GivesStart, GivesStep, Passes, Reads, Remains, callback_of}
+use Rattle.pulldown_cmark.specs.Rendering.{IsHtmlOf, IsHtmlOfRest, WritesSome, WritesWhole, Written, events_of, written}
 use Rattle.pulldown_cmark.specs.Walking.{profile}
 use Rattle.pulldown_cmark.proofs.ParseSteps.{none-answered}
 
@@ -140,6 +144,24 @@ module _ {E F : Type 0} (Says : F → BrokenLink → Option (CowStr × CowStr) �
       one-written parser new h.answers.given mid after h.answers.passes h.can
       (bytes ∙ ap (λ i. mid.bytes ++ piece_in i w (shown_short short)) (sym outside) ∙ ap (λ e. mid.bytes ++ piece w e) same)
       (writing ∙ ap (λ i. moved_in i w (shown_short short)) (sym outside) ∙ ap (moved w) same)
+
+  -- the start of a link, of which the label is not written
+  pub link-written : (parser new : Parser E F) (link : Link) (destination title : List ℕ) (mid after : Written) → GivesStart Says replacement parser (shown_link link) new → mid.writing.image ≡ None
+      → destination ≡ text_bytes link.dest_url → title ≡ text_bytes link.title
+      → after.bytes ≡ mid.bytes ++ piece_outside mid.writing (Start (tag.Link (linked (shown_link_type link.link_type) destination title))) → after.writing ≡ moved_outside mid.writing (Start (tag.Link (linked (shown_link_type link.link_type) destination title)))
+      → WritesWhole Says replacement parser mid new after
+  link-written parser new link destination title mid after h outside d t bytes writing =
+      let w = mid.writing in
+      let start : Event = Start (tag.Link (shown_link link)) in
+      let named : List ℕ → List ℕ → Event = λ destination title. Start (tag.Link (linked (shown_link_type link.link_type) destination title)) in
+      let same : start ≡ h.given.event = sym h.is in
+      let piece_is : piece_outside w (named destination title) ≡ piece_outside w start = ap (λ x. piece_outside w (named x title)) d ∙ ap (λ x. piece_outside w (named (text_bytes link.dest_url) x)) t in
+      record {
+        some = one-written parser new h.given mid after h.passes h.can (bytes ∙ ap (λ l. mid.bytes ++ l) piece_is ∙ ap (λ i. mid.bytes ++ piece_in i w start) (sym outside) ∙ ap (λ e. mid.bytes ++ piece w e) same)
+            (writing ∙ ap (λ i. moved_in i w start) (sym outside) ∙ ap (moved w) same);
+        closed = ap Writing.image writing;
+        fewer = h.fewer;
+      }
 
   -- an event of another kind was not given yet
   pub long-kept : (parser new : Parser E F) (s : Written) → GivesAs Says replacement parser next.Long new → WritesSome Says replacement parser s new s

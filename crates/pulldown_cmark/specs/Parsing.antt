@@ -1,5 +1,5 @@
 -- What a parser still has to give, and the definitions of links and of footnotes that it found.
-use Rattle.std.specs.Prelude.{◌≡◌, ◌<◌, ◌≤◌, ℕ, suc, Bool, true, false, if◌then◌else◌, List, [], ◌∷◌, ◌++◌, OnSome, Option, Some, option_map, Result, Ok, Err}
+use Rattle.std.specs.Prelude.{◌≡◌, ◌<◌, ◌≤◌, ℕ, suc, Bool, true, false, if◌then◌else◌, List, [], ◌∷◌, ◌++◌, OnSome, IfSome, Option, None, Some, option_map, Result, Ok, Err}
 use Rattle.std.specs.declared.alloc.AllocError.{AllocError}
 use Rattle.std.specs.declared.ops.Range.{Range}
 use Rattle.cmark_blocks.specs.Footnotes.{HasLabels}
@@ -7,7 +7,7 @@ use Rattle.cmark_blocks.specs.Runs.{shown_reference}
 use Rattle.cmark_grammar.specs.Answers.{Lookup}
 use Rattle.cmark_grammar.specs.BlockDocument.{BlockDocument}
 use Rattle.cmark_grammar.specs.Derivation.{Derives}
-use Rattle.cmark_grammar.specs.Event.{Ranged}
+use Rattle.cmark_grammar.specs.Event.{Ranged, Start}
 use Rattle.cmark_grammar.specs.Labels.{fold}
 use Rattle.cmark_grammar.specs.LeafSpans.{IsRange}
 use Rattle.cmark_grammar.specs.Options.{Options}
@@ -15,10 +15,14 @@ use Rattle.cmark_grammar.specs.Questions.{Exchange}
 use Rattle.cmark_grammar.specs.Readers.{Reader}
 use Rattle.cmark_grammar.specs.References.{first_with, references}
 use Rattle.cmark_grammar.specs.SpanDocuments.{footnote_labels}
+use Rattle.cmark_grammar.specs.Tag as tag
+use Rattle.cmark_grammar.specs.Tag.{Linked}
 use Rattle.cmark_inline.specs.Footnoted.{SameFootnotes}
 use Rattle.cmark_inline.specs.Resolved.{Answered}
 use Rattle.cmark_inline.specs.declared.callback.BrokenLink.{BrokenLink}
 use Rattle.cmark_items.specs.Definitions.{definition, shown_definition}
+use Rattle.cmark_items.specs.Links.{shown_link}
+use Rattle.cmark_items.specs.declared.allocations.Link.{Link}
 use Rattle.cmark_items.specs.declared.definitions.RefDefs.{RefDefs}
 use Rattle.cmark_items.specs.declared.footnotes.FootnoteDefs.{FootnoteDefs}
 use Rattle.cmark_span_walk.specs.Callback.{AnswersIfAny}
@@ -104,6 +108,14 @@ module _ {E F : Type 0} where
   -- nothing is given any more
   abbrev pub IsOver : Parser E F → Type 0
   IsOver parser = parser.is_over ≡ true
+
+  -- the link whose start comes next, if one does
+  abbrev pub link_unless : (is_over : Bool) → Parser E F → Option Link
+  link_unless true parser = None
+  link_unless false parser = walking.link_to_come parser.spans
+
+  abbrev pub link_to_come : Parser E F → Option Link
+  link_to_come parser = link_unless parser.is_over parser
 
   -- its table answers for each folded label as the first definition of this document with that label (CommonMark 4.7)
   abbrev pub DefinesAs : BlockDocument → Parser E F → Type 0
@@ -238,6 +250,23 @@ module _ {E F : Type 0} (Says : F → BrokenLink → Option (CowStr × CowStr) �
   abbrev pub GivesOrErr : Parser E F → Result Coming AllocError → Parser E F → Type 0
   GivesOrErr old (Ok coming) new = GivesAs old (walking.as_next coming) new
   GivesOrErr old (Err e) new = GivesStep old (Some (Err e)) new
+
+  -- the start of this link, with some range, is the first of what was left
+  pub record GivesStart (old : Parser E F) (link : Linked) (new : Parser E F) : Type 0 where
+    pub given : Ranged
+    pub is : given.event ≡ Start (tag.Link link)
+    pub range : IsRange (text_of old) given.start given.end
+    pub passes : Passes (given ∷ []) old new
+    pub fewer : events_left new < events_left old
+    pub can : CanGo replacement new
+    pub text : text_of new ≡ text_of old
+    pub definitions : definitions new ≡ definitions old
+    pub footnotes : SameFootnotes (footnotes old) (footnotes new)
+
+  -- so it is of the link that comes next, or there is the error item, and nothing any more
+  abbrev pub GivesStartOrErr : Parser E F → Result (Unit {0}) AllocError → Parser E F → Type 0
+  GivesStartOrErr old (Ok done) new = IfSome (link_to_come old) (λ link. GivesStart old (shown_link link) new)
+  GivesStartOrErr old (Err e) new = GivesStep old (Some (Err e)) new
 
   pub record GivesRanged (old : OffsetIter E F) (given : Option (Result (Event × Range ℕ) AllocError)) (new : OffsetIter E F) : Type 0 where
     pub next : GivesNext (RemainsRanged replacement) IsRangedOver (AsksRanged Says) (ShowsRanged (ranged_text old)) old given new

@@ -79,3 +79,8 @@ module _ {E F : Type 0} (Says : F → BrokenLink → Option (CowStr × CowStr) �
   abbrev pub WritesNext : (is_given : Bool) → Parser E F → Written → Parser E F → Written → Type 0
   WritesNext true old before new after = WritesEvent old before new after
   WritesNext false old before new after = GivesStep Says replacement old None new × (after ≡ before)
+
+  -- the start of a link was given, and its piece was appended; or nothing was given or appended
+  abbrev pub WritesLink : (is_written : Bool) → Parser E F → Written → Parser E F → Written → Type 0
+  WritesLink true old before new after = WritesWhole old before new after
+  WritesLink false old before new after = (new ≡ old) × (after ≡ before)

@@ -5,11 +5,11 @@ ghost use Rattle.cmark_grammar.specs.Html.{at_line_start};
 ghost use Rattle.cmark_html.specs.Writer.{writing};
 ghost use Rattle.cmark_text.specs.Shown.{shown_options};
 ghost use Rattle.pulldown_cmark.specs.Parsing.{CanGo};
-ghost use Rattle.pulldown_cmark.specs.Rendering.{IsHtmlOf, IsHtmlOfRest, WritesLong, WritesNext, written};
+ghost use Rattle.pulldown_cmark.specs.Rendering.{IsHtmlOf, IsHtmlOfRest, WritesLink, WritesLong, WritesNext, written};
 
 use crate::parse::Parser;
 pub use cmark_html::push_html;
-use cmark_html::{Writer, finish, write_event, write_short};
+use cmark_html::{Writer, finish, write_event, write_link, write_short};
 use cmark_inline::BrokenLinkCallback;
 use cmark_span_walk::Coming;
 use cmark_text::{EntityLookup, Options};
@@ -88,8 +88,51 @@ fn write_all<'a, E: EntityLookup, F: BrokenLinkCallback<'a> + Drop>(
 }
 
 // Appends the piece of the next event, of any kind, and where that opens an image those of the events up to the image's end, so that no
-// image is open behind it. Says whether there was one behind which that is so: where not, the text is over.
+// image is open behind it. Says whether there was one behind which that is so: where not, the text is over. Of the start of a link no event
+// is made.
 fn write_long<'a, E: EntityLookup, F: BrokenLinkCallback<'a> + Drop>(
+    out: &mut String,
+    writer: &mut Writer<'a>,
+    parser: &mut Parser<'a, E, F>,
+) -> Result<bool, AllocError>
+    requires { CanGo E.replacement parser.old }
+    ensures { IfOk result (λ is_given. WritesLong F.answers E.replacement is_given parser.old (written (writing writer.old) (string_bytes out.old)) parser.new (written (writing writer.new) (string_bytes out.new))) }
+{
+    if write_link_ahead(out, writer, parser)? {
+        return Ok(true);
+    }
+    write_any(out, writer, parser)
+}
+
+// Appends the piece of the start of a link, where that comes next and no image is open, and says whether it was so. No event is made of it:
+// what is written stands where the parser keeps the link.
+fn write_link_ahead<'a, E: EntityLookup, F: BrokenLinkCallback<'a> + Drop>(
+    out: &mut String,
+    writer: &mut Writer<'a>,
+    parser: &mut Parser<'a, E, F>,
+) -> Result<bool, AllocError>
+    requires { CanGo E.replacement parser.old }
+    ensures { IfOk result (λ is_written. WritesLink F.answers E.replacement is_written parser.old (written (writing writer.old) (string_bytes out.old)) parser.new (written (writing writer.new) (string_bytes out.new))) }
+{
+    if writer.image.is_some() {
+        return Ok(false);
+    }
+    let Some(link) = parser.link_ahead() else {
+        return Ok(false);
+    };
+    write_link(
+        out,
+        writer,
+        link.link_type,
+        link.dest_url.as_str(),
+        link.title.as_str(),
+    )?;
+    parser.pass_link()?;
+    Ok(true)
+}
+
+// The same, where an event is made of each, of the start of a link too.
+fn write_any<'a, E: EntityLookup, F: BrokenLinkCallback<'a> + Drop>(
     out: &mut String,
     writer: &mut Writer<'a>,
     parser: &mut Parser<'a, E, F>,

@@ -1,6 +1,6 @@
 //! The parser: iterators over the events of a text's document.
 
-ghost use Rattle.std.specs.Prelude.{◌≡◌, None, IfOk};
+ghost use Rattle.std.specs.Prelude.{◌≡◌, true, None, IfOk, is_some, option_map};
 ghost use Rattle.std.specs.Iterator.{at_most};
 ghost use Rattle.cmark_grammar.specs.Options.{no_options};
 ghost use Rattle.cmark_text.specs.Shown.{shown_options};
@@ -9,7 +9,7 @@ ghost use Rattle.pulldown_cmark.specs.Parsing.{is_last};
 use bitflags::Flags;
 use cmark_blocks::{FirstPass, run_first_pass};
 use cmark_inline::{BrokenLinkCallback, DefaultBrokenLinkCallback};
-use cmark_items::{FootnoteDefs, RefDefs};
+use cmark_items::{FootnoteDefs, Link, RefDefs};
 use cmark_span_walk::{Coming, OptionalCallback, SpanWalk};
 use cmark_text::{EntityLookup, Event, Options, Ranged};
 use cmark_walk::Walk;
@@ -80,7 +80,7 @@ impl<'input, E: EntityLookup> Parser<'input, E> {
 }
 
 impl<'input, E: EntityLookup, F: BrokenLinkCallback<'input> + Drop> Parser<'input, E, F> {
-    ghost use Rattle.pulldown_cmark.specs.Parsing.{Reads, Defines, DefinesFootnotes, CanGo, CanGoRanged, GivesOrErr, GivesStep, callback_of, definitions, text_of, walk_of};
+    ghost use Rattle.pulldown_cmark.specs.Parsing.{Reads, Defines, DefinesFootnotes, CanGo, CanGoRanged, GivesOrErr, GivesStartOrErr, GivesStep, callback_of, definitions, link_to_come, text_of, walk_of};
 
     /// A parser of `text` with these options, which asks the callback, if there is one, for each reference without a
     /// definition. The callback is asked while the events are given.
@@ -146,6 +146,34 @@ impl<'input, E: EntityLookup, F: BrokenLinkCallback<'input> + Drop> Parser<'inpu
             return given;
         }
         Ok(Coming::Over)
+    }
+
+    // The link whose start comes next, if one does. Nothing counts as given then.
+    #[inline(always)]
+    pub(crate) fn link_ahead(&self) -> Option<&Link<'input>>
+        ensures { option_map (λ link. link.now) result ≡ link_to_come self.now }
+    {
+        match self.is_over {
+            true => None,
+            false => self.spans.link_ahead(),
+        }
+    }
+
+    // Counts the start of the link that comes next as given, as `next` does with no event made. Where memory is refused, nothing is given any
+    // more.
+    #[inline(always)]
+    pub(crate) fn pass_link(&mut self) -> Result<(), AllocError>
+        requires goes { CanGo E.replacement self.old }
+        requires ahead { is_some (link_to_come self.old) ≡ true }
+        ensures { GivesStartOrErr F.answers E.replacement self.old result self.new }
+    {
+        match self.spans.pass_link() {
+            Ok(()) => Ok(()),
+            Err(error) => {
+                self.is_over = true;
+                Err(error)
+            }
+        }
     }
 
     // The next event with its range. Where memory is refused, this is the last item.

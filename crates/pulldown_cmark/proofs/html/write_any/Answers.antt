@@ -2,7 +2,7 @@ use Rattle.std.proofs.Common.{string_bytes, sym, subst, arith}
 use Rattle.cmark_html.specs.Writer.{writing}
 use Rattle.pulldown_cmark.specs.Rendering.{WritesNext, WritesSome, written}
 use Rattle.pulldown_cmark.proofs.RenderSteps.{joined, more-written, none-shown}
-use Rattle.pulldown_cmark.proofs.html.write_long.Goals as goal
+use Rattle.pulldown_cmark.proofs.html.write_any.Goals as goal
 
 pub returns-then-not-is_given : goal.returns-then-not-is_given
 returns-then-not-is_given g c =
