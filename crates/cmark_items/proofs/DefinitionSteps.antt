@@ -1,25 +1,25 @@
 -- What a table of definitions has at a folded label after one was kept. L: its labels; key: what they are compared by; D: its definitions.
 use Rattle.std.proofs.Common.{◌≡◌, refl, sym, ap, subst, ◌∙◌, ℕ, List, Bool, true, false, Option, Some, None, bytes_eq, ⊎_elim, if◌then◌else◌, is_some, option_map}
 use Rattle.std.proofs.lemmas.Bool.{false≢true}
-use Rattle.std.specs.Ordering.{is_eq}
+use Rattle.std.specs.Ordering.{is_eq, nat_cmp}
 use Rattle.std.specs.declared.cmp.Ordering.{Ordering}
-use Rattle.std.specs.Cmp.Lexicographic.{bytes_decides, nat_list_eq_equiv}
+use Rattle.std.specs.Cmp.Lexicographic.{slice_cmp, bytes_decides, nat_list_cmp_total, nat_list_eq_equiv}
 use Rattle.std.specs.BTreeMap.{BTreeMap, get_by, UpdatesBy}
 use Rattle.std.specs.Map.{KeepsOthers, IsKeyTest, AreApart, lookup}
+use Rattle.std.proofs.lemmas.Map.Text.{is_eq-slice_cmp}
 use Rattle.std.proofs.lemmas.Cmp.{eq_by_cmp_equiv}
 use Rattle.std.proofs.lemmas.Bool.{cases_Bool}
-use Rattle.cmark_text.specs.LabelOrder.{by_length, by_length_ties, by_length_total}
 use Rattle.cmark_items.specs.Definitions.{first_of, at_label}
 
 module _ {L : Type 0} (key : L → List ℕ) where
   abbrev pub label_cmp : L → L → Ordering
-  label_cmp a b = by_length (key a) (key b)
+  label_cmp a b = slice_cmp nat_cmp (key a) (key b)
 
   abbrev pub at_key : List ℕ → L → Ordering
-  at_key folded label = by_length folded (key label)
+  at_key folded label = slice_cmp nat_cmp folded (key label)
 
-  apart : (bs cs ks : List ℕ) → bytes_eq bs cs ≡ false → is_eq (by_length bs ks) ≡ true → is_eq (by_length cs ks) ≡ false
-  apart bs cs ks n y = sym (by_length_ties cs ks) ∙ (nat_list_eq_equiv.symm cs ks ∙ sym (nat_list_eq_equiv.congr bs ks cs (by_length_ties bs ks ∙ y)) ∙ n)
+  apart : (bs cs ks : List ℕ) → bytes_eq bs cs ≡ false → is_eq (slice_cmp nat_cmp bs ks) ≡ true → is_eq (slice_cmp nat_cmp cs ks) ≡ false
+  apart bs cs ks n y = is_eq-slice_cmp cs ks ∙ (nat_list_eq_equiv.symm cs ks ∙ sym (nat_list_eq_equiv.congr bs ks cs (sym (is_eq-slice_cmp bs ks) ∙ y)) ∙ n)
 
 -- whatever there is, none more changes nothing
 none_more : {D : Type 0} (found : Option D) → found ≡ first_of found None
@@ -44,7 +44,7 @@ module _ {L D : Type 0} (key : L → List ℕ) where
       subst (λ l. get_by (at_key key l) n ≡ (if bytes_eq l (key label) then Some def else get_by (at_key key l) m)) (sym ((bytes_decides folded (key label)).0 y))
       (h.1 ∙ ap (λ b. if b then Some def else get_by (label_cmp key label) m) (sym (nat_list_eq_equiv.refl (key label)))))
       (λ n'.
-      others _ _ _ h.3 _ (λ x y. (eq_by_cmp_equiv by_length_total).congr folded (key x) (key y)) (λ k. apart key (key label) folded (key k) (nat_list_eq_equiv.symm (key label) folded ∙ n'))
+      others _ _ _ h.3 _ (λ x y. (eq_by_cmp_equiv nat_list_cmp_total).congr folded (key x) (key y)) (λ k. apart key (key label) folded (key k) (nat_list_eq_equiv.symm (key label) folded ∙ n'))
       ∙ ap (λ b. if b then Some def else get_by (at_key key folded) m) (sym n'))
       (cases_Bool (bytes_eq folded (key label)))
 
@@ -75,6 +75,6 @@ module _ {L D : Type 0} (key : L → List ℕ) where
       subst (λ l. get_by (at_key key l) n ≡ first_of (get_by (at_key key l) m) (at_label (key label) def l)) (sym ((bytes_decides folded (key label)).0 y))
       (h.1 ∙ ap (λ found. first_of found (Some def)) (sym absent) ∙ ap (λ b. first_of (get_by (label_cmp key label) m) (if b then Some def else None)) (sym (nat_list_eq_equiv.refl (key label)))))
       (λ n'.
-      others _ _ _ h.3 _ (λ x y. (eq_by_cmp_equiv by_length_total).congr folded (key x) (key y)) (λ k. apart key (key label) folded (key k) (nat_list_eq_equiv.symm (key label) folded ∙ n'))
+      others _ _ _ h.3 _ (λ x y. (eq_by_cmp_equiv nat_list_cmp_total).congr folded (key x) (key y)) (λ k. apart key (key label) folded (key k) (nat_list_eq_equiv.symm (key label) folded ∙ n'))
       ∙ other_label label def (get_by (at_key key folded) m) folded n')
       (cases_Bool (bytes_eq folded (key label)))

@@ -3,7 +3,8 @@ use Rattle.std.specs.Prelude.{ℕ, List, map, bytes_eq, if◌then◌else◌, Opt
 use Rattle.std.specs.Borrow.{Bor}
 use Rattle.std.specs.BTreeMap.{is_at}
 use Rattle.std.specs.Map.{lookup}
-use Rattle.cmark_text.specs.LabelOrder.{by_length}
+use Rattle.std.specs.Cmp.Lexicographic.{slice_cmp}
+use Rattle.std.specs.Ordering.{nat_cmp}
 use Rattle.cmark_text.specs.Labelled.{link_text, link_key}
 use Rattle.cmark_text.specs.declared.label.LinkLabel.{LinkLabel}
 use Rattle.cmark_items.specs.declared.definitions.LinkDef.{LinkDef}
@@ -13,7 +14,7 @@ use Rattle.cmark_text.specs.Shown.{text_bytes}
 
 -- the definition of a folded label
 abbrev pub definition : RefDefs → List ℕ → Option LinkDef
-definition table folded = lookup (is_at (λ label. by_length folded (link_key label))) table
+definition table folded = lookup (is_at (λ label. slice_cmp nat_cmp folded (link_key label))) table
 
 -- a label's normal form with its definition
 abbrev pub entry : LinkLabel × LinkDef → List ℕ × LinkDef

@@ -2,14 +2,15 @@
 use Rattle.std.specs.Prelude.{◌≡◌, ℕ, ◌+◌, min, List, bytes_eq, if◌then◌else◌, Option, option_map}
 use Rattle.std.specs.BTreeMap.{is_at}
 use Rattle.std.specs.Map.{lookup}
-use Rattle.cmark_text.specs.LabelOrder.{by_length}
+use Rattle.std.specs.Cmp.Lexicographic.{slice_cmp}
+use Rattle.std.specs.Ordering.{nat_cmp}
 use Rattle.cmark_text.specs.Labelled.{footnote_key}
 use Rattle.cmark_items.specs.declared.footnotes.FootnoteDef.{FootnoteDef}
 use Rattle.cmark_items.specs.declared.footnotes.FootnoteDefs.{FootnoteDefs}
 
 -- the definition of a folded label
 abbrev pub footnote : FootnoteDefs → List ℕ → Option FootnoteDef
-footnote table folded = lookup (is_at (λ label. by_length folded (footnote_key label))) table
+footnote table folded = lookup (is_at (λ label. slice_cmp nat_cmp folded (footnote_key label))) table
 
 -- a definition with one use more, up to the greatest number
 abbrev pub with_use : FootnoteDef → FootnoteDef

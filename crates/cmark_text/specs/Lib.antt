@@ -2,7 +2,6 @@ pub mod Appended
 pub mod Excerpt
 pub mod Folding
 pub mod InPlace
-pub mod LabelOrder
 pub mod Labelled
 pub mod Marks
 pub mod Ranged

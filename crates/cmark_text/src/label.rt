@@ -2,14 +2,14 @@
 
 ghost use Rattle.std.specs.Prelude.{◌≡◌, ◌<◌, ◌∷◌, ◌++◌, IfOk, OnOk, length, position, string_bytes, nat_eq, Some, refl};
 ghost use Rattle.std.specs.Char.{is_ascii_whitespace};
+ghost use Rattle.std.specs.Ordering.{nat_cmp};
 ghost use Rattle.std.specs.Cmp.{on_equiv, on_per, on_po, on_total, partial_equiv_from_equiv};
-ghost use Rattle.std.specs.Cmp.Lexicographic.{pointwise, nat_list_eq_equiv};
+ghost use Rattle.std.specs.Cmp.Lexicographic.{pointwise, slice_cmp, nat_list_eq_equiv, nat_list_cmp_total, texts_po, texts_ties};
 ghost use Rattle.std.specs.Cmp.Rules.{hashing};
 ghost use Rattle.std.specs.Hash as fed;
 ghost use Rattle.std.proofs.Common.{rules};
 ghost use Rattle.cmark_grammar.specs.Labels.{normal_form, case_folded, fold};
 ghost use Rattle.cmark_text.specs.Folding.{compared, may_fold};
-ghost use Rattle.cmark_text.specs.LabelOrder.{by_length, by_length_po, by_length_ties, by_length_total};
 
 use caseless::default_case_fold_str;
 use std::alloc::{AllocError, Global};
@@ -20,7 +20,7 @@ use std::hash::{Hash, Hasher};
 /// each run of white space inside. White space is tab, line feed, form feed, carriage return and space.
 ///
 /// Two are equal, and hash alike, exactly when their normal forms are the same with Unicode's full case folding; they are
-/// ordered by how many bytes these have, and then by the bytes.
+/// ordered by the bytes of these.
 #[derive(Debug, Drop, PartialEq, Eq, PartialOrd, Ord, Hash)]
 pub struct LinkLabel {
     link: Label,
@@ -124,9 +124,9 @@ impl Eq for Label {
 }
 
 impl PartialOrd for Label {
-    ghost partial_cmp = { λ a b. Some (by_length (case_folded (string_bytes a.text)) (case_folded (string_bytes b.text))) };
+    ghost partial_cmp = { λ a b. Some (slice_cmp nat_cmp (case_folded (string_bytes a.text)) (case_folded (string_bytes b.text))) };
 
-    ghost laws = { on_po (λ label. case_folded (string_bytes label.text)) by_length_po };
+    ghost laws = { on_po (λ label. case_folded (string_bytes label.text)) texts_po };
 
     fn partial_cmp(&self, other: &Label) -> Option<Ordering> {
         Some(self.cmp(other))
@@ -134,22 +134,16 @@ impl PartialOrd for Label {
 }
 
 impl Ord for Label {
-    ghost cmp = { λ a b. by_length (case_folded (string_bytes a.text)) (case_folded (string_bytes b.text)) };
+    ghost cmp = { λ a b. slice_cmp nat_cmp (case_folded (string_bytes a.text)) (case_folded (string_bytes b.text)) };
 
-    ghost total = { on_total (λ label. case_folded (string_bytes label.text)) by_length_total };
+    ghost total = { on_total (λ label. case_folded (string_bytes label.text)) nat_list_cmp_total };
 
     ghost matches_partial_cmp = { λ a b. refl };
 
-    ghost matches_eq = { λ a b. by_length_ties (case_folded (string_bytes a.text)) (case_folded (string_bytes b.text)) };
+    ghost matches_eq = { λ a b. texts_ties (case_folded (string_bytes a.text)) (case_folded (string_bytes b.text)) };
 
-    // Most labels that are compared have different lengths, and then no byte is looked at.
     fn cmp(&self, other: &Label) -> Ordering {
-        let mine = self.key();
-        let theirs = other.key();
-        match mine.len().cmp(&theirs.len()) {
-            Ordering::Equal => mine.cmp(theirs),
-            unequal => unequal,
-        }
+        self.key().cmp(other.key())
     }
 }
 

@@ -147,8 +147,6 @@ pub enum Short<'a> {
     Rule,
 }
 
-const _: () = prove!(size_of::<Short<'static>>() == 32);
-
 impl<'a> Short<'a> {
     /// The event that it is.
     pub fn event(self, alloc: Global) -> Event<'a>
