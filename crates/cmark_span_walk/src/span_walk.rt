@@ -282,7 +282,7 @@ impl<'input, 'e, E: EntityLookup, F: BrokenLinkCallback<'input> + Drop> SpanWalk
         if self.special.next(text.as_bytes(), ahead.as_bytes(), 0) < text.len() {
             return None;
         }
-        Some(Excerpt::new(ahead, text.len()))
+        Some(Excerpt::new(ahead, line.content_end - line.start))
     }
 
     // Into the leaf whose lines were met, perhaps the cell of a table.
