@@ -42,6 +42,7 @@ fn append_part(out: &mut String, part: Part<'_>) -> Result<(), AllocError>
 }
 
 /// Appends a text as it is.
+#[inline(always)]
 pub fn append(out: &mut String, text: &str) -> Result<(), AllocError>
     ensures ok { OnOk result (string_bytes out.new ≡ string_bytes out.old ++ text.now) }
     ensures err { OnErr result (AppendsFront (string_bytes out.old) (string_bytes out.new) text.now) }

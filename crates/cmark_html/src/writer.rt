@@ -208,6 +208,11 @@ fn keep_event<'a>(
             names.add(name)?;
             Ok(None)
         }
+        // Most events are texts, and a text is let go sooner than an event of any kind.
+        Event::Text(text) => {
+            drop(text);
+            Ok(None)
+        }
         other => {
             drop(other);
             Ok(None)

@@ -51,17 +51,6 @@ impl AsciiSet {
         AsciiSet { rows }
     }
 
-    /// The first place from `from` on whose byte is in the set; the length, where there is none.
-    #[inline(always)]
-    pub fn find(&self, bytes: &[u8], from: usize) -> usize
-        requires { from ≤ length bytes.now }
-        ensures value { result ≡ from + position_or_len (in_rows self.now) (drop from bytes.now) }
-        ensures within { result ≤ length bytes.now }
-        ensures ascii { result < length bytes.now → slice_index bytes.now result < 128 }
-    {
-        from + find_ascii(&self.rows, &bytes[from..])
-    }
-
     /// The first place from `from` on and before `to` whose byte is in the set; `to`, where there is none. Bytes behind `to` are looked at
     /// together with the last ones before it, since sixteen that stand in memory cost less than a few that have to be put together; they do
     /// not count.
@@ -276,27 +265,19 @@ fn find_between<S: LaneSet>(set: &S, bytes: &[u8], from: usize, to: usize) -> us
     ensures within { result ≤ to }
     ensures here { result < to → S.has set.now (slice_index bytes.now result) ≡ true }
 {
+    // From each place before this one on sixteen bytes stand.
+    let whole = to.min(bytes.len().saturating_sub(15));
     let mut at = from;
-    while at < to {
-        if bytes.len() - at < 16 {
-            return at + find_in_few(set, &bytes[at..to]);
-        }
+    while at < whole {
         if let Some(passed) = first_from(set, bytes, at) {
             return to.min(at + passed);
         }
         at += 16;
     }
+    if at < to {
+        return at + find_in_few(set, &bytes[at..to]);
+    }
     to
-}
-
-/// The same; and where such a byte stands, it is ASCII.
-#[inline(always)]
-fn find_ascii(rows: &[u8; 16], bytes: &[u8]) -> usize
-    ensures value { result ≡ position_or_len (in_rows rows.now) bytes.now }
-    ensures within { result ≤ length bytes.now }
-    ensures ascii { result < length bytes.now → slice_index bytes.now result < 128 }
-{
-    find(&Rows { rows }, bytes)
 }
 
 /// Where the first byte stands that is in the set of these keys: a byte is in it where the key of its low digit is that byte.

@@ -59,8 +59,8 @@ pub fn append_excerpt(out: &mut String, excerpt: Excerpt<'_>) -> Result<(), Allo
     out.push_str(excerpt.as_str())
 }
 
-/// The same of a text whose first byte that is not kept stands at a place. It is apart, so that most texts, which have none, are appended
-/// where they are given.
+/// Appends a text as body text of HTML, whose first byte that is not kept stands at a place. It is apart, so that most texts, which have
+/// none, are appended where they are given.
 #[inline(never)]
 fn escape_from(out: &mut String, text: &str, first: usize) -> Result<(), AllocError>
     requires { IsFirstByte is_body_text_mark text.now (Some first) }

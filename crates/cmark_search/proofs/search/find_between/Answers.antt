@@ -2,8 +2,8 @@ use Rattle.std.proofs.Common.{◌≡◌, ◌+◌, ◌-◌, min, slice_index, ref
 use Rattle.cmark_search.proofs.Sets.{chunk-fails, chunk-le, chunk-stops, place-within}
 use Rattle.cmark_search.proofs.search.find_between.Goals as goal
 
-pub returns-then-bytes-at-lt16-clause-value : goal.returns-then-bytes-at-lt16-clause-value
-returns-then-bytes-at-lt16-clause-value g c =
+pub returns-then-at-to-clause-value : goal.returns-then-at-to-clause-value
+returns-then-at-to-clause-value g c =
     let p = g.S.LaneSet.has c.args.set.now in
     let at = c.loop-at.at in
     let n = c.args.to - at in
@@ -13,8 +13,8 @@ returns-then-bytes-at-lt16-clause-value g c =
     (chunk-fails p c.args.bytes.now c.args.from at n passed (omega arith) c.find_in_few.ensures.value c.loop-at.invariant.passed)
     (λ low. chunk-stops p c.args.bytes.now c.args.from at n passed (omega arith) c.find_in_few.ensures.value c.loop-at.invariant.passed (omega arith))
 
-pub returns-then-bytes-at-lt16-clause-here : goal.returns-then-bytes-at-lt16-clause-here
-returns-then-bytes-at-lt16-clause-here g c low =
+pub returns-then-at-to-clause-here : goal.returns-then-at-to-clause-here
+returns-then-at-to-clause-here g c low =
     chunk-stops (g.S.LaneSet.has c.args.set.now) c.args.bytes.now c.args.from c.loop-at.at (c.args.to - c.loop-at.at) c.find_in_few.result (omega arith) c.find_in_few.ensures.value c.loop-at.invariant.passed (omega arith)
 
 pub returns-in-Some-clause-here : goal.returns-in-Some-clause-here
