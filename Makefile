@@ -1,9 +1,10 @@
 # make proves what mdhtml stands on and builds bin/mdhtml; make mdevents builds bin/mdevents.
+# make kept does both, and the library for C, and keeps each check's work for the next one: for whoever goes on to change the code.
 # make lib leaves in bin/ what C programs link: an archive, a shared library, their header and a file for pkg-config.
 # make install puts all of these below PREFIX, with the manual pages and the list of entities; it builds what is not built yet.
 # make web makes the module of the page in web/ anew, and tries the page in a browser; it is no part of make test.
 # make test passes everything; its last line is the gate's count. docs/GATE.md says what each part does and how long it takes.
-.PHONY: all mdhtml mdevents lib install web test edits gate programs wrong outside installed beside
+.PHONY: all mdhtml mdevents kept lib install web test edits gate programs wrong outside installed beside
 .NOTPARALLEL:
 
 PREFIX = /usr/local
@@ -12,6 +13,9 @@ all: mdhtml
 
 mdhtml mdevents:
 	tools/build $@
+
+kept:
+	tools/build --keep mdhtml mdevents pulldown_cmark_c
 
 bin/mdhtml bin/mdevents:
 	tools/build $(@F)
@@ -71,7 +75,7 @@ beside:
 # The built programs on what stands outside of the proofs.
 outside:
 	tests/entities
-	tests/examples
+	tests/unit
 	tests/refusals
 	tests/rows
 	tests/walks 2000 1

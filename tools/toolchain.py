@@ -17,14 +17,17 @@ def load_rt():
     return module
 
 
-def is_current(rt, crate):
-    """Whether the built library is that of the sources: rt's stamp says so, or the gate built it after the sources were written."""
+def is_current(rt, crate, keeps=False):
+    """Whether the built library is that of the sources: rt's stamp says so, or it was built without one, after the sources were written and
+    after the libraries below it. With `keeps`, only a library with a stamp will do, which holds its proofs."""
     if crate.is_built():
         return True
-    if not os.path.isdir(crate.rlib) or os.path.exists(os.path.join(os.path.dirname(crate.rlib), "stamp")):
+    if keeps or not os.path.isdir(crate.rlib) or os.path.exists(os.path.join(os.path.dirname(crate.rlib), "stamp")):
         return False
     made = os.path.getmtime(crate.rlib)
-    return all(os.path.getmtime(it) < made for lib in [crate, *crate.below()] for it in rt.rtlib.files_of(lib.folder))
+    below = crate.below()
+    sources = (it for lib in [crate, *below] for it in rt.rtlib.files_of(lib.folder))
+    return all(os.path.getmtime(it) < made for it in sources) and all(os.path.isdir(it.rlib) and os.path.getmtime(it.rlib) < made for it in below)
 
 
 @contextlib.contextmanager

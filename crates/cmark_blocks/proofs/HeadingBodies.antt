@@ -1,8 +1,8 @@
 -- The node of a heading, with the words between the braces of its attributes in the table of texts.
 use Rattle.std.proofs.Common.{◌≡◌, ℕ, List, [], ◌∷◌, ◌++◌, length, Some, option_map, refl, ap, ◌∙◌, arith}
-use Rattle.cmark_text.specs.declared.text.CowStr.{CowStr}
-use Rattle.cmark_text.specs.declared.kind.HeadingLevel.{HeadingLevel}
-use Rattle.cmark_text.specs.Shown.{text_bytes, level_number}
+use Rattle.cmark_text_parts.specs.declared.text.CowStr.{CowStr}
+use Rattle.cmark_text_parts.specs.declared.kind.HeadingLevel.{HeadingLevel}
+use Rattle.cmark_text_parts.specs.Shown.{text_bytes, level_number}
 use Rattle.cmark_items.specs.declared.allocations.HeadingIndex.{HeadingIndex}
 use Rattle.cmark_items.specs.declared.item.ItemBody.TheVariants as body
 use Rattle.cmark_items.specs.ItemNodes.{shape, kind_of, text_at}

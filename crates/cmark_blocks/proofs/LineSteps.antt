@@ -26,9 +26,9 @@ use Rattle.cmark_lines.specs.declared.container.ContainerStart.TheVariants as be
 use Rattle.cmark_lines.specs.declared.line_rest.LineRest.{LineRest}
 use Rattle.cmark_lines.specs.declared.opening.Opening.{Opening}
 use Rattle.cmark_lines.specs.declared.opening.Opening.TheVariants as opening
-use Rattle.cmark_text.specs.declared.kind.BlockQuoteKind as found
-use Rattle.cmark_text.specs.declared.kind.HeadingLevel.{HeadingLevel}
-use Rattle.cmark_text.specs.Shown.{level_number, shown_block_quote_kind, shown_options}
+use Rattle.cmark_text_parts.specs.declared.kind.BlockQuoteKind as found
+use Rattle.cmark_text_parts.specs.declared.kind.HeadingLevel.{HeadingLevel}
+use Rattle.cmark_text_parts.specs.Shown.{level_number, shown_block_quote_kind, shown_options}
 use Rattle.cmark_leaves.specs.TextColumns.{StandInText}
 use Rattle.cmark_leaves.proofs.TextColumnSteps.{without-in_text}
 use Rattle.cmark_block_model.specs.BlockPass.{ahead_in, begin, begin_as, begin_in, leaf_begun, container_begun, inside_begun, is_item, place_of}

@@ -3,14 +3,14 @@
 ghost use Rattle.std.specs.Prelude.{◌≡◌, ◌<◌, ◌≤◌, ℕ, List, length, false, IfSome, not, true, ◌&&◌};
 ghost use Rattle.cmark_grammar.specs.Leaves.{underlines};
 ghost use Rattle.cmark_grammar.specs.Openings.{interrupts, is_none};
-ghost use Rattle.cmark_text.specs.Shown.{shown_options};
+ghost use Rattle.cmark_text_parts.specs.Shown.{shown_options};
 ghost use Rattle.cmark_grammar.specs.Rows.{Row};
 ghost use Rattle.cmark_leaves.specs.TextColumns.{StandInText};
 ghost use Rattle.cmark_lines.specs.Rests.{IsIn, row_of};
 
 use crate::state::Pass;
 use cmark_lines::{LineRest, interrupts, underlines};
-use cmark_text::{EntityLookup, Options};
+use cmark_text_parts::{EntityLookup, Options};
 
 impl<'a, E: EntityLookup> Pass<'a, E> {
     ghost use Rattle.cmark_blocks.specs.Ahead.{SeenInside, SeenInsideFirst, SeesNext, SeesNextInside, GoesOnWith};

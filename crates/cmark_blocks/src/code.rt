@@ -11,7 +11,7 @@ ghost use Rattle.cmark_grammar.specs.Openings.{IndentedCode, FencedCode};
 ghost use Rattle.cmark_grammar.specs.Rows.{words_of};
 ghost use Rattle.cmark_grammar.specs.Tokens.{resolved};
 ghost use Rattle.cmark_lines.specs.Opened.{InfoStands};
-ghost use Rattle.cmark_text.specs.Shown.{text_bytes};
+ghost use Rattle.cmark_text_parts.specs.Shown.{text_bytes};
 ghost use Rattle.cmark_scan.specs.LeafLines.{shown_fence};
 ghost use Rattle.cmark_block_model.specs.BlockPass.{is_some};
 
@@ -21,7 +21,7 @@ use cmark_items::ItemBody;
 use cmark_leaves::{Stretch, draw_code_line, draw_stretch};
 use cmark_lines::{CodeFence, CodeOrHtml, Continuation, LineRest};
 use cmark_scan_parts::unescape;
-use cmark_text::{CowStr, EntityLookup};
+use cmark_text_parts::{CowStr, EntityLookup};
 use std::alloc::AllocError;
 
 /// Whether there is a line.

@@ -3,7 +3,7 @@
 ghost use Rattle.std.specs.Prelude.{◌≡◌, Bool, List, Option, ℕ, OnOk, unwrap_or, option_map, length, ◌-◌, ◌<◌, ◌&&◌, ◌==◌, suc, ◌≤◌, IfOk, IfSome};
 ghost use Rattle.cmark_grammar.specs.Containers as grammar;
 ghost use Rattle.cmark_items.specs.ItemNodes.{list_number};
-ghost use Rattle.cmark_text.specs.Shown.{shown_block_quote_kind, shown_options};
+ghost use Rattle.cmark_text_parts.specs.Shown.{shown_block_quote_kind, shown_options};
 ghost use Rattle.cmark_lines.specs.Starts.{Shows, inside_of, Enters, HasMarker};
 ghost use Rattle.cmark_blocks.specs.Shown.{shown_siblings, ShowsContainer};
 ghost use Rattle.cmark_block_model.specs.BlockPass.{inside_of as stepped_inside, block_quote_begun, item_begun_in, definition_begun_in, behind_container};
@@ -19,7 +19,7 @@ use cmark_items::ItemBody;
 use cmark_lines::{
     Container, ContainerStart, ItemStart, LineRest, definition_start, reads_definition_lists,
 };
-use cmark_text::{BlockQuoteKind, EntityLookup, Options};
+use cmark_text_parts::{BlockQuoteKind, EntityLookup, Options};
 use std::alloc::AllocError;
 
 /// Whether alerts are read.

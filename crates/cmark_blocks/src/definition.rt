@@ -10,7 +10,7 @@ use crate::gathered::Gathered;
 use crate::state::{OpenLeaf, Pass};
 use cmark_definitions::{Definition, link_definition, scan_definition};
 use cmark_lines::LineRest;
-use cmark_text::EntityLookup;
+use cmark_text_parts::EntityLookup;
 use std::alloc::AllocError;
 use std::mem;
 use std::ops::Range;

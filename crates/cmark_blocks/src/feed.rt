@@ -9,7 +9,7 @@ ghost use Rattle.cmark_blocks.specs.LineByLine.{TakesLazy};
 
 use crate::state::{OpenLeaf, Pass};
 use cmark_lines::{Container, LineRest, interrupts};
-use cmark_text::EntityLookup;
+use cmark_text_parts::EntityLookup;
 use std::alloc::AllocError;
 
 /// Whether a lazy line may stand behind the leaf: behind a paragraph, or where one may begin behind a link reference definition

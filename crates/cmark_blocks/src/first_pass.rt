@@ -1,13 +1,13 @@
 //! The block pass over a whole text.
 
 ghost use Rattle.std.specs.Prelude.{◌≡◌, OnOk, IfOk};
-ghost use Rattle.cmark_text.specs.Shown.{shown_options};
+ghost use Rattle.cmark_text_parts.specs.Shown.{shown_options};
 ghost use Rattle.cmark_blocks.specs.FirstPass.{Leaves};
 
 use crate::state::Pass;
 use cmark_items::{Allocations, Item};
 use cmark_lines::LineRest;
-use cmark_text::{EntityLookup, Options};
+use cmark_text_parts::{EntityLookup, Options};
 use cmark_tree::Tree;
 use std::alloc::{AllocError, Global};
 

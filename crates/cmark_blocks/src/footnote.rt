@@ -14,7 +14,7 @@ use crate::gathered::words_in;
 use crate::state::Pass;
 use cmark_items::{Allocations, CowIndex, FootnoteDef, ItemBody};
 use cmark_lines::{Container, FootnoteStart, LineRest};
-use cmark_text::{CowStr, EntityLookup, FootnoteLabel};
+use cmark_text_parts::{CowStr, EntityLookup, FootnoteLabel};
 use std::alloc::{AllocError, Global};
 
 /// The label, of so many bytes, of the footnote definition that a line of this text begins.

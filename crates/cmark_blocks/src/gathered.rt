@@ -10,7 +10,7 @@ ghost use Rattle.cmark_leaves.specs.TextColumns.{IsRead};
 use crate::state::Pass;
 use cmark_definitions::is_settled;
 use cmark_lines::LineRest;
-use cmark_text::EntityLookup;
+use cmark_text_parts::EntityLookup;
 use std::alloc::AllocError;
 
 /// The beginning of a paragraph's text: the first line behind its indent, and some more lines behind the prefixes of the open

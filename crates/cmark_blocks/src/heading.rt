@@ -1,7 +1,7 @@
 //! Headings, and what underlines a paragraph (CommonMark 4.2 and 4.3).
 
 ghost use Rattle.std.specs.Prelude.{◌≡◌, List, ℕ, Some, OnOk, IfOk, Bool};
-ghost use Rattle.cmark_text.specs.Shown.{shown_options, level_number, text_bytes};
+ghost use Rattle.cmark_text_parts.specs.Shown.{shown_options, level_number, text_bytes};
 ghost use Rattle.cmark_grammar.specs.Attributes.{attributes_of};
 ghost use Rattle.cmark_grammar.specs.BlockDocument.{Heading};
 ghost use Rattle.cmark_block_model.specs.Drawing.{Drawing, unbraced};
@@ -30,7 +30,7 @@ use cmark_leaves::{
     find_setext_attributes,
 };
 use cmark_lines::LineRest;
-use cmark_text::{CowStr, EntityLookup, HeadingLevel, Options};
+use cmark_text_parts::{CowStr, EntityLookup, HeadingLevel, Options};
 use std::alloc::{AllocError, Global};
 
 /// Whether attributes of headings are read.

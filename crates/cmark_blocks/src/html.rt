@@ -8,7 +8,7 @@ use crate::state::{OpenLeaf, Pass};
 use cmark_items::ItemBody;
 use cmark_leaves::draw_html_line;
 use cmark_lines::{CodeOrHtml, Continuation, HtmlKind, LineRest, ends_at_once};
-use cmark_text::EntityLookup;
+use cmark_text_parts::EntityLookup;
 use std::alloc::AllocError;
 
 impl<'a, E: EntityLookup> Pass<'a, E> {

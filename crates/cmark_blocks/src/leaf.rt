@@ -4,7 +4,7 @@ ghost use Rattle.std.specs.Prelude.{◌≡◌, OnOk};
 
 use crate::state::{OpenLeaf, Pass};
 use cmark_leaves::{Stretch, draw_stretch};
-use cmark_text::EntityLookup;
+use cmark_text_parts::EntityLookup;
 use std::alloc::AllocError;
 
 impl<'a, E: EntityLookup> Pass<'a, E> {

@@ -1,14 +1,14 @@
 //! All that a line begins: containers, and then a leaf (CommonMark 3 to 5).
 
 ghost use Rattle.std.specs.Prelude.{◌≡◌, ◌<◌, false, length, OnOk, IfOk, IfSome};
-ghost use Rattle.cmark_text.specs.Shown.{shown_options};
+ghost use Rattle.cmark_text_parts.specs.Shown.{shown_options};
 ghost use Rattle.cmark_lines.specs.Opened.{InfoIsIn};
 ghost use Rattle.cmark_lines.specs.Rests.{row_of};
 ghost use Rattle.cmark_blocks.specs.Entered.{OpensAs, IsNoContainer};
 
 use crate::state::Pass;
 use cmark_lines::{LineRest, Opening, begins_with_label, begins_with_text, what_opens};
-use cmark_text::EntityLookup;
+use cmark_text_parts::EntityLookup;
 use std::alloc::AllocError;
 
 impl<'a, E: EntityLookup> Pass<'a, E> {

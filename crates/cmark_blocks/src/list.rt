@@ -12,7 +12,7 @@ use crate::state::Pass;
 use bitflags::Flags;
 use cmark_items::{ItemBody, ListFlags};
 use cmark_lines::ItemStart;
-use cmark_text::EntityLookup;
+use cmark_text_parts::EntityLookup;
 use std::alloc::AllocError;
 
 /// What is said of a list whose end is seen.

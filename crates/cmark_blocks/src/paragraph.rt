@@ -11,7 +11,7 @@ use crate::state::{OpenLeaf, Pass};
 use cmark_items::ItemBody;
 use cmark_leaves::{close_lines, draw_lines};
 use cmark_lines::{LineRest, interrupts, underlines};
-use cmark_text::EntityLookup;
+use cmark_text_parts::EntityLookup;
 use std::alloc::AllocError;
 
 /// Keeps a line of a paragraph behind which another one stands, where attributes of headings are read: the paragraph may become one.

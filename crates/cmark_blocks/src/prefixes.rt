@@ -3,7 +3,7 @@
 ghost use Rattle.std.specs.Prelude.{◌≡◌, ◌+◌, ℕ, [], Bool, Option, None, false, option_map};
 ghost use Rattle.cmark_grammar.specs.Containers.{BlockQuote, Item as ListItem, Footnote, keeps};
 ghost use Rattle.cmark_grammar.specs.Rows.{begin_of};
-ghost use Rattle.cmark_text.specs.Shown.{shown_options};
+ghost use Rattle.cmark_text_parts.specs.Shown.{shown_options};
 ghost use Rattle.cmark_tree.specs.Zip.{Zip};
 ghost use Rattle.cmark_tree.specs.Tree.{Holds, IsTree};
 ghost use Rattle.cmark_scan.specs.LineStart.{row_from, line_of};
@@ -13,7 +13,7 @@ use bitflags::Flags;
 use cmark_items::{Item, ItemBody};
 use cmark_lines::Container;
 use cmark_scan::LineStart;
-use cmark_text::Options;
+use cmark_text_parts::Options;
 use cmark_tree::Tree;
 
 /// Whether these options ask for footnotes as they were read before.

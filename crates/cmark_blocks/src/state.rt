@@ -1,13 +1,13 @@
 //! The state of the block pass.
 
 ghost use Rattle.std.specs.Prelude.{IfOk};
-ghost use Rattle.cmark_text.specs.Shown.{shown_options};
+ghost use Rattle.cmark_text_parts.specs.Shown.{shown_options};
 
 use crate::siblings::Siblings;
 use cmark_builder::Builder;
 use cmark_leaves::Stretch;
 use cmark_lines::{Container, HtmlKind, LineRest};
-use cmark_text::{EntityLookup, MetadataBlockKind, Options};
+use cmark_text_parts::{EntityLookup, MetadataBlockKind, Options};
 use std::alloc::{AllocError, Global};
 
 /// The leaf that is open, if one is.
@@ -71,7 +71,7 @@ pub(crate) struct Pass<'a, E> {
 impl<'a, E: EntityLookup> Pass<'a, E> {
     ghost use Rattle.cmark_block_model.specs.OpenBlocks.{at_start};
     ghost use Rattle.cmark_blocks.specs.Runs.{Runs, IsGood};
-    ghost use Rattle.cmark_text.specs.Shown.{shown_options};
+    ghost use Rattle.cmark_text_parts.specs.Shown.{shown_options};
 
     /// Before the first line of this text, of which these options say what is read.
     pub(crate) fn new(

@@ -9,7 +9,7 @@ ghost use Rattle.cmark_grammar.specs.Tables.{delimiter_row};
 ghost use Rattle.cmark_items.specs.ItemNodes.{columns_of, kind_of, shape};
 ghost use Rattle.cmark_items.specs.Tables.{defined};
 ghost use Rattle.cmark_lines.specs.Rests.{IsIn, row_of};
-ghost use Rattle.cmark_text.specs.Shown.{shown_options};
+ghost use Rattle.cmark_text_parts.specs.Shown.{shown_options};
 
 use crate::gathered::words_in;
 use crate::state::{OpenLeaf, Pass};
@@ -21,7 +21,7 @@ use cmark_lines::{
     LineRest, begins_definition, begins_with_pipe, count_missing, head_cells, interrupts,
     is_delimiter_row,
 };
-use cmark_text::{CowStr, EntityLookup, Options};
+use cmark_text_parts::{CowStr, EntityLookup, Options};
 use std::alloc::AllocError;
 
 /// How many cells are filled in at most in one table (this profile's own).

@@ -10,7 +10,7 @@ ghost use Rattle.cmark_builder.specs.Ended.{ended, item_at, titled, is_paragraph
 ghost use Rattle.cmark_items.specs.declared.item.ItemBody.TheVariants as body;
 
 use cmark_items::{Allocations, Item, ItemBody};
-use cmark_text::CowStr;
+use cmark_text_parts::CowStr;
 use cmark_tree::Tree;
 use std::alloc::{AllocError, Global};
 

@@ -2,9 +2,9 @@
 use Rattle.std.specs.Prelude.{ℕ, List, drop, option_map, option_copied}
 use Rattle.cmark_grammar.specs.BlockDocument.{Reference}
 use Rattle.cmark_grammar.specs.LinkDefinitions as definitions
-use Rattle.cmark_text.specs.Labelled.{link_text}
-use Rattle.cmark_text.specs.Shown.{text_bytes}
-use Rattle.cmark_text.specs.declared.label.LinkLabel.{LinkLabel}
+use Rattle.cmark_text_parts.specs.Labelled.{link_text}
+use Rattle.cmark_text_parts.specs.Shown.{text_bytes}
+use Rattle.cmark_text_parts.specs.declared.label.LinkLabel.{LinkLabel}
 use Rattle.cmark_items.specs.declared.definitions.LinkDef.{LinkDef}
 use Rattle.cmark_definitions.specs.declared.definition.Definition.{Definition}
 use Rattle.cmark_definitions.specs.declared.definition.Read.{Read}

@@ -4,15 +4,15 @@ ghost use Rattle.std.specs.Prelude.{◌≡◌, ◌<◌, false, length, string_by
 ghost use Rattle.cmark_grammar.specs.Derivation.{title_of, reference_of};
 ghost use Rattle.cmark_grammar.specs.Labels.{fold};
 ghost use Rattle.cmark_grammar.specs.Tokens.{resolved, title_lines};
-ghost use Rattle.cmark_text.specs.Labelled.{link_key};
-ghost use Rattle.cmark_text.specs.Shown.{text_bytes};
+ghost use Rattle.cmark_text_parts.specs.Labelled.{link_key};
+ghost use Rattle.cmark_text_parts.specs.Shown.{text_bytes};
 ghost use Rattle.cmark_definitions.specs.Shown.{written, shown_reference};
 
 use crate::blank::behind_separator;
 use crate::definition::Definition;
 use cmark_items::LinkDef;
 use cmark_scan_parts::unescape;
-use cmark_text::{CowStr, EntityLookup, LinkLabel};
+use cmark_text_parts::{CowStr, EntityLookup, LinkLabel};
 use memchr::memchr2;
 use std::alloc::{AllocError, Global};
 use std::ops::Range;

@@ -5,13 +5,13 @@ ghost use Rattle.std.specs.Str.{IsCharBoundary};
 ghost use Rattle.cmark_grammar.specs.CodeSpans.{backticks, up_to_run, code_in, is_space, is_padded, without_padding, code_text};
 ghost use Rattle.cmark_grammar.specs.InlineHtml.{takes_lines};
 ghost use Rattle.cmark_scan_parts.specs.Shown.{IsBorrowed};
-ghost use Rattle.cmark_text.specs.Shown.{text_bytes};
-ghost use Rattle.cmark_text.specs.ZeroCopy.{IsPartIfBorrowed, IsPartOf};
+ghost use Rattle.cmark_text_parts.specs.Shown.{text_bytes};
+ghost use Rattle.cmark_text_parts.specs.Lending.{IsPartIfBorrowed, IsPartOf};
 ghost use Rattle.cmark_finds.specs.Shown.{shown_code, IsCodeAt, ClosesFirst};
 
 use crate::line_end::{has_line_ending, with_line_ends};
 use cmark_search::find_backtick;
-use cmark_text::CowStr;
+use cmark_text_parts::CowStr;
 use std::alloc::{AllocError, Global};
 
 /// Where a code span lies in its text.

@@ -8,7 +8,7 @@ ghost use Rattle.cmark_grammar.specs.InlineHtml.{takes_lines};
 ghost use Rattle.cmark_grammar.specs.LinkTails.{closed_tail, with_title, tail_inside, link_tail_in};
 ghost use Rattle.cmark_grammar.specs.Tokens.{title_lines};
 ghost use Rattle.cmark_grammar.specs.Unescaped.{unescaped};
-ghost use Rattle.cmark_text.specs.Shown.{text_bytes};
+ghost use Rattle.cmark_text_parts.specs.Shown.{text_bytes};
 ghost use Rattle.cmark_definitions.specs.Rests.{IsRest};
 ghost use Rattle.cmark_definitions.specs.Shown.{shown_part};
 ghost use Rattle.cmark_finds.specs.Shown.{shown_tail, shown_inside};
@@ -17,7 +17,7 @@ use crate::line_end::has_line_ending;
 use crate::place::place_of;
 use cmark_definitions::{Part, behind_byte, behind_separator, title_in, title_lines};
 use cmark_scan_parts::{scan_link_dest, unescape};
-use cmark_text::{CowStr, EntityLookup};
+use cmark_text_parts::{CowStr, EntityLookup};
 use std::alloc::{AllocError, Global};
 
 /// What stands in the parentheses of an inline link, as it is written.

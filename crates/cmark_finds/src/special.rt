@@ -5,11 +5,11 @@ ghost use Rattle.std.specs.List.{prefix_len, list_any};
 ghost use Rattle.std.specs.Str.{IsCharBoundary};
 ghost use Rattle.cmark_grammar.specs.Options as options;
 ghost use Rattle.cmark_grammar.specs.SpecialBytes.{is_always_special, is_special};
-ghost use Rattle.cmark_text.specs.Shown.{shown_options};
+ghost use Rattle.cmark_text_parts.specs.Shown.{shown_options};
 ghost use Rattle.cmark_finds.specs.Special.{has_byte, IsTableOf, next_in, Iterates};
 
 use bitflags::Flags;
-use cmark_text::Options;
+use cmark_text_parts::Options;
 
 /// What a callback answers about a special byte.
 #[derive(Drop)]

@@ -6,8 +6,8 @@ use Rattle.std.proofs.lemmas.Bool.{ltb-false}
 use Rattle.std.proofs.lemmas.List.{map_push}
 use Rattle.std.proofs.lemmas.List.Sums.{prefix_len-le-length}
 use Rattle.cmark_grammar.specs.Html.{footnote_number, named}
-use Rattle.cmark_text.specs.declared.text.CowStr.{CowStr}
-use Rattle.cmark_text.specs.Shown.{text_bytes}
+use Rattle.cmark_text_parts.specs.declared.text.CowStr.{CowStr}
+use Rattle.cmark_text_parts.specs.Shown.{text_bytes}
 
 module _ {A B : Type 0} (f : A → B) (p : B → Bool) where
   any-map : (xs : List A) → list_any p (map f xs) ≡ list_any (λ x. p (f x)) xs

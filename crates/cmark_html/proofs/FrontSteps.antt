@@ -4,9 +4,9 @@ use Rattle.std.proofs.lemmas.List.{take_more, take_all, take-append-drop}
 use Rattle.std.proofs.lemmas.Grind.{flat_map-append}
 use Rattle.cmark_grammar.specs.Escapes.{escaped_html, escaped_href}
 use Rattle.cmark_grammar.specs.Html.{fresh_line, digit, language_start, title_attribute, further_classes, other_attribute, other_attributes}
-use Rattle.cmark_text.specs.declared.text.CowStr.{CowStr}
+use Rattle.cmark_text_parts.specs.declared.text.CowStr.{CowStr}
 use Rattle.cmark_text.specs.Appended.{AppendsFront}
-use Rattle.cmark_text.specs.Shown.{text_bytes, shown_attribute}
+use Rattle.cmark_text_parts.specs.Shown.{text_bytes, shown_attribute}
 use Rattle.cmark_html.specs.declared.parts.Part.{Part}
 use Rattle.cmark_html.specs.Parts.{part_bytes, joined, heading_start}
 

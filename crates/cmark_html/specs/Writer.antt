@@ -1,7 +1,7 @@
 -- What the writer keeps, as the definition of HTML has it.
 use Rattle.std.specs.Prelude.{ℕ, Bool, List, map, option_map}
 use Rattle.cmark_grammar.specs.Html as html
-use Rattle.cmark_text.specs.Shown.{text_bytes, shown_alignment}
+use Rattle.cmark_text_parts.specs.Shown.{text_bytes, shown_alignment}
 use Rattle.cmark_html.specs.declared.footnote.FootnoteNames.{FootnoteNames}
 use Rattle.cmark_html.specs.declared.state.OpenImage.{OpenImage}
 use Rattle.cmark_html.specs.declared.state.Writer.{Writer}

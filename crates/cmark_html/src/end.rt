@@ -3,7 +3,8 @@
 ghost use Rattle.std.specs.Prelude.{◌≡◌, ◌++◌, OnOk, OnErr, string_bytes};
 ghost use Rattle.cmark_grammar.specs.Html.{end_piece, heading_end, line_start_after_end};
 ghost use Rattle.cmark_text.specs.Appended.{AppendsFront};
-ghost use Rattle.cmark_text.specs.Shown.{level_number, shown_end};
+ghost use Rattle.cmark_text.specs.Shown.{shown_end};
+ghost use Rattle.cmark_text_parts.specs.Shown.{level_number};
 
 use crate::parts::append;
 use crate::table::cell_end_text;

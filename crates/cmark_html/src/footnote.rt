@@ -4,7 +4,7 @@ ghost use Rattle.std.specs.Prelude.{◌≡◌, ◌++◌, [], OnOk, OnErr, string
 ghost use Rattle.std.specs.Fmt.{decimal};
 ghost use Rattle.cmark_grammar.specs.Html.{alt_footnote_reference, footnote_number, footnote_reference, footnote_start, fresh_line, named};
 ghost use Rattle.cmark_text.specs.Appended.{AppendsFront};
-ghost use Rattle.cmark_text.specs.Shown.{text_bytes};
+ghost use Rattle.cmark_text_parts.specs.Shown.{text_bytes};
 ghost use Rattle.cmark_html.specs.Writer.{shown_names};
 
 use crate::parts::{Part, append_parts, new_line};

@@ -4,7 +4,7 @@ ghost use Rattle.std.specs.Prelude.{◌≡◌, ◌∷◌, [], ◌++◌, OnOk, On
 ghost use Rattle.cmark_grammar.specs.Escapes.{escaped_html};
 ghost use Rattle.cmark_grammar.specs.Html.{fresh_line, digit, heading_attributes, id_attribute, class_attribute, further_classes, other_attribute, other_attributes};
 ghost use Rattle.cmark_text.specs.Appended.{AppendsFront};
-ghost use Rattle.cmark_text.specs.Shown.{shown_attributes, shown_attribute, level_number, text_bytes};
+ghost use Rattle.cmark_text_parts.specs.Shown.{shown_attributes, shown_attribute, level_number, text_bytes};
 ghost use Rattle.cmark_html.specs.Parts.{class_start};
 
 use crate::parts::{Part, append, append_parts, new_line};

@@ -7,7 +7,8 @@ ghost use Rattle.cmark_grammar.specs.Tag as grammar_tag;
 ghost use Rattle.cmark_text.specs.Appended.{AppendsFront};
 ghost use Rattle.cmark_text.specs.Excerpt.{excerpt_bytes};
 ghost use Rattle.cmark_text.specs.Short.{shown_plain, shown_short};
-ghost use Rattle.cmark_text.specs.Shown.{shown_end, shown_link_type};
+ghost use Rattle.cmark_text.specs.Shown.{shown_end};
+ghost use Rattle.cmark_text_parts.specs.Shown.{shown_link_type};
 ghost use Rattle.cmark_html.specs.Parts.{linked};
 ghost use Rattle.cmark_html.specs.Writer.{at_start, writing};
 

@@ -4,7 +4,8 @@ ghost use Rattle.std.specs.Prelude.{◌≡◌, ◌++◌, ◌∷◌, [], OnOk, On
 ghost use Rattle.cmark_grammar.specs.Html.{Writing, digit, start_piece, line_start_after_start, block_quote_start, code_block_start, fresh_line, is_within_word, language_start, list_start, link_start, scheme, title_attribute};
 ghost use Rattle.cmark_text.specs.Appended.{AppendsFront};
 ghost use Rattle.cmark_text.specs.Short.{shown_plain};
-ghost use Rattle.cmark_text.specs.Shown.{level_number, shown_tag, shown_block_quote_kind, shown_code_block_kind, shown_link_type};
+ghost use Rattle.cmark_text.specs.Shown.{shown_tag};
+ghost use Rattle.cmark_text_parts.specs.Shown.{level_number, shown_block_quote_kind, shown_code_block_kind, shown_link_type};
 ghost use Rattle.cmark_html.specs.Parts.{linked};
 ghost use Rattle.cmark_html.specs.Starts.{started};
 ghost use Rattle.cmark_html.specs.Writer.{writing};

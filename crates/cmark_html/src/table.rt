@@ -4,7 +4,8 @@ ghost use Rattle.std.specs.Prelude.{◌≡◌, ◌++◌, codes, OnOk, OnErr, IfO
 ghost use Rattle.std.specs.List.{slice_get};
 ghost use Rattle.cmark_grammar.specs.Html.{alignment_style, cell_tag, cell_start, cell_end, no_table, table_after_end};
 ghost use Rattle.cmark_text.specs.Appended.{AppendsFront};
-ghost use Rattle.cmark_text.specs.Shown.{shown_alignment, shown_end};
+ghost use Rattle.cmark_text.specs.Shown.{shown_end};
+ghost use Rattle.cmark_text_parts.specs.Shown.{shown_alignment};
 ghost use Rattle.cmark_html.specs.Writer.{shown_table};
 
 use crate::parts::append;

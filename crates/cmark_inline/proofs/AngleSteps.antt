@@ -12,7 +12,7 @@ use Rattle.cmark_grammar.specs.Letters.{first_is, starts, behind_first}
 use Rattle.cmark_grammar.specs.Options.{Options, no_options}
 use Rattle.cmark_grammar.specs.Tags.{behind_tag, no_prefix}
 use Rattle.cmark_grammar.specs.Tokens.{slice}
-use Rattle.cmark_text.specs.declared.text.CowStr.{CowStr}
+use Rattle.cmark_text_parts.specs.declared.text.CowStr.{CowStr}
 use Rattle.cmark_scan_parts.proofs.Lists.{rest_of}
 use Rattle.cmark_inline.specs.Tokens.{whole, reading, begins_at, opens_markup, shown_autolink, Says}
 use Rattle.cmark_inline.specs.declared.slot.SlotKind.TheVariants as kind

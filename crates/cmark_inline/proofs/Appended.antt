@@ -16,8 +16,8 @@ use Rattle.cmark_grammar.specs.LineBreaks.{ends_with_two_spaces, hard_break, bac
 use Rattle.cmark_grammar.specs.Lines.{is_content}
 use Rattle.cmark_grammar.specs.Options.{Options}
 use Rattle.cmark_grammar.specs.Tokens.{slice, Entity, entity_in, is_punctuation}
-use Rattle.cmark_text.specs.Shown.{text_bytes}
-use Rattle.cmark_text.specs.declared.text.CowStr.{CowStr}
+use Rattle.cmark_text_parts.specs.Shown.{text_bytes}
+use Rattle.cmark_text_parts.specs.declared.text.CowStr.{CowStr}
 use Rattle.cmark_finds.specs.Shown.{shown_break, shown_code, IsBreakAt, IsCodeAt}
 use Rattle.cmark_finds.specs.declared.breaks.LineBreak as find
 use Rattle.cmark_finds.specs.declared.code.CodeSpan.{CodeSpan}

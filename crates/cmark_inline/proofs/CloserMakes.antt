@@ -24,7 +24,7 @@ use Rattle.cmark_items.specs.declared.footnotes.FootnoteDefs.{FootnoteDefs}
 use Rattle.cmark_leaf_text.specs.Reads as reads
 use Rattle.cmark_leaf_text.specs.Reads.{text_of, source_of, is_cell_of}
 use Rattle.cmark_leaf_text.specs.declared.leaf_text.LeafText.{LeafText}
-use Rattle.cmark_text.specs.declared.text.CowStr.{CowStr}
+use Rattle.cmark_text_parts.specs.declared.text.CowStr.{CowStr}
 use Rattle.cmark_inline.specs.BracketViews.{IsFresh, IsPlaced, IsTaken, StandFor, TakenAs, standing_of}
 use Rattle.cmark_inline.specs.Closers.{ClosesAs, ReadsOn, Formed, FormsTarget, LeavesElement, LeavesFootnote, LeavesWikilink, LinksTaken, NoneStand, ShowsState, TriesDoubled}
 use Rattle.cmark_inline_model.specs.TextPlaces.{ArePlaces}

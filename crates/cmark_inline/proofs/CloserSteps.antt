@@ -6,7 +6,7 @@ use Rattle.cmark_grammar.specs.BracketStates.{new_opener}
 use Rattle.cmark_grammar.specs.Options.{Options}
 use Rattle.cmark_items.specs.declared.definitions.RefDefs.{RefDefs}
 use Rattle.cmark_leaf_text.specs.declared.leaf_text.LeafText.{LeafText}
-use Rattle.cmark_text.specs.declared.text.CowStr.{CowStr}
+use Rattle.cmark_text_parts.specs.declared.text.CowStr.{CowStr}
 use Rattle.cmark_inline.specs.BracketViews.{IsFresh, IsPlaced, StandFor, behind_opening}
 use Rattle.cmark_inline.specs.Closers.{FormsTarget, LinksTaken, OpensAs}
 use Rattle.cmark_inline.specs.Doubled.{touching, with_double}

@@ -16,8 +16,8 @@ use Rattle.cmark_grammar.specs.Tag as tag
 use Rattle.cmark_grammar.specs.Tokens.{slice}
 use Rattle.cmark_leaf_text.specs.Reads.{is_cell_of, place_of, text_of}
 use Rattle.cmark_leaf_text.specs.declared.leaf_text.LeafText.{LeafText}
-use Rattle.cmark_text.specs.Shown.{text_bytes}
-use Rattle.cmark_text.specs.declared.text.CowStr.{CowStr}
+use Rattle.cmark_text_parts.specs.Shown.{text_bytes}
+use Rattle.cmark_text_parts.specs.declared.text.CowStr.{CowStr}
 use Rattle.cmark_inline_model.specs.BracketPass.{pass}
 use Rattle.cmark_inline_model.specs.LikeSlots.{IsLike}
 use Rattle.cmark_inline_model.specs.PartLists.{join}

@@ -18,7 +18,7 @@ use Rattle.cmark_grammar.specs.Tags.{behind_tag, no_prefix}
 use Rattle.cmark_grammar.specs.Tokens.{slice}
 use Rattle.cmark_leaf_text.specs.Reads.{is_cell_of, place_of, source_of, text_of}
 use Rattle.cmark_leaf_text.specs.declared.leaf_text.LeafText.{LeafText}
-use Rattle.cmark_text.specs.declared.text.CowStr.{CowStr}
+use Rattle.cmark_text_parts.specs.declared.text.CowStr.{CowStr}
 use Rattle.cmark_inline_model.specs.LikeSlots.{IsLike}
 use Rattle.cmark_inline_model.specs.PlacedTokens.{IsParted, may_open_markup}
 use Rattle.cmark_inline_model.specs.RowPasses.{has_own_slot}

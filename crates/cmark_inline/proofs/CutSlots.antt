@@ -21,7 +21,7 @@ use Rattle.cmark_grammar.specs.Tokens.{slice}
 use Rattle.cmark_leaf_text.specs.Reads.{is_cell_of, place_of, text_of}
 use Rattle.cmark_leaf_text.specs.declared.leaf_text.LeafText.{LeafText}
 use Rattle.cmark_leaf_text.proofs.StretchSteps.{slice-length, byte-in-slice}
-use Rattle.cmark_text.specs.declared.text.CowStr.{CowStr}
+use Rattle.cmark_text_parts.specs.declared.text.CowStr.{CowStr}
 use Rattle.cmark_inline_model.specs.Displays.{CutFacts, CutKind, OwnedFacts}
 use Rattle.cmark_inline_model.specs.LikeSlots.{IsLike, is_html}
 use Rattle.cmark_inline_model.specs.SlotRows as row

@@ -13,9 +13,9 @@ use Rattle.cmark_grammar.specs.OpenBrackets.{Taken}
 use Rattle.cmark_grammar.specs.Questions.{Question, Exchange}
 use Rattle.cmark_grammar.specs.Readers.{Reader}
 use Rattle.cmark_items.specs.declared.definitions.LinkDef.{LinkDef}
-use Rattle.cmark_text.specs.Shown.{shown_link_type, text_bytes}
-use Rattle.cmark_text.specs.declared.kind.LinkType.{LinkType}
-use Rattle.cmark_text.specs.declared.text.CowStr.{CowStr}
+use Rattle.cmark_text_parts.specs.Shown.{shown_link_type, text_bytes}
+use Rattle.cmark_text_parts.specs.declared.kind.LinkType.{LinkType}
+use Rattle.cmark_text_parts.specs.declared.text.CowStr.{CowStr}
 use Rattle.cmark_inline.specs.Decided.{said, shown_question, target_outcome, with_left, LeadsTo}
 use Rattle.cmark_inline.specs.Linked.{Said, said_by, said_in, Refers, Answers, IsAnswered, IsQuestion, parted, left_behind}
 use Rattle.cmark_inline.specs.declared.callback.BrokenLink.{BrokenLink}

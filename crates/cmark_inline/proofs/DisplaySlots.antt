@@ -10,7 +10,7 @@ use Rattle.cmark_grammar.specs.Siblings.{item}
 use Rattle.cmark_grammar.specs.Tag.{Tag}
 use Rattle.cmark_leaf_text.specs.Reads.{place_of, text_of}
 use Rattle.cmark_leaf_text.specs.declared.leaf_text.LeafText.{LeafText}
-use Rattle.cmark_text.specs.declared.text.CowStr.{CowStr}
+use Rattle.cmark_text_parts.specs.declared.text.CowStr.{CowStr}
 use Rattle.cmark_inline_model.specs.Displays.{CanBeCut, CutFacts, IsCutThere, ShowsLike, begun_from, display_slots, empty_text, hidden_by, shown_from}
 use Rattle.cmark_inline_model.specs.Displays as row_shows
 use Rattle.cmark_inline_model.specs.LikeSlots.{AreLike, IsLike}

@@ -9,7 +9,7 @@ use Rattle.cmark_grammar.specs.Spans.{Spans}
 use Rattle.cmark_grammar.specs.Tag.{Tag}
 use Rattle.cmark_leaf_text.specs.Reads.{place_of}
 use Rattle.cmark_leaf_text.specs.declared.leaf_text.LeafText.{LeafText}
-use Rattle.cmark_text.specs.declared.text.CowStr.{CowStr}
+use Rattle.cmark_text_parts.specs.declared.text.CowStr.{CowStr}
 use Rattle.cmark_inline_model.specs.SlotRows as row
 use Rattle.cmark_inline_model.specs.SlotRows.{marks_by}
 use Rattle.cmark_inline.specs.MarkedSlots.{begun_as, places_of, siblings_from}

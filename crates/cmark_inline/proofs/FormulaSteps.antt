@@ -12,7 +12,7 @@ use Rattle.cmark_grammar.specs.Readers.{Reader}
 use Rattle.cmark_grammar.specs.Tokens.{slice}
 use Rattle.cmark_finds.specs.Dollars.{IsFormulaAt, braces_at, formula_at, shown_formula}
 use Rattle.cmark_finds.specs.declared.dollars.Formula.{Formula}
-use Rattle.cmark_text.specs.declared.text.CowStr.{CowStr}
+use Rattle.cmark_text_parts.specs.declared.text.CowStr.{CowStr}
 use Rattle.cmark_inline.specs.Stands.{IsContent}
 use Rattle.cmark_inline.specs.Tokens.{whole, reading, begins_at, Says, Puts, Appends}
 use Rattle.cmark_inline.specs.declared.slot.SlotKind.{SlotKind}

@@ -7,8 +7,8 @@ use Rattle.std.proofs.lemmas.List.{length-take-le, map-append, take-append-drop,
 use Rattle.cmark_grammar.specs.Items as items
 use Rattle.cmark_leaf_text.specs.Reads.{place_of}
 use Rattle.cmark_leaf_text.specs.declared.leaf_text.LeafText.{LeafText}
-use Rattle.cmark_text.specs.declared.text.CowStr.{CowStr}
-use Rattle.cmark_text.specs.Shown.{text_bytes}
+use Rattle.cmark_text_parts.specs.declared.text.CowStr.{CowStr}
+use Rattle.cmark_text_parts.specs.Shown.{text_bytes}
 use Rattle.cmark_inline_model.specs.SlotRows as row
 use Rattle.cmark_inline_model.specs.SlotRows.{seen}
 use Rattle.cmark_inline.specs.Footnoted.{PutsReference, put_at, reference_as, reference_slot, reference_start, with_mark}

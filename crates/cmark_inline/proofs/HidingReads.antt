@@ -22,7 +22,7 @@ use Rattle.cmark_grammar.specs.Tag.{Tag}
 use Rattle.cmark_grammar.specs.Tokens.{slice}
 use Rattle.cmark_leaf_text.specs.Reads.{place_of, text_of}
 use Rattle.cmark_leaf_text.specs.declared.leaf_text.LeafText.{LeafText}
-use Rattle.cmark_text.specs.declared.text.CowStr.{CowStr}
+use Rattle.cmark_text_parts.specs.declared.text.CowStr.{CowStr}
 use Rattle.cmark_inline_model.specs.LikeSlots.{AreLike, IsLike}
 use Rattle.cmark_inline_model.specs.PartLists.{Cut}
 use Rattle.cmark_inline_model.specs.RowParts.{runs_in}

@@ -14,7 +14,7 @@ use Rattle.cmark_items.specs.declared.allocations.Link.{Link}
 use Rattle.cmark_leaf_text.specs.declared.leaf_text.LeafText.{LeafText}
 use Rattle.cmark_leaf_text.specs.Reads.{IsRead, IsPart, place_of, source_of, text_of}
 use Rattle.cmark_text.specs.declared.event.TagEnd.TheVariants as tag_end
-use Rattle.cmark_text.specs.declared.text.CowStr.{CowStr}
+use Rattle.cmark_text_parts.specs.declared.text.CowStr.{CowStr}
 use Rattle.cmark_inline.specs.LinkStarts.{IsStartFirst, link_as, link_begun, link_begun_if}
 use Rattle.cmark_inline.specs.SlotViews.{events_of, first_of, linked_or_none, shown_opened, shown_slots, slot_as, slot_end}
 use Rattle.cmark_inline.specs.Stands.{AreSlots}

@@ -2,7 +2,7 @@
 use Rattle.std.proofs.Common.{◌≡◌, ℕ, zero, suc, ◌<◌, List, [], ◌∷◌, ◌++◌, length, Option, Some, None, refl, ap, ◌∙◌, arith}
 use Rattle.std.specs.Prelude.{All, slice_get}
 use Rattle.cmark_leaf_text.specs.declared.leaf_text.LeafText.{LeafText}
-use Rattle.cmark_text.specs.declared.text.CowStr.{CowStr}
+use Rattle.cmark_text_parts.specs.declared.text.CowStr.{CowStr}
 use Rattle.cmark_inline.specs.SlotViews.{IsThere, link_named, shown_slot, shown_slots, text_named}
 use Rattle.cmark_inline.specs.Sound.{AreNamed}
 use Rattle.cmark_items.specs.declared.allocations.Link.{Link}

@@ -7,7 +7,7 @@ use Rattle.cmark_inline_model.specs.SlotRows as row
 use Rattle.cmark_inline_model.specs.SlotRows.{slot_events}
 use Rattle.cmark_leaf_text.specs.Reads.{source_of}
 use Rattle.cmark_leaf_text.specs.declared.leaf_text.LeafText.{LeafText}
-use Rattle.cmark_text.specs.declared.text.CowStr.{CowStr}
+use Rattle.cmark_text_parts.specs.declared.text.CowStr.{CowStr}
 use Rattle.cmark_inline.specs.Shorts.{IsAlone}
 use Rattle.cmark_inline.specs.SlotViews.{slot_as, shown_slots, shown_opened, events_of}
 use Rattle.cmark_inline.specs.declared.event.Opened.{Opened}

@@ -3,7 +3,7 @@ use Rattle.std.proofs.Common.{◌≡◌, ℕ, zero, suc, ◌+◌, ◌-◌, ◌�
 use Rattle.std.specs.Prelude.{Option, cond}
 use Rattle.std.proofs.lemmas.List.{take-take}
 use Rattle.std.proofs.lemmas.List.Sums.{count_by_more_yes, sum_by-take-le}
-use Rattle.cmark_text.specs.declared.text.CowStr.{CowStr}
+use Rattle.cmark_text_parts.specs.declared.text.CowStr.{CowStr}
 use Rattle.cmark_inline.specs.Asking.{AsksUpTo, AsksBetween, closing_brackets, is_closing_bracket}
 use Rattle.cmark_inline.specs.declared.callback.BrokenLink.{BrokenLink}
 

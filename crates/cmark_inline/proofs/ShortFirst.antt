@@ -18,7 +18,7 @@ use Rattle.cmark_text.specs.declared.short.Next.TheVariants as next
 use Rattle.cmark_text.specs.declared.short.PlainTag.{PlainTag}
 use Rattle.cmark_text.specs.declared.short.Short.{Short}
 use Rattle.cmark_text.specs.declared.short.Short.TheVariants as short
-use Rattle.cmark_text.specs.declared.text.CowStr.{CowStr}
+use Rattle.cmark_text_parts.specs.declared.text.CowStr.{CowStr}
 use Rattle.cmark_text.specs.Excerpt.{excerpt_bytes}
 use Rattle.cmark_text.specs.Short.{IsShortZeroCopy, shown_plain, shown_short}
 use Rattle.cmark_text.specs.Shown.{shown_end}

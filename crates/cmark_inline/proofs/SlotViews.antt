@@ -14,7 +14,7 @@ use Rattle.cmark_inline_model.specs.SlotRows as row
 use Rattle.cmark_inline_model.specs.SlotRows.{slot_events}
 use Rattle.cmark_leaf_text.specs.Reads.{source_of}
 use Rattle.cmark_leaf_text.specs.declared.leaf_text.LeafText.{LeafText}
-use Rattle.cmark_text.specs.declared.text.CowStr.{CowStr}
+use Rattle.cmark_text_parts.specs.declared.text.CowStr.{CowStr}
 use Rattle.cmark_text.specs.Ranged.{shown_ranged}
 use Rattle.cmark_text.specs.Shown.{shown}
 use Rattle.cmark_text.specs.declared.ranged.Ranged.{Ranged as Given}

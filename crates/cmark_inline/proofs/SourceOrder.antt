@@ -12,7 +12,7 @@ use Rattle.cmark_leaf_text.proofs.StretchSteps.{size-joined, part-there}
 use Rattle.cmark_inline.specs.MarkupInSource.{IsFound}
 use Rattle.cmark_inline.specs.SlotViews.{CanBeGiven, EndsBehind}
 use Rattle.cmark_inline.specs.Sound.{AreNamed, EndsIn, source_end}
-use Rattle.cmark_text.specs.declared.text.CowStr.{CowStr}
+use Rattle.cmark_text_parts.specs.declared.text.CowStr.{CowStr}
 use Rattle.cmark_items.specs.declared.allocations.Link.{Link}
 use Rattle.cmark_inline.specs.declared.markup.FoundHtml.{FoundHtml}
 use Rattle.cmark_inline.specs.declared.slot.Slot.{Slot}

@@ -3,7 +3,7 @@ use Rattle.std.specs.Prelude.{Option}
 use Rattle.std.proofs.Common.{◌≡◌, ℕ, ◌+◌, ◌-◌, ◌<◌, ◌≤◌, List, drop, get_or, length, sym, ap, subst, ◌∙◌, arith, drop-drop}
 use Rattle.std.proofs.lemmas.List.{length-drop, get_or-drop}
 use Rattle.cmark_leaf_text.specs.declared.leaf_text.LeafText.{LeafText}
-use Rattle.cmark_text.specs.declared.text.CowStr.{CowStr}
+use Rattle.cmark_text_parts.specs.declared.text.CowStr.{CowStr}
 use Rattle.cmark_inline.specs.SlotViews.{AreLeft, AreOnce, CanBeGiven, Differ, EndsBehind, IsThere, link_named, text_named}
 use Rattle.cmark_items.specs.declared.allocations.Link.{Link}
 use Rattle.cmark_inline.specs.declared.slot.Slot.{Slot}

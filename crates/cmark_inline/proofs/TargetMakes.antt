@@ -19,8 +19,8 @@ use Rattle.cmark_items.specs.declared.definitions.RefDefs.{RefDefs}
 use Rattle.cmark_items.specs.declared.footnotes.FootnoteDefs.{FootnoteDefs}
 use Rattle.cmark_leaf_text.specs.Reads.{text_of, is_cell_of, place_of}
 use Rattle.cmark_leaf_text.specs.declared.leaf_text.LeafText.{LeafText}
-use Rattle.cmark_text.specs.Shown.{shown_link_type}
-use Rattle.cmark_text.specs.declared.text.CowStr.{CowStr}
+use Rattle.cmark_text_parts.specs.Shown.{shown_link_type}
+use Rattle.cmark_text_parts.specs.declared.text.CowStr.{CowStr}
 use Rattle.cmark_inline.specs.BracketViews.{IsPlaced, behind_opening}
 use Rattle.cmark_inline_model.specs.TextPlaces.{ArePlaces}
 use Rattle.cmark_inline.specs.Decided.{EndsTogether, ReadsSame, IsCloser, EndsWithin, Remembers, ComesTo, is_full, target_outcome, with_left, LeadsTo, TargetDecides}

@@ -23,7 +23,7 @@ use Rattle.cmark_grammar.specs.Tokens.{slice, title_lines}
 use Rattle.cmark_grammar.specs.Unescaped.{unescaped}
 use Rattle.cmark_items.specs.Footnotes.{footnote}
 use Rattle.cmark_items.specs.declared.footnotes.FootnoteDefs.{FootnoteDefs}
-use Rattle.cmark_text.specs.Shown.{shown_link_type, text_bytes}
+use Rattle.cmark_text_parts.specs.Shown.{shown_link_type, text_bytes}
 use Rattle.cmark_inline_model.specs.TextPlaces.{ArePlaces}
 use Rattle.cmark_items.specs.Links.{shown_link}
 use Rattle.cmark_inline.specs.Decided.{IsCloser, EndsWithin, is_full, target_outcome}

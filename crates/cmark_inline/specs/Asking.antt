@@ -1,6 +1,6 @@
 -- Questions about references without a definition.
 use Rattle.std.specs.Prelude.{◌≡◌, ◌==◌, ◌⊎◌, ◌≤◌, ◌<◌, ℕ, zero, suc, Bool, List, Option, count_by, length, slice_index}
-use Rattle.cmark_text.specs.declared.text.CowStr.{CowStr}
+use Rattle.cmark_text_parts.specs.declared.text.CowStr.{CowStr}
 use Rattle.cmark_inline.specs.declared.callback.BrokenLink.{BrokenLink}
 
 -- a callback was asked once, or not at all

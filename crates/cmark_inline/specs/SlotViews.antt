@@ -17,9 +17,10 @@ use Rattle.cmark_leaf_text.specs.Reads.{is_cell_of, place_of, source_of, text_of
 use Rattle.cmark_leaf_text.specs.declared.leaf_text.LeafText.{LeafText}
 use Rattle.cmark_items.specs.Links.{shown_link}
 use Rattle.cmark_text.specs.Ranged.{shown_ranged}
-use Rattle.cmark_text.specs.Shown.{shown_end, text_bytes}
+use Rattle.cmark_text.specs.Shown.{shown_end}
+use Rattle.cmark_text_parts.specs.Shown.{text_bytes}
 use Rattle.cmark_text.specs.declared.ranged.Ranged.{Ranged as Given}
-use Rattle.cmark_text.specs.declared.text.CowStr.{CowStr}
+use Rattle.cmark_text_parts.specs.declared.text.CowStr.{CowStr}
 use Rattle.cmark_inline.specs.declared.event.Opened.{Opened}
 use Rattle.cmark_items.specs.declared.allocations.Link.{Link}
 use Rattle.cmark_inline.specs.declared.slot.Element.{Element}

@@ -18,8 +18,8 @@ use Rattle.cmark_grammar.specs.Tokens.{is_punctuation, slice}
 use Rattle.cmark_emphasis.specs.Shown.{shown_quote, shown_run}
 use Rattle.cmark_emphasis.specs.declared.quotes.Quote.{Quote}
 use Rattle.cmark_emphasis.specs.declared.run.Run.{Run}
-use Rattle.cmark_text.specs.Shown.{text_bytes}
-use Rattle.cmark_text.specs.declared.text.CowStr.{CowStr}
+use Rattle.cmark_text_parts.specs.Shown.{text_bytes}
+use Rattle.cmark_text_parts.specs.declared.text.CowStr.{CowStr}
 use Rattle.cmark_inline.specs.Linked.{IsAutolink}
 use Rattle.cmark_inline.specs.Stands.{PushesText}
 use Rattle.cmark_items.specs.declared.allocations.Link.{Link}

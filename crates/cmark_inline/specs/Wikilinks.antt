@@ -8,7 +8,7 @@ use Rattle.cmark_grammar.specs.Options.{Options}
 use Rattle.cmark_grammar.specs.Tokens.{slice}
 use Rattle.cmark_leaf_text.specs.declared.leaf_text.LeafText.{LeafText}
 use Rattle.cmark_leaf_text.specs.Reads.{IsFirstFrom, place_of, source_of, text_of}
-use Rattle.cmark_text.specs.Shown.{shown_link_type, text_bytes}
+use Rattle.cmark_text_parts.specs.Shown.{shown_link_type, text_bytes}
 use Rattle.cmark_inline.specs.Doubled.{nearest}
 use Rattle.cmark_inline.specs.declared.bracket.Bracket.{Bracket}
 use Rattle.cmark_inline.specs.declared.bracket.Brackets.{Brackets}

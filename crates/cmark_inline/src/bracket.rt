@@ -2,7 +2,7 @@
 
 ghost use Rattle.std.specs.Prelude.{◌≡◌, ◌≤◌, min, true, false, ◌-◌, ◌++◌, ◌∷◌, [], ℕ, List, length, take, OnOk, IfSome, ◌⊎◌, Bool, slice_index, IfOk, ◌+◌};
 ghost use Rattle.cmark_inline.specs.Doubled.{DropsBehind, doubles, nearest, touching};
-ghost use Rattle.cmark_text.specs.Shown.{shown_options};
+ghost use Rattle.cmark_text_parts.specs.Shown.{shown_options};
 ghost use Rattle.cmark_inline.specs.ReadsOn.{ReadsOn};
 ghost use Rattle.cmark_inline.specs.Stands.{IsAtByte, AreBrackets, AreFree, HoldNoLink, IsBracket, IsCursor, Stands};
 ghost use Rattle.cmark_inline.specs.declared.slot.Slot.{Slot};

@@ -2,10 +2,10 @@
 
 ghost use Rattle.std.specs.Prelude.{◌≡◌, ℕ, List, IfOk, Option, None};
 ghost use Rattle.std.specs.DynBox.{dyn_box_with};
-ghost use Rattle.cmark_text.specs.Shown.{text_bytes};
+ghost use Rattle.cmark_text_parts.specs.Shown.{text_bytes};
 ghost use Rattle.cmark_inline.specs.Linked.{IsQuestion};
-ghost use Rattle.cmark_text.specs.declared.kind.LinkType.{LinkType as Kind};
-ghost use Rattle.cmark_text.specs.declared.text.CowStr.{CowStr};
+ghost use Rattle.cmark_text_parts.specs.declared.kind.LinkType.{LinkType as Kind};
+ghost use Rattle.cmark_text_parts.specs.declared.text.CowStr.{CowStr};
 ghost use Rattle.cmark_inline.specs.declared.callback.BrokenLink.{BrokenLink as Question};
 
 use cmark_text::{CowStr, LinkType};

@@ -2,7 +2,7 @@
 
 ghost use Rattle.std.specs.Prelude.{◌≡◌, ◌<◌, length, IfOk, OnOk, false, ◌+◌, IfSome, None, Bool, ℕ, List, ◌++◌, ◌∷◌, [], ◌≤◌, drop, take};
 ghost use Rattle.cmark_leaf_text.specs.Reads.{IsRead, text_of, IsPart};
-ghost use Rattle.cmark_text.specs.Shown.{shown_options};
+ghost use Rattle.cmark_text_parts.specs.Shown.{shown_options};
 ghost use Rattle.cmark_inline.specs.Asking.{AsksOnce};
 ghost use Rattle.cmark_inline.specs.Closers.{Closes, LinksTaken, LeavesElement};
 ghost use Rattle.cmark_inline.specs.Footnoted.{SameFootnotes};
@@ -17,7 +17,7 @@ ghost use Rattle.cmark_inline.specs.Decided.{EndsWithin, TargetDecides};
 ghost use Rattle.cmark_inline.specs.Doubled.{DropsBehind};
 ghost use Rattle.cmark_inline.specs.FormedSlots.{WritesElement, dressed_behind, end_slot};
 ghost use Rattle.cmark_grammar.specs.Spans.{Spans};
-ghost use Rattle.cmark_text.specs.declared.text.CowStr.{CowStr as Texts};
+ghost use Rattle.cmark_text_parts.specs.declared.text.CowStr.{CowStr as Texts};
 ghost use Rattle.cmark_grammar.specs.Emphasis.{IsEmphasis, Pair};
 ghost use Rattle.cmark_inline.specs.MarkedSlots.{siblings_from};
 ghost use Rattle.cmark_inline.specs.SlotViews.{shown_slots};

@@ -6,8 +6,8 @@ ghost use Rattle.cmark_grammar.specs.InlineHtml.{takes_lines};
 ghost use Rattle.cmark_grammar.specs.InlineTokens.{without_pipe_escapes};
 ghost use Rattle.cmark_leaf_text.specs.Reads.{IsPart, IsRead, source_of, text_of};
 ghost use Rattle.cmark_scan_parts.specs.Shown.{IsBorrowed};
-ghost use Rattle.cmark_text.specs.Shown.{text_bytes};
-ghost use Rattle.cmark_text.specs.ZeroCopy.{IsPartIfBorrowed};
+ghost use Rattle.cmark_text_parts.specs.Shown.{text_bytes};
+ghost use Rattle.cmark_text_parts.specs.Lending.{IsPartIfBorrowed};
 ghost use Rattle.cmark_inline.specs.Contents.{IsInLeaf, IsUnbroken, read_as, written};
 
 use crate::event::text_between;

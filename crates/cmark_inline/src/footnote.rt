@@ -9,7 +9,7 @@ ghost use Rattle.cmark_grammar.specs.LinkTails.{reference_label_in};
 ghost use Rattle.cmark_grammar.specs.Tokens.{slice};
 ghost use Rattle.cmark_items.specs.Footnotes.{Counts};
 ghost use Rattle.cmark_leaf_text.specs.Reads.{IsPart, is_cell_of};
-ghost use Rattle.cmark_text.specs.Shown.{shown_options, text_bytes};
+ghost use Rattle.cmark_text_parts.specs.Shown.{shown_options, text_bytes};
 ghost use Rattle.cmark_inline.specs.Closers.{LeavesFootnote};
 ghost use Rattle.cmark_inline.specs.Doubled.{DropsBehind};
 ghost use Rattle.cmark_inline.specs.Footnoted.{CountsOf, KeepsLabel, PutsReference, SameFootnotes, fits_footnote, footnote_behind, footnote_label, footnote_of, forms_footnote, is_accepted, is_footnote_label, reference_as, reference_slot, reference_start, unless_footnote, with_mark};

@@ -12,7 +12,7 @@ ghost use Rattle.cmark_inline_model.specs.SlotRows.{ItemSlot};
 ghost use Rattle.cmark_inline_model.specs.TextPlaces.{place_in, text_of as bytes_in};
 ghost use Rattle.cmark_leaf_text.specs.Reads.{IsRead, is_cell_of, place_of, source_of, text_of};
 ghost use Rattle.cmark_leaf_text.specs.declared.leaf_text.LeafText.{LeafText};
-ghost use Rattle.cmark_text.specs.declared.text.CowStr.{CowStr};
+ghost use Rattle.cmark_text_parts.specs.declared.text.CowStr.{CowStr};
 ghost use Rattle.cmark_inline.specs.LeafViews.{shown_leaf};
 ghost use Rattle.cmark_inline.specs.PlainStretches.{StandsForItself};
 ghost use Rattle.cmark_inline.specs.Reached.{ReadsPlaces};

@@ -4,7 +4,7 @@ ghost use Rattle.std.specs.Prelude.{◌≡◌, ◌==◌, List, None, ℕ, drop, 
 ghost use Rattle.std.specs.Str.{IsCharBoundary};
 ghost use Rattle.cmark_leaf_text.specs.Reads.{IsRead, is_cell_of, text_of};
 ghost use Rattle.cmark_grammar.specs.Letters.{first_is};
-ghost use Rattle.cmark_text.specs.Shown.{text_bytes};
+ghost use Rattle.cmark_text_parts.specs.Shown.{text_bytes};
 ghost use Rattle.cmark_inline.specs.Linked.{FindsInline, resolved_title, shown_target};
 
 use cmark_finds::{link_tail, title_text};

@@ -3,7 +3,7 @@
 ghost use Rattle.std.specs.Prelude.{◌≡◌, ◌<◌, ◌≤◌, ◌++◌, ◌∷◌, ℕ, List, [], drop, take, get_or, length, map, IsOk, OnOk};
 ghost use Rattle.cmark_inline_model.specs.SlotRows.{quoted};
 ghost use Rattle.cmark_leaf_text.specs.declared.leaf_text.LeafText.{LeafText};
-ghost use Rattle.cmark_text.specs.declared.text.CowStr.{CowStr};
+ghost use Rattle.cmark_text_parts.specs.declared.text.CowStr.{CowStr};
 ghost use Rattle.cmark_inline.specs.MarkedSlots.{HaveTexts};
 ghost use Rattle.cmark_inline.specs.QuoteSlots.{characters_of, with_characters};
 ghost use Rattle.cmark_inline.specs.SlotViews.{shown_slots};

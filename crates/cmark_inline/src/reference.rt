@@ -4,9 +4,9 @@ ghost use Rattle.std.specs.Prelude.{◌≡◌, if◌then◌else◌, ◌<◌, ◌
 ghost use Rattle.cmark_leaf_text.specs.Reads.{IsRead, IsPart, is_cell_of, place_of, text_of};
 ghost use Rattle.cmark_grammar.specs.Labels.{fold, normal_form};
 ghost use Rattle.cmark_items.specs.Definitions.{definition};
-ghost use Rattle.cmark_text.specs.Labelled.{link_text, link_key};
+ghost use Rattle.cmark_text_parts.specs.Labelled.{link_text, link_key};
 ghost use Rattle.cmark_inline.specs.Linked.{Answers, Refers, left_behind, reference_behind, shown_link_reference, by_own_label, said_by, shown_destination};
-ghost use Rattle.cmark_text.specs.Shown.{shown_link_type, shown_options, text_bytes};
+ghost use Rattle.cmark_text_parts.specs.Shown.{shown_link_type, shown_options, text_bytes};
 ghost use Rattle.cmark_inline.specs.Asking.{AsksOnce};
 ghost use Rattle.cmark_inline.specs.Decided.{is_full};
 ghost use Rattle.cmark_inline.specs.Footnoted.{as_label};

@@ -2,7 +2,7 @@
 
 ghost use Rattle.std.specs.Prelude.{◌≡◌, ◌⊎◌, true, ◌<◌, ◌≤◌, ◌+◌, ◌-◌, ◌++◌, ℕ, Bool, length, slice_index, IfOk, OnOk};
 ghost use Rattle.cmark_grammar.specs.Answers.{Lookup};
-ghost use Rattle.cmark_text.specs.Shown.{shown_options};
+ghost use Rattle.cmark_text_parts.specs.Shown.{shown_options};
 ghost use Rattle.cmark_leaf_text.specs.Reads.{IsPart};
 ghost use Rattle.cmark_inline.specs.ReadsOn.{ReadsOn};
 ghost use Rattle.cmark_inline.specs.Stands.{IsAtByte, AreSlots, NoNewLink, Stands};

@@ -11,7 +11,7 @@ ghost use Rattle.cmark_inline_model.specs.FirstEvents.{BeginWithoutEnd};
 ghost use Rattle.cmark_leaf_text.specs.Reads.{IsRead, is_cell_of, place_of, source_of, text_of};
 ghost use Rattle.cmark_text.specs.Short.{IsShortZeroCopy, shown_plain, shown_short};
 ghost use Rattle.cmark_text.specs.Shown.{shown_end};
-ghost use Rattle.cmark_text.specs.ZeroCopy.{IsPartOf};
+ghost use Rattle.cmark_text_parts.specs.Lending.{IsPartOf};
 ghost use Rattle.cmark_inline.specs.Elements.{emphasis_tag};
 ghost use Rattle.cmark_inline.specs.Opens.{events_left};
 ghost use Rattle.cmark_inline.specs.Shorts.{GivesNext, IfShort, IsAlone, IsNextFirst, LeavesFewer, PassesFirst, PassesShort, StandsFor};
@@ -22,7 +22,7 @@ ghost use Rattle.cmark_inline.specs.declared.slot.Slot.{Slot as Slots};
 ghost use Rattle.cmark_leaf_text.specs.declared.leaf_text.LeafText.{LeafText as LeafTexts};
 ghost use Rattle.cmark_items.specs.declared.allocations.Link.{Link as Links};
 ghost use Rattle.cmark_text.specs.declared.event.TagEnd.{TagEnd as TagEnds};
-ghost use Rattle.cmark_text.specs.declared.text.CowStr.{CowStr as Texts};
+ghost use Rattle.cmark_text_parts.specs.declared.text.CowStr.{CowStr as Texts};
 ghost use Rattle.cmark_text.specs.declared.short.PlainTag.{PlainTag as PlainTags};
 
 use crate::event::Opened;

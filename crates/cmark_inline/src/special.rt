@@ -6,7 +6,7 @@ ghost use Rattle.cmark_search.specs.Sets.{in_rows};
 ghost use Rattle.cmark_grammar.specs.Answers.{Lookup};
 ghost use Rattle.cmark_grammar.specs.Options.{Options as Extensions};
 ghost use Rattle.cmark_inline.specs.PlainStretches.{IsSetOf, StandUpTo};
-ghost use Rattle.cmark_text.specs.Shown.{shown_options};
+ghost use Rattle.cmark_text_parts.specs.Shown.{shown_options};
 
 use cmark_search::AsciiSet;
 use cmark_text::Options;

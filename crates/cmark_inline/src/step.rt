@@ -19,7 +19,7 @@ ghost use Rattle.cmark_inline.specs.SpecialReads.{ReadsSpecial};
 ghost use Rattle.cmark_inline.specs.Tokens.{Puts};
 ghost use Rattle.cmark_grammar.specs.SpecialBytes.{is_special};
 ghost use Rattle.cmark_search.specs.Sets.{in_rows};
-ghost use Rattle.cmark_text.specs.Shown.{shown_options};
+ghost use Rattle.cmark_text_parts.specs.Shown.{shown_options};
 ghost use Rattle.std.specs.List.{position_or_len};
 
 use crate::callback::BrokenLinkCallback;

@@ -4,7 +4,7 @@ ghost use Rattle.std.specs.Prelude.{◌≡◌, ◌⊎◌, ◌≤◌, ◌<◌, �
 ghost use Rattle.std.specs.Str.{IsCharBoundary};
 ghost use Rattle.cmark_grammar.specs.BracketDecisions.{name_in};
 ghost use Rattle.cmark_leaf_text.specs.Reads.{IsRead, IsPart, text_of};
-ghost use Rattle.cmark_text.specs.Shown.{shown_options};
+ghost use Rattle.cmark_text_parts.specs.Shown.{shown_options};
 ghost use Rattle.cmark_grammar.specs.Letters.{first_is};
 ghost use Rattle.cmark_inline.specs.Closers.{LeavesWikilink, TriesDoubled};
 ghost use Rattle.cmark_inline.specs.Doubled.{DropsBehind, nearest};

@@ -3,7 +3,7 @@ use Rattle.std.specs.Prelude.{ℕ, Bool, not, List, [], Option, Some, None}
 use Rattle.std.specs.Borrow.{Bor}
 use Rattle.std.specs.Char.{is_ascii_whitespace}
 use Rattle.cmark_grammar.specs.Attributes.{Attributes, words}
-use Rattle.cmark_text.specs.Shown.{shown_attributes}
+use Rattle.cmark_text_parts.specs.Shown.{shown_attributes}
 use Rattle.cmark_items.specs.declared.heading.HeadingAttributes.{HeadingAttributes}
 
 abbrev pub shown_heading : HeadingAttributes → Attributes

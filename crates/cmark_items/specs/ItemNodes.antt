@@ -1,7 +1,7 @@
 -- The items of a document's blocks as nodes of the grammar's documents.
 use Rattle.std.specs.Char.{encode_utf8}
 use Rattle.std.specs.Prelude.{ℕ, ◌%◌, Bool, ◌==◌, if◌then◌else◌, List, [], Option, Some, None, option_map, slice_get}
-use Rattle.cmark_text.specs.Shown.{text_bytes, level_number, shown_block_quote_kind, shown_metadata_block_kind}
+use Rattle.cmark_text_parts.specs.Shown.{text_bytes, level_number, shown_block_quote_kind, shown_metadata_block_kind}
 use Rattle.cmark_tree.specs.Forest as forest
 use Rattle.cmark_tree.specs.Forest.{Forest}
 use Rattle.cmark_grammar.specs.Alignment.{Alignment}
@@ -15,7 +15,7 @@ use Rattle.cmark_items.specs.declared.item.Item.{Item}
 use Rattle.cmark_items.specs.declared.item.ItemBody.{ItemBody}
 use Rattle.cmark_items.specs.declared.item.ItemBody.TheVariants as body
 use Rattle.cmark_items.specs.declared.list_flags.ListFlags.{ListFlags}
-use Rattle.cmark_text.specs.declared.text.CowStr.{CowStr}
+use Rattle.cmark_text_parts.specs.declared.text.CowStr.{CowStr}
 
 -- the text at an index
 abbrev pub text_at : List CowStr → ℕ → Option (List ℕ)

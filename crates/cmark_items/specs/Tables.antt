@@ -1,9 +1,9 @@
 -- What the tables contain.
 use Rattle.std.specs.Prelude.{◌≡◌, ℕ, List, [], ◌∷◌, ◌++◌, slice_set}
-use Rattle.cmark_text.specs.Shown.{text_bytes}
-use Rattle.cmark_text.specs.declared.text.CowStr.{CowStr}
-use Rattle.cmark_text.specs.declared.kind.Alignment.{Alignment}
-use Rattle.cmark_text.specs.declared.kind.LinkType.TheVariants.{ShortcutUnknown}
+use Rattle.cmark_text_parts.specs.Shown.{text_bytes}
+use Rattle.cmark_text_parts.specs.declared.text.CowStr.{CowStr}
+use Rattle.cmark_text_parts.specs.declared.kind.Alignment.{Alignment}
+use Rattle.cmark_text_parts.specs.declared.kind.LinkType.TheVariants.{ShortcutUnknown}
 use Rattle.cmark_items.specs.declared.allocations.Link.{Link}
 use Rattle.cmark_items.specs.declared.definitions.RefDefs.{RefDefs}
 use Rattle.cmark_items.specs.declared.footnotes.FootnoteDefs.{FootnoteDefs}

@@ -7,7 +7,7 @@ ghost use Rattle.cmark_items.specs.Tables.{with_text, with_link, with_alignments
 
 use crate::definitions::RefDefs;
 use crate::footnotes::FootnoteDefs;
-use cmark_text::{Alignment, CowStr, LinkType};
+use cmark_text_parts::{Alignment, CowStr, LinkType};
 use std::alloc::{AllocError, Global};
 use std::marker::Model;
 use std::mem;

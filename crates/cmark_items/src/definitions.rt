@@ -3,10 +3,10 @@
 ghost use Rattle.std.specs.Prelude.{◌≡◌, IfOk, OnOk, OnErr, List, ℕ, option_copied, None, Some, All};
 ghost use Rattle.std.specs.Iterator.{YieldsFirstBy, item_count};
 ghost use Rattle.cmark_grammar.specs.Labels.{fold};
-ghost use Rattle.cmark_text.specs.Labelled.{link_key};
+ghost use Rattle.cmark_text_parts.specs.Labelled.{link_key};
 ghost use Rattle.cmark_items.specs.Definitions.{definition, definitions, first_of, at_label, left, seen, shown_definition};
 
-use cmark_text::{CowStr, LinkLabel};
+use cmark_text_parts::{CowStr, LinkLabel};
 use std::alloc::{AllocError, Global};
 use std::collections::btree_map::{self, BTreeMap};
 use std::marker::Model;
@@ -34,7 +34,7 @@ pub struct RefDefs<'a> {
 /// The definitions, each with its label.
 impl<'a> Model for RefDefs<'a> {
     ghost use Rattle.std.specs.Prelude.{List};
-    ghost use Rattle.cmark_text.specs.declared.label.LinkLabel.{LinkLabel};
+    ghost use Rattle.cmark_text_parts.specs.declared.label.LinkLabel.{LinkLabel};
     ghost use Rattle.cmark_items.specs.declared.definitions.LinkDef.{LinkDef};
 
     ghost Value = { List (LinkLabel × LinkDef) };

@@ -3,11 +3,11 @@
 ghost use Rattle.std.specs.Prelude.{◌≡◌, IfOk, OnOk, OnErr, List, ℕ, None, is_some};
 ghost use Rattle.std.specs.Option.{option_copied_mut};
 ghost use Rattle.cmark_grammar.specs.Labels.{fold};
-ghost use Rattle.cmark_text.specs.Labelled.{footnote_key};
+ghost use Rattle.cmark_text_parts.specs.Labelled.{footnote_key};
 ghost use Rattle.cmark_items.specs.Definitions.{first_of, at_label};
 ghost use Rattle.cmark_items.specs.Footnotes.{footnote, with_use, Counts, Keeps};
 
-use cmark_text::FootnoteLabel;
+use cmark_text_parts::FootnoteLabel;
 use std::alloc::{AllocError, Global};
 use std::collections::BTreeMap;
 use std::marker::Model;
@@ -41,7 +41,7 @@ pub struct FootnoteDefs {
 /// The definitions, each with its label.
 impl Model for FootnoteDefs {
     ghost use Rattle.std.specs.Prelude.{List};
-    ghost use Rattle.cmark_text.specs.declared.label.FootnoteLabel.{FootnoteLabel};
+    ghost use Rattle.cmark_text_parts.specs.declared.label.FootnoteLabel.{FootnoteLabel};
     ghost use Rattle.cmark_items.specs.declared.footnotes.FootnoteDef.{FootnoteDef};
 
     ghost Value = { List (FootnoteLabel × FootnoteDef) };

@@ -3,10 +3,10 @@
 ghost use Rattle.std.specs.Prelude.{◌≡◌, ◌<◌, ◌≤◌, ℕ, ◌∷◌, length, take, drop, IfOk, OnOk, IfSome, option_map, get_or};
 ghost use Rattle.std.specs.List.{take_while};
 ghost use Rattle.cmark_grammar.specs.Attributes.{is_no_equals, words, value_behind, attribute_of, attributes_of, with_word, no_attributes};
-ghost use Rattle.cmark_text.specs.Shown.{text_bytes, shown_attribute};
+ghost use Rattle.cmark_text_parts.specs.Shown.{text_bytes, shown_attribute};
 ghost use Rattle.cmark_items.specs.Headings.{shown_heading, is_in_word, str_bytes, words_behind};
 
-use cmark_text::CowStr;
+use cmark_text_parts::CowStr;
 use std::alloc::{AllocError, Global};
 
 /// The attributes of a heading, as its line has them in braces.

@@ -4,7 +4,7 @@ ghost use Rattle.cmark_items.specs.Spans.{spans};
 
 use crate::allocations::{CowIndex, HeadingIndex, LinkIndex};
 use crate::list_flags::ListFlags;
-use cmark_text::{BlockQuoteKind, HeadingLevel, MetadataBlockKind};
+use cmark_text_parts::{BlockQuoteKind, HeadingLevel, MetadataBlockKind};
 use cmark_tree::TreeSpan;
 
 /// A node of the tree: what it is, and its bytes in the text, from `start` to before `end`.

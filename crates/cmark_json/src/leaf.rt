@@ -1,7 +1,7 @@
 //! What tags and events have in them, as JSON.
 
 ghost use Rattle.std.specs.Prelude.{◌≡◌, map, option_map, IfOk};
-ghost use Rattle.cmark_text.specs.Shown.{shown_attribute, shown_alignment, shown_block_quote_kind, shown_code_block_kind, shown_link_type, shown_metadata_block_kind, text_bytes};
+ghost use Rattle.cmark_text_parts.specs.Shown.{shown_attribute, shown_alignment, shown_block_quote_kind, shown_code_block_kind, shown_link_type, shown_metadata_block_kind, text_bytes};
 ghost use Rattle.cmark_json.specs.EventData.{alone, with_one, text_or_null, number_or_null, attribute_data, alignment_data, alignment_name, quote_kind_data, code_kind_data, metadata_kind_name, link_type_data};
 ghost use Rattle.serde_json.specs.Data.{array, string};
 ghost use Rattle.serde_json.specs.View.{items_of, view};

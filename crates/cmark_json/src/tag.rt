@@ -2,7 +2,8 @@
 
 ghost use Rattle.std.specs.Prelude.{◌≡◌, IfOk, codes, option_map};
 ghost use Rattle.cmark_text.specs.Short.{shown_plain};
-ghost use Rattle.cmark_text.specs.Shown.{level_number, shown_attributes, shown_block_quote_kind, shown_code_block_kind, shown_end, shown_linked, shown_tag};
+ghost use Rattle.cmark_text.specs.Shown.{shown_end, shown_tag};
+ghost use Rattle.cmark_text_parts.specs.Shown.{level_number, shown_attributes, shown_block_quote_kind, shown_code_block_kind, shown_linked};
 ghost use Rattle.cmark_json.specs.EventData.{code_kind_data, end_data, heading, linked, named, quote_kind_data, tag_data, with_one};
 ghost use Rattle.serde_json.specs.View.{view};
 

@@ -13,7 +13,7 @@ ghost use Rattle.cmark_lines.specs.Rests.{row_of};
 use cmark_builder::Builder;
 use cmark_items::ItemBody;
 use cmark_lines::LineRest;
-use cmark_text::CowStr;
+use cmark_text_parts::CowStr;
 use std::alloc::AllocError;
 
 /// A stretch of the text, from one byte offset to before another.

@@ -10,7 +10,7 @@ use Rattle.cmark_grammar.specs.Containers.{begins_with}
 use Rattle.cmark_grammar.specs.Openings as grammar
 use Rattle.cmark_grammar.specs.Openings.{table_if, text_lines, defined_if, or_else, fenced_if, is_some_fence, html_interrupts}
 use Rattle.cmark_grammar.specs.TableRows.{table_head}
-use Rattle.cmark_text.specs.Shown.{level_number}
+use Rattle.cmark_text_parts.specs.Shown.{level_number}
 use Rattle.cmark_scan.specs.HtmlLines.{kind_number}
 use Rattle.cmark_scan.specs.LeafLines.{shown_fence, HasPlace}
 use Rattle.cmark_scan.specs.declared.leaf.CodeFence.{CodeFence}

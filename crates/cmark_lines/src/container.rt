@@ -7,12 +7,12 @@ ghost use Rattle.cmark_grammar.specs.Letters.{first_is};
 ghost use Rattle.cmark_grammar.specs.Rows.{words_of};
 ghost use Rattle.cmark_grammar.specs.Options as profile;
 ghost use Rattle.cmark_lines.specs.Rests.{row_of, IsIn};
-ghost use Rattle.cmark_text.specs.Shown.{shown_options};
+ghost use Rattle.cmark_text_parts.specs.Shown.{shown_options};
 ghost use Rattle.cmark_lines.specs.Starts.{Shows, shown_start, begun_container, begun_footnote, begun_marked, begins_item, Enters, HasMarker};
 
 use crate::footnotes::{reads_footnotes, reads_old_footnotes};
 use crate::line_rest::LineRest;
-use cmark_text::Options;
+use cmark_text_parts::Options;
 
 /// A container block, as far as it decides which later lines it keeps.
 #[derive(Clone, Copy)]

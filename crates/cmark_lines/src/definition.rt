@@ -4,11 +4,11 @@ ghost use Rattle.std.specs.Prelude.{◌≡◌, ℕ, List, IfSome, option_map};
 ghost use Rattle.cmark_grammar.specs.DefinitionLists.{begins_definition, definition_marker};
 ghost use Rattle.cmark_lines.specs.Definitions.{definition_behind, width_of, EntersDefinition};
 ghost use Rattle.cmark_lines.specs.Rests.{row_of, IsIn};
-ghost use Rattle.cmark_text.specs.Shown.{shown_options};
+ghost use Rattle.cmark_text_parts.specs.Shown.{shown_options};
 
 use crate::line_rest::LineRest;
 use bitflags::Flags;
-use cmark_text::Options;
+use cmark_text_parts::Options;
 
 /// Whether definition lists are read.
 #[inline]

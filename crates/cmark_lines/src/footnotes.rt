@@ -2,10 +2,10 @@
 
 ghost use Rattle.std.specs.Prelude.{◌≡◌};
 ghost use Rattle.cmark_grammar.specs.Footnotes.{footnotes_in, are_read, do_interrupt};
-ghost use Rattle.cmark_text.specs.Shown.{shown_options};
+ghost use Rattle.cmark_text_parts.specs.Shown.{shown_options};
 
 use bitflags::Flags;
-use cmark_text::Options;
+use cmark_text_parts::Options;
 
 /// Whether footnotes are read.
 #[inline]

@@ -8,7 +8,7 @@ ghost use Rattle.cmark_grammar.specs.Leaves.{is_atx_heading, fence_of, underline
 ghost use Rattle.cmark_grammar.specs.Containers.{is_block_quote};
 ghost use Rattle.cmark_grammar.specs.Openings.{interrupts, footnote_interrupts, is_one, item_interrupts, is_some_fence, html_interrupts};
 ghost use Rattle.cmark_grammar.specs.HtmlBlocks.{html_kind};
-ghost use Rattle.cmark_text.specs.Shown.{level_number, shown_options};
+ghost use Rattle.cmark_text_parts.specs.Shown.{level_number, shown_options};
 ghost use Rattle.cmark_lines.specs.Rests.{row_of};
 ghost use Rattle.cmark_lines.specs.Starts.{begun_item, is_letter_or_pipe};
 ghost use Rattle.cmark_lines.specs.Opened.{leaf_interrupts};
@@ -18,7 +18,7 @@ use crate::footnotes::reads_gfm_footnotes;
 use crate::line_rest::LineRest;
 use crate::opening::{fence_in, heading_in, html_in, is_break};
 use cmark_scan::{HtmlKind, scan_setext_heading};
-use cmark_text::{HeadingLevel, Options};
+use cmark_text_parts::{HeadingLevel, Options};
 
 /// Whether the line interrupts a paragraph, which stands in the same container (`same`), or further in, so that the line
 /// lacks a prefix there (CommonMark 4.8). An HTML block of kind 7 never does; an item that is blank behind its marker, or

@@ -3,13 +3,13 @@
 ghost use Rattle.std.specs.Prelude.{◌≡◌, Option, None, false, option_map};
 ghost use Rattle.cmark_grammar.specs.Metadata.{has_metadata, metadata_if, metadata_kind, ends_metadata};
 ghost use Rattle.cmark_grammar.specs.MetadataBlockKind as grammar;
-ghost use Rattle.cmark_text.specs.Shown.{shown_options, shown_metadata_block_kind};
+ghost use Rattle.cmark_text_parts.specs.Shown.{shown_options, shown_metadata_block_kind};
 ghost use Rattle.cmark_lines.specs.Rests.{row_of};
 
 use crate::line_rest::LineRest;
 use bitflags::Flags;
 use cmark_scan::{scan_closing_metadata_fence, scan_metadata_fence};
-use cmark_text::{MetadataBlockKind, Options};
+use cmark_text_parts::{MetadataBlockKind, Options};
 
 /// The kind of the metadata block that the line begins, if the lines behind it are those of one: the option for it must be on, and
 /// the line must stand in no container and hold `---` or `+++` from its first column on, and blanks.

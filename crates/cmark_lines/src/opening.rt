@@ -8,7 +8,7 @@ ghost use Rattle.cmark_grammar.specs.Containers.{begins_with};
 ghost use Rattle.cmark_grammar.specs.Metadata.{metadata_kind};
 ghost use Rattle.cmark_grammar.specs.Openings.{opens, or_else, metadata_begun, leaf_of, begins_no_link};
 ghost use Rattle.cmark_lines.specs.Rests.{row_of, CutsNoCharacter, IsIn};
-ghost use Rattle.cmark_text.specs.Shown.{shown_options, level_number};
+ghost use Rattle.cmark_text_parts.specs.Shown.{shown_options, level_number};
 ghost use Rattle.cmark_grammar.specs.HtmlBlocks.{html_kind};
 ghost use Rattle.cmark_grammar.specs.Leaves.{is_thematic_break, fence_of};
 ghost use Rattle.cmark_scan.specs.HtmlLines.{kind_number};
@@ -20,7 +20,7 @@ use crate::footnotes::reads_footnotes;
 use crate::interrupt::begins_with_letter;
 use crate::line_rest::LineRest;
 use cmark_scan::{CodeFence, HtmlKind, html_kind, scan_atx_heading, scan_code_fence, scan_hrule};
-use cmark_text::{HeadingLevel, Options};
+use cmark_text_parts::{HeadingLevel, Options};
 
 /// What a line begins that lacks no prefix of the containers around it, metadata aside.
 #[derive(Clone, Copy)]

@@ -6,7 +6,7 @@ use Rattle.std.specs.declared.ops.Range.{Range}
 use Rattle.std.specs.Iterator.{Yields}
 use Rattle.cmark_grammar.specs.Event.{Ranged}
 use Rattle.cmark_grammar.specs.Merge.{TextAt, joined, merge, merge_behind, merged_run, ranged_of, text_of_ok, text_of_ranged, unless_empty}
-use Rattle.cmark_text.specs.declared.text.CowStr.{CowStr}
+use Rattle.cmark_text_parts.specs.declared.text.CowStr.{CowStr}
 use Rattle.cmark_merge.specs.Merging.{AreSeveral, AreTexts, GivesFirst, HandsOn, IsOwnedItem, Refuses, is_text, last_of, left, merged, shown_item, then_given}
 use Rattle.cmark_merge.specs.Reading.{Ahead, Reads}
 use Rattle.cmark_merge.specs.Steps.{GivesJoined, IsNoText, Merges, MergesRun, ReadsRun, ReadsText, RefusesRun, Takes}

@@ -5,8 +5,8 @@ use Rattle.std.specs.declared.ops.Range.{Range}
 use Rattle.std.specs.Iterator.{Yields}
 use Rattle.cmark_grammar.specs.Merge.{TextAt, joined, text_of_ranged}
 use Rattle.cmark_text.specs.declared.event.Event.TheVariants.{Text}
-use Rattle.cmark_text.specs.declared.text.CowStr.{CowStr}
-use Rattle.cmark_text.specs.Shown.{IsBoxed}
+use Rattle.cmark_text_parts.specs.declared.text.CowStr.{CowStr}
+use Rattle.cmark_text_parts.specs.Shown.{IsBoxed}
 use Rattle.cmark_merge.specs.Merging.{is_text}
 use Rattle.cmark_merge.specs.Reading.{Ahead, Reads}
 use Rattle.cmark_merge.specs.Streams.{RangedItem, shown_ranged, text_at, text_item}

@@ -8,8 +8,8 @@ use Rattle.cmark_grammar.specs.Leaves.{trimmed}
 use Rattle.cmark_grammar.specs.HtmlBlocks.{holds}
 use Rattle.cmark_grammar.specs.Alignment as grammar
 use Rattle.cmark_grammar.specs.Tables.{alignment_of, put_first, alignments, cells, without_first_pipe, without_last_pipe, delimiter_row}
-use Rattle.cmark_text.specs.declared.kind.Alignment.{Alignment}
-use Rattle.cmark_text.specs.Shown.{shown_alignment}
+use Rattle.cmark_text_parts.specs.declared.kind.Alignment.{Alignment}
+use Rattle.cmark_text_parts.specs.Shown.{shown_alignment}
 use Rattle.cmark_scan.proofs.FirstSteps.{none-before, first-within, first-is, none-at-all}
 
 pub cells-alone : (bs : List ℕ) → ((k : ℕ) → k < length bs → (get_or bs k 0 == 124) ≡ false) → cells bs ≡ bs ∷ []

@@ -4,12 +4,12 @@
 ghost use Rattle.std.specs.Prelude.{◌≡◌, ℕ, IfSome, option_map};
 ghost use Rattle.std.specs.List.{position};
 ghost use Rattle.cmark_grammar.specs.Leaves.{run, is_break_of, is_thematic_break, is_run_of, underline_of, fence_of};
-ghost use Rattle.cmark_text.specs.Shown.{level_number};
+ghost use Rattle.cmark_text_parts.specs.Shown.{level_number};
 ghost use Rattle.cmark_scan.specs.LeafLines.{is_break_character, stops_break, level_at, atx_level, shown_fence, HasPlace, long_fence, backtick_fence, closes_with};
 
 use crate::bytes::{are_blank, count_leading, is_parted, trimmed};
 use cmark_scan_parts::bytes::{count_blanks, is_blank};
-use cmark_text::HeadingLevel;
+use cmark_text_parts::HeadingLevel;
 use memchr::memchr;
 
 /// A code fence that opens a block (CommonMark 4.5).

@@ -7,12 +7,12 @@ ghost use Rattle.cmark_grammar.specs.Columns.{tab};
 ghost use Rattle.cmark_grammar.specs.Leaves.{are_blank};
 ghost use Rattle.cmark_grammar.specs.Alerts.{is_tag, alert_of};
 ghost use Rattle.cmark_grammar.specs.TaskMarkers.{is_parted_text, task_of};
-ghost use Rattle.cmark_text.specs.Shown.{shown_block_quote_kind};
+ghost use Rattle.cmark_text_parts.specs.Shown.{shown_block_quote_kind};
 ghost use Rattle.cmark_scan.specs.Markers.{shown_marker, parted};
 
 use crate::bytes::{are_blank, is_parted, starts_lower};
 use cmark_scan_parts::bytes::is_blank;
-use cmark_text::BlockQuoteKind;
+use cmark_text_parts::BlockQuoteKind;
 
 /// The marker of a list item.
 #[derive(Clone, Copy)]

@@ -2,10 +2,10 @@
 
 ghost use Rattle.std.specs.Prelude.{◌≡◌, option_map};
 ghost use Rattle.cmark_grammar.specs.Metadata.{is_line_of, metadata_of, closes_metadata};
-ghost use Rattle.cmark_text.specs.Shown.{shown_metadata_block_kind};
+ghost use Rattle.cmark_text_parts.specs.Shown.{shown_metadata_block_kind};
 
 use crate::bytes::{are_blank, starts};
-use cmark_text::MetadataBlockKind;
+use cmark_text_parts::MetadataBlockKind;
 
 /// The kind of the metadata block that the line begins, if lines behind it end one: `---` or `+++`, and blanks.
 #[inline]

@@ -2,10 +2,10 @@
 
 ghost use Rattle.std.specs.Prelude.{◌≡◌, ◌≤◌, map, length, option_map, IfOk};
 ghost use Rattle.cmark_grammar.specs.Tables.{aligned, hyphens, alignment_of, alignments, cells, without_first_pipe, without_last_pipe, delimiter_row};
-ghost use Rattle.cmark_text.specs.Shown.{shown_alignment};
+ghost use Rattle.cmark_text_parts.specs.Shown.{shown_alignment};
 
 use crate::bytes::{count_leading, trimmed};
-use cmark_text::Alignment;
+use cmark_text_parts::Alignment;
 use memchr::memchr;
 use std::alloc::{AllocError, Global};
 

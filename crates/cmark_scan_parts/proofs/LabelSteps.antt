@@ -8,8 +8,8 @@ use Rattle.std.proofs.lemmas.List.{take_more, get_or-drop}
 use Rattle.cmark_grammar.specs.Letters.{and_then}
 use Rattle.cmark_grammar.specs.LinkDefinitions.{Parsed, put, up_to_byte, escapes_next, characters, label_if}
 use Rattle.cmark_grammar.specs.LabelsOverLines.{as_in_cell, label_prefix, up_to_bracket, label_over_lines}
-use Rattle.cmark_text.specs.declared.text.CowStr.{CowStr}
-use Rattle.cmark_text.specs.declared.text.CowStr.TheVariants.{Borrowed}
+use Rattle.cmark_text_parts.specs.declared.text.CowStr.{CowStr}
+use Rattle.cmark_text_parts.specs.declared.text.CowStr.TheVariants.{Borrowed}
 use Rattle.cmark_scan_parts.specs.Shown.{Part, cut_behind, IsBorrowed}
 use Rattle.cmark_scan_parts.proofs.PartSteps.{puts, puts-more, puts-none, puts-done}
 

@@ -4,9 +4,9 @@ use Rattle.cmark_scan_parts.specs.declared.owned.HtmlTag.{HtmlTag}
 use Rattle.std.specs.Prelude.{ℕ, List, ◌+◌, ◌-◌, ◌<◌, ◌≤◌, ◌≡◌, slice_index, suc, length, Option, option_map}
 use Rattle.cmark_grammar.specs.LinkDefinitions.{Parsed}
 use Rattle.cmark_scan_parts.specs.declared.link.Cut.{Cut}
-use Rattle.cmark_text.specs.declared.text.CowStr.{CowStr}
-use Rattle.cmark_text.specs.declared.text.CowStr.TheVariants.{Boxed, Borrowed, Inlined}
-use Rattle.cmark_text.specs.Shown.{text_bytes}
+use Rattle.cmark_text_parts.specs.declared.text.CowStr.{CowStr}
+use Rattle.cmark_text_parts.specs.declared.text.CowStr.TheVariants.{Boxed, Borrowed, Inlined}
+use Rattle.cmark_text_parts.specs.Shown.{text_bytes}
 use Rattle.cmark_grammar.specs.Tokens as tokens
 use Rattle.cmark_scan_parts.specs.declared.entity.Entity.{Entity}
 use Rattle.cmark_scan_parts.specs.declared.label.LinkLabelRest.{LinkLabelRest}

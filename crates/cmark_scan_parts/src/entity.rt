@@ -9,7 +9,7 @@ ghost use Rattle.cmark_scan_parts.specs.Shown.{Closes, shown_entity};
 
 use crate::bytes::Class;
 use crate::find::{begins_with, behind_byte};
-use cmark_text::{CowStr, EntityLookup};
+use cmark_text_parts::{CowStr, EntityLookup};
 
 /// An entity or a numeric character reference.
 #[derive(Drop)]

@@ -9,12 +9,12 @@ ghost use Rattle.cmark_grammar.specs.Tokens.{resolved};
 ghost use Rattle.cmark_grammar.specs.Unescaped.{escaped_pipe, with_escaped_pipes, unescaped};
 ghost use Rattle.cmark_scan_parts.specs.Resolved.{resolved_front, HasNoEscapes, Resolves};
 ghost use Rattle.cmark_scan_parts.specs.Shown.{shown_entity};
-ghost use Rattle.cmark_text.specs.Shown.{text_bytes};
+ghost use Rattle.cmark_text_parts.specs.Shown.{text_bytes};
 
 use crate::entity::{Entity, scan_entity};
 use crate::find::begins_with;
 use cmark_search::find_escape;
-use cmark_text::{CowStr, EntityLookup};
+use cmark_text_parts::{CowStr, EntityLookup};
 use memchr::memmem;
 use std::alloc::{AllocError, Global};
 

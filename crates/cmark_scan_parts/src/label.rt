@@ -4,8 +4,8 @@ ghost use Rattle.std.specs.Prelude.{◌≡◌, ◌<◌, ◌≤◌, ◌&&◌, ◌
 ghost use Rattle.std.specs.Char.{is_ascii_whitespace};
 ghost use Rattle.std.specs.Str.{IsUtf8, IsCharBoundary};
 ghost use Rattle.cmark_grammar.specs.LabelsOverLines.{label_prefix, label_over_lines};
-ghost use Rattle.cmark_text.specs.Shown.{text_bytes};
-ghost use Rattle.cmark_text.specs.declared.text.CowStr.TheVariants.{Borrowed};
+ghost use Rattle.cmark_text_parts.specs.Shown.{text_bytes};
+ghost use Rattle.cmark_text_parts.specs.declared.text.CowStr.TheVariants.{Borrowed};
 ghost use Rattle.cmark_scan_parts.specs.Handled.{LabelsWithin, ForLabels};
 ghost use Rattle.cmark_scan_parts.specs.Shown.{shown_label, cut_behind, IsBorrowed, IsWhole};
 
@@ -14,7 +14,7 @@ use crate::closed::{Step, closed_step};
 use crate::label_text::begins_character;
 use crate::owned::ends_line;
 use crate::pipes::with_literal_pipes;
-use cmark_text::CowStr;
+use cmark_text_parts::CowStr;
 use std::alloc::{AllocError, Global};
 
 /// A label of a link behind its opening bracket.

@@ -5,10 +5,10 @@ ghost use Rattle.std.specs.Str.{IsCharBoundary};
 ghost use Rattle.memchr.specs.Find.{FindsNeedle};
 ghost use Rattle.cmark_grammar.specs.InlineTokens.{without_pipe_escapes};
 ghost use Rattle.cmark_grammar.specs.LabelsOverLines.{piped, with_literal_pipes};
-ghost use Rattle.cmark_text.specs.Shown.{IsBoxed, text_bytes};
+ghost use Rattle.cmark_text_parts.specs.Shown.{IsBoxed, text_bytes};
 ghost use Rattle.cmark_scan_parts.specs.Pipes.{Drops, LeavesOut};
 
-use cmark_text::CowStr;
+use cmark_text_parts::CowStr;
 use memchr::memmem;
 use std::alloc::{AllocError, Global};
 

@@ -33,7 +33,7 @@ use Rattle.cmark_items.specs.Links.{shown_link}
 use Rattle.cmark_items.specs.declared.allocations.Link.{Link}
 use Rattle.cmark_items.specs.declared.definitions.RefDefs.{RefDefs}
 use Rattle.cmark_leaf_text.specs.declared.stretch.LeafLine.{LeafLine}
-use Rattle.cmark_text.specs.declared.text.CowStr.{CowStr}
+use Rattle.cmark_text_parts.specs.declared.text.CowStr.{CowStr}
 use Rattle.cmark_walk.specs.declared.walk.Walk.{Walk}
 use Rattle.cmark_walk.specs.Walking as walking
 use Rattle.cmark_walk.specs.Walking.{lines_of}

@@ -15,7 +15,7 @@ ghost use Rattle.cmark_leaf_text.specs.Stretches.{AreLines};
 ghost use Rattle.cmark_walk.specs.Walking.{Remains as BlocksRemain, definitions_of as block_definitions, text_of};
 ghost use Rattle.cmark_text.specs.Excerpt.{excerpt_bytes};
 ghost use Rattle.cmark_text.specs.Ranged.{IsRangedZeroCopy};
-ghost use Rattle.cmark_text.specs.Shown.{shown_options};
+ghost use Rattle.cmark_text_parts.specs.Shown.{shown_options};
 ghost use Rattle.cmark_span_walk.specs.Walking.{ArePlaced, HasAsked, HasPlaces, IsOnlyLine};
 
 use crate::coming::Coming;

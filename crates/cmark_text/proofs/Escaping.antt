@@ -8,16 +8,13 @@ use Rattle.std.proofs.lemmas.List.Sums.{fails_before_first}
 use Rattle.std.specs.List.{position_or_len}
 use Rattle.memchr.specs.Find.{IsFirstByte}
 use Rattle.cmark_text.specs.Appended.{AppendsFront}
+use Rattle.cmark_text_parts.proofs.Kept.{AllKept, all_kept-position}
 
 -- new is old with a first part of the text escaped, and this rest of the text is left
 pub record Written (escape : ℕ → List ℕ) (old new text rest : List ℕ) : Type 0 where
   pub front : List ℕ
   pub cut : text ≡ front ++ rest
   pub written : new ≡ old ++ flat_map escape front
-
--- no byte of it is marked
-abbrev pub AllKept : (ℕ → Bool) → List ℕ → Type 0
-AllKept mark xs = (k : ℕ) → k < length xs → mark (get_or xs k 0) ≡ false
 
 pub written_none : (escape : ℕ → List ℕ) (old text : List ℕ) → Written escape old old text text
 written_none escape old text = record { front = []; cut = refl; written = sym (append-nil old) }
@@ -83,15 +80,6 @@ pub first_mark-position : (mark : ℕ → Bool) (xs : List ℕ) (at : ℕ) (r : 
 first_mark-position mark xs at r e is =
     let found = position-Some mark xs at 0 (sym e ∙ is) in
     record { below = found.0; here = found.1; before = found.2 }
-
-cond-none : (b : Bool) (n : ℕ) → cond b (Some n) None ≡ None → b ≡ false
-cond-none true n e = cc
-cond-none false n e = refl
-
-pub all_kept-position : (mark : ℕ → Bool) (xs : List ℕ) (r : Option ℕ) → r ≡ position mark xs → r ≡ None → AllKept mark xs
-all_kept-position mark xs r e is k below =
-    let past : length xs ≤ position_or_len mark xs = ltb-false (position_or_len mark xs) (length xs) (cond-none (nat_lt (position_or_len mark xs) (length xs)) (position_or_len mark xs) (sym e ∙ is)) in
-    fails_before_first mark xs k 0 (omega arith)
 
 pub first_mark-byte : (mark : ℕ → Bool) (xs : List ℕ) (at : ℕ) → IsFirstByte mark xs (Some at) → IsFirstMark mark xs at
 first_mark-byte mark xs at found = record {

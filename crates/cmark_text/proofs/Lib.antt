@@ -1,4 +1,2 @@
 pub mod Escaping
-pub mod Folds
 pub mod Marks
-pub mod Words

@@ -1,24 +1,10 @@
 -- Which texts, kinds, tags and events are copied, or made to borrow nothing, without memory.
-use Rattle.std.specs.Prelude.{◌≡◌, ◌≤◌, length, IfSome}
-use Rattle.std.specs.Box.{boxed_str_bytes}
-use Rattle.cmark_text.specs.declared.text.CowStr.{CowStr}
-use Rattle.cmark_text.specs.declared.text.CowStr.TheVariants.{Boxed, Borrowed, Inlined}
-use Rattle.cmark_text.specs.declared.kind.CodeBlockKind.{CodeBlockKind}
-use Rattle.cmark_text.specs.declared.kind.CodeBlockKind.TheVariants.{Indented, Fenced}
+use Rattle.std.specs.Prelude.{◌≡◌, length, IfSome}
 use Rattle.cmark_text.specs.declared.event.Tag.{Tag}
 use Rattle.cmark_text.specs.declared.event.Tag.TheVariants.{Heading, CodeBlock, FootnoteDefinition, Table, Link, Image}
 use Rattle.cmark_text.specs.declared.event.Event.{Event}
 use Rattle.cmark_text.specs.declared.event.Event.TheVariants.{Start, End, Text, Code, InlineMath, DisplayMath, Html, InlineHtml, FootnoteReference, SoftBreak, HardBreak, Rule, TaskListMarker}
-
--- a text that has a box of its own is copied in place only where it fits into the value
-abbrev pub CopiesInPlace : CowStr → Type 0
-CopiesInPlace (Boxed text) = length (boxed_str_bytes text) ≤ 22
-CopiesInPlace (Borrowed text) = Unit {0}
-CopiesInPlace (Inlined text) = Unit {0}
-
-abbrev pub KindCopiesInPlace : CodeBlockKind → Type 0
-KindCopiesInPlace Indented = Unit {0}
-KindCopiesInPlace (Fenced info) = CopiesInPlace info
+use Rattle.cmark_text_parts.specs.InPlace.{CopiesInPlace, KindCopiesInPlace, StaysInPlace, KindStaysInPlace}
 
 abbrev pub TagCopiesInPlace : Tag → Type 0
 TagCopiesInPlace (Heading level id classes attrs) = IfSome id CopiesInPlace × (length classes.items ≡ 0) × (length attrs.items ≡ 0)
@@ -43,16 +29,6 @@ EventCopiesInPlace SoftBreak = Unit {0}
 EventCopiesInPlace HardBreak = Unit {0}
 EventCopiesInPlace Rule = Unit {0}
 EventCopiesInPlace (TaskListMarker is_checked) = Unit {0}
-
--- a text that is borrowed is made static in place only where it fits into the value
-abbrev pub StaysInPlace : CowStr → Type 0
-StaysInPlace (Boxed text) = Unit {0}
-StaysInPlace (Borrowed text) = length text.now ≤ 22
-StaysInPlace (Inlined text) = Unit {0}
-
-abbrev pub KindStaysInPlace : CodeBlockKind → Type 0
-KindStaysInPlace Indented = Unit {0}
-KindStaysInPlace (Fenced info) = StaysInPlace info
 
 abbrev pub TagStaysInPlace : Tag → Type 0
 TagStaysInPlace (Heading level id classes attrs) = IfSome id StaysInPlace × (length classes.items ≡ 0) × (length attrs.items ≡ 0)

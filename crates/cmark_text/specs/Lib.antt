@@ -1,8 +1,6 @@
 pub mod Appended
 pub mod Excerpt
-pub mod Folding
 pub mod InPlace
-pub mod Labelled
 pub mod Marks
 pub mod Ranged
 pub mod Short

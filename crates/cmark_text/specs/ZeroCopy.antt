@@ -1,33 +1,10 @@
 -- The zero-copy law: which texts of events are borrowed. It is said of an event with its range, so that whoever has both and the
 -- text that was parsed can see it.
-use Rattle.std.specs.Prelude.{◌≡◌, ◌≢◌, ℕ, ◌≤◌, List, length}
-use Rattle.std.specs.Box.{boxed_str_bytes}
+use Rattle.std.specs.Prelude.{ℕ, List}
 use Rattle.cmark_grammar.specs.Tokens.{slice}
-use Rattle.cmark_text.specs.Shown.{inline_bytes}
 use Rattle.cmark_text.specs.declared.event.Event.{Event}
 use Rattle.cmark_text.specs.declared.event.Event.TheVariants as event
-use Rattle.cmark_text.specs.declared.text.CowStr.{CowStr}
-use Rattle.cmark_text.specs.declared.text.CowStr.TheVariants.{Boxed, Borrowed, Inlined}
-
--- a borrowed text is these bytes, and a text of its own is not: so it is borrowed exactly where it is these bytes
-abbrev pub IsLentBy : (bytes : List ℕ) → CowStr → Type 0
-IsLentBy bytes (Borrowed text) = text.now ≡ bytes
-IsLentBy bytes (Boxed text) = boxed_str_bytes text ≢ bytes
-IsLentBy bytes (Inlined text) = inline_bytes text ≢ bytes
-
--- some bytes of the source
-pub record IsPartOf (source bytes : List ℕ) : Type 0 where
-  pub start : ℕ
-  pub end : ℕ
-  pub ordered : start ≤ end
-  pub within : end ≤ length source
-  pub are : bytes ≡ slice source start end
-
--- a borrowed text is some part of the source
-abbrev pub IsPartIfBorrowed : (source : List ℕ) → CowStr → Type 0
-IsPartIfBorrowed source (Borrowed text) = IsPartOf source text.now
-IsPartIfBorrowed source (Boxed text) = Unit {0}
-IsPartIfBorrowed source (Inlined text) = Unit {0}
+use Rattle.cmark_text_parts.specs.Lending.{IsLentBy, IsPartIfBorrowed}
 
 -- Texts and HTML are borrowed exactly where they are the bytes of their range, so that none is copied without need, and what is
 -- borrowed is nothing else. Code and formulas are borrowed only where they are a part of the source: their range has the backticks and

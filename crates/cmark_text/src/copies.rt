@@ -2,12 +2,14 @@
 
 ghost use Rattle.std.specs.Prelude.{◌≡◌, length, IfOk, IsOk, IfSome, map, option_map};
 ghost use Rattle.cmark_grammar.specs.Tag as tag;
-ghost use Rattle.cmark_text.specs.InPlace.{CopiesInPlace, TagCopiesInPlace, EventCopiesInPlace, StaysInPlace, TagStaysInPlace, EventStaysInPlace};
-ghost use Rattle.cmark_text.specs.Shown.{level_number, shown, shown_tag, shown_attribute, shown_attributes, shown_linked, text_bytes};
+ghost use Rattle.cmark_text.specs.InPlace.{TagCopiesInPlace, EventCopiesInPlace, TagStaysInPlace, EventStaysInPlace};
+ghost use Rattle.cmark_text_parts.specs.InPlace.{CopiesInPlace, StaysInPlace};
+ghost use Rattle.cmark_text.specs.Shown.{shown, shown_tag};
+ghost use Rattle.cmark_text_parts.specs.Shown.{level_number, shown_attribute, shown_attributes, shown_linked, text_bytes};
 
 use crate::event::{Event, Tag};
-use crate::kind::{HeadingLevel, LinkType};
-use crate::text::CowStr;
+use cmark_text_parts::{HeadingLevel, LinkType};
+use cmark_text_parts::CowStr;
 use std::alloc::{AllocError, Global};
 
 impl<'a> Tag<'a> {

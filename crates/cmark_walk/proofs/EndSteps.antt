@@ -7,7 +7,7 @@ use Rattle.cmark_tree.specs.Forest.{Forest, Nil, Node}
 use Rattle.cmark_tree.specs.Arena.{Placed}
 use Rattle.cmark_tree.specs.Tree.{focus_of}
 use Rattle.cmark_tree.specs.Zip.{Zip}
-use Rattle.cmark_text.specs.declared.text.CowStr.{CowStr}
+use Rattle.cmark_text_parts.specs.declared.text.CowStr.{CowStr}
 use Rattle.cmark_grammar.specs.Attributes.{attributes_of}
 use Rattle.cmark_grammar.specs.Event as event
 use Rattle.cmark_grammar.specs.TagEnd.{TagEnd}
@@ -23,7 +23,7 @@ use Rattle.cmark_items.specs.declared.item.Item.{Item}
 use Rattle.cmark_items.specs.declared.item.ItemBody.{ItemBody}
 use Rattle.cmark_items.specs.declared.item.ItemBody.TheVariants as body
 use Rattle.cmark_items.specs.ItemNodes.{columns_of, kind_over, shape, text_at}
-use Rattle.cmark_text.specs.Shown.{level_number}
+use Rattle.cmark_text_parts.specs.Shown.{level_number}
 use Rattle.cmark_walk.specs.declared.walk.Walk.{Walk}
 use Rattle.cmark_walk.specs.declared.reading.Stage.TheVariants as stage
 use Rattle.cmark_walk.specs.declared.reading.Step.{Step}

@@ -2,8 +2,8 @@
 use Rattle.std.proofs.Common.{◌≡◌, ◌⊎◌, inl, inr, ℕ, Bool, true, false, true≢false, List, Some, None, option_map, refl, sym, ap, Option}
 use Rattle.std.proofs.lemmas.Option.{same_Some}
 use Rattle.std.specs.Char.{encode_utf8}
-use Rattle.cmark_text.specs.declared.text.CowStr.{CowStr}
-use Rattle.cmark_text.specs.Shown.{level_number, shown_block_quote_kind, shown_metadata_block_kind}
+use Rattle.cmark_text_parts.specs.declared.text.CowStr.{CowStr}
+use Rattle.cmark_text_parts.specs.Shown.{level_number, shown_block_quote_kind, shown_metadata_block_kind}
 use Rattle.cmark_grammar.specs.Attributes.{no_attributes, attributes_of}
 use Rattle.cmark_grammar.specs.Tokens.{slice}
 use Rattle.cmark_grammar.specs.BlockDocument as document

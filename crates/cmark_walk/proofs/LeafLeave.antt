@@ -8,7 +8,7 @@ use Rattle.cmark_tree.specs.Tree.{Holds, IsAtSibling}
 use Rattle.cmark_text.specs.declared.event.Event.TheVariants as text_event
 use Rattle.cmark_text.specs.declared.event.TagEnd.{TagEnd as TextEnd}
 use Rattle.cmark_text.specs.Shown.{shown_end}
-use Rattle.cmark_text.specs.declared.text.CowStr.{CowStr}
+use Rattle.cmark_text_parts.specs.declared.text.CowStr.{CowStr}
 use Rattle.cmark_grammar.specs.Event as event
 use Rattle.cmark_grammar.specs.BlockDocument.{BlockNode}
 use Rattle.cmark_grammar.specs.BlockReading.{read_as}

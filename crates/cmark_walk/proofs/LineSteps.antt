@@ -8,7 +8,7 @@ use Rattle.cmark_tree.specs.Zip.{Zip}
 use Rattle.cmark_tree.specs.Tree.{entry_at, HasNode, focus_of, index_at}
 use Rattle.cmark_tree.proofs.Steps.{focus_read}
 use Rattle.cmark_tree.proofs.Entries.{node_at-within}
-use Rattle.cmark_text.specs.declared.text.CowStr.{CowStr}
+use Rattle.cmark_text_parts.specs.declared.text.CowStr.{CowStr}
 use Rattle.cmark_grammar.specs.BlockDocument as document
 use Rattle.cmark_grammar.specs.BlockDocument.{BlockDocument, node}
 use Rattle.cmark_grammar.specs.Ranges.{InOrder}

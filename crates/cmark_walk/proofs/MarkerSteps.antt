@@ -11,7 +11,7 @@ use Rattle.cmark_tree.proofs.Steps.{in_right}
 use Rattle.cmark_text.specs.declared.event.Event.TheVariants as text_event
 use Rattle.cmark_text.specs.declared.event.Tag.{Tag as TextTag}
 use Rattle.cmark_text.specs.declared.event.Tag.TheVariants as text_tag
-use Rattle.cmark_text.specs.declared.text.CowStr.{CowStr}
+use Rattle.cmark_text_parts.specs.declared.text.CowStr.{CowStr}
 use Rattle.cmark_text.specs.Shown.{shown_tag}
 use Rattle.cmark_grammar.specs.Event as event
 use Rattle.cmark_grammar.specs.Tag as tag

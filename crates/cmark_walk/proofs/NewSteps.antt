@@ -9,7 +9,7 @@ use Rattle.cmark_tree.specs.Arena.{Placed, items_of}
 use Rattle.cmark_tree.specs.Zip.{Level, Zip, plug, siblings, whole, at_first}
 use Rattle.cmark_tree.specs.Building.{Is, opened}
 use Rattle.cmark_tree.specs.Tree.{Holds}
-use Rattle.cmark_text.specs.declared.text.CowStr.{CowStr}
+use Rattle.cmark_text_parts.specs.declared.text.CowStr.{CowStr}
 use Rattle.cmark_grammar.specs.BlockDocument as document
 use Rattle.cmark_grammar.specs.BlockDocument.{BlockNode, BlockDocument, node}
 use Rattle.cmark_grammar.specs.DrawnDocument.{settled}

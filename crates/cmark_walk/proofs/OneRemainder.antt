@@ -11,7 +11,7 @@ use Rattle.cmark_tree.specs.Zip.{Level, plug, siblings}
 use Rattle.cmark_tree.specs.Tree.{spine_of}
 use Rattle.cmark_tree.proofs.StandsLemmas.{Stands-inner, Stands-right}
 use Rattle.cmark_tree.proofs.Steps.{place_above}
-use Rattle.cmark_text.specs.declared.text.CowStr.{CowStr}
+use Rattle.cmark_text_parts.specs.declared.text.CowStr.{CowStr}
 use Rattle.cmark_grammar.specs.BlockDocument as document
 use Rattle.cmark_grammar.specs.BlockDocument.{BlockNode, BlockDocument}
 use Rattle.cmark_grammar.specs.SpanDocuments.{Segment}

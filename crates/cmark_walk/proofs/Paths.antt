@@ -10,8 +10,8 @@ use Rattle.cmark_tree.proofs.Entries.{node_at-within}
 use Rattle.std.proofs.lemmas.List.{same_from_push}
 use Rattle.std.proofs.lemmas.Option.{same_Some}
 use Rattle.std.specs.Char.{encode_utf8}
-use Rattle.cmark_text.specs.declared.text.CowStr.{CowStr}
-use Rattle.cmark_text.specs.Shown.{level_number, shown_block_quote_kind, shown_metadata_block_kind}
+use Rattle.cmark_text_parts.specs.declared.text.CowStr.{CowStr}
+use Rattle.cmark_text_parts.specs.Shown.{level_number, shown_block_quote_kind, shown_metadata_block_kind}
 use Rattle.cmark_grammar.specs.Attributes.{no_attributes, attributes_of}
 use Rattle.cmark_grammar.specs.Tokens.{slice}
 use Rattle.cmark_grammar.specs.BlockDocument as document

@@ -10,7 +10,7 @@ use Rattle.cmark_tree.specs.Tree.{entry_at, Holds, HasNode, IsUnchanged, focus_o
 use Rattle.cmark_tree.proofs.Building.{Holds-unchanged}
 use Rattle.cmark_tree.proofs.Steps.{in_right}
 use Rattle.cmark_tree.proofs.Entries.{node_at-within}
-use Rattle.cmark_text.specs.declared.text.CowStr.{CowStr}
+use Rattle.cmark_text_parts.specs.declared.text.CowStr.{CowStr}
 use Rattle.cmark_text.specs.declared.event.Event.{Event as TextEvent}
 use Rattle.cmark_text.specs.declared.event.Event.TheVariants as text_event
 use Rattle.cmark_text.specs.declared.event.Tag.{Tag as TextTag}

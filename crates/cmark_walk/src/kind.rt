@@ -4,7 +4,7 @@ ghost use Rattle.std.specs.Prelude.{◌≡◌, ℕ, List};
 ghost use Rattle.cmark_walk.specs.Walking.{task_body, Drawn, is_list, own_text_end};
 ghost use Rattle.cmark_grammar.specs.BlockDocument.{BlockNode};
 ghost use Rattle.cmark_grammar.specs.SpanDocuments.{is_leaf, is_cell};
-ghost use Rattle.cmark_text.specs.declared.text.CowStr.{CowStr};
+ghost use Rattle.cmark_text_parts.specs.declared.text.CowStr.{CowStr};
 ghost use Rattle.cmark_grammar.specs.BlockReading.{is_title};
 
 use cmark_items::{Item, ItemBody};

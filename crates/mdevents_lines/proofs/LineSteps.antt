@@ -7,7 +7,7 @@ use Rattle.cmark_grammar.specs.Answers.{Lookup}
 use Rattle.cmark_grammar.specs.Event.{Ranged}
 use Rattle.cmark_grammar.specs.Options.{Options}
 use Rattle.cmark_text.specs.declared.event.Event.{Event}
-use Rattle.cmark_text.specs.declared.text.CowStr.{CowStr}
+use Rattle.cmark_text_parts.specs.declared.text.CowStr.{CowStr}
 use Rattle.cmark_inline.specs.declared.callback.BrokenLink.{BrokenLink}
 use Rattle.cmark_json.specs.Lines.{line, lines}
 use Rattle.mdevents_lines.specs.Renders.{AreLinesOf}

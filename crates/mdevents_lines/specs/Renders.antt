@@ -10,7 +10,7 @@ use Rattle.cmark_inline.specs.declared.callback.BrokenLink.{BrokenLink}
 use Rattle.cmark_inline.specs.declared.callback.DefaultBrokenLinkCallback.{DefaultBrokenLinkCallback}
 use Rattle.cmark_json.specs.Lines.{lines}
 use Rattle.cmark_text.specs.declared.event.Event.{Event}
-use Rattle.cmark_text.specs.declared.text.CowStr.{CowStr}
+use Rattle.cmark_text_parts.specs.declared.text.CowStr.{CowStr}
 use Rattle.pulldown_cmark.specs.declared.parse.OffsetIter.{OffsetIter}
 use Rattle.pulldown_cmark.specs.Parsing.{GivesRanged, shown_item}
 use Rattle.pulldown_cmark.specs.Walking.{profile}

@@ -2,7 +2,7 @@
 #![tactic(auto)]
 
 ghost use Rattle.std.specs.Prelude.{IfOk, string_bytes};
-ghost use Rattle.cmark_text.specs.Shown.{shown_options};
+ghost use Rattle.cmark_text_parts.specs.Shown.{shown_options};
 ghost use Rattle.pulldown_cmark.specs.Parsing.{CanGoRanged};
 ghost use Rattle.mdevents_lines.specs.Renders.{AreLinesOf, AreLinesOfRest};
 

@@ -1,7 +1,7 @@
 //! From a reader's Markdown to a writer's HTML.
 #![tactic(auto)]
 
-ghost use Rattle.cmark_text.specs.Shown.{shown_options};
+ghost use Rattle.cmark_text_parts.specs.Shown.{shown_options};
 ghost use Rattle.mdhtml_parts.specs.Ends.{watched_end, watched_notes};
 ghost use Rattle.mdhtml_parts.specs.Runs.{Runs};
 ghost use Rattle.pulldown_cmark.specs.Rendering.{IsHtmlOf};

@@ -8,7 +8,7 @@ use Rattle.clap.specs.Words.{App, IsAmong, Kinds, Row, Rule, Text, first_of, new
 use Rattle.clap.specs.declared.builder.action.ArgAction.TheVariants.{Set, SetTrue}
 use Rattle.clap.specs.declared.error.kind.ErrorKind.{ErrorKind}
 use Rattle.clap.specs.declared.error.kind.ErrorKind.TheVariants.{DisplayHelp, DisplayVersion, OutOfMemory}
-use Rattle.cmark_text.specs.declared.options.Options.{Options}
+use Rattle.cmark_text_parts.specs.declared.options.Options.{Options}
 use Rattle.mdhtml_settings.specs.declared.flags.LineFlag.{LineFlag}
 use Rattle.mdhtml_settings.specs.declared.line.LineFault.{LineFault}
 use Rattle.mdhtml_settings.specs.declared.line.LineFault.TheVariants.{Help, Bad, Memory}

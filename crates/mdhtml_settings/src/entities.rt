@@ -8,7 +8,7 @@ ghost use Rattle.mdhtml_parts.specs.declared.fault.RunFault.TheVariants.{Entitie
 ghost use Rattle.mdhtml_settings.specs.Entities.{Spells, entity_of, holds_texts};
 ghost use Rattle.mdhtml_settings.specs.LookUp.{looked_up};
 
-use cmark_text::{BasicEntities, EntityLookup};
+use cmark_text_parts::{BasicEntities, EntityLookup};
 use mdhtml_parts::RunFault;
 use serde_json::Value;
 use std::alloc::Global;

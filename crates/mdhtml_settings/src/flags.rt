@@ -6,7 +6,7 @@ ghost use Rattle.mdhtml_settings.specs.Line.{bits_given, is_given, option_bits, 
 
 use bitflags::Flags;
 use clap::{Arg, ArgAction, ArgMatches, Command};
-use cmark_text::Options;
+use cmark_text_parts::Options;
 use std::alloc::{AllocError, Global};
 
 /// A flag: `--name` sets the bits of `option`.

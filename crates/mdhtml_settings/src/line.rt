@@ -9,7 +9,7 @@ use crate::flags::{FLAGS, options_given, text_given, with_flags};
 use bitflags::Flags;
 use clap::error::ErrorKind;
 use clap::{Arg, ArgAction, ArgMatches, Command, Error};
-use cmark_text::Options;
+use cmark_text_parts::Options;
 use std::alloc::{AllocError, Global};
 use std::convert::AsStr;
 

@@ -13,7 +13,7 @@ ghost use Rattle.mdhtml_settings.specs.Starts.{IsEarly, IsStop};
 
 use crate::entities::{NamedEntities, read_entities};
 use crate::line::{LineFault, parse_line};
-use cmark_text::Options;
+use cmark_text_parts::Options;
 use mdhtml_parts::run::INPUT_LIMIT;
 use mdhtml_parts::{RunFault, Watched, read_all};
 use std::alloc::{AllocError, Global};

@@ -43,10 +43,10 @@ use Rattle.cmark_span_walk.specs.Callback.{AnswersIfAny}
 use Rattle.cmark_span_walk.specs.Walking as walking
 use Rattle.cmark_span_walk.specs.Walking.{ArePlaced}
 use Rattle.cmark_span_walk.specs.declared.callback.OptionalCallback.{OptionalCallback}
-use Rattle.cmark_text.specs.Shown.{text_bytes}
+use Rattle.cmark_text_parts.specs.Shown.{text_bytes}
 use Rattle.cmark_text.specs.declared.short.Next.TheVariants as next
 use Rattle.cmark_text.specs.declared.short.Short.{Short}
-use Rattle.cmark_text.specs.declared.text.CowStr.{CowStr}
+use Rattle.cmark_text_parts.specs.declared.text.CowStr.{CowStr}
 use Rattle.cmark_text.specs.declared.ranged.Ranged.{Ranged as Item}
 use Rattle.cmark_text.specs.Ranged.{IsRangedZeroCopy, shown_ranged}
 use Rattle.pulldown_cmark.specs.declared.parse.Parser.{Parser}

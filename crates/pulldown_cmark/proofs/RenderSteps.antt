@@ -24,9 +24,10 @@ use Rattle.cmark_text.specs.declared.short.PlainTag.{PlainTag}
 use Rattle.cmark_text.specs.declared.short.PlainTag.TheVariants as plain
 use Rattle.cmark_text.specs.declared.short.Short.{Short}
 use Rattle.cmark_text.specs.declared.short.Short.TheVariants as short
-use Rattle.cmark_text.specs.declared.text.CowStr.{CowStr}
+use Rattle.cmark_text_parts.specs.declared.text.CowStr.{CowStr}
 use Rattle.cmark_text.specs.Short.{shown_plain, shown_short}
-use Rattle.cmark_text.specs.Shown.{shown, shown_link_type, text_bytes}
+use Rattle.cmark_text.specs.Shown.{shown}
+use Rattle.cmark_text_parts.specs.Shown.{shown_link_type, text_bytes}
 use Rattle.cmark_text.specs.declared.ranged.Ranged.{Ranged as Item}
 use Rattle.pulldown_cmark.specs.declared.parse.Parser.{Parser}
 use Rattle.pulldown_cmark.specs.Parsing.{Asks, CanGo, GivesAs, GivesStart, GivesStep, Passes, Reads, Remains, callback_of}

@@ -14,7 +14,7 @@ use Rattle.cmark_inline.specs.declared.callback.BrokenLink.{BrokenLink}
 use Rattle.cmark_inline_model.proofs.SilentReadings.{reading-silent}
 use Rattle.cmark_span_walk.specs.Callback.{AnswersIfAny}
 use Rattle.cmark_text.specs.declared.event.Event.{Event}
-use Rattle.cmark_text.specs.declared.text.CowStr.{CowStr}
+use Rattle.cmark_text_parts.specs.declared.text.CowStr.{CowStr}
 use Rattle.cmark_text.specs.Shown.{shown}
 use Rattle.cmark_text.specs.ZeroCopy.{IsZeroCopy}
 use Rattle.pulldown_cmark.specs.declared.parse.Parser.{Parser}

@@ -8,7 +8,7 @@ use Rattle.cmark_grammar.specs.Questions.{Exchange}
 use Rattle.cmark_grammar.specs.SpanDocuments.{IsReading}
 use Rattle.cmark_inline.specs.declared.callback.BrokenLink.{BrokenLink}
 use Rattle.cmark_text.specs.Shown.{shown}
-use Rattle.cmark_text.specs.declared.text.CowStr.{CowStr}
+use Rattle.cmark_text_parts.specs.declared.text.CowStr.{CowStr}
 use Rattle.cmark_text.specs.declared.ranged.Ranged.{Ranged as Given}
 use Rattle.pulldown_cmark.specs.declared.parse.Parser.{Parser}
 use Rattle.pulldown_cmark.specs.Parsing.{Asks, CanGo, GivesStep, Passes, Remains, events_left}

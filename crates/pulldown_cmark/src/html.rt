@@ -3,7 +3,7 @@
 ghost use Rattle.std.specs.Prelude.{◌≡◌, [], IfOk, OnOk, string_bytes};
 ghost use Rattle.cmark_grammar.specs.Html.{at_line_start};
 ghost use Rattle.cmark_html.specs.Writer.{writing};
-ghost use Rattle.cmark_text.specs.Shown.{shown_options};
+ghost use Rattle.cmark_text_parts.specs.Shown.{shown_options};
 ghost use Rattle.pulldown_cmark.specs.Parsing.{CanGo};
 ghost use Rattle.pulldown_cmark.specs.Rendering.{IsHtmlOf, IsHtmlOfRest, WritesLink, WritesLong, WritesNext, written};
 

@@ -5,7 +5,7 @@ ghost use Rattle.cmark_grammar.specs.Containers.{keeps, Item, Footnote};
 ghost use Rattle.cmark_grammar.specs.Alerts.{alert_in};
 ghost use Rattle.cmark_grammar.specs.Options.{Options};
 ghost use Rattle.cmark_grammar.specs.TaskItems.{task_in};
-ghost use Rattle.cmark_text.specs.Shown.{shown_block_quote_kind};
+ghost use Rattle.cmark_text_parts.specs.Shown.{shown_block_quote_kind};
 ghost use Rattle.cmark_lines.specs.Boxes.{is_checked, IsBehindBox};
 ghost use Rattle.cmark_lines.specs.Definitions.{width_of, definition_behind, EntersDefinition};
 ghost use Rattle.cmark_lines.specs.Rests.{row_of};
@@ -13,7 +13,7 @@ ghost use Rattle.cmark_lines.specs.Starts.{block_quote_entered, shown_begun, beg
 
 use crate::container::ItemStart;
 use crate::line_rest::LineRest;
-use cmark_text::BlockQuoteKind;
+use cmark_text_parts::BlockQuoteKind;
 
 impl<'a> LineRest<'a> {
     /// The line behind a block quote's prefix, if it has one.

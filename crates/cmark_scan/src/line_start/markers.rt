@@ -6,14 +6,14 @@ ghost use Rattle.std.specs.Bool.{OnFalse};
 ghost use Rattle.cmark_grammar.specs.Rows.{without, words_of};
 ghost use Rattle.cmark_scan_parts.specs.Footnotes.{marked, IsClosed};
 ghost use Rattle.cmark_grammar.specs.Containers.{padding};
-ghost use Rattle.cmark_text.specs.Shown.{shown_block_quote_kind};
+ghost use Rattle.cmark_text_parts.specs.Shown.{shown_block_quote_kind};
 ghost use Rattle.cmark_scan.specs.LineStart.{columns_from, row_from};
 ghost use Rattle.cmark_scan.specs.LineMarkers.{begins_block_quote, behind_block_quote, alert_in, behind_alert, item_in, item_numbers, entered, definition_in, behind_definition, sum_up_to_most, task_in, behind_task, footnote_at, behind_footnote};
 
 use crate::line_start::LineStart;
 use crate::marker::{scan_alert, scan_listitem, scan_task};
 use cmark_scan_parts::scan_footnote_marker;
-use cmark_text::BlockQuoteKind;
+use cmark_text_parts::BlockQuoteKind;
 
 impl<'a> LineStart<'a> {
     /// Takes the marker of a block quote (CommonMark 5.1): `>` and one column of space, if there is one. Where the line

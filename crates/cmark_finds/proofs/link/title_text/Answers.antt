@@ -1,7 +1,7 @@
 use Rattle.std.proofs.Common.{◌≡◌, ℕ, List, sym, subst, ◌∙◌}
 use Rattle.std.specs.Prelude.{IfOk}
 use Rattle.cmark_grammar.specs.Unescaped.{unescaped}
-use Rattle.cmark_text.specs.Shown.{text_bytes}
+use Rattle.cmark_text_parts.specs.Shown.{text_bytes}
 use Rattle.cmark_finds.proofs.EndSteps.{one_line}
 use Rattle.cmark_finds.proofs.link.title_text.Goals as goal
 

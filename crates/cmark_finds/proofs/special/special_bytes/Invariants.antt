@@ -1,6 +1,6 @@
 use Rattle.std.proofs.Common.{◌≡◌, ◌<◌, ℕ, length}
 use Rattle.cmark_grammar.specs.SpecialBytes.{is_special}
-use Rattle.cmark_text.specs.Shown.{shown_options}
+use Rattle.cmark_text_parts.specs.Shown.{shown_options}
 use Rattle.cmark_finds.specs.Special.{has_byte}
 use Rattle.cmark_finds.proofs.special.special_bytes.Given as goal
 

@@ -2,7 +2,7 @@ use Rattle.std.proofs.Common.{map, option_map, ap, ◌∙◌, subst, ◌++◌, s
 use Rattle.std.proofs.lemmas.Result.{on_err_weaker}
 use Rattle.cmark_grammar.specs.Html.{id_attribute, class_attribute, other_attributes}
 use Rattle.cmark_text.specs.Appended.{AppendsFront}
-use Rattle.cmark_text.specs.Shown.{shown_attribute, text_bytes}
+use Rattle.cmark_text_parts.specs.Shown.{shown_attribute, text_bytes}
 use Rattle.cmark_html.proofs.FrontSteps.{on_err, front_within, front_second, front_third}
 use Rattle.cmark_html.proofs.heading.append_attributes.Goals as goal
 

@@ -1,7 +1,7 @@
 use Rattle.std.proofs.Common.{map, codes}
 use Rattle.std.proofs.lemmas.Result.{on_err_weaker}
 use Rattle.cmark_grammar.specs.Html.{further_classes}
-use Rattle.cmark_text.specs.Shown.{text_bytes}
+use Rattle.cmark_text_parts.specs.Shown.{text_bytes}
 use Rattle.cmark_html.specs.Parts.{class_start}
 use Rattle.cmark_html.proofs.FrontSteps.{on_err, front_within, front_second, front_third}
 use Rattle.cmark_html.proofs.heading.append_class_list.Goals as goal

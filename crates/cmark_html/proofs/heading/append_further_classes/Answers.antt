@@ -1,7 +1,7 @@
 use Rattle.std.proofs.Common.{◌∷◌, ◌++◌, sym, ap, ◌∙◌, subst, append-nil, string_bytes}
 use Rattle.cmark_grammar.specs.Escapes.{escaped_html}
 use Rattle.cmark_text.specs.Appended.{AppendsFront}
-use Rattle.cmark_text.specs.Shown.{text_bytes}
+use Rattle.cmark_text_parts.specs.Shown.{text_bytes}
 use Rattle.cmark_html.proofs.FrontSteps.{on_err, appended_more, front_of_all, appended_all, class_bytes, further_classes-flat}
 use Rattle.cmark_html.proofs.heading.append_further_classes.Goals as goal
 

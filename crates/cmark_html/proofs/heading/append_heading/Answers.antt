@@ -2,7 +2,7 @@ use Rattle.std.proofs.Common.{◌++◌, ap, ◌∙◌, subst, string_bytes, code
 use Rattle.std.proofs.lemmas.Result.{on_err_weaker}
 use Rattle.cmark_grammar.specs.Html.{fresh_line, heading_attributes}
 use Rattle.cmark_text.specs.Appended.{AppendsFront}
-use Rattle.cmark_text.specs.Shown.{shown_attributes, level_number}
+use Rattle.cmark_text_parts.specs.Shown.{shown_attributes, level_number}
 use Rattle.cmark_html.specs.Parts.{heading_start}
 use Rattle.cmark_html.proofs.FrontSteps.{on_err, front_within, front_second, front_third, heading_parts}
 use Rattle.cmark_html.proofs.heading.append_heading.Goals as goal

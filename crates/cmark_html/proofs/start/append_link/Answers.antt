@@ -3,7 +3,7 @@ use Rattle.std.proofs.lemmas.Result.{on_err_weaker}
 use Rattle.cmark_grammar.specs.Escapes.{escaped_href}
 use Rattle.cmark_grammar.specs.Html.{scheme, title_attribute}
 use Rattle.cmark_text.specs.Appended.{AppendsFront}
-use Rattle.cmark_text.specs.Shown.{shown_link_type}
+use Rattle.cmark_text_parts.specs.Shown.{shown_link_type}
 use Rattle.cmark_html.proofs.FrontSteps.{on_err, front_within, front_second, front_third, link_piece}
 use Rattle.cmark_html.proofs.start.append_link.Goals as goal
 

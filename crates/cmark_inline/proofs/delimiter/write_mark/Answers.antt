@@ -1,7 +1,7 @@
 use Rattle.std.proofs.Common.{◌∷◌, get_or, set, refl, sym, ap, subst, ◌∙◌}
 use Rattle.std.specs.Prelude.{map, reverse}
 use Rattle.cmark_inline_model.specs.SlotRows.{marked}
-use Rattle.cmark_text.specs.Shown.{shown_options}
+use Rattle.cmark_text_parts.specs.Shown.{shown_options}
 use Rattle.cmark_inline.specs.MarkedSlots.{AreReady, BeganFrom, EndWithin, begun_as, ended, shown_mark}
 use Rattle.cmark_inline.specs.SlotViews.{shown_slots}
 use Rattle.cmark_inline.specs.Wikilinks.{hidden}

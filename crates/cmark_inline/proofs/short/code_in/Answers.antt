@@ -1,8 +1,8 @@
 use Rattle.std.proofs.Common.{ℕ, Result, Ok, rules}
 use Rattle.std.proofs.lemmas.Option.{IfSome_then}
 use Rattle.cmark_leaf_text.specs.Reads.{IsPart, text_of}
-use Rattle.cmark_text.specs.declared.text.CowStr.{CowStr}
-use Rattle.cmark_text.specs.declared.text.CowStr.TheVariants.{Borrowed}
+use Rattle.cmark_text_parts.specs.declared.text.CowStr.{CowStr}
+use Rattle.cmark_text_parts.specs.declared.text.CowStr.TheVariants.{Borrowed}
 use Rattle.cmark_inline.proofs.Lending.{code-part}
 use Rattle.cmark_inline.proofs.short.code_in.Goals as goal
 

@@ -1,4 +1,4 @@
-use Rattle.cmark_text.specs.Shown.{shown_options}
+use Rattle.cmark_text_parts.specs.Shown.{shown_options}
 use Rattle.cmark_lines.specs.Rests.{row_of}
 use Rattle.cmark_lines.proofs.FootnoteStarts.{begun-other}
 use Rattle.cmark_lines.proofs.container.footnote_or_marker_start.Goals as goal

@@ -1,6 +1,6 @@
 use Rattle.std.proofs.Common.{◌∙◌, sym}
 use Rattle.cmark_lines.specs.Rests.{row_of}
-use Rattle.cmark_text.specs.Shown.{shown_options}
+use Rattle.cmark_text_parts.specs.Shown.{shown_options}
 use Rattle.cmark_lines.proofs.DefinitionRows.{begun-in, marker-read}
 use Rattle.cmark_lines.proofs.RestSteps.{whole}
 use Rattle.cmark_lines.proofs.definition.definition_start.Goals as goal

@@ -1,5 +1,5 @@
 use Rattle.std.proofs.Common.{◌≡◌, ◌≤◌, [], sym, ap, ◌∙◌, arith}
-use Rattle.cmark_text.specs.Shown.{shown_options}
+use Rattle.cmark_text_parts.specs.Shown.{shown_options}
 use Rattle.cmark_grammar.specs.Rows.{indent_of}
 use Rattle.cmark_grammar.specs.Openings.{Nests, or_else, nests_if, metadata_begun, leaf_of, opens}
 use Rattle.cmark_grammar.specs.Metadata.{metadata_kind}

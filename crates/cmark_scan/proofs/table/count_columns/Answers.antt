@@ -2,7 +2,7 @@ use Rattle.std.proofs.Common.{suc, length, option_map, refl, sym, ap, ◌∙◌,
 use Rattle.std.proofs.lemmas.List.{length-drop}
 use Rattle.cmark_grammar.specs.Leaves.{trimmed}
 use Rattle.cmark_grammar.specs.Tables.{alignment_of, alignments, cells}
-use Rattle.cmark_text.specs.Shown.{shown_alignment}
+use Rattle.cmark_text_parts.specs.Shown.{shown_alignment}
 use Rattle.cmark_scan_parts.proofs.Lists.{rest_of}
 use Rattle.cmark_scan.proofs.FirstSteps.{first-within}
 use Rattle.cmark_scan.proofs.TableSteps.{behind-pipe}

@@ -1,7 +1,7 @@
 use Rattle.std.proofs.Common.{◌≡◌, ◌++◌, length, map}
 use Rattle.std.specs.Prelude.{option_map}
 use Rattle.cmark_grammar.specs.Tables.{alignments, cells}
-use Rattle.cmark_text.specs.Shown.{shown_alignment}
+use Rattle.cmark_text_parts.specs.Shown.{shown_alignment}
 use Rattle.cmark_scan.proofs.table.scan_cells.Given as goal
 
 abbrev pub invariant-loop-at : goal.invariant-loop-at

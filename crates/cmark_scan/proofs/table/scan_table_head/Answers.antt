@@ -2,8 +2,8 @@ use Rattle.std.proofs.Common.{◌≡◌, List, map, IfOk, sym, ap, ◌∙◌, su
 use Rattle.std.specs.Prelude.{option_map}
 use Rattle.cmark_grammar.specs.Alignment as grammar
 use Rattle.cmark_grammar.specs.Tables.{alignments, cells, without_first_pipe, without_last_pipe}
-use Rattle.cmark_text.specs.declared.kind.Alignment.{Alignment}
-use Rattle.cmark_text.specs.Shown.{shown_alignment}
+use Rattle.cmark_text_parts.specs.declared.kind.Alignment.{Alignment}
+use Rattle.cmark_text_parts.specs.Shown.{shown_alignment}
 use Rattle.cmark_scan.proofs.FirstSteps.{pipe-found}
 use Rattle.cmark_scan.proofs.TableSteps.{row-of, no_row}
 use Rattle.cmark_scan.proofs.table.scan_table_head.Goals as goal

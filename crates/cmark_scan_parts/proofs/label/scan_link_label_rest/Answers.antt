@@ -1,6 +1,6 @@
 use Rattle.std.proofs.Common.{◌≡◌, length, sym, ap, subst, arith}
 use Rattle.cmark_grammar.specs.LabelsOverLines.{with_literal_pipes}
-use Rattle.cmark_text.specs.Shown.{text_bytes}
+use Rattle.cmark_text_parts.specs.Shown.{text_bytes}
 use Rattle.cmark_scan_parts.specs.Shown.{IsBorrowed}
 use Rattle.cmark_scan_parts.proofs.PipeSteps.{none_left_out}
 use Rattle.cmark_scan_parts.proofs.LabelSteps.{ok_same}

@@ -2,7 +2,8 @@ use Rattle.std.proofs.Common.{◌≡◌, ◌++◌, string_bytes, get_or, take, s
 use Rattle.std.proofs.lemmas.Str.{IsCharBoundary-after_ascii, IsCharBoundary-before_ascii}
 use Rattle.cmark_grammar.specs.Escapes.{html_byte}
 use Rattle.cmark_text.specs.Marks.{is_html_mark}
-use Rattle.cmark_text.proofs.Escaping.{IsFirstMark, first_mark-position, all_kept-position, Written, written_front, written_to_mark, written_past_mark, written_to_end, on_err, at_ok, at_err}
+use Rattle.cmark_text.proofs.Escaping.{IsFirstMark, first_mark-position, Written, written_front, written_to_mark, written_past_mark, written_to_end, on_err, at_ok, at_err}
+use Rattle.cmark_text_parts.proofs.Kept.{all_kept-position}
 use Rattle.cmark_text.proofs.Marks.{keeps-html_byte, ascii-html_mark}
 use Rattle.cmark_text.proofs.escape.escape_html.Goals as goal
 

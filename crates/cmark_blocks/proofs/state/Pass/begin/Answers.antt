@@ -5,7 +5,7 @@ use Rattle.cmark_block_model.specs.BlockPass.{ahead_in, begin_in, container_begu
 use Rattle.cmark_lines.specs.Rests.{row_of}
 use Rattle.cmark_lines.specs.declared.opening.Opening.TheVariants as opening
 use Rattle.cmark_lines.proofs.RestSteps.{whole}
-use Rattle.cmark_text.specs.Shown.{shown_options}
+use Rattle.cmark_text_parts.specs.Shown.{shown_options}
 use Rattle.cmark_blocks.specs.Ahead.{lines_at}
 use Rattle.cmark_blocks.specs.Runs.{Runs}
 use Rattle.cmark_blocks.proofs.FlushRows.{BeginsOnly, letter-begins, bracket-begins}

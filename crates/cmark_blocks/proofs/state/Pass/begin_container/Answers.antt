@@ -3,7 +3,7 @@ use Rattle.std.specs.Prelude.{IfSome}
 use Rattle.cmark_grammar.specs.Containers.{Container, Item, marker_width}
 use Rattle.cmark_grammar.specs.Rows.{Row}
 use Rattle.cmark_grammar.specs.Options.{Options}
-use Rattle.cmark_text.specs.Shown.{shown_block_quote_kind, shown_options}
+use Rattle.cmark_text_parts.specs.Shown.{shown_block_quote_kind, shown_options}
 use Rattle.cmark_block_model.specs.BlockPass.{container_begun, block_quote_begun, item_begun_in, is_item}
 use Rattle.cmark_block_model.specs.OpenBlocks as model
 use Rattle.cmark_lines.specs.Boxes.{is_checked, IsBehindBox}

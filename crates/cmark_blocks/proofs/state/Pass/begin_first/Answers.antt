@@ -7,7 +7,7 @@ use Rattle.cmark_blocks.proofs.DefinitionRows.{definition-begins}
 use Rattle.cmark_grammar.specs.Leaves.{counted}
 use Rattle.cmark_grammar.specs.Metadata.{metadata_continuation}
 use Rattle.cmark_grammar.specs.Openings.{MetadataBlock}
-use Rattle.cmark_text.specs.Shown.{shown_metadata_block_kind, shown_options}
+use Rattle.cmark_text_parts.specs.Shown.{shown_metadata_block_kind, shown_options}
 use Rattle.cmark_block_model.specs.BlockPass.{ahead_in, begin_in, container_begun, inside_begun, is_item, definition_begun_in}
 use Rattle.cmark_lines.specs.Opened.{InsideIsIn}
 use Rattle.cmark_lines.specs.Rests.{row_of}

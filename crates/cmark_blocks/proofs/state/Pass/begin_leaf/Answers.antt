@@ -4,7 +4,7 @@ use Rattle.cmark_grammar.specs.Leaves.{counted, code_continuation}
 use Rattle.cmark_grammar.specs.HtmlBlocks.{html_lines}
 use Rattle.cmark_grammar.specs.Leaves.{fence_continuation}
 use Rattle.cmark_grammar.specs.Rows.{words_of}
-use Rattle.cmark_text.specs.Shown.{shown_options}
+use Rattle.cmark_text_parts.specs.Shown.{shown_options}
 use Rattle.cmark_lines.specs.Rests.{row_of}
 use Rattle.cmark_scan.specs.HtmlLines.{kind_number}
 use Rattle.cmark_scan.specs.LeafLines.{shown_fence}

@@ -1,6 +1,6 @@
 use Rattle.std.proofs.Common.{None, refl, ap, ◌∙◌, subst}
 use Rattle.cmark_grammar.specs.BlockDocument.{MetadataBlock}
-use Rattle.cmark_text.specs.Shown.{shown_metadata_block_kind}
+use Rattle.cmark_text_parts.specs.Shown.{shown_metadata_block_kind}
 use Rattle.cmark_block_model.specs.BlockPass.{block_begun}
 use Rattle.cmark_block_model.specs.Drawing.{opened}
 use Rattle.cmark_block_model.specs.OpenBlocks as model

@@ -1,6 +1,6 @@
 use Rattle.std.proofs.Common.{refl, sym, ap, ◌∙◌, subst}
 use Rattle.cmark_lines.specs.Rests.{row_of}
-use Rattle.cmark_text.specs.Shown.{shown_metadata_block_kind}
+use Rattle.cmark_text_parts.specs.Shown.{shown_metadata_block_kind}
 use Rattle.cmark_block_model.specs.CodeLines.{code_line, rest_of, texts_of}
 use Rattle.cmark_block_model.specs.Drawing.{Drawing, drawn, closed_at}
 use Rattle.cmark_block_model.specs.OpenBlocks as model

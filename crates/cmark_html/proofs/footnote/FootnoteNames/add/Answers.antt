@@ -1,5 +1,5 @@
 use Rattle.std.proofs.Common.{map, ap, ◌∙◌}
-use Rattle.cmark_text.specs.Shown.{text_bytes}
+use Rattle.cmark_text_parts.specs.Shown.{text_bytes}
 use Rattle.cmark_html.proofs.FootnoteSteps.{named_key}
 use Rattle.cmark_html.proofs.footnote.FootnoteNames.add.Goals as goal
 

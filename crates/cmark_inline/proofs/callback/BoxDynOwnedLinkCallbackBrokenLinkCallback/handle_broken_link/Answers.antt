@@ -1,5 +1,5 @@
 use Rattle.std.proofs.Math.Path.{subst}
-use Rattle.cmark_text.specs.Shown.{text_bytes}
+use Rattle.cmark_text_parts.specs.Shown.{text_bytes}
 use Rattle.cmark_inline.proofs.BoxedCallbacks.{said_at_home}
 use Rattle.cmark_inline.proofs.callback.BoxDynOwnedLinkCallbackBrokenLinkCallback.handle_broken_link.Goals as goal
 

@@ -1,6 +1,6 @@
 use Rattle.std.proofs.Common.{◌≡◌, ◌⊎◌, ⊎_elim, subst}
-use Rattle.cmark_text.specs.Shown.{IsBoxed}
-use Rattle.cmark_text.specs.ZeroCopy.{IsLentBy}
+use Rattle.cmark_text_parts.specs.Shown.{IsBoxed}
+use Rattle.cmark_text_parts.specs.Lending.{IsLentBy}
 use Rattle.cmark_inline.proofs.Lending.{bytes_over, code-part, lent-or-own}
 use Rattle.cmark_inline.proofs.content.Content.code_in_cell.Goals as goal
 

@@ -2,7 +2,7 @@ use Rattle.std.proofs.Common.{rules, ◌≡◌, ◌∷◌, ◌≤◌, ℕ, List,
 use Rattle.std.specs.Prelude.{map, reverse}
 use Rattle.cmark_emphasis.specs.Slots.{AreBalanced}
 use Rattle.cmark_inline_model.specs.SlotRows.{marked, marks_by}
-use Rattle.cmark_text.specs.Shown.{shown_options}
+use Rattle.cmark_text_parts.specs.Shown.{shown_options}
 use Rattle.cmark_inline.specs.MarkedSlots.{AreReady, BeganFrom, places_of, shown_mark}
 use Rattle.cmark_inline.specs.SlotViews.{shown_slots}
 use Rattle.cmark_inline.specs.declared.delimiter.PlacedRun.{PlacedRun}

@@ -2,7 +2,7 @@ use Rattle.std.proofs.Common.{◌≡◌, ◌⊎◌, ◌+◌, ◌<◌, ◌≤◌,
 use Rattle.cmark_grammar.specs.InlineTokens.{bracket, item_at}
 use Rattle.cmark_grammar.specs.Items.{Plain, Opens}
 use Rattle.cmark_grammar.specs.Lines.{is_content}
-use Rattle.cmark_text.specs.Shown.{shown_options}
+use Rattle.cmark_text_parts.specs.Shown.{shown_options}
 use Rattle.cmark_inline.specs.Closers.{OpensAs}
 use Rattle.cmark_inline.specs.Tokens.{PutsBracket}
 use Rattle.cmark_inline.proofs.PlainChains.{before-or-behind}

@@ -9,7 +9,7 @@ use Rattle.cmark_inline.specs.declared.slot.Slot.{Slot}
 use Rattle.cmark_inline.specs.declared.slot.SlotKind.TheVariants as kind
 use Rattle.cmark_inline.proofs.Steps.{slots-on, brackets-on, free-on, part-from}
 use Rattle.cmark_inline.specs.MarkedSlots.{begun_as}
-use Rattle.cmark_text.specs.Shown.{shown_options}
+use Rattle.cmark_text_parts.specs.Shown.{shown_options}
 use Rattle.cmark_inline.specs.SlotViews.{link_named, shown_slots}
 use Rattle.cmark_inline.specs.FormedSlots.{WritesElement, dressed_behind, end_slot}
 use Rattle.cmark_inline.specs.Sound.{CanSettle, IsSettled}

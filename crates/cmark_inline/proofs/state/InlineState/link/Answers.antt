@@ -1,5 +1,5 @@
 use Rattle.std.proofs.Common.{refl}
-use Rattle.cmark_text.specs.Shown.{shown_options}
+use Rattle.cmark_text_parts.specs.Shown.{shown_options}
 use Rattle.cmark_inline.proofs.CloserSteps.{links-none, links-some}
 use Rattle.cmark_inline.specs.Sound.{IsTakenFrom}
 use Rattle.std.specs.Prelude.{IfSome}

@@ -3,7 +3,7 @@ use Rattle.std.proofs.Common.{◌≡◌, ◌+◌, ◌-◌, ℕ, List, None, Some
 use Rattle.cmark_grammar.specs.Labels.{fold, normal_form}
 use Rattle.cmark_items.specs.Definitions.{definition}
 use Rattle.cmark_leaf_text.specs.Reads.{is_cell_of, place_of}
-use Rattle.cmark_text.specs.Shown.{shown_link_type, text_bytes}
+use Rattle.cmark_text_parts.specs.Shown.{shown_link_type, text_bytes}
 use Rattle.cmark_inline.specs.Footnoted.{as_label}
 use Rattle.cmark_inline.specs.Linked.{Answers, IsAnswered, said_by, shown_destination}
 use Rattle.cmark_items.specs.declared.allocations.Link.{Link}

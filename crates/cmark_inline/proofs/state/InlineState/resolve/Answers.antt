@@ -4,7 +4,7 @@ use Rattle.std.proofs.lemmas.Str.{IsCharBoundary-start}
 use Rattle.cmark_grammar.specs.EmphasisModel.{pairs_of, spans_of}
 use Rattle.cmark_grammar.proofs.EmphasisSound.{sound as emphasis}
 use Rattle.cmark_leaf_text.specs.Reads.{text_of}
-use Rattle.cmark_text.specs.Shown.{shown_options}
+use Rattle.cmark_text_parts.specs.Shown.{shown_options}
 use Rattle.cmark_inline_model.specs.SlotRows.{marked, marks_by, quoted}
 use Rattle.cmark_inline.specs.CursorProgress.{HasCome}
 use Rattle.cmark_inline.specs.SlotViews.{shown_slots}

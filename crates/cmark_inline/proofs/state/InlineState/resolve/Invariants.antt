@@ -8,7 +8,7 @@ use Rattle.cmark_inline.specs.MarkupInSource.{AreUnclosed}
 use Rattle.cmark_inline.specs.PlainStretches.{IsSetOf}
 use Rattle.cmark_inline.specs.Sound.{AreEnded, IsSound}
 use Rattle.cmark_inline.specs.Stands.{Stands, IsCursor}
-use Rattle.cmark_text.specs.Shown.{shown_options}
+use Rattle.cmark_text_parts.specs.Shown.{shown_options}
 use Rattle.cmark_inline.proofs.state.InlineState.resolve.Given as goal
 
 abbrev pub invariant-loop-cursor : goal.invariant-loop-cursor

@@ -7,7 +7,7 @@ use Rattle.cmark_grammar.specs.Lines.{is_content}
 use Rattle.cmark_grammar.specs.Options.{Options}
 use Rattle.cmark_grammar.specs.SpecialBytes.{is_special}
 use Rattle.cmark_leaf_text.specs.Reads.{is_cell_of}
-use Rattle.cmark_text.specs.Shown.{shown_options}
+use Rattle.cmark_text_parts.specs.Shown.{shown_options}
 use Rattle.cmark_inline.specs.Closers.{OpensAs}
 use Rattle.cmark_inline.specs.Tokens.{PutsBracket}
 use Rattle.cmark_inline.proofs.SpanReads.{appends, appends-quote, backslash-reads, backticks-read, opens, passes-or-appends, passes-or-opens, passes-over, run-reads}

@@ -2,7 +2,7 @@ use Rattle.std.specs.Prelude.{Option, IfSome, option_map}
 use Rattle.std.proofs.Common.{◌≡◌, ◌+◌, drop, sym, ap, subst, ◌∙◌}
 use Rattle.std.proofs.lemmas.Bool.{ne_eqb}
 use Rattle.cmark_grammar.specs.Tokens.{slice}
-use Rattle.cmark_text.specs.Shown.{shown_options}
+use Rattle.cmark_text_parts.specs.Shown.{shown_options}
 use Rattle.cmark_inline.specs.Linked.{left_behind, reference_behind, shown_link_reference, shown_target}
 use Rattle.cmark_inline.specs.Stands.{IsLinkReference, IsTarget}
 use Rattle.cmark_inline.specs.declared.reference.LinkReference.{LinkReference}

@@ -1,5 +1,5 @@
 use Rattle.std.proofs.Common.{ap, ◌∙◌}
-use Rattle.cmark_text.specs.Labelled.{link_key}
+use Rattle.cmark_text_parts.specs.Labelled.{link_key}
 use Rattle.cmark_items.specs.Definitions.{definition, first_of, at_label}
 use Rattle.cmark_items.proofs.DefinitionSteps.{kept, none_there}
 use Rattle.cmark_items.proofs.definitions.RefDefs.insert.Goals as goal

@@ -1,5 +1,5 @@
 use Rattle.std.proofs.Common.{◌≡◌, subst, Some, All}
-use Rattle.cmark_text.specs.Labelled.{link_key}
+use Rattle.cmark_text_parts.specs.Labelled.{link_key}
 use Rattle.cmark_items.specs.Definitions.{definition}
 use Rattle.cmark_items.proofs.definitions.RefDefs.iter.Goals as goal
 

@@ -1,5 +1,5 @@
 use Rattle.std.proofs.Common.{ap, ◌∙◌}
-use Rattle.cmark_text.specs.Labelled.{footnote_key}
+use Rattle.cmark_text_parts.specs.Labelled.{footnote_key}
 use Rattle.cmark_items.specs.Definitions.{first_of, at_label}
 use Rattle.cmark_items.specs.Footnotes.{footnote}
 use Rattle.cmark_items.proofs.DefinitionSteps.{kept, none_there}

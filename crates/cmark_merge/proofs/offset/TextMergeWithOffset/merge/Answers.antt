@@ -1,6 +1,6 @@
 use Rattle.std.proofs.Common.{inl, inr, ap, refl, sym, ◌∙◌}
 use Rattle.cmark_grammar.specs.Merge.{TextAt}
-use Rattle.cmark_text.specs.declared.text.CowStr.TheVariants.{Boxed}
+use Rattle.cmark_text_parts.specs.declared.text.CowStr.TheVariants.{Boxed}
 use Rattle.cmark_merge.proofs.JoinSteps.{empty-of, full-of}
 use Rattle.cmark_merge.proofs.offset.TextMergeWithOffset.merge.Goals as goal
 

@@ -1,7 +1,7 @@
 use Rattle.std.proofs.Common.{[], sym, ap, ◌∙◌, arith}
 use Rattle.std.specs.Prelude.{if◌then◌else◌, is_some, option_map}
 use Rattle.cmark_grammar.specs.Alerts.{alert_of}
-use Rattle.cmark_text.specs.Shown.{shown_block_quote_kind}
+use Rattle.cmark_text_parts.specs.Shown.{shown_block_quote_kind}
 use Rattle.cmark_scan.specs.LineStart.{row_from}
 use Rattle.cmark_scan.proofs.RowSteps.{found-is, alert-none}
 use Rattle.cmark_scan.proofs.LineStartSteps.{row-emptied}

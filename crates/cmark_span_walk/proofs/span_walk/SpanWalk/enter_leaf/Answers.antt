@@ -1,7 +1,7 @@
 use Rattle.std.proofs.Common.{[], true≢false, refl, sym, ap, ◌∙◌}
 use Rattle.cmark_inline_model.specs.TextPlaces.{place_in}
 use Rattle.cmark_leaf_text.specs.Stretches.{leaf_bytes}
-use Rattle.cmark_text.specs.Shown.{shown_options}
+use Rattle.cmark_text_parts.specs.Shown.{shown_options}
 use Rattle.cmark_walk.proofs.WalkSteps.{on-err}
 use Rattle.cmark_span_walk.proofs.LeafReads.{leaf-same, place-same, read-places, text-same}
 use Rattle.cmark_span_walk.proofs.Readings.{asked-up-to}

@@ -1,5 +1,5 @@
 use Rattle.std.proofs.Common.{false, refl, sym, ap, subst, option_map, ◌∙◌}
-use Rattle.cmark_text.specs.Shown.{shown_options}
+use Rattle.cmark_text_parts.specs.Shown.{shown_options}
 use Rattle.cmark_block_model.specs.BlockPass.{pass_over}
 use Rattle.cmark_block_model.proofs.Drawings.{derived, drawn-order, drawn-edges}
 use Rattle.cmark_block_model.proofs.LeafDrawings.{drawn-segments}

@@ -7,8 +7,8 @@ use Rattle.std.proofs.lemmas.Str.Ascii.{All-from_ascii, IsAscii-map, lowercase_a
 use Rattle.caseless.specs.Caseless.{default_case_fold}
 use Rattle.caseless.proofs.CaselessLemmas.{default_case_fold-ascii}
 use Rattle.cmark_grammar.specs.Labels.{case_folded}
-use Rattle.cmark_text.specs.Folding.{may_fold}
-use Rattle.cmark_text.proofs.Escaping.{AllKept, all_kept-position}
+use Rattle.cmark_text_parts.specs.Folding.{may_fold}
+use Rattle.cmark_text_parts.proofs.Kept.{AllKept, all_kept-position}
 
 -- an ASCII text folds to its lower case
 pub folded_ascii : (text : List ℕ) → IsAscii text → map to_ascii_lowercase text ≡ case_folded text

@@ -2,8 +2,8 @@
 
 ghost use Rattle.std.specs.Prelude.{◌≡◌, ◌<◌, ◌⊎◌, ◌∷◌, [], ◌+◌, Some, MatchResult, IfOk, IsOk, length, ◌≤◌};
 ghost use Rattle.cmark_grammar.specs.LinkType.{to_unknown};
-ghost use Rattle.cmark_text.specs.InPlace.{KindCopiesInPlace, KindStaysInPlace};
-ghost use Rattle.cmark_text.specs.Shown.{level_number, shown_code_block_kind, shown_link_type};
+ghost use Rattle.cmark_text_parts.specs.InPlace.{KindCopiesInPlace, KindStaysInPlace};
+ghost use Rattle.cmark_text_parts.specs.Shown.{level_number, shown_code_block_kind, shown_link_type};
 ghost use Rattle.cmark_grammar.specs.CodeBlockKind.{is_fenced, is_indented};
 
 use crate::text::CowStr;

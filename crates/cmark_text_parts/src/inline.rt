@@ -6,7 +6,7 @@ ghost use Rattle.std.specs.Cmp.Lexicographic.{pointwise, nat_list_eq_equiv};
 ghost use Rattle.std.specs.Cmp.Rules.{hashing};
 ghost use Rattle.std.specs.Hash as fed;
 ghost use Rattle.std.proofs.Common.{rules};
-ghost use Rattle.cmark_text.specs.Shown.{inline_bytes};
+ghost use Rattle.cmark_text_parts.specs.Shown.{inline_bytes};
 
 use arrayvec::ArrayString;
 use std::fmt::{self, Debug, Display, Formatter, Write};

@@ -1,6 +1,6 @@
 use Rattle.std.proofs.Common.{ap, arith, length, lit<}
 use Rattle.std.proofs.lemmas.Str.{length-encode, len_utf8_bounds}
-use Rattle.cmark_text.proofs.inline.InlineStrFromChar.from.Goals as goal
+use Rattle.cmark_text_parts.proofs.inline.InlineStrFromChar.from.Goals as goal
 
 -- a character takes at most four bytes
 pub push-requires : goal.push-requires

@@ -7,8 +7,8 @@ ghost use Rattle.std.specs.Cmp.Rules.{hashing};
 ghost use Rattle.std.specs.Cow.{cow_str_bytes};
 ghost use Rattle.std.specs.Hash as fed;
 ghost use Rattle.std.proofs.Common.{rules};
-ghost use Rattle.cmark_text.specs.InPlace.{CopiesInPlace, StaysInPlace};
-ghost use Rattle.cmark_text.specs.Shown.{text_bytes, IsBoxed, IsInlined};
+ghost use Rattle.cmark_text_parts.specs.InPlace.{CopiesInPlace, StaysInPlace};
+ghost use Rattle.cmark_text_parts.specs.Shown.{text_bytes, IsBoxed, IsInlined};
 
 use crate::inline::InlineStr;
 use std::alloc::{AllocError, Global};

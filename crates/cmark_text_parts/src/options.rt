@@ -1,7 +1,7 @@
 //! Which rules beyond CommonMark are read.
 
 ghost use Rattle.std.specs.Prelude.{⊤, ◌≡◌, ◌&&◌, not, [], ◌∷◌, codes};
-ghost use Rattle.cmark_text.specs.Shown.{shown_options};
+ghost use Rattle.cmark_text_parts.specs.Shown.{shown_options};
 
 use bitflags::{Flag, Flags};
 

@@ -9,7 +9,7 @@ ghost use Rattle.std.specs.Cmp.Rules.{hashing};
 ghost use Rattle.std.specs.Hash as fed;
 ghost use Rattle.std.proofs.Common.{rules};
 ghost use Rattle.cmark_grammar.specs.Labels.{normal_form, case_folded, fold};
-ghost use Rattle.cmark_text.specs.Folding.{compared, may_fold};
+ghost use Rattle.cmark_text_parts.specs.Folding.{compared, may_fold};
 
 use caseless::default_case_fold_str;
 use std::alloc::{AllocError, Global};
@@ -27,7 +27,7 @@ pub struct LinkLabel {
 }
 
 impl LinkLabel {
-    ghost use Rattle.cmark_text.specs.Labelled.{link_text, link_key};
+    ghost use Rattle.cmark_text_parts.specs.Labelled.{link_text, link_key};
 
     /// The label that this text spells.
     pub fn new(alloc: Global, label: &str) -> Result<LinkLabel, AllocError>
@@ -54,7 +54,7 @@ pub struct FootnoteLabel {
 }
 
 impl FootnoteLabel {
-    ghost use Rattle.cmark_text.specs.Labelled.{footnote_text, footnote_key};
+    ghost use Rattle.cmark_text_parts.specs.Labelled.{footnote_text, footnote_key};
 
     /// The label that this text spells.
     pub fn new(alloc: Global, label: &str) -> Result<FootnoteLabel, AllocError>

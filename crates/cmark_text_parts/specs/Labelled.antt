@@ -1,8 +1,8 @@
 -- What a label shows: its normal form, and what it is compared by.
 use Rattle.std.specs.Prelude.{ℕ, List, string_bytes}
 use Rattle.cmark_grammar.specs.Labels.{case_folded}
-use Rattle.cmark_text.specs.declared.label.LinkLabel.{LinkLabel}
-use Rattle.cmark_text.specs.declared.label.FootnoteLabel.{FootnoteLabel}
+use Rattle.cmark_text_parts.specs.declared.label.LinkLabel.{LinkLabel}
+use Rattle.cmark_text_parts.specs.declared.label.FootnoteLabel.{FootnoteLabel}
 
 abbrev pub link_text : LinkLabel → List ℕ
 link_text label = string_bytes label.link.text

@@ -1,8 +1,8 @@
 //! Which texts are borrowed.
 
 ghost use Rattle.std.specs.Prelude.{◌≡◌, IfOk};
-ghost use Rattle.cmark_text.specs.Shown.{text_bytes};
-ghost use Rattle.cmark_text.specs.ZeroCopy.{IsLentBy};
+ghost use Rattle.cmark_text_parts.specs.Shown.{text_bytes};
+ghost use Rattle.cmark_text_parts.specs.Lending.{IsLentBy};
 
 use crate::text::CowStr;
 use std::alloc::{AllocError, Global};

@@ -1,7 +1,7 @@
 use Rattle.std.proofs.Common.{string_bytes}
 use Rattle.std.specs.Str.Iter.{split_ascii_whitespace_text}
-use Rattle.cmark_text.proofs.Words.{joined_more, joined_all}
-use Rattle.cmark_text.proofs.label.normalized.Goals as goal
+use Rattle.cmark_text_parts.proofs.Words.{joined_more, joined_all}
+use Rattle.cmark_text_parts.proofs.label.normalized.Goals as goal
 
 pub loop-word-preserved : goal.loop-word-preserved
 loop-word-preserved c =

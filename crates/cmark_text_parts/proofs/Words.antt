@@ -11,7 +11,7 @@ use Rattle.std.proofs.lemmas.List.Elements.{All-from_get_or}
 use Rattle.std.proofs.lemmas.List.Splits.{slice_split-cons_yes, slice_split_none, slice_split_at}
 use Rattle.std.proofs.lemmas.Str.{NoCharPasses-byte}
 use Rattle.cmark_grammar.specs.Labels.{is_nonempty, words}
-use Rattle.cmark_text.proofs.Escaping.{all_kept-position}
+use Rattle.cmark_text_parts.proofs.Kept.{all_kept-position}
 
 not_white : (b : ℕ) → 128 ≤ b → is_ascii_whitespace b ≡ false
 not_white b high = grind (arith, nat_tests)

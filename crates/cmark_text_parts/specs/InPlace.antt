@@ -1,0 +1,27 @@
+-- Which texts, kinds, tags and events are copied, or made to borrow nothing, without memory.
+use Rattle.std.specs.Prelude.{◌≤◌, length}
+use Rattle.std.specs.Box.{boxed_str_bytes}
+use Rattle.cmark_text_parts.specs.declared.text.CowStr.{CowStr}
+use Rattle.cmark_text_parts.specs.declared.text.CowStr.TheVariants.{Boxed, Borrowed, Inlined}
+use Rattle.cmark_text_parts.specs.declared.kind.CodeBlockKind.{CodeBlockKind}
+use Rattle.cmark_text_parts.specs.declared.kind.CodeBlockKind.TheVariants.{Indented, Fenced}
+
+-- a text that has a box of its own is copied in place only where it fits into the value
+abbrev pub CopiesInPlace : CowStr → Type 0
+CopiesInPlace (Boxed text) = length (boxed_str_bytes text) ≤ 22
+CopiesInPlace (Borrowed text) = Unit {0}
+CopiesInPlace (Inlined text) = Unit {0}
+
+abbrev pub KindCopiesInPlace : CodeBlockKind → Type 0
+KindCopiesInPlace Indented = Unit {0}
+KindCopiesInPlace (Fenced info) = CopiesInPlace info
+
+-- a text that is borrowed is made static in place only where it fits into the value
+abbrev pub StaysInPlace : CowStr → Type 0
+StaysInPlace (Boxed text) = Unit {0}
+StaysInPlace (Borrowed text) = length text.now ≤ 22
+StaysInPlace (Inlined text) = Unit {0}
+
+abbrev pub KindStaysInPlace : CodeBlockKind → Type 0
+KindStaysInPlace Indented = Unit {0}
+KindStaysInPlace (Fenced info) = StaysInPlace info

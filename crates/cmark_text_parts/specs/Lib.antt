@@ -1,0 +1,5 @@
+pub mod Folding
+pub mod InPlace
+pub mod Labelled
+pub mod Lending
+pub mod Shown
