@@ -8,8 +8,7 @@ ghost use Rattle.cmark_text.specs.Shown.{shown, shown_tag};
 ghost use Rattle.cmark_text_parts.specs.Shown.{level_number, shown_attribute, shown_attributes, shown_linked, text_bytes};
 
 use crate::event::{Event, Tag};
-use cmark_text_parts::{HeadingLevel, LinkType};
-use cmark_text_parts::CowStr;
+use cmark_text_parts::{CowStr, HeadingLevel, LinkType};
 use std::alloc::{AllocError, Global};
 
 impl<'a> Tag<'a> {

@@ -5,9 +5,8 @@ ghost use Rattle.cmark_grammar.specs.TagEnd.{end_of};
 ghost use Rattle.cmark_text.specs.Shown.{shown_tag, shown_end};
 
 use cmark_text_parts::{
-    Alignment, BlockQuoteKind, CodeBlockKind, HeadingLevel, LinkType, MetadataBlockKind,
+    Alignment, BlockQuoteKind, CodeBlockKind, CowStr, HeadingLevel, LinkType, MetadataBlockKind,
 };
-use cmark_text_parts::CowStr;
 
 /// An element that has a start and an end. A value has 128 bytes, those of a link's three texts.
 #[derive(Debug, Drop, PartialEq, Eq)]

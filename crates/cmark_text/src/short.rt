@@ -6,8 +6,7 @@ ghost use Rattle.cmark_text.specs.Shown.{shown, shown_tag};
 
 use crate::event::{Event, Tag, TagEnd};
 use crate::excerpt::Excerpt;
-use cmark_text_parts::{BlockQuoteKind, CodeBlockKind, HeadingLevel, MetadataBlockKind};
-use cmark_text_parts::CowStr;
+use cmark_text_parts::{BlockQuoteKind, CodeBlockKind, CowStr, HeadingLevel, MetadataBlockKind};
 use std::alloc::Global;
 
 /// The tag of an element that has no text of its own.

@@ -16,4 +16,3 @@ pub all_kept-position : (mark : ℕ → Bool) (xs : List ℕ) (r : Option ℕ) �
 all_kept-position mark xs r e is k below =
     let past : length xs ≤ position_or_len mark xs = ltb-false (position_or_len mark xs) (length xs) (cond-none (nat_lt (position_or_len mark xs) (length xs)) (position_or_len mark xs) (sym e ∙ is)) in
     fails_before_first mark xs k 0 (omega arith)
-
