@@ -52,10 +52,13 @@ edits:
 	tests/edits
 	tests/documents
 
+# The tests that need no proof run beside it, with what processors it leaves idle.
 gate:
 	mkdir -p bin
-	(rt ci; echo $$? > bin/gate.status) 2>&1 | tee bin/gate.log
-	exit "$$(cat bin/gate.status)"
+	nice -n 19 tests/unit > bin/unit.log 2>&1 & unit=$$!; \
+	(rt ci; echo $$? > bin/gate.status) 2>&1 | tee bin/gate.log; \
+	wait $$unit; unit=$$?; cat bin/unit.log; \
+	exit $$(($$(cat bin/gate.status) + unit))
 
 # The gate leaves the object code and the libraries that it built, and nothing is proved a second time for what is linked of them.
 programs:
@@ -75,7 +78,6 @@ beside:
 # The built programs on what stands outside of the proofs.
 outside:
 	tests/entities
-	tests/unit
 	tests/refusals
 	tests/rows
 	tests/walks 2000 1

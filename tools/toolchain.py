@@ -41,6 +41,18 @@ def alone_in(rt, crate):
             os.close(it)
 
 
+def build_library(rt, crate, flags, keeps):
+    """Proves a library and writes it; the status of that. With `keeps` the check begins with what an earlier one kept, keeps its own work for
+    the next one, and the library holds its proofs; without, it holds its statements alone."""
+    if keeps:
+        return crate.build_rlib(flags, anew=False)
+    with alone_in(rt, crate):
+        folder = os.path.dirname(crate.rlib)
+        shutil.rmtree(folder, ignore_errors=True)
+        os.makedirs(folder)
+        return crate.call(rt.rtlib.RATTLE, "build", *crate.words(flags, keeps=False), "--statements", "-o", crate.rlib)
+
+
 def sources(rt, crate):
     """A digest of the code of a crate and of those below it, without contracts' definitions and proofs."""
     digest = hashlib.sha256()
