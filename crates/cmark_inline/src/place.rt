@@ -17,6 +17,7 @@ ghost use Rattle.cmark_inline.specs.Tokens.{read_on, shown_autolink};
 ghost use Rattle.cmark_inline.specs.declared.state.InlineState.{InlineState};
 
 use crate::step::Cursor;
+use cmark_scan_parts::bytes::is_blank;
 use cmark_scan_parts::scan_autolink;
 
 // The place behind the run of the byte at this place.
@@ -48,14 +49,13 @@ pub(crate) fn before_blanks(text: &str, here: Cursor) -> usize
 {
     let bytes = text.as_bytes();
     let mut text_end = here.at;
-    while text_end > here.pending && (bytes[text_end - 1] == b' ' || bytes[text_end - 1] == b'\t') {
+    while text_end > here.pending && is_blank(bytes[text_end - 1]) {
         text_end -= 1;
     }
     text_end
 }
 
 // The place behind the blanks that stand at this place.
-#[tactic(auto, using(std::proofs::lemmas::Str::lead_after_ascii))]
 fn behind_blanks(text: &str, at: usize) -> usize
     requires { IsCharBoundary text.now at }
     ensures value { drop result text.now ≡ behind_blanks (drop at text.now) }
@@ -64,7 +64,7 @@ fn behind_blanks(text: &str, at: usize) -> usize
 {
     let bytes = text.as_bytes();
     let mut end = at;
-    while end < bytes.len() && (bytes[end] == b' ' || bytes[end] == b'\t') {
+    while end < bytes.len() && is_blank(bytes[end]) {
         end += 1;
     }
     end
@@ -243,13 +243,21 @@ pub(crate) fn is_followed_by(text: &str, at: usize, byte: u8) -> bool
     bytes[at + 1] == byte
 }
 
+// The bytes from this place on; none, where the text ends before it.
+#[inline(always)]
+fn bytes_from(text: &str, at: usize) -> &[u8]
+    ensures { result.now ≡ drop at text.entry.now }
+{
+    text.as_bytes().get(at..).unwrap_or(&[])
+}
+
 // Whether a backslash directly before a pipe stands at this place.
 pub(crate) fn is_pipe_escape(text: &str, at: usize) -> bool
     ensures value { result ≡ starts piped (drop at text.now) }
     ensures within { result ≡ true → at + 1 < length text.now }
     ensures ascii { result ≡ true → slice_index text.now (at + 1) < 128 }
 {
-    match text.as_bytes().get(at..).unwrap_or(&[]) {
+    match bytes_from(text, at) {
         [b'\\', b'|', ..] => true,
         _ => false,
     }
@@ -259,7 +267,7 @@ pub(crate) fn is_pipe_escape(text: &str, at: usize) -> bool
 pub(crate) fn is_lone_backtick(text: &str, at: usize) -> bool
     ensures { result ≡ backticks (drop at text.now) == 1 }
 {
-    match text.as_bytes().get(at..).unwrap_or(&[]) {
+    match bytes_from(text, at) {
         [b'`', b'`', ..] => false,
         [b'`', ..] => true,
         _ => false,

@@ -4,7 +4,7 @@ use Rattle.std.specs.Str.{IsCharBoundary}
 use Rattle.cmark_inline.proofs.place.before_blanks.Given as goal
 
 abbrev pub invariant-loop-text_end : goal.invariant-loop-text_end
-invariant-loop-text_end l = (l.here.pending ≤ l.text_end) × (l.text_end ≤ l.here.at) × (l.bytes ≡ l.text) × IsCharBoundary l.bytes l.text_end × ((k : ℕ) → l.text_end ≤ k → k < l.here.at → is_blank_byte (get_or l.bytes k 0) ≡ true)
+invariant-loop-text_end l = (l.here.pending ≤ l.text_end) × (l.text_end ≤ l.here.at) × (l.bytes ≡ l.text) × IsCharBoundary l.text l.text_end × ((k : ℕ) → l.text_end ≤ k → k < l.here.at → is_blank_byte (get_or l.text k 0) ≡ true)
 
 abbrev pub decreases-loop-text_end : goal.decreases-loop-text_end
 decreases-loop-text_end l = l.text_end

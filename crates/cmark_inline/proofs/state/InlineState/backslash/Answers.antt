@@ -1,9 +1,10 @@
-use Rattle.std.proofs.Common.{◌≡◌, ◌+◌, ◌&&◌, inl, inr, ℕ, Bool, true, false, List, refl, sym, ap, ◌∙◌, arith, drop, eqb-true, rules}
+use Rattle.std.proofs.Common.{◌≡◌, ◌+◌, ◌&&◌, inl, inr, ℕ, Bool, true, false, List, refl, sym, ap, ◌∙◌, arith, drop, eqb-true, rules, subst}
 use Rattle.cmark_grammar.specs.CodeSpans.{backticks}
 use Rattle.cmark_grammar.specs.InlineTokens.{item_at}
 use Rattle.cmark_grammar.specs.Items.{Plain, Own}
 use Rattle.cmark_grammar.specs.LabelsOverLines.{piped}
 use Rattle.cmark_grammar.specs.Letters.{starts}
+use Rattle.cmark_inline.specs.Stands.{Stands}
 use Rattle.cmark_inline.proofs.Appended.{at-byte, own-appends, pipe-makes, slash-appends, slash-makes}
 use Rattle.cmark_inline.proofs.TokenSteps.{line-at-slash, slash-lone, slash-stands}
 use Rattle.cmark_inline.specs.Tokens.{read_on}
@@ -61,35 +62,35 @@ returns-clause-token c = λ o l is.
 
 pub returns-in-Some-clause-reads_on : goal.returns-in-Some-clause-reads_on
 returns-in-Some-clause-reads_on c = record {
-  expansion_left = search rules;
+  expansion_left = c.in_ok-next.ensures.expansion_left;
   keeps = keeps-puts c.args.self.now c.put.new.self c.in_ok-next.ensures.others c.args.here.pending c.args.here.at _ c.in_ok-next.ensures.slots ((refl, refl, refl), λ i. refl);
   moves = c.onto_words.ensures.moves c.args.here.at c.put.new.self c.in_ok-next.ensures.moves;
 }
 
 pub returns-then-not-is_escape-clause-reads_on : goal.returns-then-not-is_escape-clause-reads_on
 returns-then-not-is_escape-clause-reads_on c = record {
-  expansion_left = search rules;
+  expansion_left = refl;
   keeps = keeps-same c.args.self.now;
-  moves = search rules;
+  moves = record { stands = subst (λ (p : ℕ). Stands c.args.text.now p c.args.self.now) (sym c.pass.ensures.pending) c.requires.byte.stands; cursor = c.pass.ensures.cursor; further = c.pass.ensures.further };
 }
 
 pub returns-then-is_lone_backtick-clause-reads_on : goal.returns-then-is_lone_backtick-clause-reads_on
 returns-then-is_lone_backtick-clause-reads_on c = record {
-  expansion_left = search rules;
+  expansion_left = c.in_ok-next-2.ensures.expansion_left;
   keeps = keeps-puts c.args.self.now c.put-then-is_lone_backtick.new.self c.in_ok-next-2.ensures.others c.args.here.pending c.args.here.at _ c.in_ok-next-2.ensures.slots ((refl, refl, refl), λ i. refl);
-  moves = search rules;
+  moves = c.in_ok-next-2.ensures.moves;
 }
 
 pub returns-then-is_pipe_escape-clause-reads_on : goal.returns-then-is_pipe_escape-clause-reads_on
 returns-then-is_pipe_escape-clause-reads_on c = record {
-  expansion_left = search rules;
+  expansion_left = c.in_ok-flush.ensures.expansion_left;
   keeps = keeps-pending c.args.self.now c.flush.new.self c.in_ok-flush.ensures.others c.args.here.pending c.args.here.at c.in_ok-flush.ensures.slots;
   moves = search rules;
 }
 
 pub returns-clause-reads_on : goal.returns-clause-reads_on
 returns-clause-reads_on c = record {
-  expansion_left = search rules;
+  expansion_left = c.in_ok-flush.ensures.expansion_left;
   keeps = keeps-pending c.args.self.now c.flush.new.self c.in_ok-flush.ensures.others c.args.here.pending c.args.here.at c.in_ok-flush.ensures.slots;
   moves = search rules;
 }

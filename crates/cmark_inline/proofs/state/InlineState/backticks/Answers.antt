@@ -1,6 +1,6 @@
 use Rattle.std.specs.Option.{IfSome}
 use Rattle.std.specs.Prelude.{option_map}
-use Rattle.std.proofs.Common.{inl, refl, sym, ap, subst, ◌∙◌, rules}
+use Rattle.std.proofs.Common.{inl, refl, sym, ap, subst, ◌∙◌}
 use Rattle.cmark_finds.specs.Shown.{shown_code, IsCodeAt}
 use Rattle.cmark_inline.proofs.Appended.{code-appends, ticks-make}
 use Rattle.cmark_inline.proofs.Keeping.{keeps-puts}
@@ -22,14 +22,14 @@ returns-clause-token c = λ o l cell is.
 
 pub returns-in-Some-clause-reads_on : goal.returns-in-Some-clause-reads_on
 returns-in-Some-clause-reads_on c = record {
-  expansion_left = search rules;
+  expansion_left = c.in_ok-next.ensures.expansion_left;
   keeps = keeps-puts c.args.self.now c.put.new.self c.in_ok-next.ensures.others c.args.here.pending c.args.here.at _ c.in_ok-next.ensures.slots ((refl, refl, refl), λ i. refl);
-  moves = search rules;
+  moves = c.in_ok-next.ensures.moves;
 }
 
 pub returns-clause-reads_on : goal.returns-clause-reads_on
 returns-clause-reads_on c = record {
-  expansion_left = search rules;
+  expansion_left = c.in_ok-next-2.ensures.expansion_left;
   keeps = keeps-puts c.args.self.now c.put-2.new.self c.in_ok-next-2.ensures.others c.args.here.pending c.text_start-start.result _ c.in_ok-next-2.ensures.slots ((refl, refl, refl), λ i. refl);
-  moves = search rules;
+  moves = c.in_ok-next-2.ensures.moves;
 }

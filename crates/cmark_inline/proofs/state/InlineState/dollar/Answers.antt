@@ -1,6 +1,6 @@
 use Rattle.std.specs.Option.{IfSome}
 use Rattle.std.specs.Prelude.{option_map}
-use Rattle.std.proofs.Common.{◌≡◌, ◌+◌, refl, sym, ap, subst, ◌∙◌, drop, rules}
+use Rattle.std.proofs.Common.{◌≡◌, ◌+◌, refl, sym, ap, subst, ◌∙◌, drop}
 use Rattle.cmark_grammar.specs.Formulas.{is_dollar}
 use Rattle.cmark_grammar.specs.Letters.{first_is}
 use Rattle.cmark_finds.specs.Dollars.{IsFormulaAt, shown_formula}
@@ -28,14 +28,14 @@ returns-clause-token c = λ o l cell math.
 
 pub returns-in-Some-clause-reads_on : goal.returns-in-Some-clause-reads_on
 returns-in-Some-clause-reads_on c = record {
-  expansion_left = search rules;
+  expansion_left = c.in_ok-next.ensures.expansion_left;
   keeps = keeps-puts c.args.self.now c.put.new.self c.in_ok-next.ensures.others c.args.here.pending c.args.here.at _ c.in_ok-next.ensures.slots (subst (λ k. StandsAlone k) (sym c.kind_of.ensures.value) (formula-alone c.in-Some.formula.is_display c.in-Some.formula.content_start c.in-Some.formula.content_end));
-  moves = search rules;
+  moves = c.in_ok-next.ensures.moves;
 }
 
 pub returns-clause-reads_on : goal.returns-clause-reads_on
 returns-clause-reads_on c = record {
-  expansion_left = search rules;
+  expansion_left = c.in_ok-next-2.ensures.expansion_left;
   keeps = keeps-puts c.args.self.now c.put-2.new.self c.in_ok-next-2.ensures.others c.args.here.pending c.args.here.at _ c.in_ok-next-2.ensures.slots ((refl, refl, refl), λ i. refl);
-  moves = search rules;
+  moves = c.in_ok-next-2.ensures.moves;
 }

@@ -1,6 +1,7 @@
-use Rattle.std.proofs.Common.{inl, inr, refl, sym, ap, ◌∙◌, drop, rules}
+use Rattle.std.proofs.Common.{inl, inr, refl, sym, ap, ◌∙◌, drop, subst, ℕ}
 use Rattle.cmark_grammar.specs.InlineTokens.{item_at}
 use Rattle.cmark_grammar.specs.Items.{Plain}
+use Rattle.cmark_inline.specs.Stands.{Stands}
 use Rattle.cmark_inline.proofs.Appended.{at-byte, character-appends}
 use Rattle.cmark_inline.proofs.MarkSteps.{ellipsis-begins, ellipsis-bytes, no-ellipsis}
 use Rattle.cmark_inline.proofs.Keeping.{keeps-puts, keeps-same}
@@ -24,14 +25,14 @@ returns-clause-token c = λ o l cell smart is.
 
 pub returns-then-not-starts_with-clause-reads_on : goal.returns-then-not-starts_with-clause-reads_on
 returns-then-not-starts_with-clause-reads_on c = record {
-  expansion_left = search rules;
+  expansion_left = refl;
   keeps = keeps-same c.args.self.now;
-  moves = search rules;
+  moves = record { stands = subst (λ (p : ℕ). Stands c.args.text.now p c.args.self.now) (sym c.pass.ensures.pending) c.requires.byte.stands; cursor = c.pass.ensures.cursor; further = c.pass.ensures.further };
 }
 
 pub returns-clause-reads_on : goal.returns-clause-reads_on
 returns-clause-reads_on c = record {
-  expansion_left = search rules;
+  expansion_left = c.in_ok-next.ensures.expansion_left;
   keeps = keeps-puts c.args.self.now c.put.new.self c.in_ok-next.ensures.others c.args.here.pending c.args.here.at _ c.in_ok-next.ensures.slots ((refl, refl, refl), λ i. refl);
-  moves = search rules;
+  moves = c.in_ok-next.ensures.moves;
 }

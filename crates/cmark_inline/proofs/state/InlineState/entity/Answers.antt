@@ -1,10 +1,11 @@
 use Rattle.std.specs.Prelude.{Some, None}
-use Rattle.std.proofs.Common.{◌≡◌, inl, inr, ℕ, List, length, drop, refl, sym, ap, subst, ◌∙◌, rules}
+use Rattle.std.proofs.Common.{◌≡◌, inl, inr, ℕ, List, drop, refl, sym, ap, subst, ◌∙◌, length, rules}
 use Rattle.std.specs.Str.{IsCharBoundary}
 use Rattle.std.proofs.lemmas.Str.{IsCharBoundary-from_rest}
 use Rattle.cmark_grammar.specs.Answers.{Lookup}
 use Rattle.cmark_scan_parts.specs.Shown.{shown_entity}
 use Rattle.cmark_inline.specs.declared.state.InlineState.{InlineState}
+use Rattle.cmark_inline.specs.Stands.{Stands}
 use Rattle.cmark_inline.proofs.Appended.{at-byte, kept, owned-appends, entity-is, entity-token, no-entity}
 use Rattle.cmark_inline.proofs.Keeping.{keeps-owned, keeps-same}
 use Rattle.cmark_inline.proofs.state.InlineState.entity.Goals as goal
@@ -37,21 +38,21 @@ returns-clause-token g c = λ o cell is.
 
 pub returns-in_default-clause-reads_on : goal.returns-in_default-clause-reads_on
 returns-in_default-clause-reads_on g c = record {
-  expansion_left = search rules;
+  expansion_left = refl;
   keeps = keeps-same c.args.self.now;
-  moves = search rules;
+  moves = record { stands = subst (λ (p : ℕ). Stands c.args.text.now p c.args.self.now) (sym c.pass.ensures.pending) c.requires.byte.stands; cursor = c.pass.ensures.cursor; further = c.pass.ensures.further };
 }
 
 pub returns-in_default-end_behind-clause-reads_on : goal.returns-in_default-end_behind-clause-reads_on
 returns-in_default-end_behind-clause-reads_on g c = record {
-  expansion_left = search rules;
+  expansion_left = refl;
   keeps = keeps-same c.args.self.now;
-  moves = search rules;
+  moves = record { stands = subst (λ (p : ℕ). Stands c.args.text.now p c.args.self.now) (sym c.pass-in_default-end_behind.ensures.pending) c.requires.byte.stands; cursor = c.pass-in_default-end_behind.ensures.cursor; further = c.pass-in_default-end_behind.ensures.further };
 }
 
 pub returns-clause-reads_on : goal.returns-clause-reads_on
 returns-clause-reads_on g c = record {
-  expansion_left = search rules;
+  expansion_left = c.in_ok-next.ensures.expansion_left;
   keeps = keeps-owned c.args.self.now (record c.args.self.now { texts = c.push.new.self }) c.put.new.self c.args.here.pending c.args.here.at _ c.in_ok-next.ensures.slots c.in_ok-owned.owned c.in_ok-push.ensures.items c.in_ok-next.ensures.others refl (ap Some (let q : c.len.result ≡ length c.args.self.now.texts.items = search rules in q)) refl refl (λ i. refl);
-  moves = search rules;
+  moves = c.in_ok-next.ensures.moves;
 }

@@ -1,7 +1,8 @@
-use Rattle.std.proofs.Common.{◌≡◌, inl, inr, Some, length, refl, sym, ap, ◌∙◌, rules}
+use Rattle.std.proofs.Common.{◌≡◌, inl, inr, Some, refl, sym, ap, ◌∙◌, subst, ℕ, length, rules}
 use Rattle.cmark_grammar.specs.InlineTokens.{item_at}
 use Rattle.cmark_grammar.specs.Items.{Plain}
 use Rattle.cmark_inline.specs.declared.state.InlineState.{InlineState}
+use Rattle.cmark_inline.specs.Stands.{Stands}
 use Rattle.cmark_inline.proofs.Appended.{at-byte, kept, owned-appends}
 use Rattle.cmark_inline.proofs.MarkSteps.{many-hyphens, one-hyphen}
 use Rattle.cmark_inline.proofs.Keeping.{keeps-owned, keeps-same}
@@ -25,14 +26,14 @@ returns-clause-token c = λ o l cell smart is.
 
 pub returns-then-size-lt2-clause-reads_on : goal.returns-then-size-lt2-clause-reads_on
 returns-then-size-lt2-clause-reads_on c = record {
-  expansion_left = search rules;
+  expansion_left = refl;
   keeps = keeps-same c.args.self.now;
-  moves = search rules;
+  moves = record { stands = subst (λ (p : ℕ). Stands c.args.text.now p c.args.self.now) (sym c.pass.ensures.pending) c.requires.byte.stands; cursor = c.pass.ensures.cursor; further = c.pass.ensures.further };
 }
 
 pub returns-clause-reads_on : goal.returns-clause-reads_on
 returns-clause-reads_on c = record {
-  expansion_left = search rules;
+  expansion_left = c.in_ok-next.ensures.expansion_left;
   keeps = keeps-owned c.args.self.now (record c.args.self.now { texts = c.push.new.self }) c.put.new.self c.args.here.pending c.args.here.at _ c.in_ok-next.ensures.slots c.in_ok-owned.owned c.in_ok-push.ensures.items c.in_ok-next.ensures.others refl (ap Some (let q : c.len.result ≡ length c.args.self.now.texts.items = search rules in q)) refl refl (λ i. refl);
-  moves = search rules;
+  moves = c.in_ok-next.ensures.moves;
 }

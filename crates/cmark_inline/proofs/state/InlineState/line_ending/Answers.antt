@@ -1,5 +1,6 @@
-use Rattle.std.proofs.Common.{◌-◌, ℕ, List, sym, ap, subst, ◌∙◌, take, drop, rules}
+use Rattle.std.proofs.Common.{◌-◌, ℕ, List, sym, ap, subst, ◌∙◌, take, drop, refl}
 use Rattle.cmark_grammar.specs.LineBreaks.{ends_with_two_spaces}
+use Rattle.cmark_inline.specs.Stands.{Stands}
 use Rattle.cmark_inline.proofs.Appended.{break-appends}
 use Rattle.cmark_inline.proofs.Keeping.{break-alone, keeps-puts, keeps-same}
 use Rattle.cmark_inline.specs.Sound.{StandsAlone}
@@ -17,14 +18,14 @@ returns-clause-token c = λ o l cell ends.
 
 pub returns-in_default-clause-reads_on : goal.returns-in_default-clause-reads_on
 returns-in_default-clause-reads_on c = record {
-  expansion_left = search rules;
+  expansion_left = refl;
   keeps = keeps-same c.args.self.now;
-  moves = search rules;
+  moves = record { stands = subst (λ (p : ℕ). Stands c.args.text.now p c.args.self.now) (sym c.pass.ensures.pending) c.requires.byte.stands; cursor = c.pass.ensures.cursor; further = c.pass.ensures.further };
 }
 
 pub returns-clause-reads_on : goal.returns-clause-reads_on
 returns-clause-reads_on c = record {
-  expansion_left = search rules;
+  expansion_left = c.in_ok-next.ensures.expansion_left;
   keeps = keeps-puts c.args.self.now c.put.new.self c.in_ok-next.ensures.others c.args.here.pending c.before_blanks-text_end.result c.break_slot-slot.result c.in_ok-next.ensures.slots (subst (λ (s : Slot). StandsAlone s.kind) (sym c.break_slot-slot.ensures) (break-alone c.ends_with_two_spaces-is_hard.result));
   moves = c.onto_words.ensures.moves c.args.here.at c.put.new.self c.in_ok-next.ensures.moves;
 }

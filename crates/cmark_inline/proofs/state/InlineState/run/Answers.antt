@@ -92,7 +92,7 @@ returns-clause-others c = λ l cell is other.
 
 pub returns-then-not-flanking-2-clause-reads_on : goal.returns-then-not-flanking-2-clause-reads_on
 returns-then-not-flanking-2-clause-reads_on c = record {
-  expansion_left = search rules;
+  expansion_left = refl;
   keeps = keeps-same c.args.self.now;
   moves = search rules;
 }

@@ -1,4 +1,5 @@
 use Rattle.std.proofs.Common.{◌≡◌, ◌≤◌, ◌+◌, ◌++◌, ◌∷◌, [], ℕ, List, drop, length, refl, sym, ap, subst, ◌∙◌, arith}
+use Rattle.std.proofs.lemmas.List.{length_push}
 use Rattle.cmark_inline.specs.MarkedSlots.{SameBefore}
 use Rattle.cmark_inline.specs.Sound.{AreEnded, AreNamed, CanSettle, NamesNoMore}
 use Rattle.cmark_inline.specs.Wikilinks.{Hides, cut_at}
@@ -247,3 +248,31 @@ returns-else-place-close-clause-before c =
     let is : cut ≡ cut_at c.args.text.now c.unwrap_or-place.result at between = c.cut.ensures.value in
     let before : SameBefore (d.slot + 1) old.slots.items cut = subst (SameBefore (d.slot + 1) old.slots.items) (sym is) (shown-before (length old.texts.items) (length old.links.items) old.slots.items old.delimiters.placed.items old.quotes.placed.items old.brackets.standing.items old.doubled.standing.items c.requires.sound (d.slot + 1) at order most between hides c.args.text.now c.unwrap_or-place.result) in
     before
+
+pub returns-in_ok-push_slot-in-None-clause-length : goal.returns-in_ok-push_slot-in-None-clause-length
+returns-in_ok-push_slot-in-None-clause-length c =
+    let pushed = ap length c.in_ok-push_slot-in-None.ensures ∙ length_push c.cut.new.slots.items _ in
+    let cut = c.cut.ensures.length in
+    let hidden = c.hide.ensures.hides.size in
+    omega (arith, pushed, cut, hidden)
+
+pub returns-in_ok-push_slot-in-None-clause-longer : goal.returns-in_ok-push_slot-in-None-clause-longer
+returns-in_ok-push_slot-in-None-clause-longer c =
+    let pushed = ap length c.in_ok-push_slot-in-None.ensures ∙ length_push c.cut.new.slots.items _ in
+    let cut = c.cut.ensures.length in
+    let hidden = c.hide.ensures.hides.size in
+    omega (arith, pushed, cut, hidden)
+
+pub returns-in_ok-push_slot-in-Some-clause-length : goal.returns-in_ok-push_slot-in-Some-clause-length
+returns-in_ok-push_slot-in-Some-clause-length c =
+    let pushed = ap length c.in_ok-push_slot-in-Some.ensures ∙ length_push c.cut.new.slots.items _ in
+    let cut = c.cut.ensures.length in
+    let hidden = c.hide.ensures.hides.size in
+    omega (arith, pushed, cut, hidden)
+
+pub returns-in_ok-push_slot-in-Some-clause-longer : goal.returns-in_ok-push_slot-in-Some-clause-longer
+returns-in_ok-push_slot-in-Some-clause-longer c =
+    let pushed = ap length c.in_ok-push_slot-in-Some.ensures ∙ length_push c.cut.new.slots.items _ in
+    let cut = c.cut.ensures.length in
+    let hidden = c.hide.ensures.hides.size in
+    omega (arith, pushed, cut, hidden)

@@ -100,3 +100,18 @@ returns-clause-writes c =
       is = c.in-Some-wikilink_at.ensures.is;
       writes = writes-taken options c.args.text.now c.in-Some.doubled c.args.close c.in-Some-wikilink_at.wikilink old new c.take.new.self c.in_ok-form_wikilink.ensures.writes;
     })
+
+pub returns-in_default-clause-sound : goal.returns-in_default-clause-sound
+returns-in_default-clause-sound c =
+    let old : InlineState = c.args.self.now in
+    sound-pair-taken (length old.texts.items) (length old.links.items) old.slots.items old.delimiters.placed.items old.quotes.placed.items old.brackets.standing.items old.doubled.standing.items c.requires.sound c.take.new.self.standing.items c.take.ensures.others
+
+pub returns-in_default-clause-stands : goal.returns-in_default-clause-stands
+returns-in_default-clause-stands c =
+    let old : InlineState = c.args.self.now in
+    λ none. let s = c.requires.stands in record { slots = s.slots; brackets = s.brackets; few = s.few; free = s.free; doubled = c.take.ensures.brackets c.args.text.now c.args.close s.doubled; doubled_free = c.take.ensures.free c.args.self.now.slots.items s.doubled_free; runs = s.runs }
+
+pub returns-in_default-clause-taken : goal.returns-in_default-clause-taken
+returns-in_default-clause-taken c =
+    let old : InlineState = c.args.self.now in
+    λ none. λ bracket t. taken-fewer old.slots.items old.delimiters.placed.items old.quotes.placed.items old.brackets.standing.items old.doubled.standing.items c.take.new.self.standing.items bracket (length old.doubled.standing.items - 1) c.take.ensures.others t
