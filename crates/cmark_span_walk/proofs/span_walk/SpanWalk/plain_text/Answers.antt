@@ -27,20 +27,20 @@ returns-clause-plain g c options lookup is_cell set =
 pub source_at-text-requires : goal.source_at-text-requires
 source_at-text-requires g c =
     let source = source_of c.args.self.now.leaf in
-    let one = one-line source c.as_slice.result.now (subst (AreLines source 0) (sym c.as_slice.ensures.value) c.requires) c.in-len1.len_at_least c.in-len1.len_below in
+    let one = one-line source c.as_slice.result.now (subst (AreLines source 0) (sym c.as_slice.ensures.value) c.requires) (omega arith) (omega arith) in
     record { some = c.if-line.false; within = omega (arith, one.0.ending, one.0.within); starts = one.0.starts; ends = one.0.stops }
 
 pub source_ahead-ahead-requires : goal.source_ahead-ahead-requires
 source_ahead-ahead-requires g c =
     let source = source_of c.args.self.now.leaf in
-    let one = one-line source c.as_slice.result.now (subst (AreLines source 0) (sym c.as_slice.ensures.value) c.requires) c.in-len1.len_at_least c.in-len1.len_below in
+    let one = one-line source c.as_slice.result.now (subst (AreLines source 0) (sym c.as_slice.ensures.value) c.requires) (omega arith) (omega arith) in
     one.0.starts
 
 pub returns-clause-line : goal.returns-clause-line
 returns-clause-line g c =
     let source = source_of c.args.self.now.leaf in
     let line = get_or c.as_slice.result.now 0 no_line in
-    let one = one-line source c.as_slice.result.now (subst (AreLines source 0) (sym c.as_slice.ensures.value) c.requires) c.in-len1.len_at_least c.in-len1.len_below in
+    let one = one-line source c.as_slice.result.now (subst (AreLines source 0) (sym c.as_slice.ensures.value) c.requires) (omega arith) (omega arith) in
     record {
       line = line;
       alone = sym c.as_slice.ensures.value ∙ one.1;
