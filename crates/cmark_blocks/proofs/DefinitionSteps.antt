@@ -1,5 +1,5 @@
 -- Link reference definitions that begin.
-use Rattle.std.proofs.Common.{◌≡◌, ℕ, zero, suc, ◌+◌, ◌-◌, ◌≤◌, Bool, true, false, ◌&&◌, List, [], ◌∷◌, ◌++◌, Option, Some, None, option_map, length, take, refl, sym, ap, ◌∙◌, subst, arith, append-nil, length-append, true≢false}
+use Rattle.std.proofs.Common.{◌≡◌, ℕ, zero, suc, ◌+◌, ◌-◌, ◌<◌, ◌≤◌, Bool, true, false, ◌&&◌, List, [], ◌∷◌, ◌++◌, Option, Some, None, option_map, length, take, refl, sym, ap, ◌∙◌, subst, arith, append-nil, length-append, true≢false}
 use Rattle.std.specs.Prelude.{string_bytes}
 use Rattle.cmark_grammar.specs.Answers.{Lookup}
 use Rattle.cmark_grammar.specs.BlockDocument.{Reference}
@@ -24,7 +24,7 @@ use Rattle.cmark_block_model.specs.OpenBlocks as model
 use Rattle.cmark_blocks.specs.declared.state.Pass.{Pass}
 use Rattle.cmark_blocks.specs.declared.gathered.Gathered.{Gathered}
 use Rattle.cmark_blocks.specs.LinkDefinitions.{definition_begun}
-use Rattle.cmark_blocks.specs.Gathered.{texts_at, Holds, GathersMore, IsWhole}
+use Rattle.cmark_blocks.specs.Gathered.{texts_at, Holds, Gathers, GathersMore, IsWhole}
 use Rattle.cmark_blocks.proofs.GatherSteps.{bytes-split}
 use Rattle.cmark_blocks.proofs.LineFeeds.{texts-end, ends-behind}
 use Rattle.cmark_blocks.specs.Runs.{Runs, shown_reference}
@@ -88,6 +88,15 @@ whole-decides bs r rs none =
 pub whole-of : {E : Type 0} (replacement : E → Lookup) (pass : Pass E) (old new : Gathered) (more : Bool) → more ≡ false → GathersMore replacement pass old more new → IsWhole replacement pass new
 whole-of replacement pass old new true e h = absurd (true≢false e)
 whole-of replacement pass old new false e h = h.1
+
+-- what was gathered before stands in front of what was gathered then, whether or not one more line goes on
+pub kept-of : {E : Type 0} (replacement : E → Lookup) (pass : Pass E) (old new : Gathered) (more : Bool) → GathersMore replacement pass old more new → (first : LineRest) → Gathers replacement pass first old → Gathers replacement pass first new
+kept-of replacement pass old new true h = h.0
+kept-of replacement pass old new false h = h.0
+
+pub further-of : {E : Type 0} (replacement : E → Lookup) (pass : Pass E) (old new : Gathered) (more : Bool) → more ≡ true → GathersMore replacement pass old more new → (row_of old.last).line_end < (row_of new.last).line_end
+further-of replacement pass old new true e h = h.1
+further-of replacement pass old new false e h = absurd (true≢false (sym e))
 
 module _ (text : List ℕ) (options : Options) (lookup : Lookup) (m : model.Pass) (first : LineRest) (gathered : Gathered) (holds : Holds text options lookup m first gathered) where
   -- the lines that were not gathered

@@ -192,18 +192,9 @@ impl<'a, E: EntityLookup> Pass<'a, E> {
         ensures text { self.new.text ≡ self.old.text }
     {
         match CodeOrHtml::Indented.continuation(rest) {
-            Continuation::GoesOn => {
-                self.add_to_indented(waits, end, rest)?;
-                Ok(())
-            }
-            Continuation::Waits => {
-                self.keep_blank_line(rest)?;
-                Ok(())
-            }
-            Continuation::Closes | Continuation::Stops => {
-                self.begin_anew(rest)?;
-                Ok(())
-            }
+            Continuation::GoesOn => { self.add_to_indented(waits, end, rest) }
+            Continuation::Waits => { self.keep_blank_line(rest) }
+            Continuation::Closes | Continuation::Stops => { self.begin_anew(rest) }
         }
     }
 

@@ -107,8 +107,7 @@ impl<'a, E: EntityLookup> Pass<'a, E> {
     {
         let body = ItemBody::TaskListMarker(is_checked);
         self.builder.add(start, behind.begin(), body)?;
-        self.begin_paragraph(behind)?;
-        Ok(())
+        self.begin_paragraph(behind)
     }
 
     /// The width of the definition that a line begins, and the line behind its marker: behind a paragraph, which is its title, or behind another
@@ -159,8 +158,7 @@ impl<'a, E: EntityLookup> Pass<'a, E> {
     {
         self.begin_block();
         self.builder.open(start, ItemBody::BlockQuote(alert))?;
-        self.enter(Container::BlockQuote)?;
-        Ok(())
+        self.enter(Container::BlockQuote)
     }
 
     /// An item begins at this byte offset. Whether a task marker stands behind its marker is not seen here.
@@ -175,8 +173,7 @@ impl<'a, E: EntityLookup> Pass<'a, E> {
     {
         self.join_list(item, start)?;
         self.builder.open(start, ItemBody::ListItem(item.width))?;
-        self.enter(Container::Item { width: item.width })?;
-        Ok(())
+        self.enter(Container::Item { width: item.width })
     }
 
     /// A definition of this width begins at this byte offset, behind its title or another definition (this profile's own).
@@ -195,8 +192,7 @@ impl<'a, E: EntityLookup> Pass<'a, E> {
         self.join_definitions(width, start)?;
         let body = ItemBody::DefinitionListDefinition(width);
         self.builder.open(start, body)?;
-        self.enter(Container::Definition { width })?;
-        Ok(())
+        self.enter(Container::Definition { width })
     }
 
     /// Whether this container is an item whose first line was blank, and came last.

@@ -100,8 +100,7 @@ impl<'a, E: EntityLookup> Pass<'a, E> {
             return Ok(());
         }
         let (label, kept) = link_definition(self.alloc, definition, span, self.entities)?;
-        self.builder.allocations.refdefs.insert(label, kept)?;
-        Ok(())
+        self.builder.allocations.refdefs.insert(label, kept)
     }
 
     /// A definition begins with these bytes of the text, and takes so many lines to come.
@@ -142,14 +141,12 @@ impl<'a, E: EntityLookup> Pass<'a, E> {
     {
         let paragraph = gathered.text.as_str();
         let Some(definition) = scan_definition(paragraph) else {
-            self.begin_text(rest)?;
-            return Ok(());
+            return self.begin_text(rest);
         };
         let behind = line_ends_behind(paragraph, definition.end);
         let more = gathered.lines.saturating_sub(behind);
         let end = self.content_end_behind(rest, more);
-        self.begin_definition(&definition, rest.words_begin()..end, more)?;
-        Ok(())
+        self.begin_definition(&definition, rest.words_begin()..end, more)
     }
 
     /// A line whose words begin with a bracket begins a link reference definition, or else a table or a paragraph.
@@ -163,8 +160,7 @@ impl<'a, E: EntityLookup> Pass<'a, E> {
         ensures text { self.new.text ≡ self.old.text }
     {
         if begins_no_definition(rest.words()) {
-            self.begin_text(rest)?;
-            return Ok(());
+            return self.begin_text(rest);
         }
         let room = mem::replace(&mut self.room, String::new(self.alloc));
         let gathered = self.gather(rest, room)?;
@@ -188,8 +184,7 @@ impl<'a, E: EntityLookup> Pass<'a, E> {
         ensures text { self.new.text ≡ self.old.text }
     {
         if left == 0 {
-            self.begin_anew(rest)?;
-            return Ok(());
+            return self.begin_anew(rest);
         }
         self.leaf = OpenLeaf::Definition(left - 1);
         Ok(())

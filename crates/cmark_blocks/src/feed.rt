@@ -111,8 +111,7 @@ impl<'a, E: EntityLookup> Pass<'a, E> {
             OpenLeaf::Paragraph(from, last) => self.add_to_paragraph(from, last, rest),
             OpenLeaf::Definition(_) | OpenLeaf::BehindTag => {
                 self.close_leaf()?;
-                self.begin_paragraph(rest)?;
-                Ok(())
+                self.begin_paragraph(rest)
             }
             OpenLeaf::Closed
             | OpenLeaf::Table(_)
@@ -145,17 +144,14 @@ impl<'a, E: EntityLookup> Pass<'a, E> {
         ensures text { self.new.text ≡ self.old.text }
     {
         if kept == self.outer.len() {
-            self.feed_leaf(rest)?;
-            return Ok(());
+            return self.feed_leaf(rest);
         }
         if self.is_lazy(kept, rest) {
-            self.feed_lazily(rest)?;
-            return Ok(());
+            return self.feed_lazily(rest);
         }
         self.close_leaf()?;
         self.close_containers(kept);
-        self.begin(rest)?;
-        Ok(())
+        self.begin(rest)
     }
 
     /// One more whole line of the text.

@@ -73,7 +73,6 @@ impl<'a, E: EntityLookup> Pass<'a, E> {
         let index = keep_label(self.alloc, &mut self.builder.allocations, label)?;
         let body = ItemBody::FootnoteDefinition(index);
         self.builder.open(rest.words_begin(), body)?;
-        self.enter(Container::Footnote { old: footnote.old })?;
-        Ok(())
+        self.enter(Container::Footnote { old: footnote.old })
     }
 }

@@ -53,8 +53,7 @@ impl<'a, E: EntityLookup> Pass<'a, E> {
     {
         let continuation = CodeOrHtml::Html(kind).continuation(rest);
         if let Continuation::Stops = continuation {
-            self.begin_anew(rest)?;
-            return Ok(());
+            return self.begin_anew(rest);
         }
         draw_html_line(&mut self.builder, rest)?;
         if let Continuation::Closes = continuation {

@@ -116,15 +116,12 @@ impl<'a, E: EntityLookup> Pass<'a, E> {
             return Ok(());
         }
         if begins_with_text(line) {
-            self.begin_text(line)?;
-            return Ok(());
+            return self.begin_text(line);
         }
         if begins_with_label(line, self.options) {
-            self.begin_bracket(line)?;
-            return Ok(());
+            return self.begin_bracket(line);
         }
-        self.begin_blocks(line)?;
-        Ok(())
+        self.begin_blocks(line)
     }
 
     /// All that a line begins, with no leaf open: each container, and what stands behind the last one's marker.
@@ -157,7 +154,6 @@ impl<'a, E: EntityLookup> Pass<'a, E> {
         ensures text { self.new.text ≡ self.old.text }
     {
         self.close_leaf()?;
-        self.begin(rest)?;
-        Ok(())
+        self.begin(rest)
     }
 }

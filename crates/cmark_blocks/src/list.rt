@@ -175,10 +175,7 @@ impl<'a, E: EntityLookup> Pass<'a, E> {
                 self.inner = self.inner.with_item_of(list);
                 Ok(())
             }
-            None => {
-                self.begin_list(item, start)?;
-                Ok(())
-            }
+            None => { self.begin_list(item, start) }
         }
     }
 
@@ -213,18 +210,14 @@ impl<'a, E: EntityLookup> Pass<'a, E> {
         ensures bare { self.new.bare ≡ self.old.bare }
     {
         match self.inner.title {
-            Some(title) => {
-                self.make_title(title, start)?;
-                Ok(())
-            }
+            Some(title) => { self.make_title(title, start) }
             None => {
                 let item = ItemStart {
                     delimiter: DEFINITION_DELIMITER,
                     number: None,
                     width,
                 };
-                self.join_list(item, start)?;
-                Ok(())
+                self.join_list(item, start)
             }
         }
     }

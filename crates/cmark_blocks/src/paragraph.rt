@@ -95,16 +95,14 @@ impl<'a, E: EntityLookup> Pass<'a, E> {
         ensures text { self.new.text ≡ self.old.text }
     {
         if rest.begins_with_letter() {
-            self.add_to_paragraph(from, last, rest)?;
-            return Ok(());
+            return self.add_to_paragraph(from, last, rest);
         }
         if rest.is_blank() {
             self.close_paragraph(from, last)?;
             self.pass_blank_line(false);
             return Ok(());
         }
-        self.feed_marked(from, last, rest)?;
-        Ok(())
+        self.feed_marked(from, last, rest)
     }
 
     /// The same, where the line is not blank. It stands in a function of its own, as what most lines do not come to: the locals of a function
@@ -123,17 +121,15 @@ impl<'a, E: EntityLookup> Pass<'a, E> {
         ensures text { self.new.text ≡ self.old.text }
     {
         if let Some(level) = underlines(rest) {
-            self.underline(from, last, level, rest)?;
-            return Ok(());
+            return self.underline(from, last, level, rest);
         }
         if interrupts(rest, true, self.options)
             || self.block_interrupts(self.outer.len(), rest, true)
         {
-            self.begin_anew(rest)?;
+            self.begin_anew(rest)
         } else {
-            self.add_to_paragraph(from, last, rest)?;
+            self.add_to_paragraph(from, last, rest)
         }
-        Ok(())
     }
 
     /// Closes a paragraph, whose last line this is; the lines that touch it begin at this byte offset.

@@ -83,14 +83,17 @@ impl<'a, E: EntityLookup> Pass<'a, E> {
         ensures good { IfOk result IsGood }
         ensures runs { IfOk result (Runs E.replacement text.entry.now (shown_options options) (E.replacement entities.entry.now) at_start) }
     {
+        // The list is made first: where memory is then refused to the builder, it is let go by one call.
+        let outer = Vec::with_capacity(alloc, USUAL_DEPTH)?;
+        let builder = Builder::new(alloc)?;
         Ok(Pass {
             alloc,
             text,
             options,
             entities,
-            builder: Builder::new(alloc)?,
+            builder,
             inner: Siblings::none(),
-            outer: Vec::with_capacity(alloc, USUAL_DEPTH)?,
+            outer,
             bare: false,
             leaf: OpenLeaf::Closed,
             blank_lines: Vec::new(alloc),

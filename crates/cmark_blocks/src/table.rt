@@ -197,11 +197,9 @@ impl<'a, E: EntityLookup> Pass<'a, E> {
         ensures text { self.new.text ≡ self.old.text }
     {
         if !reads_tables(self.options) {
-            self.begin_paragraph(rest)?;
-            return Ok(());
+            return self.begin_paragraph(rest);
         }
-        self.begin_table_or_text(rest)?;
-        Ok(())
+        self.begin_table_or_text(rest)
     }
 
     /// The same, whether or not tables are read.
@@ -232,8 +230,7 @@ impl<'a, E: EntityLookup> Pass<'a, E> {
         ensures text { self.new.text ≡ self.old.text }
     {
         if left == 0 {
-            self.begin_anew(rest)?;
-            return Ok(());
+            return self.begin_anew(rest);
         }
         self.leaf = OpenLeaf::Table(left - 1);
         Ok(())

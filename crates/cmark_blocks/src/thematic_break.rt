@@ -22,7 +22,6 @@ impl<'a, E: EntityLookup> Pass<'a, E> {
     {
         self.begin_block();
         self.builder
-            .add(rest.words_begin(), rest.line_end(), ItemBody::Rule)?;
-        Ok(())
+            .add(rest.words_begin(), rest.line_end(), ItemBody::Rule)
     }
 }

@@ -123,10 +123,7 @@ impl<'a> Walk<'a> {
                 is_checked,
                 start,
                 end,
-            } => {
-                let step = self.enter_list(ix, is_checked, start, end)?;
-                Ok(step)
-            }
+            } => self.enter_list(ix, is_checked, start, end),
             Stage::Lines => {
                 let is_cell = self.meet_leaf(ix, lines)?;
                 Ok(Step::Leaf { is_cell })

@@ -55,8 +55,7 @@ impl<'input, E: EntityLookup> Parser<'input, E> {
         ensures callback { IfOk result (λ parser. callback_of parser ≡ None) }
         ensures goes { IfOk result (CanGo E.replacement) }
     {
-        let parser = Parser::new_ext(alloc, text, Options::empty(), entities)?;
-        Ok(parser)
+        Parser::new_ext(alloc, text, Options::empty(), entities)
     }
 
     /// A parser of `text` with these options; an option that is off changes nothing. `entities` says what the entity names stand for.
@@ -74,8 +73,7 @@ impl<'input, E: EntityLookup> Parser<'input, E> {
         ensures callback { IfOk result (λ parser. callback_of parser ≡ None) }
         ensures goes { IfOk result (CanGo E.replacement) }
     {
-        let parser = Parser::new_with_broken_link_callback(alloc, text, options, entities, None)?;
-        Ok(parser)
+        Parser::new_with_broken_link_callback(alloc, text, options, entities, None)
     }
 }
 
@@ -224,9 +222,10 @@ impl<'input, E: EntityLookup, F: BrokenLinkCallback<'input> + Drop> Iterator
 
     #[inline(always)]
     fn next(&mut self) -> Option<Result<Event<'input>, AllocError>> {
-        match self.advance()? {
-            Ok(given) => Some(Ok(given.event)),
-            Err(error) => Some(Err(error)),
+        match self.advance() {
+            Some(Ok(given)) => Some(Ok(given.event)),
+            Some(Err(error)) => Some(Err(error)),
+            None => None,
         }
     }
 
@@ -267,9 +266,10 @@ impl<'input, E: EntityLookup, F: BrokenLinkCallback<'input> + Drop> Iterator
 
     #[inline(always)]
     fn next(&mut self) -> Option<Result<(Event<'input>, Range<usize>), AllocError>> {
-        match self.parser.advance()? {
-            Ok(given) => Some(Ok((given.event, given.range))),
-            Err(error) => Some(Err(error)),
+        match self.parser.advance() {
+            Some(Ok(given)) => Some(Ok((given.event, given.range))),
+            Some(Err(error)) => Some(Err(error)),
+            None => None,
         }
     }
 

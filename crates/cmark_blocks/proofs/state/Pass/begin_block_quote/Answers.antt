@@ -1,3 +1,4 @@
+use Rattle.std.proofs.lemmas.Result.{on_ok_weaker}
 use Rattle.std.proofs.Common.{option_map, refl, ap}
 use Rattle.cmark_text_parts.specs.Shown.{shown_block_quote_kind}
 use Rattle.cmark_grammar.specs.BlockDocument.{BlockQuote}
@@ -10,9 +11,12 @@ use Rattle.cmark_blocks.proofs.state.Pass.begin_block_quote.Goals as goal
 use Rattle.cmark_items.specs.Tables.{defined}
 
 pub returns-clause-runs : goal.returns-clause-runs
-returns-clause-runs g c text options lookup m runs =
+returns-clause-runs g c =
+    on_ok_weaker c.enter.result
+    (λ ran. λ text options lookup m runs.
     let before = c.begin_block.new.self in
     let r = c.begin_block.ensures.runs text options lookup m runs in
     let draws = draws-open text before.builder c.open.new.self c.args.start _ (BlockQuote (option_map shown_block_quote_kind c.args.alert)) (block_begun m).drawing c.in_ok-open.ensures.ok c.in_ok-open.ensures.tables refl r.drawing in
-    c.in_ok-enter.ensures.runs (BlockQuotePrefix (option_map shown_block_quote_kind c.args.alert)) tt text options lookup _
-    (runs-builder g.E.EntityLookup.replacement text options lookup (block_begun m) before c.open.new.self (opened c.args.start (BlockQuote (option_map shown_block_quote_kind c.args.alert)) (block_begun m).drawing) r draws (ap defined c.in_ok-open.ensures.tables))
+    ran (BlockQuotePrefix (option_map shown_block_quote_kind c.args.alert)) tt text options lookup _
+    (runs-builder g.E.EntityLookup.replacement text options lookup (block_begun m) before c.open.new.self (opened c.args.start (BlockQuote (option_map shown_block_quote_kind c.args.alert)) (block_begun m).drawing) r draws (ap defined c.in_ok-open.ensures.tables)))
+    c.enter.ensures.runs

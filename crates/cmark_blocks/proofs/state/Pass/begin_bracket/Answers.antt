@@ -1,3 +1,4 @@
+use Rattle.std.proofs.lemmas.Result.{on_ok_weaker}
 use Rattle.std.proofs.Common.{◌≡◌, true, sym, ap, subst, ◌∙◌}
 use Rattle.cmark_grammar.specs.Openings.{text_lines}
 use Rattle.cmark_grammar.specs.LinkDefinitions.{further_bytes}
@@ -13,14 +14,17 @@ use Rattle.cmark_blocks.proofs.RunSteps.{runs-room}
 use Rattle.cmark_blocks.proofs.state.Pass.begin_bracket.Goals as goal
 
 pub returns-then-begins_no_definition-clause-runs : goal.returns-then-begins_no_definition-clause-runs
-returns-then-begins_no_definition-clause-runs g c text options lookup m inside bare runs =
+returns-then-begins_no_definition-clause-runs g c =
+    on_ok_weaker c.begin_text.result
+    (λ ran. λ text options lookup m inside bare runs.
     let r = row_of c.args.rest in
     let ahead = ahead_in text options lookup m.outer (lines_at text r.line_end) in
     let more = text_lines options ahead in
     let seen : begins_none (words_of r) ≡ true = ap begins_none (sym c.words.ensures) ∙ sym c.begins_no_definition.ensures ∙ c.if-begins_no_definition.true in
     subst (λ p. Runs g.E.EntityLookup.replacement text options lookup p c.begin_text.new.self)
     (begins-none text options lookup m inside r ahead bare (sym (none-begins (further_bytes r more) (further-lacks r more) (words_of r) seen)))
-    (c.in_ok-begin_text.ensures.runs text options lookup m inside bare runs)
+    (ran text options lookup m inside bare runs))
+    c.begin_text.ensures.runs
 
 pub returns-clause-runs : goal.returns-clause-runs
 returns-clause-runs g c text options lookup m inside bare runs =

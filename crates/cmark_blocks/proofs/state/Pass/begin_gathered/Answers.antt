@@ -1,3 +1,4 @@
+use Rattle.std.proofs.lemmas.Result.{on_ok_weaker}
 use Rattle.std.proofs.Common.{◌≡◌, Some, None, option_map, sym, ap, ◌∙◌, subst, ◌-◌}
 use Rattle.cmark_grammar.specs.LinkDefinitions.{definition_in}
 use Rattle.cmark_lines.specs.Rests.{row_of}
@@ -10,7 +11,9 @@ use Rattle.cmark_blocks.proofs.DefinitionSteps.{begins-definition, begins-none, 
 use Rattle.cmark_blocks.proofs.state.Pass.begin_gathered.Goals as goal
 
 pub returns-in_default-clause-runs : goal.returns-in_default-clause-runs
-returns-in_default-clause-runs g c text options lookup m inside bare runs =
+returns-in_default-clause-runs g c =
+    on_ok_weaker c.begin_text.result
+    (λ ran. λ text options lookup m inside bare runs.
     let replacement = g.E.EntityLookup.replacement in
     let r = row_of c.args.rest in
     let ahead = ahead_in text options lookup m.outer (lines_at text r.line_end) in
@@ -22,10 +25,13 @@ returns-in_default-clause-runs g c text options lookup m inside bare runs =
     subst (λ p. Runs replacement text options lookup p c.begin_text.new.self)
     (begins-none text options lookup m inside r ahead bare
     (ap (option_map (defined_before more)) none ∙ decided text options lookup m c.args.rest gathered holds para c.as_str-paragraph.ensures.value (c.requires.decides text options lookup m runs)))
-    (c.in_ok-begin_text.ensures.runs text options lookup m inside bare runs)
+    (ran text options lookup m inside bare runs))
+    c.begin_text.ensures.runs
 
 pub returns-clause-runs : goal.returns-clause-runs
-returns-clause-runs g c text options lookup m inside bare runs =
+returns-clause-runs g c =
+    on_ok_weaker c.begin_definition.result
+    (λ ran. λ text options lookup m inside bare runs.
     let replacement = g.E.EntityLookup.replacement in
     let r = row_of c.args.rest in
     let ahead = ahead_in text options lookup m.outer (lines_at text r.line_end) in
@@ -41,4 +47,5 @@ returns-clause-runs g c text options lookup m inside bare runs =
     c.words_begin.ensures.place
     (c.saturating_sub-more.ensures ∙ ap (λ n. gathered.lines - n) c.line_ends_behind-behind.ensures ∙ lines-taken text options lookup m c.args.rest gathered holds found.behind)
     (c.content_end_behind-end.ensures text options lookup m runs))
-    (c.in_ok-begin_definition.ensures.runs text options lookup m runs)
+    (ran text options lookup m runs))
+    c.begin_definition.ensures.runs

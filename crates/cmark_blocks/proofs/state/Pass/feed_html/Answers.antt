@@ -1,3 +1,4 @@
+use Rattle.std.proofs.lemmas.Result.{on_ok_weaker}
 use Rattle.std.proofs.Common.{[], refl, sym, ap, ◌∙◌, subst}
 use Rattle.cmark_grammar.specs.BlockDocument.{Nil}
 use Rattle.cmark_grammar.specs.Tokens.{html_then, verbatim_line}
@@ -44,10 +45,13 @@ returns-in-Closes-clause-runs g c text options lookup m runs =
     (refl, shows.1))
 
 pub returns-in-Stops-clause-runs : goal.returns-in-Stops-clause-runs
-returns-in-Stops-clause-runs g c text options lookup m runs =
+returns-in-Stops-clause-runs g c =
+    on_ok_weaker c.begin_anew.result
+    (λ ran. λ text options lookup m runs.
     let before = c.args.self.now in
     let row = row_of c.args.rest in
     let shows = subst (λ l. ShowsLeaf text l before.blank_lines.items m.leaf) c.requires.is runs.leaf in
     subst (λ p. Runs g.E.EntityLookup.replacement text options lookup p c.begin_anew.new.self)
     (sym (html-stops text options lookup (kind_number c.args.kind) row (lines_at text row.line_end) m c.continuation-continuation.result shows.0 (c.continuation-continuation.ensures []) c.in-Stops.is))
-    (c.in_ok-begin_anew.ensures.runs text options lookup m runs)
+    (ran text options lookup m runs))
+    c.begin_anew.ensures.runs

@@ -16,8 +16,10 @@ returns-in-Paragraph-clause-runs g c =
     (adds text options lookup m runs))
     c.add_to_paragraph.ensures.runs
 
-pub returns-in_ok-begin_paragraph-in-Definition-clause-runs : goal.returns-in_ok-begin_paragraph-in-Definition-clause-runs
-returns-in_ok-begin_paragraph-in-Definition-clause-runs g c text options lookup m runs =
+pub returns-in_ok-close_leaf-in-Definition-clause-runs : goal.returns-in_ok-close_leaf-in-Definition-clause-runs
+returns-in_ok-close_leaf-in-Definition-clause-runs g c =
+    on_ok_weaker c.begin_paragraph.result
+    (λ ran. λ text options lookup m runs.
     let replacement = g.E.EntityLookup.replacement in
     let row = row_of c.args.rest in
     subst (λ p. Runs replacement text options lookup p c.begin_paragraph.new.self)
@@ -25,4 +27,5 @@ returns-in_ok-begin_paragraph-in-Definition-clause-runs g c text options lookup 
     (λ d. lazy-definition text options lookup row (lines_at text row.line_end) m d.0 (in_definition replacement text options lookup m c.args.self.now runs d.0 d.1))
     (λ tag. lazy-behind text options lookup row (lines_at text row.line_end) m (behind_tag replacement text options lookup m c.args.self.now runs tag))
     c.in-Definition.is))
-    (c.in_ok-begin_paragraph-in-Definition.ensures.runs text options lookup _ (c.in_ok-close_leaf-in-Definition.ensures.runs text options lookup m runs))
+    (ran text options lookup _ (c.in_ok-close_leaf-in-Definition.ensures.runs text options lookup m runs)))
+    c.begin_paragraph.ensures.runs

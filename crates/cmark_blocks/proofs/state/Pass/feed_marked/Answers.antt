@@ -1,3 +1,4 @@
+use Rattle.std.proofs.lemmas.Result.{on_ok_weaker}
 use Rattle.std.proofs.Common.{◌≡◌, ◌≤◌, true, false, ◌||◌, length, map, option_map, sym, ap, subst, ◌∙◌, arith, true≢false}
 use Rattle.cmark_grammar.specs.Openings.{interrupts}
 use Rattle.cmark_blocks.specs.TablesAhead.{block_interrupts}
@@ -13,15 +14,20 @@ use Rattle.cmark_blocks.proofs.state.Pass.feed_marked.Goals as goal
 use Rattle.cmark_blocks.proofs.state.Pass.feed_marked.Goals.{then-interrupts, else-interrupts}
 
 pub returns-in-Some-clause-runs : goal.returns-in-Some-clause-runs
-returns-in-Some-clause-runs g c text options lookup m runs =
+returns-in-Some-clause-runs g c =
+    on_ok_weaker c.underline.result
+    (λ ran. λ text options lookup m runs.
     let replacement = g.E.EntityLookup.replacement in
     let row = row_of c.args.rest in
     subst (λ p. Runs replacement text options lookup p c.underline.new.self)
     (sym (feeds-underline text options lookup row (lines_at text row.line_end) m (map row_of c.args.self.now.blank_lines.items) c.args.from (row_of c.args.last) (level_number c.in-Some.level) (ap (option_map level_number) (sym c.in-Some.is) ∙ c.underlines.ensures) (in_paragraph replacement text options lookup m c.args.self.now runs c.args.from c.args.last c.requires.behind.is)))
-    (c.in_ok-underline.ensures.runs text options lookup m runs)
+    (ran text options lookup m runs))
+    c.underline.ensures.runs
 
-pub returns-in_ok-begin_anew-clause-runs : goal.returns-in_ok-begin_anew-clause-runs
-returns-in_ok-begin_anew-clause-runs g c text options lookup m runs =
+pub returns-then-block_interrupts-clause-runs : goal.returns-then-block_interrupts-clause-runs
+returns-then-block_interrupts-clause-runs g c =
+    on_ok_weaker c.begin_anew.result
+    (λ ran. λ text options lookup m runs.
     let replacement = g.E.EntityLookup.replacement in
     let row = row_of c.args.rest in
     let next = lines_at text row.line_end in
@@ -37,10 +43,13 @@ returns-in_ok-begin_anew-clause-runs g c text options lookup m runs =
     subst (λ p. Runs replacement text options lookup p c.begin_anew.new.self)
     (sym (feeds-interrupted text options lookup row next m (map row_of c.args.self.now.blank_lines.items) c.args.from (row_of c.args.last) (ap (option_map level_number) (sym c.in_default.is) ∙ c.underlines.ensures) (whole c.args.rest)
     ends (in_paragraph replacement text options lookup m c.args.self.now runs c.args.from c.args.last c.requires.behind.is)))
-    (c.in_ok-begin_anew.ensures.runs text options lookup m runs)
+    (ran text options lookup m runs))
+    c.begin_anew.ensures.runs
 
-pub returns-in_ok-add_to_paragraph-clause-runs : goal.returns-in_ok-add_to_paragraph-clause-runs
-returns-in_ok-add_to_paragraph-clause-runs g c text options lookup m runs =
+pub returns-else-block_interrupts-clause-runs : goal.returns-else-block_interrupts-clause-runs
+returns-else-block_interrupts-clause-runs g c =
+    on_ok_weaker c.add_to_paragraph.result
+    (λ ran. λ text options lookup m runs.
     let replacement = g.E.EntityLookup.replacement in
     let row = row_of c.args.rest in
     let next = lines_at text row.line_end in
@@ -56,4 +65,5 @@ returns-in_ok-add_to_paragraph-clause-runs g c text options lookup m runs =
     subst (λ p. Runs replacement text options lookup p c.add_to_paragraph.new.self)
     (sym (feeds-text text options lookup row next m (map row_of c.args.self.now.blank_lines.items) c.args.from (row_of c.args.last) (ap (option_map level_number) (sym c.in_default.is) ∙ c.underlines.ensures) (whole c.args.rest)
     goes_on (in_paragraph replacement text options lookup m c.args.self.now runs c.args.from c.args.last c.requires.behind.is)))
-    (c.in_ok-add_to_paragraph.ensures.runs text options lookup m runs)
+    (ran text options lookup m runs))
+    c.add_to_paragraph.ensures.runs

@@ -1,3 +1,4 @@
+use Rattle.std.proofs.lemmas.Result.{on_ok_weaker}
 use Rattle.std.proofs.Common.{true, ◌||◌, map, sym, ap, subst, ◌∙◌}
 use Rattle.cmark_grammar.specs.DefinitionLists.{begins_definition}
 use Rattle.cmark_blocks.specs.TablesAhead.{block_interrupts}
@@ -13,7 +14,9 @@ use Rattle.cmark_blocks.proofs.LineSteps.{begins-blank, blank-underlines-not, bl
 use Rattle.cmark_blocks.proofs.state.Pass.feed_paragraph.Goals as goal
 
 pub returns-then-begins_with_letter-clause-runs : goal.returns-then-begins_with_letter-clause-runs
-returns-then-begins_with_letter-clause-runs g c text options lookup m runs =
+returns-then-begins_with_letter-clause-runs g c =
+    on_ok_weaker c.add_to_paragraph.result
+    (λ ran. λ text options lookup m runs.
     let replacement = g.E.EntityLookup.replacement in
     let row = row_of c.args.rest in
     let letter = sym c.begins_with_letter.ensures ∙ c.if-begins_with_letter.true in
@@ -21,7 +24,8 @@ returns-then-begins_with_letter-clause-runs g c text options lookup m runs =
     (sym (feeds-text text options lookup row (lines_at text row.line_end) m (map row_of c.args.self.now.blank_lines.items) c.args.from (row_of c.args.last) (sym (letter-underlines-not row letter)) (whole c.args.rest)
     (sym (ap (λ z. z || block_interrupts options true row (ahead_in text options lookup m.outer (lines_at text row.line_end))) (letter-interrupts-not options true row (ahead_in text options lookup m.outer (lines_at text row.line_end)) letter)
     ∙ ap (λ z. z || begins_definition options row) (letter-table-not options row (ahead_in text options lookup m.outer (lines_at text row.line_end)) letter) ∙ letter-definition-not options row letter)) (in_paragraph replacement text options lookup m c.args.self.now runs c.args.from c.args.last c.requires.behind.is)))
-    (c.in_ok-add_to_paragraph.ensures.runs text options lookup m runs)
+    (ran text options lookup m runs))
+    c.add_to_paragraph.ensures.runs
 
 pub returns-then-is_blank-clause-runs : goal.returns-then-is_blank-clause-runs
 returns-then-is_blank-clause-runs g c text options lookup m runs =

@@ -1,3 +1,4 @@
+use Rattle.std.proofs.lemmas.Result.{on_ok_weaker}
 use Rattle.std.proofs.Common.{◌≤◌, ◌<◌, take, drop, length, sym, subst, ◌∙◌, arith}
 use Rattle.std.proofs.lemmas.List.{take-append-drop, length-take-le}
 use Rattle.cmark_lines.specs.Rests.{row_of}
@@ -10,16 +11,21 @@ use Rattle.cmark_blocks.proofs.KeepingSteps.{shows-all, shows-some}
 use Rattle.cmark_blocks.proofs.state.Pass.feed_rest.Goals as goal
 
 pub returns-then-kept-len-clause-runs : goal.returns-then-kept-len-clause-runs
-returns-then-kept-len-clause-runs g c text options lookup m runs =
+returns-then-kept-len-clause-runs g c =
+    on_ok_weaker c.feed_leaf.result
+    (λ ran. λ text options lookup m runs.
     let row = row_of c.args.rest in
     let cs = c.args.self.now.outer.items in
     let all : length cs ≤ c.args.kept = omega (arith, c.if-kept-len.true, c.len.ensures, c.args.self.now.outer.ok.0) in
     subst (λ p. Runs g.E.EntityLookup.replacement text options lookup p c.feed_leaf.new.self)
     (sym (rest-kept text options lookup row (lines_at text row.line_end) m c.args.kept (shows-all cs m.outer c.args.kept runs.outer all).1))
-    (c.in_ok-feed_leaf.ensures.runs text options lookup m runs)
+    (ran text options lookup m runs))
+    c.feed_leaf.ensures.runs
 
 pub returns-then-is_lazy-clause-runs : goal.returns-then-is_lazy-clause-runs
-returns-then-is_lazy-clause-runs g c text options lookup m runs =
+returns-then-is_lazy-clause-runs g c =
+    on_ok_weaker c.feed_lazily.result
+    (λ ran. λ text options lookup m runs.
     let row = row_of c.args.rest in
     let kept = c.args.kept in
     let next = lines_at text row.line_end in
@@ -28,10 +34,13 @@ returns-then-is_lazy-clause-runs g c text options lookup m runs =
     let missed = shows-some cs m.outer kept runs.outer some in
     subst (λ p. Runs g.E.EntityLookup.replacement text options lookup p c.feed_lazily.new.self)
     (sym (rest-lazy text options lookup row next m kept missed.0 missed.1 missed.2 (sym (c.is_lazy.ensures text options lookup m missed.0 missed.1 missed.2 runs) ∙ c.if-is_lazy.true)))
-    (c.in_ok-feed_lazily.ensures.runs text options lookup m runs)
+    (ran text options lookup m runs))
+    c.feed_lazily.ensures.runs
 
 pub returns-clause-runs : goal.returns-clause-runs
-returns-clause-runs g c text options lookup m runs =
+returns-clause-runs g c =
+    on_ok_weaker c.begin.result
+    (λ ran. λ text options lookup m runs.
     let row = row_of c.args.rest in
     let kept = c.args.kept in
     let next = lines_at text row.line_end in
@@ -43,5 +52,6 @@ returns-clause-runs g c text options lookup m runs =
     let outer = closed-outer text options lookup m m.leaf in
     subst (λ p. Runs g.E.EntityLookup.replacement text options lookup p c.begin.new.self)
     (sym (rest-ends text options lookup row next m kept missed.0 missed.1 missed.2 (sym (c.is_lazy.ensures text options lookup m missed.0 missed.1 missed.2 runs) ∙ c.if-is_lazy.false)))
-    (c.in_ok-begin.ensures.runs text options lookup _
-    (c.close_containers.ensures.runs text options lookup (leaf_closed text options lookup m) (take kept m.outer) (drop kept m.outer) (outer ∙ sym (take-append-drop kept m.outer)) (length-take-le kept m.outer within) closed))
+    (ran text options lookup _
+    (c.close_containers.ensures.runs text options lookup (leaf_closed text options lookup m) (take kept m.outer) (drop kept m.outer) (outer ∙ sym (take-append-drop kept m.outer)) (length-take-le kept m.outer within) closed)))
+    c.begin.ensures.runs

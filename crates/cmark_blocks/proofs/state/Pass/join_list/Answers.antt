@@ -1,3 +1,4 @@
+use Rattle.std.proofs.lemmas.Result.{on_ok_weaker}
 use Rattle.std.proofs.Common.{◌≡◌, Some, None, option_map, sym, ap, ◌∙◌, subst}
 use Rattle.cmark_block_model.specs.BlockPass.{siblings_with_item}
 use Rattle.cmark_blocks.specs.Shown.{shown_list, list_of}
@@ -15,10 +16,13 @@ returns-in-Some-clause-runs g c text options lookup m runs =
     subst (λ p. Runs replacement text options lookup p (record c.args.self.now { inner = c.with_item_of-self.result })) (sym (goes-on item.delimiter item.number c.args.start m m.inner.list l found))
     (runs-inner replacement text options lookup m c.args.self.now c.with_item_of-self.result (siblings_with_item l m.inner) runs (c.with_item_of-self.ensures ∙ ap (siblings_with_item l) runs.inner))
 
-pub returns-in_ok-begin_list-in-None-clause-runs : goal.returns-in_ok-begin_list-in-None-clause-runs
-returns-in_ok-begin_list-in-None-clause-runs g c text options lookup m runs =
+pub returns-in-None-clause-runs : goal.returns-in-None-clause-runs
+returns-in-None-clause-runs g c =
+    on_ok_weaker c.begin_list.result
+    (λ ran. λ text options lookup m runs.
     let item = c.args.item in
     let none : list_of item.delimiter m.inner.list ≡ None =
     ap (λ s. list_of item.delimiter s.list) (sym runs.inner) ∙ sym c.list_of.ensures ∙ ap (option_map shown_list) c.in-None.is in
     subst (λ p. Runs g.E.EntityLookup.replacement text options lookup p c.begin_list.new.self) (sym (begins item.delimiter item.number c.args.start m m.inner.list none))
-    (c.in_ok-begin_list-in-None.ensures.runs text options lookup m runs)
+    (ran text options lookup m runs))
+    c.begin_list.ensures.runs

@@ -1,3 +1,4 @@
+use Rattle.std.proofs.lemmas.Result.{on_ok_weaker}
 use Rattle.std.proofs.Common.{◌≡◌, ◌++◌, ◌∷◌, [], Some, option_map, sym, ap, subst, ◌∙◌}
 use Rattle.cmark_grammar.specs.Labels.{fold}
 use Rattle.cmark_grammar.specs.References.{first_with}
@@ -10,7 +11,9 @@ use Rattle.cmark_blocks.proofs.ReferenceSteps.{fold-again, with-more, with-known
 use Rattle.cmark_blocks.proofs.state.Pass.keep_definition.Goals as goal
 
 pub returns-clause-runs : goal.returns-clause-runs
-returns-clause-runs g c text options lookup m runs =
+returns-clause-runs g c =
+    on_ok_weaker c.insert.result
+    (λ stays. λ text options lookup m runs.
     let replacement = g.E.EntityLookup.replacement in
     let opened = subst (Runs replacement text options lookup m) (sym c.self.view_is) runs in
     let found = written c.args.definition.now in
@@ -19,10 +22,11 @@ returns-clause-runs g c text options lookup m runs =
     let made = c.in_ok-label.ensures in
     runs-references replacement text options lookup m _ c.insert.new.self (m.references ++ reference ∷ []) opened
     (λ folded.
-    ap (option_map shown_definition) (c.in_ok-insert.ensures.first_stays folded
+    ap (option_map shown_definition) (stays folded
     ∙ ap (first_of _) (ap (λ key. at_label key kept folded) (made.key ∙ sym (fold-again found.label))))
     ∙ with-more folded m.references reference _ kept (opened.references folded)
-    (ap shown_reference (made.value ∙ ap (λ k. reference_of k found c.args.span.start c.args.span.end) opened.lookup_is)))
+    (ap shown_reference (made.value ∙ ap (λ k. reference_of k found c.args.span.start c.args.span.end) opened.lookup_is))))
+    c.insert.ensures.first_stays
 
 pub returns-then-is_some-clause-runs : goal.returns-then-is_some-clause-runs
 returns-then-is_some-clause-runs g c text options lookup m runs =

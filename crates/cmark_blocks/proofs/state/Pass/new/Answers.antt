@@ -7,7 +7,7 @@ use Rattle.cmark_blocks.proofs.state.Pass.new.Goals as goal
 
 pub returns-clause-good : goal.returns-clause-good
 returns-clause-good g c = record {
-  placed = at-place c.in_ok-new.field-0.tree Nil [] c.in_ok-new.ensures.tree;
+  placed = at-place c.in_ok-builder.builder.tree Nil [] c.in_ok-builder.ensures.tree;
   begins = IsCharBoundary-start c.args.text.now c.utf8.text;
   lines = subst (AreRead c.args.text.now) (sym c.new-2.ensures.items) tt;
   last = tt;

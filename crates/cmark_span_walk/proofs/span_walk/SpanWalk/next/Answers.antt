@@ -1,15 +1,15 @@
-use Rattle.std.specs.Prelude.{is_some}
-use Rattle.std.proofs.Common.{[], ◌∷◌, refl, ap, ◌∙◌, subst}
+use Rattle.std.specs.Prelude.{is_some, IfSome}
+use Rattle.std.proofs.Common.{[], ◌∷◌, refl, ap, ◌∙◌, subst, ◌<◌, OnSome}
 use Rattle.cmark_grammar.specs.SpanDocuments.{Content, Given as GivenOf}
 use Rattle.cmark_items.specs.Footnotes.{footnote}
 use Rattle.cmark_walk.specs.Walking as walking
 use Rattle.cmark_text.specs.Ranged.{IsRangedZeroCopy, shown_ranged}
 use Rattle.cmark_walk.specs.Walking.{MeetsZeroCopy, lines_of}
 use Rattle.cmark_walk.proofs.WalkSteps.{on-err}
-use Rattle.cmark_span_walk.specs.Walking.{ArePlaced, GivesSpan, HasRange}
+use Rattle.cmark_span_walk.specs.Walking.{ArePlaced, GivesSpan, HasRange, events_left, source_of}
 use Rattle.cmark_span_walk.proofs.EndSteps.{blocks-begin, leaf-keeps, text-begins}
 use Rattle.cmark_span_walk.proofs.Readings.{asked-on, asked-same, ends-on, event-passes, leaf-passes, met-same, over-ends, passes-none, passes-on}
-use Rattle.cmark_span_walk.proofs.Walks.{before-leaf, behind-at, lasts-leaf, lasts-none, met-by, over-at}
+use Rattle.cmark_span_walk.proofs.Walks.{before-leaf, behind-at, lasts-leaf, lasts-none, met-by, over-at, less-since, met-fewer}
 use Rattle.cmark_span_walk.proofs.span_walk.SpanWalk.next.Goals as goal
 
 pub loop-given-init : goal.loop-given-init
@@ -157,3 +157,24 @@ pub returns-in_err-enter_leaf-in-Leaf-clause-asked : goal.returns-in_err-enter_l
 returns-in_err-enter_leaf-in-Leaf-clause-asked g c =
     on-err c.from_residual-in_err-enter_leaf-in-Leaf.result _
     (asked-on g.F.BrokenLinkCallback.answers c.args.self.now.callback c.loop-given.self.callback c.next_span.new.self.callback c.enter_leaf.new.self.callback c.loop-given.invariant.asked c.in_ok-given.ensures.around.callback c.in_err-enter_leaf-in-Leaf.ensures.asked)
+
+pub returns-in-Some-clause-fewer : goal.returns-in-Some-clause-fewer
+returns-in-Some-clause-fewer g c =
+    let head = c.loop-given.self in
+    let new = c.next_span.new.self in
+    let e = c.in_ok-given.ensures in
+    less-since c.args.self.now head new c.loop-given.invariant.lasts (subst (λ o. OnSome o (events_left new < events_left head)) c.in-Some.is e.fewer) e.few e.slots e.around.budget
+
+pub returns-in-Some-clause-lent : goal.returns-in-Some-clause-lent
+returns-in-Some-clause-lent g c =
+    let lent = subst (λ o. IfSome o (IsRangedZeroCopy (source_of c.loop-given.self))) c.in-Some.is c.in_ok-given.ensures.lent in
+    subst (λ t. IsRangedZeroCopy t c.in-Some.given) c.loop-given.invariant.lasts.source lent
+
+pub returns-in-Event-clause-fewer : goal.returns-in-Event-clause-fewer
+returns-in-Event-clause-fewer g c =
+    let mid = c.next_span.new.self in
+    let e = c.in_ok-given.ensures in
+    let s = e.stands in
+    let out = e.outside (ap is_some c.in_default.is) in
+    let gives = subst (λ m. walking.Gives s.0 m c.next.new.lines.items c.next.new.self) c.in-Event.is (c.in_ok-given-2.ensures.given s.0 s.1.blocks.remains) in
+    met-fewer mid c.next.new.self c.next.new.lines out c.in_ok-given-2.ensures.text c.args.self.now c.loop-given.self _ s.0 (GivenOf (shown_ranged c.in-Event.given)) gives.0 s.1 gives.1 c.loop-given.invariant.lasts e.most e.few e.slots e.around.budget refl

@@ -1,4 +1,7 @@
-use Rattle.std.proofs.Common.{subst}
+use Rattle.cmark_text.specs.Ranged.{IsRangedZeroCopy}
+use Rattle.std.specs.Prelude.{IfSome}
+use Rattle.cmark_inline.specs.Opens as opens
+use Rattle.std.proofs.Common.{subst, ◌<◌, refl, arith, OnSome}
 use Rattle.cmark_inline.specs.Opens.{Gives as GivesSlot}
 use Rattle.cmark_inline.specs.SlotViews.{IsFirst, events_to_come}
 use Rattle.cmark_walk.proofs.WalkSteps.{on-err}
@@ -55,3 +58,36 @@ returns-in_err-given-clause-ends g c = on-err c.from_residual.result _ (λ reade
 
 pub next-requires-clause-left : goal.next-requires-clause-left
 next-requires-clause-left g c = given-left c.args.self.now c.requires.0 c.requires.1 c.if-not-self.false
+
+-- what is around the leaf stays
+pub returns-then-not-self-clause-around : goal.returns-then-not-self-clause-around
+returns-then-not-self-clause-around g c = record { callback = refl; budget = refl; source = refl; definitions = refl; footnotes = refl }
+
+pub returns-in-Some-clause-around : goal.returns-in-Some-clause-around
+returns-in-Some-clause-around g c = record { callback = refl; budget = refl; source = refl; definitions = refl; footnotes = refl }
+
+pub returns-in-None-clause-around : goal.returns-in-None-clause-around
+returns-in-None-clause-around g c = record { callback = refl; budget = refl; source = refl; definitions = refl; footnotes = refl }
+
+pub returns-in_err-given-clause-around : goal.returns-in_err-given-clause-around
+returns-in_err-given-clause-around g c = record { callback = refl; budget = refl; source = refl; definitions = refl; footnotes = refl }
+
+pub returns-in-Some-clause-lent : goal.returns-in-Some-clause-lent
+returns-in-Some-clause-lent g c = subst (λ o. IfSome o (IsRangedZeroCopy (source_of c.args.self.now))) c.in-Some.is c.in_ok-given.ensures.lent
+
+pub returns-in-Some-clause-fewer : goal.returns-in-Some-clause-fewer
+returns-in-Some-clause-fewer g c =
+    let fewer = subst (λ o. OnSome o (opens.events_left c.next.new.self < opens.events_left c.args.self.now.inline)) c.in-Some.is c.in_ok-given.ensures.fewer in
+    omega (arith, fewer)
+
+pub returns-in-Some-clause-most : goal.returns-in-Some-clause-most
+returns-in-Some-clause-most g c = omega (arith, c.in_ok-given.ensures.most)
+
+pub returns-in-None-clause-most : goal.returns-in-None-clause-most
+returns-in-None-clause-most g c = omega (arith, c.in_ok-given.ensures.most)
+
+pub returns-in-Some-clause-few : goal.returns-in-Some-clause-few
+returns-in-Some-clause-few g c = λ inside. c.in_ok-given.ensures.few
+
+pub returns-in-None-clause-few : goal.returns-in-None-clause-few
+returns-in-None-clause-few g c = λ inside. c.in_ok-given.ensures.few
