@@ -40,10 +40,13 @@ fn text_of<'a>(
     ensures other { IfErr result (λ other. (other ≡ item.entry) × IsNoText other) }
 {
     match item {
-        Ok((event, range)) => match event {
-            Event::Text(text) => Ok((text, range)),
-            event => Err(Ok((event, range))),
-        },
+        Ok(item) => {
+            let (event, range) = item;
+            match event {
+                Event::Text(text) => Ok((text, range)),
+                event => Err(Ok((event, range))),
+            }
+        }
         Err(error) => Err(Err(error)),
     }
 }
@@ -79,11 +82,11 @@ where
             return None;
         }
         match self.iter.next() {
-            Some(item) => Some(item),
             None => {
                 self.is_over = true;
                 None
             }
+            item => item,
         }
     }
 
@@ -96,8 +99,8 @@ where
         ensures no_more { size (items_left I.remaining (ranged_ahead self.new)) ≤ size (items_left I.remaining (ranged_ahead self.old)) }
     {
         match self.held.take() {
-            Some(item) => Some(item),
             None => self.read(),
+            item => item,
         }
     }
 
@@ -110,7 +113,10 @@ where
         ensures fewer { OnSome result (size (items_left I.remaining (ranged_ahead self.new)) < size (items_left I.remaining (ranged_ahead self.old))) }
         ensures no_more { size (items_left I.remaining (ranged_ahead self.new)) ≤ size (items_left I.remaining (ranged_ahead self.old)) }
     {
-        match text_of(self.read()?) {
+        let Some(item) = self.read() else {
+            return None;
+        };
+        match text_of(item) {
             Ok(text) => Some(text),
             Err(item) => {
                 // Nothing was held.
@@ -187,7 +193,10 @@ where
     ghost remaining = { λ s. items_left I.remaining (ranged_ahead s) };
 
     fn next(&mut self) -> Option<Result<(Event<'a>, Range<usize>), AllocError>> {
-        let first = match text_of(self.take()?) {
+        let Some(item) = self.take() else {
+            return None;
+        };
+        let first = match text_of(item) {
             Ok(text) => text,
             Err(item) => return Some(item),
         };
