@@ -14,19 +14,19 @@ use std::mem;
 use std::ops::Index;
 
 /// Where a text stands in its table.
-#[derive(Clone, Copy, PartialEq, Eq)]
+#[derive(Clone, Copy)]
 pub struct CowIndex(usize);
 
 /// Where a link or an image stands in its table.
-#[derive(Clone, Copy, PartialEq, Eq)]
+#[derive(Clone, Copy)]
 pub struct LinkIndex(usize);
 
 /// Where a table's alignments stand in theirs.
-#[derive(Clone, Copy, PartialEq, Eq)]
+#[derive(Clone, Copy)]
 pub struct AlignmentIndex(usize);
 
 /// Where the words between the braces of a heading's attributes stand in the table of texts.
-#[derive(Clone, Copy, PartialEq, Eq)]
+#[derive(Clone, Copy)]
 pub struct HeadingIndex(usize);
 
 /// What a link or an image says of itself (CommonMark 6.3, 6.4).

@@ -8,7 +8,7 @@ use cmark_text::{BlockQuoteKind, HeadingLevel, MetadataBlockKind};
 use cmark_tree::TreeSpan;
 
 /// A node of the tree: what it is, and its bytes in the text, from `start` to before `end`.
-#[derive(Clone, Copy, PartialEq, Eq)]
+#[derive(Clone, Copy)]
 pub struct Item {
     /// Where it begins: a byte offset of the text.
     pub start: usize,
@@ -45,7 +45,7 @@ impl TreeSpan for Item {
 // The fields of each lie in such an order that none has more than 16 bytes with its tag, for a node of the tree is as large as the largest.
 /// What an item is. The bodies that begin with `Maybe` are tokens: whether they come to anything is seen when the leaf
 /// around them is read.
-#[derive(Clone, Copy, Default, PartialEq, Eq)]
+#[derive(Clone, Copy, Default)]
 pub enum ItemBody {
     /// A byte of a run of `*`, `_`, `~` or `^`: whether it can open and close, and the run's length from here on
     /// (CommonMark 6.2).
