@@ -227,9 +227,18 @@ fn clone_link_texts<'a>(
     ensures id { IfOk result (λ copies. text_bytes copies.2 ≡ text_bytes id.now) }
     ensures succeeds { CopiesInPlace dest_url.now → CopiesInPlace title.now → CopiesInPlace id.now → IsOk result }
 {
+    // Calls drop what was copied before: drops that the compiler adds are written out at each way out.
     let dest_url = dest_url.clone(alloc)?;
-    let title = title.clone(alloc)?;
-    Ok((dest_url, title, id.clone(alloc)?))
+    let Ok(title) = title.clone(alloc) else {
+        drop(dest_url);
+        return Err(AllocError);
+    };
+    let Ok(id) = id.clone(alloc) else {
+        drop(dest_url);
+        drop(title);
+        return Err(AllocError);
+    };
+    Ok((dest_url, title, id))
 }
 
 fn static_link_texts(
@@ -243,9 +252,23 @@ fn static_link_texts(
     ensures id { IfOk result (λ made. text_bytes made.2 ≡ text_bytes id.entry) }
     ensures succeeds { StaysInPlace dest_url.entry → StaysInPlace title.entry → StaysInPlace id.entry → IsOk result }
 {
-    let dest_url = dest_url.into_static(alloc)?;
-    let title = title.into_static(alloc)?;
-    Ok((dest_url, title, id.into_static(alloc)?))
+    // Calls drop the others, as in `clone_link_texts`.
+    let Ok(dest_url) = dest_url.into_static(alloc) else {
+        drop(title);
+        drop(id);
+        return Err(AllocError);
+    };
+    let Ok(title) = title.into_static(alloc) else {
+        drop(dest_url);
+        drop(id);
+        return Err(AllocError);
+    };
+    let Ok(id) = id.into_static(alloc) else {
+        drop(dest_url);
+        drop(title);
+        return Err(AllocError);
+    };
+    Ok((dest_url, title, id))
 }
 
 /// What the braces of a heading say: its anchor, its classes and its other attributes.
@@ -303,9 +326,9 @@ fn clone_heading_parts<'a>(
     ensures attrs { IfOk result (λ copies. map shown_attribute copies.2.items ≡ map shown_attribute attrs.now) }
     ensures succeeds { IfSome id.now CopiesInPlace → length classes.now ≡ 0 → length attrs.now ≡ 0 → IsOk result }
 {
-    let id = clone_optional_text(alloc, id)?;
     let classes = clone_texts(alloc, classes)?;
-    Ok((id, classes, clone_attributes(alloc, attrs)?))
+    let attrs = clone_attributes(alloc, attrs)?;
+    Ok((clone_optional_text(alloc, id)?, classes, attrs))
 }
 
 fn static_heading_parts(
@@ -319,9 +342,17 @@ fn static_heading_parts(
     ensures attrs { IfOk result (λ made. map shown_attribute made.2.items ≡ map shown_attribute attrs.entry.items) }
     ensures succeeds { IfSome id.entry StaysInPlace → length classes.entry.items ≡ 0 → length attrs.entry.items ≡ 0 → IsOk result }
 {
+    // Calls drop the anchor, as in `clone_link_texts`; a list is dropped by one anyway.
     let id = static_optional_text(alloc, id)?;
-    let classes = static_texts(alloc, classes)?;
-    Ok((id, classes, static_attributes(alloc, attrs)?))
+    let Ok(classes) = static_texts(alloc, classes) else {
+        drop(id);
+        return Err(AllocError);
+    };
+    let Ok(attrs) = static_attributes(alloc, attrs) else {
+        drop(id);
+        return Err(AllocError);
+    };
+    Ok((id, classes, attrs))
 }
 
 fn clone_optional_text<'a>(
@@ -367,7 +398,12 @@ fn clone_attribute<'a>(
     ensures { IfOk result (λ copy. shown_attribute copy ≡ shown_attribute attribute.now) }
 {
     let (name, value) = attribute;
-    Ok((name.clone(alloc)?, clone_optional_text(alloc, value)?))
+    let name = name.clone(alloc)?;
+    let Ok(value) = clone_optional_text(alloc, value) else {
+        drop(name);
+        return Err(AllocError);
+    };
+    Ok((name, value))
 }
 
 fn clone_attributes<'a>(
@@ -439,10 +475,15 @@ fn static_attribute(
     ensures { IfOk result (λ made. shown_attribute made ≡ shown_attribute attribute.entry) }
 {
     let (name, value) = attribute;
-    Ok((
-        name.into_static(alloc)?,
-        static_optional_text(alloc, value)?,
-    ))
+    let Ok(name) = name.into_static(alloc) else {
+        drop(value);
+        return Err(AllocError);
+    };
+    let Ok(value) = static_optional_text(alloc, value) else {
+        drop(name);
+        return Err(AllocError);
+    };
+    Ok((name, value))
 }
 
 fn static_attributes(
