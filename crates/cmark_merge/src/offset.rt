@@ -1,7 +1,8 @@
 //! Texts merged, with their ranges.
 
-ghost use Rattle.std.specs.Prelude.{◌≡◌, ◌<◌, ◌≤◌, false, IfErr, IfOk, None, OnErr, OnSome};
+ghost use Rattle.std.specs.Prelude.{◌≡◌, ◌<◌, ◌≤◌, ◌++◌, false, IfErr, IfOk, None, OnErr, OnOk, OnSome, string_bytes};
 ghost use Rattle.std.specs.Iterator.{size};
+ghost use Rattle.cmark_text.specs.Shown.{text_bytes};
 ghost use Rattle.cmark_merge.specs.Reading.{CanGo, items_left};
 ghost use Rattle.cmark_merge.specs.Steps.{IsNoText, Joins, Merges, ReadsOne, ReadsText, ReadsTexts, Takes};
 ghost use Rattle.cmark_merge.specs.Streams.{GivesRanged, ranged_ahead, string_at, text_item};
@@ -49,6 +50,15 @@ fn text_of<'a>(
         }
         Err(error) => Err(Err(error)),
     }
+}
+
+/// Appends a text, which a call lets go then: a drop that the compiler adds is written out at each way out.
+fn push_text(text: &mut String, more: CowStr<'_>) -> Result<(), AllocError>
+    ensures { OnOk result (string_bytes text.new ≡ string_bytes text.old ++ text_bytes more.entry) }
+{
+    let pushed = text.push_str(more.as_str());
+    drop(more);
+    pushed
 }
 
 impl<'a, I> TextMergeWithOffset<'a, I>
@@ -142,10 +152,10 @@ where
         ensures no_more { size (items_left I.remaining (ranged_ahead self.new)) ≤ size (items_left I.remaining (ranged_ahead self.old)) }
     {
         let mut text = first.0.into_string(self.alloc)?;
-        text.push_str(second.0.as_str())?;
+        push_text(&mut text, second.0)?;
         let mut end = second.1.end;
         while let Some((more, range)) = self.read_text() {
-            text.push_str(more.as_str())?;
+            push_text(&mut text, more)?;
             end = range.end;
         }
         Ok((text, first.1.start..end))
