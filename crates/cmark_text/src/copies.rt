@@ -227,18 +227,9 @@ fn clone_link_texts<'a>(
     ensures id { IfOk result (λ copies. text_bytes copies.2 ≡ text_bytes id.now) }
     ensures succeeds { CopiesInPlace dest_url.now → CopiesInPlace title.now → CopiesInPlace id.now → IsOk result }
 {
-    // Calls drop what was copied before: drops that the compiler adds are written out at each way out.
     let dest_url = dest_url.clone(alloc)?;
-    let Ok(title) = title.clone(alloc) else {
-        drop(dest_url);
-        return Err(AllocError);
-    };
-    let Ok(id) = id.clone(alloc) else {
-        drop(dest_url);
-        drop(title);
-        return Err(AllocError);
-    };
-    Ok((dest_url, title, id))
+    let title = title.clone(alloc)?;
+    Ok((dest_url, title, id.clone(alloc)?))
 }
 
 fn static_link_texts(
@@ -252,7 +243,7 @@ fn static_link_texts(
     ensures id { IfOk result (λ made. text_bytes made.2 ≡ text_bytes id.entry) }
     ensures succeeds { StaysInPlace dest_url.entry → StaysInPlace title.entry → StaysInPlace id.entry → IsOk result }
 {
-    // Calls drop the others, as in `clone_link_texts`.
+    // Calls drop the others: drops that the compiler adds are written out at each way out, which is dear to prove.
     let Ok(dest_url) = dest_url.into_static(alloc) else {
         drop(title);
         drop(id);
@@ -342,7 +333,7 @@ fn static_heading_parts(
     ensures attrs { IfOk result (λ made. map shown_attribute made.2.items ≡ map shown_attribute attrs.entry.items) }
     ensures succeeds { IfSome id.entry StaysInPlace → length classes.entry.items ≡ 0 → length attrs.entry.items ≡ 0 → IsOk result }
 {
-    // Calls drop the anchor, as in `clone_link_texts`; a list is dropped by one anyway.
+    // Calls drop the anchor, as the texts of a link above. A list is dropped by a call anyway.
     let id = static_optional_text(alloc, id)?;
     let Ok(classes) = static_texts(alloc, classes) else {
         drop(id);
@@ -398,12 +389,7 @@ fn clone_attribute<'a>(
     ensures { IfOk result (λ copy. shown_attribute copy ≡ shown_attribute attribute.now) }
 {
     let (name, value) = attribute;
-    let name = name.clone(alloc)?;
-    let Ok(value) = clone_optional_text(alloc, value) else {
-        drop(name);
-        return Err(AllocError);
-    };
-    Ok((name, value))
+    Ok((name.clone(alloc)?, clone_optional_text(alloc, value)?))
 }
 
 fn clone_attributes<'a>(
@@ -475,15 +461,10 @@ fn static_attribute(
     ensures { IfOk result (λ made. shown_attribute made ≡ shown_attribute attribute.entry) }
 {
     let (name, value) = attribute;
-    let Ok(name) = name.into_static(alloc) else {
-        drop(value);
-        return Err(AllocError);
-    };
-    let Ok(value) = static_optional_text(alloc, value) else {
-        drop(name);
-        return Err(AllocError);
-    };
-    Ok((name, value))
+    Ok((
+        name.into_static(alloc)?,
+        static_optional_text(alloc, value)?,
+    ))
 }
 
 fn static_attributes(
