@@ -7,7 +7,7 @@ ghost use Rattle.cmark_text.specs.Appended.{AppendsFront};
 ghost use Rattle.cmark_text_parts.specs.Shown.{text_bytes};
 ghost use Rattle.cmark_html.specs.Writer.{shown_names};
 
-use crate::parts::{Part, append_parts, new_line};
+use crate::parts::{Part, append_around, append_parts, new_line};
 use cmark_text::CowStr;
 use indexmap::IndexSet;
 use itoa::Buffer;
@@ -98,7 +98,7 @@ pub fn append_alt_reference(out: &mut String, digits: &str) -> Result<(), AllocE
     ensures ok { OnOk result (string_bytes out.new ≡ string_bytes out.old ++ alt_footnote_reference digits.now) }
     ensures err { OnErr result (AppendsFront (string_bytes out.old) (string_bytes out.new) (alt_footnote_reference digits.now)) }
 {
-    append_parts(out, &[Part::Raw("["), Part::Raw(digits), Part::Raw("]")])
+    append_around(out, "[", Part::Raw(digits), "]")
 }
 
 /// Appends the start of the definition of the footnote of this name.

@@ -7,7 +7,7 @@ ghost use Rattle.cmark_text.specs.Shown.{shown};
 ghost use Rattle.cmark_html.specs.Writer.{shown_image, shown_names};
 
 use crate::footnote::{FootnoteNames, append_alt_reference};
-use crate::parts::{Part, append, append_parts};
+use crate::parts::{Part, append, append_around, append_parts};
 use crate::state::OpenImage;
 use cmark_text::Event;
 use cmark_text::escape::escape_html;
@@ -121,14 +121,8 @@ fn append_alt_text<'a>(
         Event::Text(text) | Event::Code(text) | Event::InlineHtml(text) => {
             escape_html(out, text.as_str())
         }
-        Event::InlineMath(text) => append_parts(
-            out,
-            &[Part::Raw("$"), Part::Value(text.as_str()), Part::Raw("$")],
-        ),
-        Event::DisplayMath(text) => append_parts(
-            out,
-            &[Part::Raw("$$"), Part::Value(text.as_str()), Part::Raw("$$")],
-        ),
+        Event::InlineMath(text) => append_around(out, "$", Part::Value(text.as_str()), "$"),
+        Event::DisplayMath(text) => append_around(out, "$$", Part::Value(text.as_str()), "$$"),
         Event::SoftBreak | Event::HardBreak | Event::Rule => append(out, " "),
         Event::TaskListMarker(is_checked) => append(out, alt_task_list_marker_text(*is_checked)),
     }

@@ -3,10 +3,11 @@
 
 ghost use Rattle.std.specs.Prelude.{◌≡◌, List, ◌++◌, OnOk, OnErr, string_bytes, map, Ok, None};
 ghost use Rattle.std.specs.Iterator.{IsFinite, Drains, YieldsThen};
-ghost use Rattle.cmark_grammar.specs.Html.{html};
+ghost use Rattle.cmark_grammar.specs.Html.{at_line_start, html};
 ghost use Rattle.cmark_text.specs.declared.event.Event.{Event};
 ghost use Rattle.cmark_text.specs.Shown.{shown};
 ghost use Rattle.cmark_html.specs.Pushed.{Stops, StopsAt};
+ghost use Rattle.cmark_html.specs.Writer.{writing};
 
 mod end;
 mod footnote;
@@ -63,8 +64,25 @@ fn push_lent<'a, I: Iterator<Item = Result<Event<'a>, AllocError>>>(
     ensures err { OnErr result (StopsAt I.next_gives iter.old iter.new (string_bytes out.old) (string_bytes out.new)) }
 {
     let mut writer = Writer::new(*out.allocator());
+    push_from(out, &mut writer, iter)
+}
+
+/// The same with a writer that has written nothing yet. It is lent, so that no way out of the loop lets it go.
+#[inline(always)]
+fn push_from<'a, I: Iterator<Item = Result<Event<'a>, AllocError>>>(
+    out: &mut String,
+    writer: &mut Writer<'a>,
+    iter: &mut I,
+) -> Result<(), AllocError>
+    requires begins { writing writer.old ≡ at_line_start }
+    requires can { I.can_next iter.old }
+    requires ends { IsFinite (I.remaining iter.old) }
+    ensures ok { OnOk result ((events : List Event) × YieldsThen I.next_gives iter.old (map Ok events) None iter.new
+        × (string_bytes out.new ≡ string_bytes out.old ++ html (map shown events))) }
+    ensures err { OnErr result (StopsAt I.next_gives iter.old iter.new (string_bytes out.old) (string_bytes out.new)) }
+{
     while let Some(event) = iter.next() {
-        write_event(out, &mut writer, event?)?;
+        write_event(out, writer, event?)?;
     }
-    finish(out, &writer)
+    finish(out, writer)
 }

@@ -102,18 +102,18 @@ fn append_outside<'a>(
     ensures names { writer.new.names ≡ writer.old.names }
     ensures err { OnErr result (AppendsFront (string_bytes out.old) (string_bytes out.new) (piece_outside (writing writer.old) (shown event.now))) }
 {
-    if let Event::Start(
-        Tag::Link {
+    if let Event::Start(tag) = event {
+        if let Tag::Link {
             link_type,
             dest_url,
             title,
             id: _,
-        },
-    ) = event
-    {
-        append_link(out, *link_type, dest_url.as_str(), title.as_str())?;
-        writer.line_start = false;
-        return Ok(());
+        } = tag
+        {
+            append_link(out, *link_type, dest_url.as_str(), title.as_str())?;
+            writer.line_start = false;
+            return Ok(());
+        }
     }
     append_piece(out, writer, event)?;
     writer.line_start = line_start_after(writer, event);
@@ -231,7 +231,16 @@ fn keep_start<'a>(
     ensures image { IfOk result (λ image. option_map shown_image image ≡ opened_by (shown_tag tag.entry)) }
 {
     match tag {
-        Tag::Image { title, .. } => Ok(Some(OpenImage { depth: 0, title })),
+        Tag::Image {
+            link_type: _,
+            dest_url,
+            title,
+            id,
+        } => {
+            drop(dest_url);
+            drop(id);
+            Ok(Some(OpenImage { depth: 0, title }))
+        }
         Tag::FootnoteDefinition(name) => {
             names.add(name)?;
             Ok(None)
@@ -261,8 +270,14 @@ fn metadata_after(in_metadata: bool, event: &Event<'_>) -> bool
     ensures { result ≡ metadata_after in_metadata (shown event.now) }
 {
     match event {
-        Event::Start(Tag::MetadataBlock(_)) => true,
-        Event::End(TagEnd::MetadataBlock(_)) => false,
+        Event::Start(tag) => match tag {
+            Tag::MetadataBlock(_) => true,
+            _ => in_metadata,
+        },
+        Event::End(tag) => match tag {
+            TagEnd::MetadataBlock(_) => false,
+            _ => in_metadata,
+        },
         _ => in_metadata,
     }
 }

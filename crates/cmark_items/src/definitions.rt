@@ -75,9 +75,11 @@ impl<'a> RefDefs<'a> {
         ensures refused { OnErr result ((folded : List ℕ) → definition self.new folded ≡ definition self.old folded) }
     {
         if self.defs.contains_key(&label) {
+            drop(label);
+            drop(def);
             return Ok(());
         }
-        self.defs.insert(label, def)?;
+        drop(self.defs.insert(label, def)?);
         Ok(())
     }
 
@@ -136,7 +138,10 @@ impl<'s, 'a> Iterator for RefDefsIter<'s, 'a> {
     ghost remaining = { item_count left };
 
     fn next(&mut self) -> Option<(&'s str, &'s LinkDef<'a>)> {
-        let (label, def) = self.entries.next()?;
+        let Some(entry) = self.entries.next() else {
+            return None;
+        };
+        let (label, def) = entry;
         Some((label.as_str(), def))
     }
 }

@@ -1,6 +1,6 @@
 //! The attributes of a heading (this profile's own).
 
-ghost use Rattle.std.specs.Prelude.{◌≡◌, ◌<◌, ◌≤◌, ℕ, ◌∷◌, length, take, drop, IfOk, OnOk, IfSome, option_map, get_or};
+ghost use Rattle.std.specs.Prelude.{◌≡◌, ◌<◌, ◌≤◌, ℕ, ◌∷◌, [], ◌++◌, length, take, drop, map, IfOk, OnOk, IfSome, option_map, get_or};
 ghost use Rattle.std.specs.List.{take_while};
 ghost use Rattle.cmark_grammar.specs.Attributes.{is_no_equals, words, value_behind, attribute_of, attributes_of, with_word, no_attributes};
 ghost use Rattle.cmark_text_parts.specs.Shown.{text_bytes, shown_attribute};
@@ -84,6 +84,26 @@ fn attribute_of<'a>(
     }
 }
 
+/// Appends this text to a list of texts.
+fn push_owned<'a>(texts: &mut Vec<CowStr<'a>>, alloc: Global, text: &str) -> Result<(), AllocError>
+    ensures { OnOk result (map text_bytes texts.new.items ≡ map text_bytes texts.old.items ++ (text.now ∷ [])) }
+{
+    texts.push(owned(alloc, text)?)?;
+    Ok(())
+}
+
+/// Appends the attribute that a word is to a list of attributes.
+fn push_attribute<'a>(
+    attrs: &mut Vec<(CowStr<'a>, Option<CowStr<'a>>)>,
+    alloc: Global,
+    word: &str,
+) -> Result<(), AllocError>
+    ensures { OnOk result (map shown_attribute attrs.new.items ≡ map shown_attribute attrs.old.items ++ (attribute_of word.now ∷ [])) }
+{
+    attrs.push(attribute_of(alloc, word)?)?;
+    Ok(())
+}
+
 impl<'a> HeadingAttributes<'a> {
     fn none(alloc: Global) -> HeadingAttributes<'a>
         ensures { shown_heading result ≡ no_attributes }
@@ -105,8 +125,8 @@ impl<'a> HeadingAttributes<'a> {
         }
         match word.as_bytes()[0] {
             b'#' => self.id = Some(owned(alloc, &word[1..])?),
-            b'.' => self.classes.push(owned(alloc, &word[1..])?)?,
-            _ => self.attrs.push(attribute_of(alloc, word)?)?,
+            b'.' => push_owned(&mut self.classes, alloc, &word[1..])?,
+            _ => push_attribute(&mut self.attrs, alloc, word)?,
         }
         Ok(())
     }

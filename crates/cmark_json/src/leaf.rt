@@ -1,6 +1,6 @@
 //! What tags and events have in them, as JSON.
 
-ghost use Rattle.std.specs.Prelude.{◌≡◌, map, option_map, IfOk};
+ghost use Rattle.std.specs.Prelude.{◌≡◌, ◌∷◌, [], ◌++◌, map, option_map, IfOk, OnOk};
 ghost use Rattle.cmark_text_parts.specs.Shown.{shown_attribute, shown_alignment, shown_block_quote_kind, shown_code_block_kind, shown_link_type, shown_metadata_block_kind, text_bytes};
 ghost use Rattle.cmark_json.specs.EventData.{alone, with_one, text_or_null, number_or_null, attribute_data, alignment_data, alignment_name, quote_kind_data, code_kind_data, metadata_kind_name, link_type_data};
 ghost use Rattle.serde_json.specs.Data.{array, string};
@@ -29,6 +29,21 @@ pub fn with_text(alloc: Global, name: &str, text: &str) -> Result<Value, AllocEr
     ensures { IfOk result (λ v. view v ≡ with_one name.now (string text.now)) }
 {
     json!(in alloc; [name, text])
+}
+
+/// Appends a value to those of an array.
+pub fn push(values: &mut Vec<Value>, value: Value) -> Result<(), AllocError>
+    ensures { OnOk result (map view values.new.items ≡ map view values.old.items ++ (view value ∷ [])) }
+{
+    values.push(value)?;
+    Ok(())
+}
+
+/// Appends a text to the values of an array.
+pub fn push_text(values: &mut Vec<Value>, alloc: Global, text: &str) -> Result<(), AllocError>
+    ensures { OnOk result (map view values.new.items ≡ map view values.old.items ++ (string text.now ∷ [])) }
+{
+    push(values, Value::try_from_str(alloc, text)?)
 }
 
 /// A text, if there is one.
@@ -84,8 +99,8 @@ fn attribute_value(
     ensures { IfOk result (λ v. view v ≡ attribute_data (shown_attribute attribute.now)) }
 {
     let mut parts = Vec::new(alloc);
-    parts.push(Value::try_from_str(alloc, attribute.0.as_str())?)?;
-    parts.push(text_or_null(alloc, &attribute.1)?)?;
+    push_text(&mut parts, alloc, attribute.0.as_str())?;
+    push(&mut parts, text_or_null(alloc, &attribute.1)?)?;
     Ok(Value::Array(parts))
 }
 

@@ -21,7 +21,9 @@ pub fn append_given(
     ensures { OnOk result (string_bytes out.new ≡ string_bytes out.old
         ++ line (record { event = shown event.entry; start = range.start; end = range.end })) }
 {
-    append_line(out, alloc, &event, &range)
+    let written = append_line(out, alloc, &event, &range);
+    drop(event);
+    written
 }
 
 /// Appends the line of an event with its range. Where memory is refused, a beginning of it may have been appended.

@@ -11,7 +11,7 @@ use crate::leaf;
 use cmark_text::{
     BlockQuoteKind, CodeBlockKind, CowStr, HeadingLevel, LinkType, PlainTag, Tag, TagEnd,
 };
-use serde_json::{Value, json};
+use serde_json::Value;
 use std::alloc::{AllocError, Global};
 
 /// A tag.
@@ -109,11 +109,11 @@ fn heading_value(
 {
     // Each part is pushed as soon as it is made, so that there is one value alone to drop where memory is refused.
     let mut parts = Vec::new(alloc);
-    parts.push(Value::try_from_str(alloc, "Heading")?)?;
-    parts.push(Value::from(level_value(level)))?;
-    parts.push(leaf::text_or_null(alloc, id)?)?;
-    parts.push(leaf::texts(alloc, classes)?)?;
-    parts.push(leaf::attributes(alloc, attrs)?)?;
+    leaf::push_text(&mut parts, alloc, "Heading")?;
+    leaf::push(&mut parts, Value::from(level_value(level)))?;
+    leaf::push(&mut parts, leaf::text_or_null(alloc, id)?)?;
+    leaf::push(&mut parts, leaf::texts(alloc, classes)?)?;
+    leaf::push(&mut parts, leaf::attributes(alloc, attrs)?)?;
     Ok(Value::Array(parts))
 }
 
@@ -142,8 +142,13 @@ fn linked_value(
 ) -> Result<Value, AllocError>
     ensures { IfOk result (λ v. view v ≡ named name.now (linked (shown_linked link_type dest_url.now title.now id.now))) }
 {
-    let link_type = leaf::link_type(alloc, link_type)?;
-    json!(in alloc; [name, link_type, dest_url.as_str(), title.as_str(), id.as_str()])
+    let mut parts = Vec::new(alloc);
+    leaf::push_text(&mut parts, alloc, name)?;
+    leaf::push(&mut parts, leaf::link_type(alloc, link_type)?)?;
+    leaf::push_text(&mut parts, alloc, dest_url.as_str())?;
+    leaf::push_text(&mut parts, alloc, title.as_str())?;
+    leaf::push_text(&mut parts, alloc, id.as_str())?;
+    Ok(Value::Array(parts))
 }
 
 /// The end of a tag.

@@ -1,7 +1,8 @@
 //! Texts merged, with their ranges.
 
-ghost use Rattle.std.specs.Prelude.{◌≡◌, ◌<◌, ◌≤◌, false, IfErr, IfOk, None, OnErr, OnSome};
+ghost use Rattle.std.specs.Prelude.{◌≡◌, ◌<◌, ◌≤◌, ◌++◌, false, IfErr, IfOk, None, OnErr, OnOk, OnSome, string_bytes};
 ghost use Rattle.std.specs.Iterator.{size};
+ghost use Rattle.cmark_text_parts.specs.Shown.{text_bytes};
 ghost use Rattle.cmark_merge.specs.Reading.{CanGo, items_left};
 ghost use Rattle.cmark_merge.specs.Steps.{IsNoText, Joins, Merges, ReadsOne, ReadsText, ReadsTexts, Takes};
 ghost use Rattle.cmark_merge.specs.Streams.{GivesRanged, ranged_ahead, string_at, text_item};
@@ -40,12 +41,24 @@ fn text_of<'a>(
     ensures other { IfErr result (λ other. (other ≡ item.entry) × IsNoText other) }
 {
     match item {
-        Ok((event, range)) => match event {
-            Event::Text(text) => Ok((text, range)),
-            event => Err(Ok((event, range))),
-        },
+        Ok(item) => {
+            let (event, range) = item;
+            match event {
+                Event::Text(text) => Ok((text, range)),
+                event => Err(Ok((event, range))),
+            }
+        }
         Err(error) => Err(Err(error)),
     }
+}
+
+/// Appends a text, which a call lets go then: a drop that the compiler adds is written out at each way out.
+fn push_text(text: &mut String, more: CowStr<'_>) -> Result<(), AllocError>
+    ensures { OnOk result (string_bytes text.new ≡ string_bytes text.old ++ text_bytes more.entry) }
+{
+    let pushed = text.push_str(more.as_str());
+    drop(more);
+    pushed
 }
 
 impl<'a, I> TextMergeWithOffset<'a, I>
@@ -79,11 +92,11 @@ where
             return None;
         }
         match self.iter.next() {
-            Some(item) => Some(item),
             None => {
                 self.is_over = true;
                 None
             }
+            item => item,
         }
     }
 
@@ -96,8 +109,8 @@ where
         ensures no_more { size (items_left I.remaining (ranged_ahead self.new)) ≤ size (items_left I.remaining (ranged_ahead self.old)) }
     {
         match self.held.take() {
-            Some(item) => Some(item),
             None => self.read(),
+            item => item,
         }
     }
 
@@ -110,7 +123,10 @@ where
         ensures fewer { OnSome result (size (items_left I.remaining (ranged_ahead self.new)) < size (items_left I.remaining (ranged_ahead self.old))) }
         ensures no_more { size (items_left I.remaining (ranged_ahead self.new)) ≤ size (items_left I.remaining (ranged_ahead self.old)) }
     {
-        match text_of(self.read()?) {
+        let Some(item) = self.read() else {
+            return None;
+        };
+        match text_of(item) {
             Ok(text) => Some(text),
             Err(item) => {
                 // Nothing was held.
@@ -136,10 +152,10 @@ where
         ensures no_more { size (items_left I.remaining (ranged_ahead self.new)) ≤ size (items_left I.remaining (ranged_ahead self.old)) }
     {
         let mut text = first.0.into_string(self.alloc)?;
-        text.push_str(second.0.as_str())?;
+        push_text(&mut text, second.0)?;
         let mut end = second.1.end;
         while let Some((more, range)) = self.read_text() {
-            text.push_str(more.as_str())?;
+            push_text(&mut text, more)?;
             end = range.end;
         }
         Ok((text, first.1.start..end))
@@ -187,7 +203,10 @@ where
     ghost remaining = { λ s. items_left I.remaining (ranged_ahead s) };
 
     fn next(&mut self) -> Option<Result<(Event<'a>, Range<usize>), AllocError>> {
-        let first = match text_of(self.take()?) {
+        let Some(item) = self.take() else {
+            return None;
+        };
+        let first = match text_of(item) {
             Ok(text) => text,
             Err(item) => return Some(item),
         };

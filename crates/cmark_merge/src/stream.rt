@@ -55,8 +55,11 @@ where
     ghost remaining = { λ s. items_left I.remaining (ahead s) };
 
     fn next(&mut self) -> Option<Result<Event<'a>, AllocError>> {
-        match self.inner.next()? {
-            Ok((event, _)) => Some(Ok(event)),
+        let Some(item) = self.inner.next() else {
+            return None;
+        };
+        match item {
+            Ok(item) => Some(Ok(item.0)),
             Err(error) => Some(Err(error)),
         }
     }

@@ -1,6 +1,6 @@
 //! Copies of tags and events, and what they are in values that borrow nothing.
 
-ghost use Rattle.std.specs.Prelude.{◌≡◌, length, IfOk, IsOk, IfSome, map, option_map};
+ghost use Rattle.std.specs.Prelude.{◌≡◌, ◌∷◌, [], ◌++◌, length, IfOk, IsOk, IfSome, OnOk, map, option_map};
 ghost use Rattle.cmark_grammar.specs.Tag as tag;
 ghost use Rattle.cmark_text.specs.InPlace.{TagCopiesInPlace, EventCopiesInPlace, TagStaysInPlace, EventStaysInPlace};
 ghost use Rattle.cmark_text_parts.specs.InPlace.{CopiesInPlace, StaysInPlace};
@@ -26,7 +26,7 @@ impl<'a> Tag<'a> {
                 id,
                 classes,
                 attrs,
-            } => Ok(heading_tag(*level, clone_heading_parts(alloc, id, classes, attrs)?)),
+            } => clone_heading(alloc, *level, id, classes, attrs),
             Tag::CodeBlock(kind) => kind.clone(alloc).map(Tag::CodeBlock),
             Tag::FootnoteDefinition(label) => label.clone(alloc).map(Tag::FootnoteDefinition),
             Tag::Table(alignments) => Ok(Tag::Table(Vec::from_slice(alloc, alignments)?)),
@@ -35,13 +35,13 @@ impl<'a> Tag<'a> {
                 dest_url,
                 title,
                 id,
-            } => Ok(link_tag(*link_type, clone_link_texts(alloc, dest_url, title, id)?)),
+            } => clone_link(alloc, *link_type, dest_url, title, id),
             Tag::Image {
                 link_type,
                 dest_url,
                 title,
                 id,
-            } => Ok(image_tag(*link_type, clone_link_texts(alloc, dest_url, title, id)?)),
+            } => clone_image(alloc, *link_type, dest_url, title, id),
             _ => unreachable!(),
         }
     }
@@ -52,6 +52,8 @@ impl<'a> Tag<'a> {
         ensures succeeds { TagStaysInPlace self.entry → IsOk result }
     {
         if let Some(plain) = self.plain() {
+            // A call drops it: a drop that the compiler adds is written out here, which is dear to prove.
+            drop(self);
             return Ok(plain.tag(alloc));
         }
         match self {
@@ -60,7 +62,7 @@ impl<'a> Tag<'a> {
                 id,
                 classes,
                 attrs,
-            } => Ok(heading_tag(level, static_heading_parts(alloc, id, classes, attrs)?)),
+            } => static_heading(alloc, level, id, classes, attrs),
             Tag::CodeBlock(kind) => kind.into_static(alloc).map(Tag::CodeBlock),
             Tag::FootnoteDefinition(label) => label.into_static(alloc).map(Tag::FootnoteDefinition),
             Tag::Table(alignments) => Ok(Tag::Table(alignments)),
@@ -69,13 +71,13 @@ impl<'a> Tag<'a> {
                 dest_url,
                 title,
                 id,
-            } => Ok(link_tag(link_type, static_link_texts(alloc, dest_url, title, id)?)),
+            } => static_link(alloc, link_type, dest_url, title, id),
             Tag::Image {
                 link_type,
                 dest_url,
                 title,
                 id,
-            } => Ok(image_tag(link_type, static_link_texts(alloc, dest_url, title, id)?)),
+            } => static_image(alloc, link_type, dest_url, title, id),
             _ => unreachable!(),
         }
     }
@@ -159,6 +161,62 @@ fn image_tag<'a>(link_type: LinkType, texts: LinkTexts<'a>) -> Tag<'a>
     }
 }
 
+/// A copy of the link of this type with these texts.
+fn clone_link<'a>(
+    alloc: Global,
+    link_type: LinkType,
+    dest_url: &CowStr<'a>,
+    title: &CowStr<'a>,
+    id: &CowStr<'a>,
+) -> Result<Tag<'a>, AllocError>
+    ensures value { IfOk result (λ copy. shown_tag copy ≡ tag.Link (shown_linked link_type dest_url.now title.now id.now)) }
+    ensures succeeds { CopiesInPlace dest_url.now → CopiesInPlace title.now → CopiesInPlace id.now → IsOk result }
+{
+    Ok(link_tag(link_type, clone_link_texts(alloc, dest_url, title, id)?))
+}
+
+/// The link of this type with these texts, in a value that borrows nothing.
+fn static_link(
+    alloc: Global,
+    link_type: LinkType,
+    dest_url: CowStr<'_>,
+    title: CowStr<'_>,
+    id: CowStr<'_>,
+) -> Result<Tag<'static>, AllocError>
+    ensures value { IfOk result (λ made. shown_tag made ≡ tag.Link (shown_linked link_type dest_url.entry title.entry id.entry)) }
+    ensures succeeds { StaysInPlace dest_url.entry → StaysInPlace title.entry → StaysInPlace id.entry → IsOk result }
+{
+    Ok(link_tag(link_type, static_link_texts(alloc, dest_url, title, id)?))
+}
+
+/// A copy of the image of this type with these texts.
+fn clone_image<'a>(
+    alloc: Global,
+    link_type: LinkType,
+    dest_url: &CowStr<'a>,
+    title: &CowStr<'a>,
+    id: &CowStr<'a>,
+) -> Result<Tag<'a>, AllocError>
+    ensures value { IfOk result (λ copy. shown_tag copy ≡ tag.Image (shown_linked link_type dest_url.now title.now id.now)) }
+    ensures succeeds { CopiesInPlace dest_url.now → CopiesInPlace title.now → CopiesInPlace id.now → IsOk result }
+{
+    Ok(image_tag(link_type, clone_link_texts(alloc, dest_url, title, id)?))
+}
+
+/// The image of this type with these texts, in a value that borrows nothing.
+fn static_image(
+    alloc: Global,
+    link_type: LinkType,
+    dest_url: CowStr<'_>,
+    title: CowStr<'_>,
+    id: CowStr<'_>,
+) -> Result<Tag<'static>, AllocError>
+    ensures value { IfOk result (λ made. shown_tag made ≡ tag.Image (shown_linked link_type dest_url.entry title.entry id.entry)) }
+    ensures succeeds { StaysInPlace dest_url.entry → StaysInPlace title.entry → StaysInPlace id.entry → IsOk result }
+{
+    Ok(image_tag(link_type, static_link_texts(alloc, dest_url, title, id)?))
+}
+
 fn clone_link_texts<'a>(
     alloc: Global,
     dest_url: &CowStr<'a>,
@@ -186,9 +244,23 @@ fn static_link_texts(
     ensures id { IfOk result (λ made. text_bytes made.2 ≡ text_bytes id.entry) }
     ensures succeeds { StaysInPlace dest_url.entry → StaysInPlace title.entry → StaysInPlace id.entry → IsOk result }
 {
-    let dest_url = dest_url.into_static(alloc)?;
-    let title = title.into_static(alloc)?;
-    Ok((dest_url, title, id.into_static(alloc)?))
+    // Calls drop the others: drops that the compiler adds are written out at each way out, which is dear to prove.
+    let Ok(dest_url) = dest_url.into_static(alloc) else {
+        drop(title);
+        drop(id);
+        return Err(AllocError);
+    };
+    let Ok(title) = title.into_static(alloc) else {
+        drop(dest_url);
+        drop(id);
+        return Err(AllocError);
+    };
+    let Ok(id) = id.into_static(alloc) else {
+        drop(dest_url);
+        drop(title);
+        return Err(AllocError);
+    };
+    Ok((dest_url, title, id))
 }
 
 /// What the braces of a heading say: its anchor, its classes and its other attributes.
@@ -207,6 +279,34 @@ fn heading_tag<'a>(level: HeadingLevel, parts: HeadingParts<'a>) -> Tag<'a>
     }
 }
 
+/// A copy of the heading of this level that says this in braces.
+fn clone_heading<'a>(
+    alloc: Global,
+    level: HeadingLevel,
+    id: &Option<CowStr<'a>>,
+    classes: &[CowStr<'a>],
+    attrs: &[Attribute<'a>],
+) -> Result<Tag<'a>, AllocError>
+    ensures value { IfOk result (λ copy. shown_tag copy ≡ tag.Heading (level_number level) (shown_attributes id.now classes.now attrs.now)) }
+    ensures succeeds { IfSome id.now CopiesInPlace → length classes.now ≡ 0 → length attrs.now ≡ 0 → IsOk result }
+{
+    Ok(heading_tag(level, clone_heading_parts(alloc, id, classes, attrs)?))
+}
+
+/// The heading of this level that says this in braces, in a value that borrows nothing.
+fn static_heading(
+    alloc: Global,
+    level: HeadingLevel,
+    id: Option<CowStr<'_>>,
+    classes: Vec<CowStr<'_>>,
+    attrs: Vec<Attribute<'_>>,
+) -> Result<Tag<'static>, AllocError>
+    ensures value { IfOk result (λ made. shown_tag made ≡ tag.Heading (level_number level) (shown_attributes id.entry classes.entry.items attrs.entry.items)) }
+    ensures succeeds { IfSome id.entry StaysInPlace → length classes.entry.items ≡ 0 → length attrs.entry.items ≡ 0 → IsOk result }
+{
+    Ok(heading_tag(level, static_heading_parts(alloc, id, classes, attrs)?))
+}
+
 fn clone_heading_parts<'a>(
     alloc: Global,
     id: &Option<CowStr<'a>>,
@@ -218,9 +318,9 @@ fn clone_heading_parts<'a>(
     ensures attrs { IfOk result (λ copies. map shown_attribute copies.2.items ≡ map shown_attribute attrs.now) }
     ensures succeeds { IfSome id.now CopiesInPlace → length classes.now ≡ 0 → length attrs.now ≡ 0 → IsOk result }
 {
-    let id = clone_optional_text(alloc, id)?;
     let classes = clone_texts(alloc, classes)?;
-    Ok((id, classes, clone_attributes(alloc, attrs)?))
+    let attrs = clone_attributes(alloc, attrs)?;
+    Ok((clone_optional_text(alloc, id)?, classes, attrs))
 }
 
 fn static_heading_parts(
@@ -234,9 +334,17 @@ fn static_heading_parts(
     ensures attrs { IfOk result (λ made. map shown_attribute made.2.items ≡ map shown_attribute attrs.entry.items) }
     ensures succeeds { IfSome id.entry StaysInPlace → length classes.entry.items ≡ 0 → length attrs.entry.items ≡ 0 → IsOk result }
 {
+    // Calls drop the anchor, as the texts of a link above. A list is dropped by a call anyway.
     let id = static_optional_text(alloc, id)?;
-    let classes = static_texts(alloc, classes)?;
-    Ok((id, classes, static_attributes(alloc, attrs)?))
+    let Ok(classes) = static_texts(alloc, classes) else {
+        drop(id);
+        return Err(AllocError);
+    };
+    let Ok(attrs) = static_attributes(alloc, attrs) else {
+        drop(id);
+        return Err(AllocError);
+    };
+    Ok((id, classes, attrs))
 }
 
 fn clone_optional_text<'a>(
@@ -258,9 +366,21 @@ fn clone_texts<'a>(alloc: Global, texts: &[CowStr<'a>]) -> Result<Vec<CowStr<'a>
 {
     let mut copies = Vec::with_capacity(alloc, texts.len())?;
     for text in texts {
-        copies.push(text.clone(alloc)?)?;
+        push_clone(&mut copies, alloc, text)?;
     }
     Ok(copies)
+}
+
+/// Appends a copy of this text. The list is lent, so that no way out lets it go here.
+fn push_clone<'a>(
+    copies: &mut Vec<CowStr<'a>>,
+    alloc: Global,
+    text: &CowStr<'a>,
+) -> Result<(), AllocError>
+    ensures { OnOk result (map text_bytes copies.new.items ≡ map text_bytes copies.old.items ++ (text_bytes text.now ∷ [])) }
+{
+    copies.push(text.clone(alloc)?)?;
+    Ok(())
 }
 
 fn clone_attribute<'a>(
@@ -282,9 +402,21 @@ fn clone_attributes<'a>(
 {
     let mut copies = Vec::with_capacity(alloc, attributes.len())?;
     for attribute in attributes {
-        copies.push(clone_attribute(alloc, attribute)?)?;
+        push_attribute_clone(&mut copies, alloc, attribute)?;
     }
     Ok(copies)
+}
+
+/// Appends a copy of this attribute, as `push_clone` does of a text.
+fn push_attribute_clone<'a>(
+    copies: &mut Vec<Attribute<'a>>,
+    alloc: Global,
+    attribute: &Attribute<'a>,
+) -> Result<(), AllocError>
+    ensures { OnOk result (map shown_attribute copies.new.items ≡ map shown_attribute copies.old.items ++ (shown_attribute attribute.now ∷ [])) }
+{
+    copies.push(clone_attribute(alloc, attribute)?)?;
+    Ok(())
 }
 
 fn static_optional_text(
@@ -306,9 +438,21 @@ fn static_texts(alloc: Global, texts: Vec<CowStr<'_>>) -> Result<Vec<CowStr<'sta
 {
     let mut made = Vec::with_capacity(alloc, texts.len())?;
     for text in texts {
-        made.push(text.into_static(alloc)?)?;
+        push_static(&mut made, alloc, text)?;
     }
     Ok(made)
+}
+
+/// Appends this text in a value that borrows nothing. The list is lent, so that no way out lets it go here.
+fn push_static(
+    made: &mut Vec<CowStr<'static>>,
+    alloc: Global,
+    text: CowStr<'_>,
+) -> Result<(), AllocError>
+    ensures { OnOk result (map text_bytes made.new.items ≡ map text_bytes made.old.items ++ (text_bytes text.entry ∷ [])) }
+{
+    made.push(text.into_static(alloc)?)?;
+    Ok(())
 }
 
 fn static_attribute(
@@ -333,7 +477,19 @@ fn static_attributes(
 {
     let mut made = Vec::with_capacity(alloc, attributes.len())?;
     for attribute in attributes {
-        made.push(static_attribute(alloc, attribute)?)?;
+        push_static_attribute(&mut made, alloc, attribute)?;
     }
     Ok(made)
+}
+
+/// Appends this attribute in a value that borrows nothing, as `push_static` does a text.
+fn push_static_attribute(
+    made: &mut Vec<Attribute<'static>>,
+    alloc: Global,
+    attribute: Attribute<'_>,
+) -> Result<(), AllocError>
+    ensures { OnOk result (map shown_attribute made.new.items ≡ map shown_attribute made.old.items ++ (shown_attribute attribute.entry ∷ [])) }
+{
+    made.push(static_attribute(alloc, attribute)?)?;
+    Ok(())
 }

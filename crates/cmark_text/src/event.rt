@@ -177,7 +177,9 @@ impl From<Tag<'_>> for TagEnd {
 
     /// The end of this element, as `to_end` gives it.
     fn from(tag: Tag<'_>) -> TagEnd {
-        tag.to_end()
+        let end = tag.to_end();
+        drop(tag);
+        end
     }
 }
 

@@ -4,7 +4,7 @@ use Rattle.cmark_grammar.specs.Html.{at_line_start, pieces, moved_all}
 use Rattle.cmark_text.specs.declared.event.Event.{Event}
 use Rattle.cmark_text.specs.Shown.{shown}
 use Rattle.cmark_html.specs.Writer.{writing}
-use Rattle.cmark_html.proofs.push_lent.Given as goal
+use Rattle.cmark_html.proofs.push_from.Given as goal
 
 abbrev pub invariant-loop-event : goal.invariant-loop-event
 invariant-loop-event g l = record {

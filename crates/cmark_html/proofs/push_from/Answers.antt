@@ -6,7 +6,7 @@ use Rattle.cmark_html.specs.Writer.{writing}
 use Rattle.cmark_text.specs.Shown.{shown}
 use Rattle.cmark_html.proofs.FrontSteps.{on_err, front_all}
 use Rattle.cmark_html.proofs.HtmlSteps.{written_more, kept_more, front_more, written_end, front_end, given_more}
-use Rattle.cmark_html.proofs.push_lent.Goals as goal
+use Rattle.cmark_html.proofs.push_from.Goals as goal
 
 pub loop-event-preserved : goal.loop-event-preserved
 loop-event-preserved g c =
