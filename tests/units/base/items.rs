@@ -136,7 +136,7 @@ fn flags_of_a_list_are_joined(rt: HostRuntime) -> Result<(), Fail> {
     let both = ListFlags::IS_TIGHT.union(ListFlags::LAST_LINE_EMPTY);
     assert_eq!(rt; both.bits(), 3);
     assert_eq!(rt; both.contains(ListFlags::IS_TIGHT), true);
-    assert!(rt; matches!(ItemBody::default(), ItemBody::Root));
+    assert!(rt; ItemBody::default() == ItemBody::Root);
     Ok(())
 }
 
