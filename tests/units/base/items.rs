@@ -9,9 +9,6 @@ use cmark_tree::TreeSpan;
 use std::alloc::{AllocError, Global};
 use std::test::Fail;
 
-// The tables are lent to what is asked of them, and let go before it is said whether that holds: each way out of a function lets go all that
-// the function holds, and its proof is as long as that.
-
 fn keeps_texts(tables: &mut Allocations<'static>) -> Result<bool, AllocError> {
     let one = tables.allocate_cow(CowStr::Borrowed("one"))?;
     let two = tables.allocate_cow(CowStr::Borrowed("two"))?;

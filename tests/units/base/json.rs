@@ -22,7 +22,6 @@ fn line_of(alloc: Global, event: Event<'_>) -> Result<String, AllocError> {
 
 /// Whether the line of an event has this JSON.
 fn gives(alloc: Global, event: Event<'_>, json: &str) -> Result<bool, AllocError> {
-    // The line comes first: behind it no way out has an event to let go.
     let line = line_of(alloc, event)?;
     let mut wanted = String::from_str(alloc, "{\"range\":[0,12],\"event\":")?;
     wanted.push_str(json)?;

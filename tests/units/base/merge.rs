@@ -19,9 +19,6 @@ fn is_text(event: &Event<'_>, text: &str, is_owned: bool) -> bool {
     }
 }
 
-// What a stream gives is asked of each item in turn, by a function that is lent it: so an item is let go at one place, and the proof of a
-// test is as long as that.
-
 /// Whether an item is what stands at this place of the merged items.
 fn is_merged(place: usize, item: &Result<(Event<'_>, Range<usize>), AllocError>) -> bool {
     match item {
