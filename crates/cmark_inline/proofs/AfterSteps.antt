@@ -6,12 +6,12 @@ use Rattle.std.proofs.Math.Seq.{take-append_seam}
 use Rattle.cmark_grammar.specs.BracketStates.{Opener}
 use Rattle.cmark_grammar.specs.Items as items
 use Rattle.cmark_grammar.specs.OpenBrackets.{Taken, nearest, doubled, doubled_behind, touches, undoubled, tried, used_up, inactive, dropped}
-use Rattle.cmark_inline.specs.declared.bracket.Bracket.{Bracket}
-use Rattle.cmark_inline.specs.declared.bracket.Brackets.{Brackets}
+use Rattle.cmark_slots.specs.declared.bracket.Bracket.{Bracket}
+use Rattle.cmark_slots.specs.declared.bracket.Brackets.{Brackets}
 use Rattle.cmark_inline.specs.Closers.{UsesUp, Drops, Deactivates, IsNone, NoneStand}
 use Rattle.cmark_inline.specs.BracketViews.{ArePlaced, IsPlaced, with_last, standing_of, pairs_behind, pairs_of, AreInactive, PairsInactive, AreDoubledInactive, Holds, StandFor, TakenAs}
-use Rattle.cmark_inline.specs.Doubled.{DropsBehind, nearest_of}
-use Rattle.cmark_inline.specs.Doubled as views
+use Rattle.cmark_slots.specs.Doubled.{DropsBehind, nearest_of}
+use Rattle.cmark_slots.specs.Doubled as views
 use Rattle.cmark_inline.proofs.BracketSteps.{opening-up, Takes, takes, Tries, tries, tried-placed, tried-standing, inactive-tried, drops-split, standing-split, pairs-split, placed-cut, placed-lower, inactive-fewer, used-placed, inactive-used, used-pairs, doubled-used}
 
 -- ## What is changed of each of them

@@ -20,7 +20,7 @@ use Rattle.cmark_inline.specs.Linked.{IsAutolink}
 use Rattle.cmark_inline.specs.Tokens.{whole, reading, read_on, opens_markup, shown_autolink, Says, Puts, BeginsThere, PutsAutolink}
 use Rattle.cmark_items.specs.declared.allocations.Link.{Link}
 use Rattle.cmark_inline.specs.declared.markup.FoundHtml.{FoundHtml}
-use Rattle.cmark_inline.specs.declared.slot.SlotKind.TheVariants as kind
+use Rattle.cmark_slots.specs.declared.slot.SlotKind.TheVariants as kind
 use Rattle.cmark_inline.specs.declared.state.InlineState.{InlineState}
 use Rattle.cmark_inline.specs.declared.step.Cursor.{Cursor}
 use Rattle.cmark_inline.proofs.AngleSteps.{less-autolink, less-own, less-html, html-says, tag-find}

@@ -15,7 +15,7 @@ use Rattle.cmark_grammar.specs.Tokens.{slice}
 use Rattle.cmark_text_parts.specs.declared.text.CowStr.{CowStr}
 use Rattle.cmark_scan_parts.proofs.Lists.{rest_of}
 use Rattle.cmark_inline.specs.Tokens.{whole, reading, begins_at, opens_markup, shown_autolink, Says}
-use Rattle.cmark_inline.specs.declared.slot.SlotKind.TheVariants as kind
+use Rattle.cmark_slots.specs.declared.slot.SlotKind.TheVariants as kind
 use Rattle.cmark_inline.proofs.TokenSteps.{from-is, front, begins-with}
 
 other-second : (c : ℕ) (prefix bs : List ℕ) → prefix ≡ 60 ∷ c ∷ [] → first_is (λ b. b == c) bs ≡ false → starts prefix (60 ∷ bs) ≡ false

@@ -21,11 +21,11 @@ use Rattle.cmark_text_parts.specs.declared.text.CowStr.{CowStr}
 use Rattle.cmark_finds.specs.Shown.{shown_break, shown_code, IsBreakAt, IsCodeAt}
 use Rattle.cmark_finds.specs.declared.breaks.LineBreak as find
 use Rattle.cmark_finds.specs.declared.code.CodeSpan.{CodeSpan}
-use Rattle.cmark_inline.specs.Tokens.{whole, reading, begins_at, read_on, Says, IsItem, Puts, BeginsThere, Appends, Escapes, EscapesPipe, TakesEscaped, byte_slots}
-use Rattle.cmark_inline.specs.Stands.{PushesText}
-use Rattle.cmark_inline.specs.declared.slot.Slot.{Slot}
-use Rattle.cmark_inline.specs.declared.slot.SlotKind.{SlotKind}
-use Rattle.cmark_inline.specs.declared.slot.SlotKind.TheVariants as kind
+use Rattle.cmark_inline.specs.Tokens.{whole, reading, begins_at, read_on, Says, IsItem, Puts, BeginsThere, Appends, Escapes, EscapesPipe, TakesEscaped}
+use Rattle.cmark_slots.specs.Slots.{byte_slots, PushesText}
+use Rattle.cmark_slots.specs.declared.slot.Slot.{Slot}
+use Rattle.cmark_slots.specs.declared.slot.SlotKind.{SlotKind}
+use Rattle.cmark_slots.specs.declared.slot.SlotKind.TheVariants as kind
 use Rattle.cmark_inline.specs.declared.state.InlineState.{InlineState}
 use Rattle.cmark_inline.specs.declared.step.Cursor.{Cursor}
 use Rattle.cmark_inline.proofs.TokenSteps.{line-token, found-at-ending, slash-begins, slash-break-behind, break-stands, code-begins, entity-begins, front, line-at-slash, slash-escapes, slash-pipe, slash-run, some-ticks}

@@ -9,11 +9,11 @@ use Rattle.cmark_leaf_text.specs.declared.leaf_text.LeafText.{LeafText}
 use Rattle.cmark_text_parts.specs.declared.text.CowStr.{CowStr}
 use Rattle.cmark_inline.specs.BracketViews.{IsFresh, IsPlaced, StandFor, behind_opening}
 use Rattle.cmark_inline.specs.Closers.{FormsTarget, LinksTaken, OpensAs}
-use Rattle.cmark_inline.specs.Doubled.{touching, with_double}
+use Rattle.cmark_slots.specs.Doubled.{touching, with_double}
 use Rattle.cmark_inline.proofs.OpenSteps.{pushed}
 use Rattle.cmark_inline.specs.Decided.{EndsWithin, TargetDecides}
 use Rattle.cmark_inline.specs.Stands.{SameSpans}
-use Rattle.cmark_inline.specs.declared.bracket.Bracket.{Bracket}
+use Rattle.cmark_slots.specs.declared.bracket.Bracket.{Bracket}
 use Rattle.cmark_inline.specs.declared.callback.BrokenLink.{BrokenLink}
 use Rattle.cmark_inline.specs.declared.link.Target.{Target}
 use Rattle.cmark_inline.specs.declared.state.InlineState.{InlineState}

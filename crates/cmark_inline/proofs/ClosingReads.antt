@@ -33,26 +33,26 @@ use Rattle.cmark_inline_model.specs.SlotRows as row
 use Rattle.cmark_inline_model.proofs.RowParts.{cut-row}
 use Rattle.cmark_inline.specs.Closers.{Formed, LinksTaken, ReadsOn}
 use Rattle.cmark_inline.specs.Decided.{ComesTo, IsCloser}
-use Rattle.cmark_inline.specs.MarkedSlots.{places_of, siblings_from}
+use Rattle.cmark_slots.specs.MarkedSlots.{places_of, siblings_from}
 use Rattle.cmark_inline.specs.Reached.{HasRead, ReadsPlaces, bracket_place, quotes_of, runs_of}
 use Rattle.cmark_items.specs.Links.{shown_link}
-use Rattle.cmark_inline.specs.SlotViews.{first_of, shown_slot, shown_slots, slot_as}
-use Rattle.cmark_inline.specs.Stands.{PushesText}
+use Rattle.cmark_slots.specs.SlotViews.{first_of, shown_slot, shown_slots, slot_as}
+use Rattle.cmark_slots.specs.Slots.{PushesText}
 use Rattle.cmark_inline.specs.Tokens.{Puts}
 use Rattle.cmark_inline.specs.FormedSlots.{WritesElement, dressed_behind, wrapped}
-use Rattle.cmark_inline.specs.declared.bracket.Bracket.{Bracket}
+use Rattle.cmark_slots.specs.declared.bracket.Bracket.{Bracket}
 use Rattle.cmark_inline.specs.declared.callback.BrokenLink.{BrokenLink}
-use Rattle.cmark_inline.specs.declared.delimiter.PlacedRun.{PlacedRun}
+use Rattle.cmark_slots.specs.declared.delimiter.PlacedRun.{PlacedRun}
 use Rattle.cmark_items.specs.declared.allocations.Link.{Link}
 use Rattle.cmark_inline.specs.declared.link.Target.{Target}
-use Rattle.cmark_inline.specs.declared.quote.PlacedQuote.{PlacedQuote}
-use Rattle.cmark_inline.specs.declared.slot.Slot.{Slot}
-use Rattle.cmark_inline.specs.declared.slot.SlotKind.{SlotKind}
-use Rattle.cmark_inline.specs.declared.slot.SlotKind.TheVariants as kind
+use Rattle.cmark_slots.specs.declared.quote.PlacedQuote.{PlacedQuote}
+use Rattle.cmark_slots.specs.declared.slot.Slot.{Slot}
+use Rattle.cmark_slots.specs.declared.slot.SlotKind.{SlotKind}
+use Rattle.cmark_slots.specs.declared.slot.SlotKind.TheVariants as kind
 use Rattle.cmark_inline.specs.declared.state.InlineState.{InlineState}
 use Rattle.cmark_inline.proofs.EndSteps.{closing-read}
 use Rattle.cmark_inline.proofs.LinkSteps.{link-read}
-use Rattle.cmark_inline.proofs.Marks.{no-slot}
+use Rattle.cmark_slots.proofs.Marks.{no-slot}
 
 -- ## States with the same slots
 

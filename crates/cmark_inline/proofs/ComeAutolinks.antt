@@ -29,23 +29,23 @@ use Rattle.cmark_inline_model.specs.SlotRows.{ItemSlot}
 use Rattle.cmark_inline_model.proofs.RowPasses.{reached-autolink}
 use Rattle.cmark_inline_model.proofs.TogetherTokens.{Joined, Together, begins-joined}
 use Rattle.cmark_inline.specs.CursorProgress.{HasReached}
-use Rattle.cmark_inline.specs.MarkedSlots.{places_of}
+use Rattle.cmark_slots.specs.MarkedSlots.{places_of}
 use Rattle.cmark_inline.specs.Reached.{ReadsPlaces, bracket_place, quotes_of, runs_of}
 use Rattle.cmark_inline.specs.Sound.{IsSound}
-use Rattle.cmark_inline.specs.SlotViews.{linked_at, linked_or_none, shown_slot, shown_slots}
+use Rattle.cmark_slots.specs.SlotViews.{linked_at, linked_or_none, shown_slot, shown_slots}
 use Rattle.cmark_inline.specs.Tokens.{AppendsAutolink, begins_at}
 use Rattle.cmark_inline.specs.declared.callback.BrokenLink.{BrokenLink}
 use Rattle.cmark_items.specs.declared.allocations.Link.{Link}
-use Rattle.cmark_inline.specs.declared.quote.PlacedQuote.{PlacedQuote}
-use Rattle.cmark_inline.specs.declared.slot.Element.TheVariants as element
-use Rattle.cmark_inline.specs.declared.slot.Slot.{Slot}
-use Rattle.cmark_inline.specs.declared.slot.SlotKind.TheVariants as kind
+use Rattle.cmark_slots.specs.declared.quote.PlacedQuote.{PlacedQuote}
+use Rattle.cmark_slots.specs.declared.slot.Element.TheVariants as element
+use Rattle.cmark_slots.specs.declared.slot.Slot.{Slot}
+use Rattle.cmark_slots.specs.declared.slot.SlotKind.TheVariants as kind
 use Rattle.cmark_inline.specs.declared.state.InlineState.{InlineState}
 use Rattle.cmark_inline.specs.declared.step.Cursor.{Cursor}
 use Rattle.cmark_inline.proofs.ComeItems.{flushed, has-room, other-token, with_slots}
 use Rattle.cmark_inline.proofs.ComeMarks.{text-like}
 use Rattle.cmark_inline.proofs.Keeping.{keeps-pending}
-use Rattle.cmark_inline.proofs.Longer.{get-last, shown-longer}
+use Rattle.cmark_slots.proofs.Longer.{get-last, shown-longer}
 use Rattle.cmark_inline.proofs.MarkupTokens.{no-markup-by}
 use Rattle.cmark_inline.proofs.PendingReads.{item-within, stops-there}
 use Rattle.cmark_inline.proofs.PlainChains.{IsHeld}

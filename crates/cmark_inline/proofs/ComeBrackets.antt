@@ -22,12 +22,12 @@ use Rattle.cmark_inline.specs.BracketViews.{behind_opening}
 use Rattle.cmark_inline.specs.Closers.{ShowsState}
 use Rattle.cmark_inline.specs.CursorProgress.{HasReached}
 use Rattle.cmark_inline.specs.Reached.{ReadsPlaces}
-use Rattle.cmark_inline.specs.SlotViews.{shown_slot, shown_slots}
+use Rattle.cmark_slots.specs.SlotViews.{shown_slot, shown_slots}
 use Rattle.cmark_inline.specs.SpecialReads.{OpensBracket}
 use Rattle.cmark_inline.specs.Tokens.{begins_at}
-use Rattle.cmark_inline.specs.declared.bracket.Bracket.{Bracket}
+use Rattle.cmark_slots.specs.declared.bracket.Bracket.{Bracket}
 use Rattle.cmark_inline.specs.declared.callback.BrokenLink.{BrokenLink}
-use Rattle.cmark_inline.specs.declared.slot.Slot.{Slot}
+use Rattle.cmark_slots.specs.declared.slot.Slot.{Slot}
 use Rattle.cmark_inline.specs.declared.state.InlineState.{InlineState}
 use Rattle.cmark_inline.specs.declared.step.Cursor.{Cursor}
 use Rattle.cmark_inline.proofs.ComeItems.{flushed, has-room, with_slots}

@@ -18,15 +18,15 @@ use Rattle.cmark_inline_model.specs.PlacedTokens.{may_open_markup, placed, one_s
 use Rattle.cmark_inline_model.specs.SlotRows.{marked, marks_by, quoted}
 use Rattle.cmark_inline.specs.CursorProgress.{HasBegun, HasCome, HasReached, IsCleared, IsPending}
 use Rattle.cmark_inline.specs.Decided.{EndsWithin}
-use Rattle.cmark_inline.specs.MarkedSlots.{places_of, siblings_from}
-use Rattle.cmark_inline.specs.QuoteSlots.{characters_of}
+use Rattle.cmark_slots.specs.MarkedSlots.{places_of, siblings_from}
+use Rattle.cmark_slots.specs.QuoteSlots.{characters_of}
 use Rattle.cmark_inline.specs.Reached.{ReadsPlaces}
 use Rattle.cmark_inline.specs.Resolved.{ResolvesAs}
-use Rattle.cmark_inline.specs.SlotViews.{events_to_come, shown_slots}
-use Rattle.cmark_inline.specs.Stands.{PushesText}
+use Rattle.cmark_slots.specs.SlotViews.{all_events, shown_slots}
+use Rattle.cmark_slots.specs.Slots.{PushesText}
 use Rattle.cmark_inline.specs.Tokens.{begins_at}
 use Rattle.cmark_inline.specs.declared.callback.BrokenLink.{BrokenLink}
-use Rattle.cmark_inline.specs.declared.quote.PlacedQuote.{PlacedQuote}
+use Rattle.cmark_slots.specs.declared.quote.PlacedQuote.{PlacedQuote}
 use Rattle.cmark_inline.specs.declared.state.InlineState.{InlineState}
 use Rattle.cmark_inline.specs.declared.step.Cursor.{Cursor}
 use Rattle.cmark_inline.proofs.ComeTexts.{tick-there}
@@ -101,13 +101,13 @@ module _ (leaf : LeafText) (reader : Reader) (read : Leaf) (place : ℕ → ℕ)
         → shown_slots leaf new.texts.items new.links.items new.slots.items
         ≡ marked reader.options (places_of mid.delimiters.placed.items) (marks_by (length (places_of mid.delimiters.placed.items)) (pairs_of (siblings_from 0 mid.delimiters.placed.items)))
         (quoted (map (λ (q : PlacedQuote). q.slot) mid.quotes.placed.items) (characters_of mid.quotes.placed.items) (shown_slots leaf mid.texts.items mid.links.items mid.slots.items)) []
-        → new.walk.next ≡ 0 → new.walk.opened.items ≡ [] → new.expansion_left ≡ mid.expansion_left → ResolvesAs R leaf reader read expansion_left new initial now
-    end-reads source new slots next opened left =
+        → new.expansion_left ≡ mid.expansion_left → ResolvesAs R reader read expansion_left (all_events leaf new.texts.items new.links.items new.slots.items) new.expansion_left initial now
+    end-reads source new slots left =
         let siblings = siblings_from 0 mid.delimiters.placed.items in
         let h = reached in record {
           asked = h.p.state.asked;
           answered = h.answered;
           reads = λ rest.
-              (subst (λ n. ReadsLeaf reader (IsNext (h.p.state.asked ++ rest)) read before (events_to_come leaf new) (record { expansion_left = n; asked = h.p.state.asked })) (h.shows.remembers.expansion_left ∙ sym left)
-              (leaf-read leaf reader read place before h.p h.bs mid new h.has_read source (ap (token reader read) h.at_is ∙ end-token) (pairs_of siblings) (spans_of siblings) (sound siblings) slots next opened (h.p.state.asked ++ rest) rest refl));
+              (subst (λ n. ReadsLeaf reader (IsNext (h.p.state.asked ++ rest)) read before (all_events leaf new.texts.items new.links.items new.slots.items) (record { expansion_left = n; asked = h.p.state.asked })) (h.shows.remembers.expansion_left ∙ sym left)
+              (leaf-read leaf reader read place before h.p h.bs mid new h.has_read source (ap (token reader read) h.at_is ∙ end-token) (pairs_of siblings) (spans_of siblings) (sound siblings) slots (h.p.state.asked ++ rest) rest refl));
         }

@@ -19,16 +19,16 @@ use Rattle.cmark_inline.specs.CursorProgress.{HasReached}
 use Rattle.cmark_inline.specs.Reached.{ReadsPlaces}
 use Rattle.cmark_inline.specs.Sound.{IsSound}
 use Rattle.cmark_inline.specs.Stands as stands
-use Rattle.cmark_inline.specs.Stands.{IsSlot, PushesText}
+use Rattle.cmark_slots.specs.Slots.{IsSlot, PushesText}
 use Rattle.cmark_inline.specs.Tokens.{Appends, BeginsThere, Says, begins_at, opens_markup}
 use Rattle.cmark_inline.specs.declared.callback.BrokenLink.{BrokenLink}
-use Rattle.cmark_inline.specs.declared.slot.Slot.{Slot}
-use Rattle.cmark_inline.specs.declared.slot.SlotKind.{SlotKind}
+use Rattle.cmark_slots.specs.declared.slot.Slot.{Slot}
+use Rattle.cmark_slots.specs.declared.slot.SlotKind.{SlotKind}
 use Rattle.cmark_inline.specs.declared.state.InlineState.{InlineState}
 use Rattle.cmark_inline.specs.declared.step.Cursor.{Cursor}
 use Rattle.cmark_inline.proofs.ItemSlots.{slot-like}
 use Rattle.cmark_inline.proofs.Keeping.{keeps-pending}
-use Rattle.cmark_inline.proofs.Longer.{shown-longer}
+use Rattle.cmark_slots.proofs.Longer.{shown-longer}
 use Rattle.cmark_inline.proofs.PendingReads.{flushed-reached, item-within, stops-there, token-placed}
 use Rattle.cmark_inline.proofs.PlainChains.{IsHeld, before-or-behind}
 use Rattle.cmark_inline.proofs.ReachedItems.{item-reached}

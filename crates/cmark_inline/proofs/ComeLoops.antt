@@ -9,7 +9,7 @@ use Rattle.cmark_items.specs.declared.definitions.RefDefs.{RefDefs}
 use Rattle.cmark_items.specs.declared.footnotes.FootnoteDefs.{FootnoteDefs}
 use Rattle.cmark_leaf_text.specs.declared.leaf_text.LeafText.{LeafText}
 use Rattle.cmark_text_parts.specs.declared.text.CowStr.{CowStr}
-use Rattle.cmark_inline.specs.Sound.{AreEnded}
+use Rattle.cmark_slots.specs.Standing.{AreEnded}
 use Rattle.cmark_inline.specs.CursorProgress.{ComesOn, ComesTo, IsCleared}
 use Rattle.cmark_inline.specs.Decided.{ReadsSame}
 use Rattle.cmark_inline.specs.Footnoted.{SameFootnotes}

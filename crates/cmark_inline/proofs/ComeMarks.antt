@@ -26,11 +26,12 @@ use Rattle.cmark_inline_model.specs.SlotRows.{ItemSlot, run_slots}
 use Rattle.cmark_inline_model.proofs.TogetherTokens.{Together, together-slice}
 use Rattle.cmark_inline.specs.CursorProgress.{HasReached}
 use Rattle.cmark_inline.specs.Reached.{ReadsPlaces}
-use Rattle.cmark_inline.specs.SlotViews.{shown_slot, shown_slots}
-use Rattle.cmark_inline.specs.Tokens.{AppendsQuote, AppendsRun, byte_slots}
+use Rattle.cmark_slots.specs.SlotViews.{shown_slot, shown_slots}
+use Rattle.cmark_inline.specs.Tokens.{AppendsQuote, AppendsRun}
+use Rattle.cmark_slots.specs.Slots.{byte_slots}
 use Rattle.cmark_inline.specs.declared.callback.BrokenLink.{BrokenLink}
 use Rattle.cmark_items.specs.declared.allocations.Link.{Link}
-use Rattle.cmark_inline.specs.declared.slot.Slot.{Slot}
+use Rattle.cmark_slots.specs.declared.slot.Slot.{Slot}
 use Rattle.cmark_inline.specs.declared.state.InlineState.{InlineState}
 use Rattle.cmark_inline.specs.declared.step.Cursor.{Cursor}
 use Rattle.cmark_inline.proofs.ComeItems.{flushed, has-room, other-token, with_slots}

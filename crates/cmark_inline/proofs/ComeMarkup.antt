@@ -28,13 +28,13 @@ use Rattle.cmark_inline_model.proofs.PlacedTokens.{from-place}
 use Rattle.cmark_inline.specs.CursorProgress.{HasReached}
 use Rattle.cmark_inline.specs.MarkupInSource.{AppendsMarkup, AppendsUnclosed, source_from}
 use Rattle.cmark_inline.specs.Reached.{ReadsPlaces}
-use Rattle.cmark_inline.specs.SlotViews.{shown_slot, shown_slots}
+use Rattle.cmark_slots.specs.SlotViews.{shown_slot, shown_slots}
 use Rattle.cmark_inline.specs.Tokens as tokens
 use Rattle.cmark_inline.specs.Tokens.{Puts, opens_markup}
 use Rattle.cmark_inline.specs.declared.callback.BrokenLink.{BrokenLink}
-use Rattle.cmark_inline.specs.declared.slot.Slot.{Slot}
-use Rattle.cmark_inline.specs.declared.slot.SlotKind.{SlotKind}
-use Rattle.cmark_inline.specs.declared.slot.SlotKind.TheVariants as kind
+use Rattle.cmark_slots.specs.declared.slot.Slot.{Slot}
+use Rattle.cmark_slots.specs.declared.slot.SlotKind.{SlotKind}
+use Rattle.cmark_slots.specs.declared.slot.SlotKind.TheVariants as kind
 use Rattle.cmark_inline.specs.declared.state.InlineState.{InlineState}
 use Rattle.cmark_inline.specs.declared.step.Cursor.{Cursor}
 use Rattle.cmark_inline.proofs.ComeItems.{flushed, has-room, with_slots}

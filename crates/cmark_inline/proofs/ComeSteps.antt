@@ -29,15 +29,17 @@ use Rattle.cmark_inline.specs.CursorProgress.{HasCome, HasEscaped, HasReached, I
 use Rattle.cmark_inline.specs.MarkupInSource.{AppendsMarkup, AppendsUnclosed, ReadsLess}
 use Rattle.cmark_inline.specs.PlainStretches.{StandUpTo}
 use Rattle.cmark_inline.specs.Reached.{ReadsPlaces}
-use Rattle.cmark_inline.specs.SlotViews.{shown_slots}
-use Rattle.cmark_inline.specs.Sound.{AreEnded, IsSound}
+use Rattle.cmark_slots.specs.SlotViews.{shown_slots}
+use Rattle.cmark_slots.specs.Standing.{AreEnded}
+use Rattle.cmark_inline.specs.Sound.{IsSound}
 use Rattle.cmark_inline.specs.SpecialReads.{OpensBracket, ReadsSpecial}
-use Rattle.cmark_inline.specs.Stands.{Flushes, IsSlot, Moves}
+use Rattle.cmark_inline.specs.Stands.{Flushes, Moves}
+use Rattle.cmark_slots.specs.Slots.{IsSlot}
 use Rattle.cmark_inline.specs.Tokens.{Appends, AppendsAutolink, AppendsQuote, AppendsRun, BeginsThere, Escapes, EscapesPipe, Passes, PassesOver, TakesEscaped, begins_at, reading, whole}
 use Rattle.cmark_inline.specs.declared.callback.BrokenLink.{BrokenLink}
-use Rattle.cmark_inline.specs.declared.slot.Element.TheVariants as element
-use Rattle.cmark_inline.specs.declared.slot.Slot.{Slot}
-use Rattle.cmark_inline.specs.declared.slot.SlotKind.TheVariants as kind
+use Rattle.cmark_slots.specs.declared.slot.Element.TheVariants as element
+use Rattle.cmark_slots.specs.declared.slot.Slot.{Slot}
+use Rattle.cmark_slots.specs.declared.slot.SlotKind.TheVariants as kind
 use Rattle.cmark_inline.specs.declared.state.InlineState.{InlineState}
 use Rattle.cmark_inline.specs.declared.step.Cursor.{Cursor}
 use Rattle.cmark_inline.proofs.ComeAutolinks.{autolink-reached}

@@ -28,28 +28,31 @@ use Rattle.cmark_inline_model.specs.SlotRows as row
 use Rattle.cmark_inline_model.proofs.ReadingPlaces.{pipe-is}
 use Rattle.cmark_inline.specs.Closers.{ReadsOn}
 use Rattle.cmark_inline.specs.Decided.{IsCloser}
-use Rattle.cmark_inline.specs.Doubled.{nearest}
+use Rattle.cmark_slots.specs.Doubled.{nearest}
 use Rattle.cmark_inline.specs.Hiding.{WritesWikilink}
-use Rattle.cmark_inline.specs.MarkedSlots.{siblings_from}
+use Rattle.cmark_slots.specs.MarkedSlots.{siblings_from}
 use Rattle.cmark_inline.specs.Reached.{ReadsPlaces}
-use Rattle.cmark_inline.specs.SlotViews.{first_of, shown_slot, shown_slots}
-use Rattle.cmark_inline.specs.Sound.{AreEnded, IsSound, IsTakenPair}
-use Rattle.cmark_inline.specs.Stands.{AreSlots, Stands}
-use Rattle.cmark_inline.specs.Wikilinks.{Hides, IsFirstBehind, Shows, ShowsFrom, cut_at, cut_slot, display_place, ends_by, has_pothole, hidden, shown_name, wiki_start, wiki_text}
+use Rattle.cmark_slots.specs.SlotViews.{first_of, shown_slot, shown_slots}
+use Rattle.cmark_slots.specs.Standing.{AreEnded, IsTakenPair}
+use Rattle.cmark_inline.specs.Sound.{IsSound}
+use Rattle.cmark_slots.specs.Slots.{AreSlots}
+use Rattle.cmark_inline.specs.Stands.{Stands}
+use Rattle.cmark_slots.specs.Cuts.{Hides, IsFirstBehind, cut_at, cut_slot, ends_by, hidden}
+use Rattle.cmark_inline.specs.Wikilinks.{Shows, ShowsFrom, display_place, has_pothole, shown_name, wiki_start, wiki_text}
 use Rattle.cmark_inline.specs.FormedSlots.{dressed_behind, wrapped}
-use Rattle.cmark_inline.specs.declared.bracket.Bracket.{Bracket}
-use Rattle.cmark_inline.specs.declared.slot.Slot.{Slot}
+use Rattle.cmark_slots.specs.declared.bracket.Bracket.{Bracket}
+use Rattle.cmark_slots.specs.declared.slot.Slot.{Slot}
 use Rattle.cmark_inline.specs.declared.state.InlineState.{InlineState}
 use Rattle.cmark_inline.specs.declared.wikilink.Wikilink.{Wikilink}
 use Rattle.cmark_inline.proofs.AfterSteps.{IsTried}
 use Rattle.cmark_inline.proofs.ClosingReads.{IsFlushed, SameRows, opener-first, read-before}
 use Rattle.cmark_inline.proofs.CutSlots.{cut-like}
-use Rattle.cmark_inline.proofs.DisplaySlots.{IsGood, Past, FirstShown, shows-left}
+use Rattle.cmark_slots.proofs.DisplaySlots.{IsGood, Past, FirstShown, shows-left}
 use Rattle.cmark_inline.proofs.DisplaySteps.{display-read}
 use Rattle.cmark_inline.proofs.HiddenSlots.{hides-next, hides-tail}
 use Rattle.cmark_inline.proofs.Keeping.{ended-pending}
-use Rattle.cmark_inline.proofs.Marks.{no-slot}
-use Rattle.cmark_inline.proofs.Opening.{is-pair, last-nearest}
+use Rattle.cmark_slots.proofs.Marks.{no-slot}
+use Rattle.cmark_slots.proofs.Opening.{is-pair, last-nearest}
 
 -- ## Slots of which some are hidden, and one is cut
 

@@ -29,17 +29,17 @@ use Rattle.cmark_inline_model.specs.SlotRows as row
 use Rattle.cmark_inline_model.specs.SlotRows.{marked, marks_by, quoted, run_places}
 use Rattle.cmark_inline_model.proofs.DisplayPasses.{display-reached}
 use Rattle.cmark_inline.specs.Hiding.{AreLeft}
-use Rattle.cmark_inline.specs.MarkedSlots.{places_of, siblings_from}
+use Rattle.cmark_slots.specs.MarkedSlots.{places_of, siblings_from}
 use Rattle.cmark_inline.specs.Reached.{HasRead, bracket_place, runs_of, quotes_of}
-use Rattle.cmark_inline.specs.SlotViews.{shown_slots}
-use Rattle.cmark_inline.specs.Sound.{HaveSizes}
+use Rattle.cmark_slots.specs.SlotViews.{shown_slots}
+use Rattle.cmark_slots.specs.Standing.{HaveSizes}
 use Rattle.cmark_inline.specs.FormedSlots.{dressed_behind}
-use Rattle.cmark_inline.specs.declared.bracket.Bracket.{Bracket}
-use Rattle.cmark_inline.specs.declared.delimiter.PlacedRun.{PlacedRun}
-use Rattle.cmark_inline.specs.declared.quote.PlacedQuote.{PlacedQuote}
+use Rattle.cmark_slots.specs.declared.bracket.Bracket.{Bracket}
+use Rattle.cmark_slots.specs.declared.delimiter.PlacedRun.{PlacedRun}
+use Rattle.cmark_slots.specs.declared.quote.PlacedQuote.{PlacedQuote}
 use Rattle.cmark_inline.specs.declared.state.InlineState.{InlineState}
 use Rattle.cmark_inline.proofs.LinkSteps.{bytes-behind, bytes-front, siblings-counted, quotes-map}
-use Rattle.cmark_inline.proofs.Placing.{no-quote, no-run}
+use Rattle.cmark_slots.proofs.Placing.{no-quote, no-run}
 
 -- ## Where runs begin
 

@@ -12,25 +12,25 @@ use Rattle.cmark_leaf_text.specs.declared.leaf_text.LeafText.{LeafText}
 use Rattle.cmark_text_parts.specs.declared.text.CowStr.{CowStr}
 use Rattle.cmark_inline_model.specs.SlotRows as row
 use Rattle.cmark_inline_model.specs.SlotRows.{marks_by}
-use Rattle.cmark_inline.specs.MarkedSlots.{begun_as, places_of, siblings_from}
-use Rattle.cmark_inline.specs.QuoteSlots.{characters_of}
+use Rattle.cmark_slots.specs.MarkedSlots.{begun_as, places_of, siblings_from}
+use Rattle.cmark_slots.specs.QuoteSlots.{characters_of}
 use Rattle.cmark_items.specs.Links.{shown_link}
-use Rattle.cmark_inline.specs.SlotViews.{first_of, linked_or_none, shown_element, shown_slot, shown_slots}
-use Rattle.cmark_inline.specs.Sound.{AreNamed, CanSettle}
-use Rattle.cmark_inline.specs.Stands.{AreSlots}
+use Rattle.cmark_slots.specs.SlotViews.{first_of, linked_or_none, shown_element, shown_slot, shown_slots}
+use Rattle.cmark_slots.specs.Standing.{AreNamed, CanSettle}
+use Rattle.cmark_slots.specs.Slots.{AreSlots}
 use Rattle.cmark_inline.specs.FormedSlots.{WritesElement, dressed_behind, end_slot, wrapped}
-use Rattle.cmark_inline.specs.declared.bracket.Bracket.{Bracket}
-use Rattle.cmark_inline.specs.declared.delimiter.PlacedRun.{PlacedRun}
+use Rattle.cmark_slots.specs.declared.bracket.Bracket.{Bracket}
+use Rattle.cmark_slots.specs.declared.delimiter.PlacedRun.{PlacedRun}
 use Rattle.cmark_items.specs.declared.allocations.Link.{Link}
 use Rattle.cmark_inline.specs.declared.link.Target.{Target}
-use Rattle.cmark_inline.specs.declared.quote.PlacedQuote.{PlacedQuote}
-use Rattle.cmark_inline.specs.declared.slot.Element.{Element}
-use Rattle.cmark_inline.specs.declared.slot.Element.TheVariants as element
-use Rattle.cmark_inline.specs.declared.slot.Slot.{Slot}
+use Rattle.cmark_slots.specs.declared.quote.PlacedQuote.{PlacedQuote}
+use Rattle.cmark_slots.specs.declared.slot.Element.{Element}
+use Rattle.cmark_slots.specs.declared.slot.Element.TheVariants as element
+use Rattle.cmark_slots.specs.declared.slot.Slot.{Slot}
 use Rattle.cmark_inline.specs.declared.state.InlineState.{InlineState}
-use Rattle.cmark_inline.proofs.Marks.{no-slot}
-use Rattle.cmark_inline.proofs.Longer.{get-last, shown-longer}
-use Rattle.cmark_inline.proofs.RunPlaces.{all-ahead}
+use Rattle.cmark_slots.proofs.Marks.{no-slot}
+use Rattle.cmark_slots.proofs.Longer.{get-last, shown-longer}
+use Rattle.cmark_slots.proofs.RunPlaces.{all-ahead}
 use Rattle.cmark_inline.proofs.Wrapping.{AreInside, ahead-inside, dressed-wrapped, texts-inside}
 
 -- the tag of a link or an image whose parts come last into the table

@@ -25,14 +25,14 @@ use Rattle.cmark_inline_model.specs.RowPasses.{IsReached}
 use Rattle.cmark_inline_model.specs.SlotRows as row
 use Rattle.cmark_inline_model.specs.SlotRows.{marked, marks_by, quoted, slot_events}
 use Rattle.cmark_inline_model.proofs.RowPasses.{reached-first, reached-closing, reached-end}
-use Rattle.cmark_inline.specs.MarkedSlots.{places_of, siblings_from}
-use Rattle.cmark_inline.specs.QuoteSlots.{characters_of}
+use Rattle.cmark_slots.specs.MarkedSlots.{places_of, siblings_from}
+use Rattle.cmark_slots.specs.QuoteSlots.{characters_of}
 use Rattle.cmark_inline.specs.Reached.{HasRead, bracket_place, runs_of, quotes_of}
-use Rattle.cmark_inline.specs.SlotViews.{shown_slot, shown_slots, events_of, events_to_come}
-use Rattle.cmark_inline.specs.declared.bracket.Bracket.{Bracket}
-use Rattle.cmark_inline.specs.declared.delimiter.PlacedRun.{PlacedRun}
-use Rattle.cmark_inline.specs.declared.quote.PlacedQuote.{PlacedQuote}
-use Rattle.cmark_inline.specs.declared.slot.Slot.{Slot}
+use Rattle.cmark_slots.specs.SlotViews.{all_events, shown_slot, shown_slots}
+use Rattle.cmark_slots.specs.declared.bracket.Bracket.{Bracket}
+use Rattle.cmark_slots.specs.declared.delimiter.PlacedRun.{PlacedRun}
+use Rattle.cmark_slots.specs.declared.quote.PlacedQuote.{PlacedQuote}
+use Rattle.cmark_slots.specs.declared.slot.Slot.{Slot}
 use Rattle.cmark_inline.specs.declared.state.InlineState.{InlineState}
 use Rattle.cmark_inline.proofs.LinkSteps.{siblings-counted, quotes-map}
 
@@ -70,19 +70,17 @@ module _ (leaf : LeafText) (reader : Reader) (read : Leaf) (place : ℕ → ℕ)
         → shown_slots leaf new.texts.items new.links.items new.slots.items
         ≡ marked reader.options (places_of old.delimiters.placed.items) (marks_by (length (places_of old.delimiters.placed.items)) pairs)
         (quoted (map (λ (q : PlacedQuote). q.slot) old.quotes.placed.items) (characters_of old.quotes.placed.items) (shown_slots leaf old.texts.items old.links.items old.slots.items)) []
-        → new.walk.next ≡ 0 → new.walk.opened.items ≡ [] → (all rest : List Exchange) → all ≡ p.state.asked ++ rest
-        → ReadsLeaf reader (IsNext all) read before (events_to_come leaf new) (leaving p.state)
-    leaf-read source t pairs spans e slots_are next opened all rest a =
+        → (all rest : List Exchange) → all ≡ p.state.asked ++ rest
+        → ReadsLeaf reader (IsNext all) read before (all_events leaf new.texts.items new.links.items new.slots.items) (leaving p.state)
+    leaf-read source t pairs spans e slots_are all rest a =
         let shown = shown_slots leaf old.texts.items old.links.items old.slots.items in
         let emphasis = subst (λ l. IsEmphasis l pairs spans) (sym (siblings-counted 0 old.delimiters.placed.items)) e in
         let r = reached-end reader read before p (map (bracket_place place) bs) shown (places_of old.delimiters.placed.items) (map (λ (x : PlacedQuote). x.slot) old.quotes.placed.items) (runs_of old.delimiters.placed.items) (quotes_of old.quotes.placed.items)
         h t pairs spans emphasis all rest a in
         let made : List Quote → List row.Slot = λ q.
         marked reader.options (places_of old.delimiters.placed.items) (marks_by (length (places_of old.delimiters.placed.items)) pairs) (quoted (map (λ (x : PlacedQuote). x.slot) old.quotes.placed.items) (quote_characters [] q) shown) [] in
-        let events : slot_events reader.source (made (quotes_of old.quotes.placed.items)) [] ≡ events_to_come leaf new =
+        let events : slot_events reader.source (made (quotes_of old.quotes.placed.items)) [] ≡ all_events leaf new.texts.items new.links.items new.slots.items =
         ap (λ q. slot_events reader.source (made q) []) (sym (quotes-map old.quotes.placed.items))
         ∙ ap (λ l. slot_events reader.source l []) (sym slots_are)
-        ∙ ap (λ s. slot_events s (shown_slots leaf new.texts.items new.links.items new.slots.items) []) source
-        ∙ ap (λ o. events_of leaf new.texts.items new.links.items new.slots.items o) (sym opened)
-        ∙ ap (λ n. events_of leaf new.texts.items new.links.items (drop n new.slots.items) new.walk.opened.items) (sym next) in
+        ∙ ap (λ s. slot_events s (shown_slots leaf new.texts.items new.links.items new.slots.items) []) source in
         subst (λ l. ReadsLeaf reader (IsNext all) read before l (leaving p.state)) events r

@@ -12,9 +12,9 @@ use Rattle.cmark_items.specs.Footnotes.{Counts}
 use Rattle.cmark_items.specs.declared.footnotes.FootnoteDefs.{FootnoteDefs}
 use Rattle.cmark_leaf_text.specs.Reads.{IsPart}
 use Rattle.cmark_inline.specs.Footnoted.{CountsOf, as_label, fits_footnote, footnote_behind, footnote_label, footnote_of, labels, no_leaf, reference_start, unless_footnote}
-use Rattle.cmark_inline.specs.Stands.{IsBracket, IsSlot}
-use Rattle.cmark_inline.specs.declared.bracket.Bracket.{Bracket}
-use Rattle.cmark_inline.specs.declared.slot.SlotKind.TheVariants as kind
+use Rattle.cmark_slots.specs.Slots.{IsBracket, IsSlot}
+use Rattle.cmark_slots.specs.declared.bracket.Bracket.{Bracket}
+use Rattle.cmark_slots.specs.declared.slot.SlotKind.TheVariants as kind
 
 -- ## Labels
 

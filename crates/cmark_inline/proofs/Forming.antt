@@ -4,29 +4,22 @@ use Rattle.std.specs.Prelude.{All, Bool, true, false, if◌then◌else◌, nat_l
 use Rattle.std.proofs.lemmas.Bool.{cases_eq, cases_lt, ltb-true, ltb-false}
 use Rattle.std.proofs.lemmas.List.{length_push, length-set, length-take, get_or-take, get_or_append_left, get_or_push, get_or-set_same, get_or-set_other, take_all}
 use Rattle.cmark_leaf_text.specs.declared.leaf_text.LeafText.{LeafText}
-use Rattle.cmark_inline.specs.Doubled.{DropsBehind}
-use Rattle.cmark_inline.specs.Footnoted.{PutsReference, put_at, reference_slot, with_mark}
-use Rattle.cmark_inline.specs.MarkedSlots.{AreWhole, EndWithin, HaveBytes, SameBefore, last_in}
-use Rattle.cmark_inline.specs.SlotViews.{link_named, text_named}
-use Rattle.cmark_inline.specs.Sound.{AreEnded, AreNamed, AreSound, BeginsBefore, CanSettle, EndInOrder, EndsIn, IsPlain, IsSettled, IsTaken, IsTakenPair, NamesAs, source_end}
-use Rattle.cmark_inline.specs.Stands.{AreBrackets}
-use Rattle.cmark_inline.specs.declared.bracket.Bracket.{Bracket}
-use Rattle.cmark_inline.specs.declared.delimiter.PlacedRun.{PlacedRun}
-use Rattle.cmark_inline.specs.declared.quote.PlacedQuote.{PlacedQuote}
-use Rattle.cmark_inline.specs.declared.slot.Slot.{Slot}
-use Rattle.cmark_inline.specs.declared.slot.SlotKind.TheVariants as kind
-use Rattle.cmark_inline.proofs.Marks.{no-slot, whole-set, within-set}
-use Rattle.cmark_inline.proofs.Naming.{AddsOne, adds-set, adds-then, named-link, named-text, one-ended, same-as}
-use Rattle.cmark_inline.proofs.Placing.{all-cons, have-kept, texts-kept}
-use Rattle.cmark_inline.proofs.Settling.{nothing-text}
-use Rattle.cmark_inline.proofs.Soundness.{sound-back, sound-fewer}
-
-pub runs-low : (slots : List Slot) (low place : ℕ) (runs : List PlacedRun) → HaveBytes slots low place runs → (least : ℕ) → least ≤ low → All (λ (r : PlacedRun). least ≤ r.slot) runs
-runs-low slots low place [] h least le = λ k d lt. absurd (omega (arith, lt))
-runs-low slots low place (r ∷ runs) h least le =
-    let f = h.1 in
-    let q : least ≤ r.slot = omega (arith, f, le) in
-    all-cons (λ (r : PlacedRun). least ≤ r.slot) r runs q (runs-low slots (r.slot + r.run.run_length) (h.0 + r.run.run_length) runs h.4 least (omega (arith, q)))
+use Rattle.cmark_slots.specs.Doubled.{DropsBehind}
+use Rattle.cmark_inline.specs.Footnoted.{PutsReference, reference_slot, with_mark}
+use Rattle.cmark_slots.specs.Slots.{put_at, AreBrackets}
+use Rattle.cmark_slots.specs.MarkedSlots.{AreWhole, EndWithin, HaveBytes, SameBefore, last_in}
+use Rattle.cmark_slots.specs.SlotViews.{link_named, text_named}
+use Rattle.cmark_slots.specs.Standing.{AreEnded, AreNamed, AreSound, BeginsBefore, CanSettle, EndInOrder, EndsIn, IsPlain, IsSettled, IsTaken, IsTakenPair, NamesAs, source_end}
+use Rattle.cmark_slots.specs.declared.bracket.Bracket.{Bracket}
+use Rattle.cmark_slots.specs.declared.delimiter.PlacedRun.{PlacedRun}
+use Rattle.cmark_slots.specs.declared.quote.PlacedQuote.{PlacedQuote}
+use Rattle.cmark_slots.specs.declared.slot.Slot.{Slot}
+use Rattle.cmark_slots.specs.declared.slot.SlotKind.TheVariants as kind
+use Rattle.cmark_slots.proofs.Marks.{no-slot, whole-set, within-set}
+use Rattle.cmark_slots.proofs.Naming.{AddsOne, adds-set, adds-then, named-link, named-text, one-ended, same-as}
+use Rattle.cmark_slots.proofs.Placing.{all-cons, have-kept, texts-kept, runs-low}
+use Rattle.cmark_slots.proofs.Settling.{nothing-text}
+use Rattle.cmark_slots.proofs.Soundness.{sound-back, sound-fewer}
 
 -- a text before those that are settled becomes another slot, which stands alone
 pub settle-set : (low : ℕ) (slots : List Slot) (runs : List PlacedRun) (quotes : List PlacedQuote) → CanSettle low slots runs quotes → (at : ℕ) (s : Slot) → at < low → at < length slots → ((d : Slot) → (get_or slots at d).kind ≡ kind.Text)

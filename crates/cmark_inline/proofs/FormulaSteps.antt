@@ -13,10 +13,10 @@ use Rattle.cmark_grammar.specs.Tokens.{slice}
 use Rattle.cmark_finds.specs.Dollars.{IsFormulaAt, braces_at, formula_at, shown_formula}
 use Rattle.cmark_finds.specs.declared.dollars.Formula.{Formula}
 use Rattle.cmark_text_parts.specs.declared.text.CowStr.{CowStr}
-use Rattle.cmark_inline.specs.Stands.{IsContent}
+use Rattle.cmark_slots.specs.Slots.{IsContent}
 use Rattle.cmark_inline.specs.Tokens.{whole, reading, begins_at, Says, Puts, Appends}
-use Rattle.cmark_inline.specs.declared.slot.SlotKind.{SlotKind}
-use Rattle.cmark_inline.specs.declared.slot.SlotKind.TheVariants as kind
+use Rattle.cmark_slots.specs.declared.slot.SlotKind.{SlotKind}
+use Rattle.cmark_slots.specs.declared.slot.SlotKind.TheVariants as kind
 use Rattle.cmark_inline.specs.declared.state.InlineState.{InlineState}
 use Rattle.cmark_inline.specs.declared.step.Cursor.{Cursor}
 use Rattle.cmark_inline.proofs.Appended.{at-byte, no-texts, slots-alone, own-appends}

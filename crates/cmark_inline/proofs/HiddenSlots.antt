@@ -11,17 +11,18 @@ use Rattle.cmark_text_parts.specs.declared.text.CowStr.{CowStr}
 use Rattle.cmark_text_parts.specs.Shown.{text_bytes}
 use Rattle.cmark_inline_model.specs.SlotRows as row
 use Rattle.cmark_inline_model.specs.SlotRows.{seen}
-use Rattle.cmark_inline.specs.Footnoted.{PutsReference, put_at, reference_as, reference_slot, reference_start, with_mark}
+use Rattle.cmark_inline.specs.Footnoted.{PutsReference, reference_as, reference_slot, reference_start, with_mark}
+use Rattle.cmark_slots.specs.Slots.{put_at}
 use Rattle.cmark_inline.specs.Hiding.{WritesReference, mark_before, mark_slot, shown_reference}
-use Rattle.cmark_inline.specs.SlotViews.{bytes_or_none, item_slot, shown_slot, shown_slots}
-use Rattle.cmark_inline.specs.Sound.{AreNamed}
-use Rattle.cmark_inline.specs.Wikilinks.{Hides, hidden}
-use Rattle.cmark_inline.specs.declared.bracket.Bracket.{Bracket}
+use Rattle.cmark_slots.specs.SlotViews.{bytes_or_none, item_slot, shown_slot, shown_slots}
+use Rattle.cmark_slots.specs.Standing.{AreNamed}
+use Rattle.cmark_slots.specs.Cuts.{Hides, hidden}
+use Rattle.cmark_slots.specs.declared.bracket.Bracket.{Bracket}
 use Rattle.cmark_items.specs.declared.allocations.Link.{Link}
-use Rattle.cmark_inline.specs.declared.slot.Slot.{Slot}
+use Rattle.cmark_slots.specs.declared.slot.Slot.{Slot}
 use Rattle.cmark_inline.specs.declared.state.InlineState.{InlineState}
-use Rattle.cmark_inline.proofs.Longer.{get-last, shown-longer}
-use Rattle.cmark_inline.proofs.Marks.{no-slot}
+use Rattle.cmark_slots.proofs.Longer.{get-last, shown-longer}
+use Rattle.cmark_slots.proofs.Marks.{no-slot}
 
 -- ## Slots that are hidden
 

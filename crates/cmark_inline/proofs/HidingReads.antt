@@ -32,24 +32,25 @@ use Rattle.cmark_inline_model.specs.SlotRows.{LaysOut, seen, slots_of}
 use Rattle.cmark_inline.specs.BracketViews.{IsPlaced, behind_opening}
 use Rattle.cmark_inline.specs.Closers.{ReadsOn}
 use Rattle.cmark_inline.specs.Decided.{IsCloser}
-use Rattle.cmark_inline.specs.Doubled.{nearest}
+use Rattle.cmark_slots.specs.Doubled.{nearest}
 use Rattle.cmark_inline.specs.Hiding.{WritesReference, WritesWikilink, mark_before, mark_slot, shown_reference}
 use Rattle.cmark_inline.specs.Reached.{ReadsPlaces, bracket_place}
-use Rattle.cmark_inline.specs.SlotViews.{first_of, item_slot, shown_slot, shown_slots}
-use Rattle.cmark_inline.specs.Sound.{AreEnded, IsSound, IsTakenPair}
+use Rattle.cmark_slots.specs.SlotViews.{first_of, item_slot, shown_slot, shown_slots}
+use Rattle.cmark_slots.specs.Standing.{AreEnded, IsTakenPair}
+use Rattle.cmark_inline.specs.Sound.{IsSound}
 use Rattle.cmark_inline.specs.Stands.{Stands}
 use Rattle.cmark_inline.specs.Wikilinks.{ShowsFrom, display_place, has_pothole, shown_name, wiki_start, wiki_text}
-use Rattle.cmark_inline.specs.declared.bracket.Bracket.{Bracket}
+use Rattle.cmark_slots.specs.declared.bracket.Bracket.{Bracket}
 use Rattle.cmark_items.specs.declared.allocations.Link.{Link}
-use Rattle.cmark_inline.specs.declared.slot.SlotKind.TheVariants as kind
+use Rattle.cmark_slots.specs.declared.slot.SlotKind.TheVariants as kind
 use Rattle.cmark_inline.specs.declared.state.InlineState.{InlineState}
 use Rattle.cmark_inline.specs.declared.wikilink.Wikilink.{Wikilink}
 use Rattle.cmark_inline.proofs.AfterSteps.{IsTried}
 use Rattle.cmark_inline.proofs.ClosingReads.{IsFlushed, SameRows, opener-first, read-before}
 use Rattle.cmark_inline.proofs.DisplayReads.{display-reads}
 use Rattle.cmark_inline.proofs.LinkSteps.{formed-read}
-use Rattle.cmark_inline.proofs.Marks.{no-slot}
-use Rattle.cmark_inline.proofs.Opening.{is-pair, last-nearest}
+use Rattle.cmark_slots.proofs.Marks.{no-slot}
+use Rattle.cmark_slots.proofs.Opening.{is-pair, last-nearest}
 use Rattle.cmark_inline.proofs.WikiSlots.{shows-own}
 
 -- ## Slots that are like themselves

@@ -9,27 +9,29 @@ use Rattle.cmark_grammar.specs.Answers.{Lookup}
 use Rattle.cmark_grammar.specs.Options.{Options}
 use Rattle.cmark_leaf_text.specs.Reads.{place_of}
 use Rattle.cmark_inline.specs.MarkupInSource.{IsFound}
-use Rattle.cmark_inline.specs.MarkedSlots.{last_in}
-use Rattle.cmark_inline.specs.SlotViews.{link_named, text_named}
-use Rattle.cmark_inline.specs.Sound.{AreEnded, AreSound, IsSound, IsTaken, IsTakenFrom, KeepsSound, StandsAlone, source_end, EndsIn}
-use Rattle.cmark_inline.specs.Stands.{AreSlots, PushesText, SameSpans}
-use Rattle.cmark_inline.specs.Tokens.{AppendsQuote, Puts, PutsAutolink, byte_slots}
-use Rattle.cmark_inline.specs.declared.bracket.Bracket.{Bracket}
-use Rattle.cmark_inline.specs.declared.bracket.Brackets.{Brackets}
-use Rattle.cmark_inline.specs.declared.delimiter.Delimiters.{Delimiters}
-use Rattle.cmark_inline.specs.declared.delimiter.PlacedRun.{PlacedRun}
+use Rattle.cmark_slots.specs.MarkedSlots.{last_in}
+use Rattle.cmark_slots.specs.SlotViews.{link_named, text_named}
+use Rattle.cmark_slots.specs.Standing.{AreEnded, AreSound, IsTaken, StandsAlone, source_end, EndsIn}
+use Rattle.cmark_inline.specs.Sound.{IsSound, IsTakenFrom, KeepsSound}
+use Rattle.cmark_slots.specs.Slots.{AreSlots, PushesText, byte_slots}
+use Rattle.cmark_inline.specs.Stands.{SameSpans}
+use Rattle.cmark_inline.specs.Tokens.{AppendsQuote, Puts, PutsAutolink}
+use Rattle.cmark_slots.specs.declared.bracket.Bracket.{Bracket}
+use Rattle.cmark_slots.specs.declared.bracket.Brackets.{Brackets}
+use Rattle.cmark_slots.specs.declared.delimiter.Delimiters.{Delimiters}
+use Rattle.cmark_slots.specs.declared.delimiter.PlacedRun.{PlacedRun}
 use Rattle.cmark_items.specs.declared.allocations.Link.{Link}
-use Rattle.cmark_inline.specs.declared.quote.PlacedQuote.{PlacedQuote}
-use Rattle.cmark_inline.specs.declared.quote.Quotes.{Quotes}
-use Rattle.cmark_inline.specs.declared.slot.Element.TheVariants as element
+use Rattle.cmark_slots.specs.declared.quote.PlacedQuote.{PlacedQuote}
+use Rattle.cmark_slots.specs.declared.quote.Quotes.{Quotes}
+use Rattle.cmark_slots.specs.declared.slot.Element.TheVariants as element
 use Rattle.cmark_inline.specs.declared.markup.FoundHtml.{FoundHtml}
-use Rattle.cmark_inline.specs.declared.slot.Slot.{Slot}
-use Rattle.cmark_inline.specs.declared.slot.SlotKind.{SlotKind}
-use Rattle.cmark_inline.specs.declared.slot.SlotKind.TheVariants as kind
+use Rattle.cmark_slots.specs.declared.slot.Slot.{Slot}
+use Rattle.cmark_slots.specs.declared.slot.SlotKind.{SlotKind}
+use Rattle.cmark_slots.specs.declared.slot.SlotKind.TheVariants as kind
 use Rattle.cmark_inline.specs.declared.state.InlineState.{InlineState}
 use Rattle.cmark_inline.specs.declared.step.Cursor.{Cursor}
-use Rattle.cmark_inline.proofs.Naming.{adds-push, ended-on, no-more-push, one-ended}
-use Rattle.cmark_inline.proofs.Soundness.{sound-link, sound-pending, sound-plain, sound-quote, sound-run, sound-text}
+use Rattle.cmark_slots.proofs.Naming.{adds-push, ended-on, no-more-push, one-ended}
+use Rattle.cmark_slots.proofs.Soundness.{sound-link, sound-pending, sound-plain, sound-quote, sound-run, sound-text}
 use Rattle.cmark_inline.proofs.Forming.{sound-same}
 
 pub keeps-same : (state : InlineState) → KeepsSound state state

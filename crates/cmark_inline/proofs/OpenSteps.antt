@@ -6,10 +6,10 @@ use Rattle.std.proofs.lemmas.Bool.{ltb-true, ltb-false, lt-ltb, eq-eqb, ne_eqb, 
 use Rattle.cmark_grammar.specs.BracketStates.{Opener, new_opener}
 use Rattle.cmark_grammar.specs.Items as items
 use Rattle.cmark_grammar.specs.OpenBrackets.{touches}
-use Rattle.cmark_inline.specs.declared.bracket.Bracket.{Bracket}
-use Rattle.cmark_inline.specs.declared.bracket.Brackets.{Brackets}
+use Rattle.cmark_slots.specs.declared.bracket.Bracket.{Bracket}
+use Rattle.cmark_slots.specs.declared.bracket.Brackets.{Brackets}
 use Rattle.cmark_inline.specs.BracketViews.{IsFresh, ArePlaced, IsPlaced, with_last, standing_of, pairs_behind, pairs_of, AreInactive, PairsInactive, AreDoubledInactive, Holds, StandFor}
-use Rattle.cmark_inline.specs.Doubled.{touching, with_double, if_ends}
+use Rattle.cmark_slots.specs.Doubled.{touching, with_double, if_ends}
 use Rattle.cmark_inline.proofs.BracketSteps.{standing-up-to, AllUpTo, and-right}
 use Rattle.cmark_inline.proofs.AfterSteps.{get-last}
 

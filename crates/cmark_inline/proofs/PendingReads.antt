@@ -20,12 +20,12 @@ use Rattle.cmark_inline_model.proofs.TogetherTokens.{text-together}
 use Rattle.cmark_inline_model.proofs.TokenLaws.{Onward, begins-at-onward}
 use Rattle.cmark_inline.specs.CursorProgress.{HasBegun, HasReached}
 use Rattle.cmark_inline.specs.Reached.{ReadsPlaces}
-use Rattle.cmark_inline.specs.SlotViews.{shown_slot, shown_slots}
-use Rattle.cmark_inline.specs.Stands.{PushesText}
+use Rattle.cmark_slots.specs.SlotViews.{shown_slot, shown_slots}
+use Rattle.cmark_slots.specs.Slots.{PushesText}
 use Rattle.cmark_inline.specs.Tokens.{begins_at, reading, whole}
 use Rattle.cmark_inline.specs.declared.callback.BrokenLink.{BrokenLink}
 use Rattle.cmark_items.specs.declared.allocations.Link.{Link}
-use Rattle.cmark_inline.specs.declared.slot.SlotKind.TheVariants as kind
+use Rattle.cmark_slots.specs.declared.slot.SlotKind.TheVariants as kind
 use Rattle.cmark_inline.specs.declared.state.InlineState.{InlineState}
 use Rattle.cmark_inline.proofs.ItemSlots.{item-like}
 use Rattle.cmark_inline.proofs.PendingTexts.{text_item, text_slot}

@@ -15,11 +15,11 @@ use Rattle.cmark_inline_model.proofs.PlainTokens.{one-text, token-at}
 use Rattle.cmark_inline_model.proofs.TogetherTokens.{text-together}
 use Rattle.cmark_inline.specs.PlainStretches.{StandsForItself}
 use Rattle.cmark_inline.specs.Reached.{ReadsPlaces}
-use Rattle.cmark_inline.specs.SlotViews.{shown_slot}
+use Rattle.cmark_slots.specs.SlotViews.{shown_slot}
 use Rattle.cmark_inline.specs.Tokens.{begins_at}
 use Rattle.cmark_items.specs.declared.allocations.Link.{Link}
-use Rattle.cmark_inline.specs.declared.slot.Slot.{Slot}
-use Rattle.cmark_inline.specs.declared.slot.SlotKind.TheVariants as kind
+use Rattle.cmark_slots.specs.declared.slot.Slot.{Slot}
+use Rattle.cmark_slots.specs.declared.slot.SlotKind.TheVariants as kind
 use Rattle.cmark_inline.proofs.ItemSlots.{item-like}
 
 abbrev pub text_item : (start to : ℕ) → Item

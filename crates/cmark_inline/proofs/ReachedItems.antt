@@ -22,14 +22,14 @@ use Rattle.cmark_inline.specs.BracketViews.{ArePlaced, IsFresh, StandFor}
 use Rattle.cmark_inline.specs.Closers.{ShowsState}
 use Rattle.cmark_inline.specs.CursorProgress.{HasReached}
 use Rattle.cmark_inline.specs.Decided.{EndsWithin}
-use Rattle.cmark_inline.specs.MarkedSlots.{places_of}
+use Rattle.cmark_slots.specs.MarkedSlots.{places_of}
 use Rattle.cmark_inline.specs.Reached.{HasRead, bracket_place, quotes_of, runs_of}
-use Rattle.cmark_inline.specs.SlotViews.{shown_slot, shown_slots}
-use Rattle.cmark_inline.specs.declared.bracket.Bracket.{Bracket}
-use Rattle.cmark_inline.specs.declared.bracket.Brackets.{Brackets}
+use Rattle.cmark_slots.specs.SlotViews.{shown_slot, shown_slots}
+use Rattle.cmark_slots.specs.declared.bracket.Bracket.{Bracket}
+use Rattle.cmark_slots.specs.declared.bracket.Brackets.{Brackets}
 use Rattle.cmark_inline.specs.declared.callback.BrokenLink.{BrokenLink}
-use Rattle.cmark_inline.specs.declared.quote.PlacedQuote.{PlacedQuote}
-use Rattle.cmark_inline.specs.declared.slot.Slot.{Slot}
+use Rattle.cmark_slots.specs.declared.quote.PlacedQuote.{PlacedQuote}
+use Rattle.cmark_slots.specs.declared.slot.Slot.{Slot}
 use Rattle.cmark_inline.specs.declared.state.InlineState.{InlineState}
 use Rattle.cmark_inline.proofs.ReachedSteps.{own-read}
 

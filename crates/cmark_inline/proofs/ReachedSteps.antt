@@ -21,13 +21,13 @@ use Rattle.cmark_inline_model.specs.RowPasses.{IsReached, has_own_slot}
 use Rattle.cmark_inline_model.specs.SlotRows as row
 use Rattle.cmark_inline_model.specs.SlotRows.{ItemSlot, run_slots, run_places}
 use Rattle.cmark_inline_model.proofs.RowPasses.{reached-own, reached-run, reached-quote, reached-opening}
-use Rattle.cmark_inline.specs.MarkedSlots.{places_of}
+use Rattle.cmark_slots.specs.MarkedSlots.{places_of}
 use Rattle.cmark_inline.specs.Reached.{HasRead, bracket_place, runs_of, quotes_of}
-use Rattle.cmark_inline.specs.SlotViews.{shown_slot, shown_slots}
-use Rattle.cmark_inline.specs.declared.bracket.Bracket.{Bracket}
-use Rattle.cmark_inline.specs.declared.delimiter.PlacedRun.{PlacedRun}
-use Rattle.cmark_inline.specs.declared.quote.PlacedQuote.{PlacedQuote}
-use Rattle.cmark_inline.specs.declared.slot.Slot.{Slot}
+use Rattle.cmark_slots.specs.SlotViews.{shown_slot, shown_slots}
+use Rattle.cmark_slots.specs.declared.bracket.Bracket.{Bracket}
+use Rattle.cmark_slots.specs.declared.delimiter.PlacedRun.{PlacedRun}
+use Rattle.cmark_slots.specs.declared.quote.PlacedQuote.{PlacedQuote}
+use Rattle.cmark_slots.specs.declared.slot.Slot.{Slot}
 use Rattle.cmark_inline.specs.declared.state.InlineState.{InlineState}
 
 -- the places of the bytes of runs, and one run more

@@ -10,14 +10,14 @@ use Rattle.cmark_leaf_text.specs.Reads.{IsRead, IsPart, text_of, source_of, plac
 use Rattle.cmark_leaf_text.specs.Stretches.{AreStretches, joined, place_in, size_of}
 use Rattle.cmark_leaf_text.proofs.StretchSteps.{size-joined, part-there}
 use Rattle.cmark_inline.specs.MarkupInSource.{IsFound}
-use Rattle.cmark_inline.specs.SlotViews.{CanBeGiven, EndsBehind}
-use Rattle.cmark_inline.specs.Sound.{AreNamed, EndsIn, source_end}
+use Rattle.cmark_slots.specs.SlotViews.{CanBeGiven, EndsBehind}
+use Rattle.cmark_slots.specs.Standing.{AreNamed, EndsIn, source_end}
 use Rattle.cmark_text_parts.specs.declared.text.CowStr.{CowStr}
 use Rattle.cmark_items.specs.declared.allocations.Link.{Link}
 use Rattle.cmark_inline.specs.declared.markup.FoundHtml.{FoundHtml}
-use Rattle.cmark_inline.specs.declared.slot.Slot.{Slot}
-use Rattle.cmark_inline.specs.declared.slot.SlotKind.{SlotKind}
-use Rattle.cmark_inline.specs.declared.slot.SlotKind.TheVariants as kind
+use Rattle.cmark_slots.specs.declared.slot.Slot.{Slot}
+use Rattle.cmark_slots.specs.declared.slot.SlotKind.{SlotKind}
+use Rattle.cmark_slots.specs.declared.slot.SlotKind.TheVariants as kind
 
 module _ (source : List ℕ) where
   place-low : (first from : ℕ) (ss : List Stretch) (at : ℕ) → AreStretches source first from ss → first ≤ at → at < first + length (joined source ss) → from ≤ place_in ss at
@@ -93,16 +93,11 @@ ends-behind leaf slot (kind.SourceHtml end) lt e = (e.0 slot.start lt, e.1)
 ends-behind leaf slot (kind.SourceText end) lt e = (e.0 slot.start lt, e.1)
 ends-behind leaf slot other lt e = tt
 
-pub left-of : (leaf : LeafText) (texts : List CowStr) (links : List Link) (slots : List Slot) (next : ℕ) → next ≡ 0 → AreNamed (length texts) (length links) slots → All (λ (slot : Slot). EndsBehind leaf slot slot.kind) slots
-    → CanBeGiven leaf texts links (drop next slots)
-left-of leaf texts links slots next none named ends = subst (CanBeGiven leaf texts links) (sym (ap (λ n. drop n slots) none ∙ drop-none slots)) (record {
+pub left-of : (leaf : LeafText) (texts : List CowStr) (links : List Link) (slots : List Slot) → AreNamed (length texts) (length links) slots → All (λ (slot : Slot). EndsBehind leaf slot slot.kind) slots → CanBeGiven leaf texts links slots
+left-of leaf texts links slots named ends = record {
   texts_there = named.texts_there;
   links_there = named.links_there;
   texts_once = named.texts_once;
   links_once = named.links_once;
   ends = ends;
-})
-  where
-    drop-none : (xs : List Slot) → drop 0 xs ≡ xs
-    drop-none [] = refl
-    drop-none (x ∷ xs) = refl
+}

@@ -27,7 +27,7 @@ use Rattle.cmark_inline.specs.Decided.{EndsTogether, ReadsSame, IsCloser, EndsWi
 use Rattle.cmark_inline.specs.Footnoted.{as_label}
 use Rattle.cmark_inline.specs.Linked as linked
 use Rattle.cmark_inline.specs.Linked.{InlineLink, Refers, left_behind, reference_behind, shown_link_reference, shown_target}
-use Rattle.cmark_inline.specs.declared.bracket.Bracket.{Bracket}
+use Rattle.cmark_slots.specs.declared.bracket.Bracket.{Bracket}
 use Rattle.cmark_inline.specs.declared.callback.BrokenLink.{BrokenLink}
 use Rattle.cmark_inline.specs.declared.reference.LinkReference.{LinkReference}
 use Rattle.cmark_inline.specs.declared.link.Target.{Target}

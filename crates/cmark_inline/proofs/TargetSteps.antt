@@ -31,7 +31,7 @@ use Rattle.cmark_inline.specs.Footnoted.{labels, no_leaf, as_label, is_footnote_
 use Rattle.cmark_inline.specs.Linked as linked
 use Rattle.cmark_inline.specs.Linked.{InlineLink, Reference, shown_target, shown_link_reference, reference_behind, full_or_own, collapsed_or_shortcut}
 use Rattle.cmark_inline.specs.BracketViews.{IsPlaced}
-use Rattle.cmark_inline.specs.declared.bracket.Bracket.{Bracket}
+use Rattle.cmark_slots.specs.declared.bracket.Bracket.{Bracket}
 use Rattle.cmark_inline.specs.declared.reference.LinkReference.{LinkReference}
 use Rattle.cmark_inline.specs.declared.link.Target.{Target}
 use Rattle.cmark_inline.proofs.LabelEnds.{label-ends}

@@ -17,31 +17,32 @@ use Rattle.cmark_leaf_text.specs.declared.leaf_text.LeafText.{LeafText}
 use Rattle.cmark_inline_model.specs.SlotRows as row
 use Rattle.cmark_inline_model.specs.SlotRows.{marked, marks_by, quoted, seen}
 use Rattle.cmark_inline.specs.Hiding.{AreLeft, WritesShown}
-use Rattle.cmark_inline.specs.MarkedSlots.{SameBefore, begun_as, places_of, siblings_from}
-use Rattle.cmark_inline.specs.QuoteSlots.{characters_of}
+use Rattle.cmark_slots.specs.MarkedSlots.{SameBefore, begun_as, places_of, siblings_from}
+use Rattle.cmark_slots.specs.QuoteSlots.{characters_of}
 use Rattle.cmark_items.specs.Links.{shown_link}
-use Rattle.cmark_inline.specs.SlotViews.{first_of, shown_element, shown_slot, shown_slots}
-use Rattle.cmark_inline.specs.Sound.{AreNamed, AreSound, CanSettle}
-use Rattle.cmark_inline.specs.Stands.{AreSlots}
-use Rattle.cmark_inline.specs.Wikilinks.{Hides, IsNamed, Shows, display_place, has_pothole, hidden, shown_name}
+use Rattle.cmark_slots.specs.SlotViews.{first_of, shown_element, shown_slot, shown_slots}
+use Rattle.cmark_slots.specs.Standing.{AreNamed, AreSound, CanSettle}
+use Rattle.cmark_slots.specs.Slots.{AreSlots}
+use Rattle.cmark_slots.specs.Cuts.{Hides, hidden}
+use Rattle.cmark_inline.specs.Wikilinks.{IsNamed, Shows, display_place, has_pothole, shown_name}
 use Rattle.cmark_inline.specs.FormedSlots.{Forgets, dressed_behind, end_slot, wrapped}
-use Rattle.cmark_inline.specs.declared.bracket.Bracket.{Bracket}
-use Rattle.cmark_inline.specs.declared.bracket.Brackets.{Brackets}
-use Rattle.cmark_inline.specs.declared.delimiter.PlacedRun.{PlacedRun}
+use Rattle.cmark_slots.specs.declared.bracket.Bracket.{Bracket}
+use Rattle.cmark_slots.specs.declared.bracket.Brackets.{Brackets}
+use Rattle.cmark_slots.specs.declared.delimiter.PlacedRun.{PlacedRun}
 use Rattle.cmark_items.specs.declared.allocations.Link.{Link}
-use Rattle.cmark_inline.specs.declared.quote.PlacedQuote.{PlacedQuote}
-use Rattle.cmark_inline.specs.declared.slot.Element.{Element}
-use Rattle.cmark_inline.specs.declared.slot.Element.TheVariants as element
-use Rattle.cmark_inline.specs.declared.slot.Slot.{Slot}
-use Rattle.cmark_inline.specs.declared.slot.SlotKind.TheVariants as kind
+use Rattle.cmark_slots.specs.declared.quote.PlacedQuote.{PlacedQuote}
+use Rattle.cmark_slots.specs.declared.slot.Element.{Element}
+use Rattle.cmark_slots.specs.declared.slot.Element.TheVariants as element
+use Rattle.cmark_slots.specs.declared.slot.Slot.{Slot}
+use Rattle.cmark_slots.specs.declared.slot.SlotKind.TheVariants as kind
 use Rattle.cmark_inline.specs.declared.state.InlineState.{InlineState}
 use Rattle.cmark_inline.specs.declared.wikilink.Wikilink.{Wikilink}
 use Rattle.cmark_inline.proofs.ElementWrites.{element-dressed, image-shown, link-shown}
 use Rattle.cmark_inline.proofs.HiddenSlots.{cut-at-slot, hides-behind}
-use Rattle.cmark_inline.proofs.Longer.{shown-longer}
-use Rattle.cmark_inline.proofs.Marks.{no-slot}
-use Rattle.cmark_inline.proofs.Placing.{no-quote, no-run, runs-within}
-use Rattle.cmark_inline.proofs.WikiSteps.{cut-past}
+use Rattle.cmark_slots.proofs.Longer.{shown-longer}
+use Rattle.cmark_slots.proofs.Marks.{no-slot}
+use Rattle.cmark_slots.proofs.Placing.{no-quote, no-run, runs-within}
+use Rattle.cmark_slots.proofs.Cutting.{cut-past}
 
 -- ## The tag
 

@@ -8,11 +8,11 @@ use Rattle.cmark_grammar.specs.Tag.{Tag}
 use Rattle.cmark_grammar.specs.Items.{Own}
 use Rattle.cmark_grammar.specs.Siblings.{item}
 use Rattle.cmark_inline_model.specs.SlotRows.{BeginSlot, EndSlot, ItemSlot, Mark, NothingSlot, Slot, Stays, Begins, Ends, Blank, character_slot, end_in, marked, quoted, spanned, start_in, used_up}
-use Rattle.cmark_inline.specs.MarkedSlots.{AreAhead, HaveTexts}
+use Rattle.cmark_slots.specs.MarkedSlots.{AreAhead, HaveTexts}
 use Rattle.cmark_inline.specs.FormedSlots.{wrapped}
-use Rattle.cmark_inline.specs.declared.quote.PlacedQuote.{PlacedQuote}
-use Rattle.cmark_inline.specs.declared.slot.Slot.{Slot as CodeSlot}
-use Rattle.cmark_inline.proofs.Placing.{all-head, all-tail}
+use Rattle.cmark_slots.specs.declared.quote.PlacedQuote.{PlacedQuote}
+use Rattle.cmark_slots.specs.declared.slot.Slot.{Slot as CodeSlot}
+use Rattle.cmark_slots.proofs.Placing.{all-head, all-tail}
 
 -- these places are behind one, and before the end
 abbrev pub AreInside : (at size : ℕ) → List ℕ → Type 0

@@ -19,13 +19,14 @@ use Rattle.cmark_inline_model.specs.BracketPass.{Pass, closed_by}
 use Rattle.cmark_inline.specs.BracketViews.{StandFor, IsFresh, behind_opening, standing_of}
 use Rattle.cmark_items.specs.Links.{shown_link}
 use Rattle.cmark_inline.specs.Decided.{ReadsSame, IsCloser, Remembers, ComesTo, EndsWithin, TargetDecides}
-use Rattle.cmark_inline.specs.Doubled.{DropsBehind}
+use Rattle.cmark_slots.specs.Doubled.{DropsBehind}
 use Rattle.cmark_inline.specs.Reached.{HasRead, ReadsPlaces}
-use Rattle.cmark_inline.specs.Sound.{AreEnded}
-use Rattle.cmark_inline.specs.Stands.{PushesText, SameSpans}
+use Rattle.cmark_slots.specs.Standing.{AreEnded}
+use Rattle.cmark_slots.specs.Slots.{PushesText}
+use Rattle.cmark_inline.specs.Stands.{SameSpans}
 use Rattle.cmark_inline.specs.FormedSlots.{WritesElement}
-use Rattle.cmark_inline.specs.declared.bracket.Bracket.{Bracket}
-use Rattle.cmark_inline.specs.declared.bracket.Brackets.{Brackets}
+use Rattle.cmark_slots.specs.declared.bracket.Bracket.{Bracket}
+use Rattle.cmark_slots.specs.declared.bracket.Brackets.{Brackets}
 use Rattle.cmark_inline.specs.declared.callback.BrokenLink.{BrokenLink}
 use Rattle.cmark_items.specs.declared.allocations.Link.{Link}
 use Rattle.cmark_inline.specs.declared.link.Target.{Target}

@@ -27,7 +27,7 @@ use Rattle.cmark_inline_model.specs.TextPlaces.{ArePlaces}
 use Rattle.cmark_inline.specs.BracketViews.{IsPlaced}
 use Rattle.cmark_inline.specs.Footnoted.{footnote_of, forms_footnote}
 use Rattle.cmark_inline.specs.Linked.{Said, said_by}
-use Rattle.cmark_inline.specs.declared.bracket.Bracket.{Bracket}
+use Rattle.cmark_slots.specs.declared.bracket.Bracket.{Bracket}
 use Rattle.cmark_inline.specs.declared.state.InlineState.{InlineState}
 use Rattle.cmark_inline.specs.declared.callback.BrokenLink.{BrokenLink}
 use Rattle.cmark_inline.specs.declared.link.Target.{Target}

@@ -1,5 +1,5 @@
 -- Which closing brackets form footnote references, and what becomes of the slots and the footnotes (this profile's own).
-use Rattle.std.specs.Prelude.{◌≡◌, ℕ, ◌+◌, nat_lt, Bool, false, not, ◌&&◌, ◌||◌, if◌then◌else◌, List, [], ◌∷◌, ◌++◌, length, drop, set, Option, None, Some, is_some, option_map}
+use Rattle.std.specs.Prelude.{◌≡◌, ℕ, ◌+◌, Bool, false, not, ◌&&◌, ◌||◌, if◌then◌else◌, List, [], ◌∷◌, ◌++◌, length, drop, set, Option, None, Some, is_some, option_map}
 use Rattle.cmark_grammar.specs.BracketDecisions as decisions
 use Rattle.cmark_grammar.specs.Labels.{fold, normal_form}
 use Rattle.cmark_grammar.specs.LeafText.{Leaf}
@@ -12,10 +12,11 @@ use Rattle.cmark_items.specs.Footnotes.{footnote, Counts, Keeps}
 use Rattle.cmark_items.specs.declared.footnotes.FootnoteDefs.{FootnoteDefs}
 use Rattle.cmark_text_parts.specs.Shown.{text_bytes}
 use Rattle.cmark_text_parts.specs.declared.text.CowStr.{CowStr}
-use Rattle.cmark_inline.specs.Wikilinks.{Hides}
-use Rattle.cmark_inline.specs.declared.bracket.Bracket.{Bracket}
-use Rattle.cmark_inline.specs.declared.slot.Slot.{Slot}
-use Rattle.cmark_inline.specs.declared.slot.SlotKind.TheVariants as kind
+use Rattle.cmark_slots.specs.Cuts.{Hides}
+use Rattle.cmark_slots.specs.declared.bracket.Bracket.{Bracket}
+use Rattle.cmark_slots.specs.declared.slot.Slot.{Slot}
+use Rattle.cmark_slots.specs.declared.slot.SlotKind.TheVariants as kind
+use Rattle.cmark_slots.specs.Slots.{put_at}
 
 -- ## Labels
 
@@ -94,9 +95,6 @@ reference_slot bracket = if bracket.is_image then bracket.slot + 1 else bracket.
 abbrev pub with_mark : Bracket → List Slot → List Slot
 with_mark bracket slots =
     if bracket.is_image then set slots bracket.slot (record { kind = kind.Text; start = bracket.start; end = bracket.start + 1 }) else slots
-
-abbrev pub put_at : (at : ℕ) → Slot → List Slot → List Slot
-put_at at slot slots = if nat_lt at (length slots) then set slots at slot else slots ++ (slot ∷ [])
 
 -- the slots from that of the bracket on became nothing, and the first of them this one; behind a `!` it is the second
 pub record PutsReference (bracket : Bracket) (reference : Slot) (old new : List Slot) : Type 0 where

@@ -8,16 +8,16 @@ use Rattle.cmark_leaf_text.specs.Reads.{place_of}
 use Rattle.cmark_leaf_text.specs.declared.leaf_text.LeafText.{LeafText}
 use Rattle.cmark_inline_model.specs.SlotRows as row
 use Rattle.cmark_inline_model.specs.SlotRows.{marked, marks_by, quoted}
-use Rattle.cmark_inline.specs.MarkedSlots.{places_of, siblings_from}
-use Rattle.cmark_inline.specs.QuoteSlots.{characters_of}
+use Rattle.cmark_slots.specs.MarkedSlots.{places_of, siblings_from}
+use Rattle.cmark_slots.specs.QuoteSlots.{characters_of}
 use Rattle.cmark_items.specs.Links.{shown_link}
-use Rattle.cmark_inline.specs.SlotViews.{first_of, shown_slots}
-use Rattle.cmark_inline.specs.declared.bracket.Bracket.{Bracket}
-use Rattle.cmark_inline.specs.declared.delimiter.PlacedRun.{PlacedRun}
+use Rattle.cmark_slots.specs.SlotViews.{first_of, shown_slots}
+use Rattle.cmark_slots.specs.declared.bracket.Bracket.{Bracket}
+use Rattle.cmark_slots.specs.declared.delimiter.PlacedRun.{PlacedRun}
 use Rattle.cmark_inline.specs.declared.link.Target.{Target}
-use Rattle.cmark_inline.specs.declared.quote.PlacedQuote.{PlacedQuote}
-use Rattle.cmark_inline.specs.declared.slot.Slot.{Slot}
-use Rattle.cmark_inline.specs.declared.slot.SlotKind.TheVariants as kind
+use Rattle.cmark_slots.specs.declared.quote.PlacedQuote.{PlacedQuote}
+use Rattle.cmark_slots.specs.declared.slot.Slot.{Slot}
+use Rattle.cmark_slots.specs.declared.slot.SlotKind.TheVariants as kind
 use Rattle.cmark_inline.specs.declared.state.InlineState.{InlineState}
 
 -- the quotes behind an opening bracket are characters, and the pairs of the runs behind it have written their marks

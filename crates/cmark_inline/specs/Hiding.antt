@@ -10,15 +10,15 @@ use Rattle.cmark_inline_model.specs.SlotRows.{seen}
 use Rattle.cmark_leaf_text.specs.Reads.{place_of}
 use Rattle.cmark_leaf_text.specs.declared.leaf_text.LeafText.{LeafText}
 use Rattle.cmark_inline.specs.Footnoted.{reference_start}
-use Rattle.cmark_inline.specs.MarkedSlots.{siblings_from}
-use Rattle.cmark_inline.specs.SlotViews.{first_of, item_slot, shown_slot, shown_slots}
+use Rattle.cmark_slots.specs.MarkedSlots.{siblings_from}
+use Rattle.cmark_slots.specs.SlotViews.{first_of, item_slot, shown_slot, shown_slots}
 use Rattle.cmark_inline.specs.Wikilinks.{IsWikilink, Shows, has_pothole}
 use Rattle.cmark_inline.specs.FormedSlots.{Forgets, dressed_behind, wrapped}
-use Rattle.cmark_inline.specs.declared.bracket.Bracket.{Bracket}
-use Rattle.cmark_inline.specs.declared.delimiter.PlacedRun.{PlacedRun}
-use Rattle.cmark_inline.specs.declared.quote.PlacedQuote.{PlacedQuote}
-use Rattle.cmark_inline.specs.declared.slot.Slot.{Slot}
-use Rattle.cmark_inline.specs.declared.slot.SlotKind.TheVariants as kind
+use Rattle.cmark_slots.specs.declared.bracket.Bracket.{Bracket}
+use Rattle.cmark_slots.specs.declared.delimiter.PlacedRun.{PlacedRun}
+use Rattle.cmark_slots.specs.declared.quote.PlacedQuote.{PlacedQuote}
+use Rattle.cmark_slots.specs.declared.slot.Slot.{Slot}
+use Rattle.cmark_slots.specs.declared.slot.SlotKind.TheVariants as kind
 use Rattle.cmark_inline.specs.declared.state.InlineState.{InlineState}
 use Rattle.cmark_inline.specs.declared.wikilink.Wikilink.{Wikilink}
 

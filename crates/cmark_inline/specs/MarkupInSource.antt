@@ -13,7 +13,7 @@ use Rattle.cmark_inline.specs.declared.markup.FoundHtml.{FoundHtml}
 use Rattle.cmark_inline.specs.declared.markup.MarkupKind.{MarkupKind}
 use Rattle.cmark_inline.specs.declared.markup.MarkupKind.TheVariants as markup
 use Rattle.cmark_inline.specs.declared.markup.Unclosed.{Unclosed}
-use Rattle.cmark_inline.specs.declared.slot.SlotKind.TheVariants as kind
+use Rattle.cmark_slots.specs.declared.slot.SlotKind.TheVariants as kind
 use Rattle.cmark_inline.specs.declared.state.InlineState.{InlineState}
 use Rattle.cmark_inline.specs.declared.step.Cursor.{Cursor}
 

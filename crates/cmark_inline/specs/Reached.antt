@@ -14,11 +14,11 @@ use Rattle.cmark_inline_model.specs.LeafModel.{HaveLineEnds}
 use Rattle.cmark_inline_model.specs.PlacedTokens.{AreLeafPlaces}
 use Rattle.cmark_inline_model.specs.RowParts.{BracketPlace}
 use Rattle.cmark_inline_model.specs.RowPasses.{IsReached}
-use Rattle.cmark_inline.specs.MarkedSlots.{places_of}
-use Rattle.cmark_inline.specs.SlotViews.{shown_slots}
-use Rattle.cmark_inline.specs.declared.bracket.Bracket.{Bracket}
-use Rattle.cmark_inline.specs.declared.delimiter.PlacedRun.{PlacedRun}
-use Rattle.cmark_inline.specs.declared.quote.PlacedQuote.{PlacedQuote}
+use Rattle.cmark_slots.specs.MarkedSlots.{places_of}
+use Rattle.cmark_slots.specs.SlotViews.{shown_slots}
+use Rattle.cmark_slots.specs.declared.bracket.Bracket.{Bracket}
+use Rattle.cmark_slots.specs.declared.delimiter.PlacedRun.{PlacedRun}
+use Rattle.cmark_slots.specs.declared.quote.PlacedQuote.{PlacedQuote}
 use Rattle.cmark_inline.specs.declared.state.InlineState.{InlineState}
 
 -- the grammar reads the leaf whose text this is, and its bytes have these places: its lines stand in order in the source and end with line

@@ -1,6 +1,6 @@
 -- What begins at a place of a leaf's text, and the slots that stand for it. The text is read as a leaf of one stretch, so places are
 -- those of the text; it may be that of a cell of a table, where a backslash before a pipe means something else.
-use Rattle.std.specs.Prelude.{◌≡◌, ◌⊎◌, ℕ, zero, suc, ◌+◌, ◌-◌, ◌≤◌, ◌<◌, Bool, true, false, ◌==◌, ◌||◌, List, [], ◌∷◌, ◌++◌, length, drop, encode_utf8, slice_index, slice_get, Some, None, is_some}
+use Rattle.std.specs.Prelude.{◌≡◌, ◌⊎◌, ℕ, ◌+◌, ◌-◌, ◌≤◌, ◌<◌, Bool, true, false, ◌==◌, ◌||◌, List, [], ◌∷◌, ◌++◌, length, drop, encode_utf8, slice_index, slice_get, Some, None, is_some}
 use Rattle.cmark_grammar.specs.Answers.{Lookup}
 use Rattle.cmark_grammar.specs.CodeSpans.{is_backtick, backticks, code_in, code_text}
 use Rattle.cmark_grammar.specs.Columns.{is_blank_byte}
@@ -21,12 +21,12 @@ use Rattle.cmark_emphasis.specs.declared.run.Run.{Run}
 use Rattle.cmark_text_parts.specs.Shown.{text_bytes}
 use Rattle.cmark_text_parts.specs.declared.text.CowStr.{CowStr}
 use Rattle.cmark_inline.specs.Linked.{IsAutolink}
-use Rattle.cmark_inline.specs.Stands.{PushesText}
+use Rattle.cmark_slots.specs.Slots.{PushesText, byte_slots}
 use Rattle.cmark_items.specs.declared.allocations.Link.{Link}
-use Rattle.cmark_inline.specs.declared.slot.Element.TheVariants as element
-use Rattle.cmark_inline.specs.declared.slot.Slot.{Slot}
-use Rattle.cmark_inline.specs.declared.slot.SlotKind.{SlotKind}
-use Rattle.cmark_inline.specs.declared.slot.SlotKind.TheVariants as kind
+use Rattle.cmark_slots.specs.declared.slot.Element.TheVariants as element
+use Rattle.cmark_slots.specs.declared.slot.Slot.{Slot}
+use Rattle.cmark_slots.specs.declared.slot.SlotKind.{SlotKind}
+use Rattle.cmark_slots.specs.declared.slot.SlotKind.TheVariants as kind
 use Rattle.cmark_inline.specs.declared.state.InlineState.{InlineState}
 use Rattle.cmark_inline.specs.declared.step.Cursor.{Cursor}
 
@@ -199,11 +199,6 @@ pub record AppendsQuote (options : Options) (lookup : Lookup) (is_cell : Bool) (
 
 abbrev pub is_run_delimiter : ℕ → Bool
 is_run_delimiter b = (b == 42) || ((b == 95) || ((b == 126) || (b == 94)))
-
--- a slot for each of so many bytes from a place on
-abbrev pub byte_slots : (start size : ℕ) → List Slot
-byte_slots start zero = []
-byte_slots start (suc size) = record { kind = kind.Text; start = start; end = start + 1 } ∷ byte_slots (start + 1) size
 
 -- the text that was pending, and then a slot for each byte of the delimiter run that begins at the place that was reached
 pub record AppendsRun (options : Options) (lookup : Lookup) (is_cell : Bool) (text : List ℕ) (here : Cursor) (old new : InlineState) (next : Cursor) : Type 0 where

@@ -1,7 +1,6 @@
 -- What a wikilink is between its brackets, and the slots that it shows (this profile's own).
-use Rattle.std.specs.Prelude.{◌≡◌, ◌==◌, ℕ, zero, suc, ◌+◌, ◌-◌, ◌≤◌, ◌<◌, nat_le, nat_lt, Bool, true, false, ◌&&◌, ◌||◌, if◌then◌else◌, List, [], ◌∷◌, ◌++◌, length, drop, get_or, Option, None, Some}
+use Rattle.std.specs.Prelude.{◌≡◌, ◌==◌, ℕ, ◌+◌, ◌-◌, ◌<◌, nat_lt, Bool, true, false, ◌&&◌, if◌then◌else◌, List, [], ◌∷◌, ◌++◌, length, drop, Option, None, Some}
 use Rattle.cmark_grammar.specs.BracketDecisions.{name_in, behind_pipe}
-use Rattle.cmark_grammar.specs.InlineHtml.{takes_lines}
 use Rattle.cmark_grammar.specs.Letters.{first_is}
 use Rattle.cmark_grammar.specs.LinkType as link
 use Rattle.cmark_grammar.specs.Options.{Options}
@@ -9,14 +8,14 @@ use Rattle.cmark_grammar.specs.Tokens.{slice}
 use Rattle.cmark_leaf_text.specs.declared.leaf_text.LeafText.{LeafText}
 use Rattle.cmark_leaf_text.specs.Reads.{IsFirstFrom, place_of, source_of, text_of}
 use Rattle.cmark_text_parts.specs.Shown.{shown_link_type, text_bytes}
-use Rattle.cmark_inline.specs.Doubled.{nearest}
-use Rattle.cmark_inline.specs.declared.bracket.Bracket.{Bracket}
-use Rattle.cmark_inline.specs.declared.bracket.Brackets.{Brackets}
+use Rattle.cmark_slots.specs.Doubled.{nearest}
+use Rattle.cmark_slots.specs.declared.bracket.Bracket.{Bracket}
+use Rattle.cmark_slots.specs.declared.bracket.Brackets.{Brackets}
 use Rattle.cmark_items.specs.declared.allocations.Link.{Link}
-use Rattle.cmark_inline.specs.declared.slot.Slot.{Slot}
-use Rattle.cmark_inline.specs.declared.slot.SlotKind.{SlotKind}
-use Rattle.cmark_inline.specs.declared.slot.SlotKind.TheVariants as kind
+use Rattle.cmark_slots.specs.declared.slot.Slot.{Slot}
+use Rattle.cmark_slots.specs.declared.slot.SlotKind.TheVariants as kind
 use Rattle.cmark_inline.specs.declared.wikilink.Wikilink.{Wikilink}
+use Rattle.cmark_slots.specs.Cuts.{Hides, IsFirstBehind, cut_at}
 
 -- what stands in the source between a doubled bracket and a closing one
 abbrev pub wiki_start : LeafText → Bracket → ℕ
@@ -59,54 +58,6 @@ is_wikilink leaf close (Some nearest) = nearest.1 && (nat_lt nearest.0.inside cl
 abbrev pub forms_wikilink : Options → LeafText → (close : ℕ) → (doubled : Brackets) → Bool
 forms_wikilink options leaf close doubled =
     options.wikilinks && (first_is (λ b. b == 93) (drop (close + 1) (text_of leaf)) && is_wikilink leaf close (nearest doubled))
-
--- ## What it shows
-
--- the end of an element and what is nothing have no bytes of their own, and a text of no bytes ends where it begins
-abbrev pub has_none_behind : (place start : ℕ) → SlotKind → Bool
-has_none_behind place start kind.End = true
-has_none_behind place start kind.Nothing = true
-has_none_behind place start kind.Empty = nat_le start place
-has_none_behind place start _ = false
-
--- a slot has no bytes behind a place
-abbrev pub ends_by : (place : ℕ) → Slot → Bool
-ends_by place slot = has_none_behind place slot.start slot.kind || nat_le slot.end place
-
--- the first slot from one on that ends behind a place
-pub record IsFirstBehind (slots : List Slot) (from place at : ℕ) : Type 0 where
-  pub order : from ≤ at
-  pub within : at ≤ length slots
-  pub before : (k : ℕ) (d : Slot) → from ≤ k → k < at → ends_by place (get_or slots k d) ≡ true
-  pub shown : (d : Slot) → at < length slots → ends_by place (get_or slots at d) ≡ false
-  pub behind : (d : Slot) → at < length slots → place < (get_or slots at d).end
-
--- the slots from one to before another became nothing
-abbrev pub hidden : Slot → Slot
-hidden slot = record { kind = kind.Nothing; start = slot.start; end = slot.end }
-
-pub record Hides (from to : ℕ) (old new : List Slot) : Type 0 where
-  pub size : length new ≡ length old
-  pub inside : (k : ℕ) (d : Slot) → from ≤ k → k < to → get_or new k d ≡ hidden (get_or old k d)
-  pub before : (k : ℕ) (d : Slot) → k < from → get_or new k d ≡ get_or old k d
-  pub behind : (k : ℕ) (d : Slot) → to ≤ k → get_or new k d ≡ get_or old k d
-
--- a slot that begins at a place inside it: a tag over lines stays whole, and a text is what stands in the source
-abbrev pub cut_kind : (text : List ℕ) → (start end : ℕ) → SlotKind → SlotKind
-cut_kind text start end kind.InlineHtml = if takes_lines (slice text start end) then kind.CutHtml start else kind.InlineHtml
-cut_kind text start end (kind.CutHtml from) = if takes_lines (slice text from end) then kind.CutHtml from else kind.InlineHtml
-cut_kind text start end (kind.OwnedText index) = kind.Whole 0
-cut_kind text start end (kind.Character character) = kind.Whole 0
-cut_kind text start end other = other
-
-abbrev pub cut_slot : (text : List ℕ) → (place : ℕ) → Slot → Slot
-cut_slot text place slot =
-    if nat_lt slot.start place && nat_lt place slot.end then record { kind = cut_kind text slot.start slot.end slot.kind; start = place; end = slot.end } else slot
-
-abbrev pub cut_at : (text : List ℕ) → (place at : ℕ) → List Slot → List Slot
-cut_at text place at [] = []
-cut_at text place zero (slot ∷ slots) = cut_slot text place slot ∷ slots
-cut_at text place (suc at) (slot ∷ slots) = slot ∷ cut_at text place at slots
 
 -- behind those it shows its name, or a text of no bytes
 abbrev pub shown_name : Bracket → (close source_end : ℕ) → Option ℕ → List Slot

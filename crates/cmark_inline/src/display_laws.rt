@@ -22,12 +22,12 @@ ghost use Rattle.cmark_inline_model.specs.LikeSlots.{AreLike};
 ghost use Rattle.cmark_inline_model.specs.RowPasses.{linked_slots};
 ghost use Rattle.cmark_inline_model.specs.SlotRows.{Slot as RowSlot};
 ghost use Rattle.cmark_inline.specs.Hiding.{AreLeft};
-ghost use Rattle.cmark_inline.specs.MarkedSlots.{siblings_from};
+ghost use Rattle.cmark_slots.specs.MarkedSlots.{siblings_from};
 ghost use Rattle.cmark_inline.specs.Reached.{HasRead, bracket_place};
-ghost use Rattle.cmark_inline.specs.SlotViews.{shown_slots};
-ghost use Rattle.cmark_inline.specs.Sound.{HaveSizes};
+ghost use Rattle.cmark_slots.specs.SlotViews.{shown_slots};
+ghost use Rattle.cmark_slots.specs.Standing.{HaveSizes};
 ghost use Rattle.cmark_inline.specs.FormedSlots.{dressed_behind};
-ghost use Rattle.cmark_inline.specs.declared.bracket.Bracket.{Bracket};
+ghost use Rattle.cmark_slots.specs.declared.bracket.Bracket.{Bracket};
 ghost use Rattle.cmark_inline.specs.declared.state.InlineState.{InlineState};
 
 /// Where the grammar's closing bracket forms a wikilink that shows what stands behind its pipe, the state stands for it whose slots from the

@@ -5,12 +5,13 @@ ghost use Rattle.cmark_grammar.specs.Answers.{Lookup};
 ghost use Rattle.cmark_grammar.specs.Options.{Options};
 ghost use Rattle.cmark_finds.specs.Dollars.{AreDollarsOf};
 ghost use Rattle.cmark_inline.specs.ReadsOn.{ReadsOn};
-ghost use Rattle.cmark_inline.specs.Stands.{IsCursor, Stands, begins_link};
+ghost use Rattle.cmark_inline.specs.Stands.{IsCursor, Stands};
+ghost use Rattle.cmark_slots.specs.Slots.{begins_link};
 ghost use Rattle.cmark_inline.specs.Tokens.{Appends};
-ghost use Rattle.cmark_inline.specs.declared.slot.SlotKind.TheVariants as slot_kind;
+ghost use Rattle.cmark_slots.specs.declared.slot.SlotKind.TheVariants as slot_kind;
 
 use crate::place::behind;
-use crate::slot::{Slot, SlotKind};
+use cmark_slots::slot::{Slot, SlotKind};
 use crate::state::InlineState;
 use crate::step::Cursor;
 use cmark_finds::{Dollars, Formula};

@@ -16,11 +16,11 @@ ghost use Rattle.cmark_text_parts.specs.declared.text.CowStr.{CowStr};
 ghost use Rattle.cmark_inline.specs.LeafViews.{shown_leaf};
 ghost use Rattle.cmark_inline.specs.PlainStretches.{StandsForItself};
 ghost use Rattle.cmark_inline.specs.Reached.{ReadsPlaces};
-ghost use Rattle.cmark_inline.specs.SlotViews.{shown_slot};
+ghost use Rattle.cmark_slots.specs.SlotViews.{shown_slot};
 ghost use Rattle.cmark_inline.specs.Tokens.{IsItem, begins_at};
 ghost use Rattle.cmark_items.specs.declared.allocations.Link.{Link};
-ghost use Rattle.cmark_inline.specs.declared.slot.Slot.{Slot};
-ghost use Rattle.cmark_inline.specs.declared.slot.SlotKind.TheVariants as kind;
+ghost use Rattle.cmark_slots.specs.declared.slot.Slot.{Slot};
+ghost use Rattle.cmark_slots.specs.declared.slot.SlotKind.TheVariants as kind;
 
 /// A leaf's text, whose lines end with whole line endings, has the places of the grammar's leaf of the same stretches (`places`), and each
 /// byte stands where the text says (`bytes`).

@@ -6,14 +6,14 @@ ghost use Rattle.cmark_grammar.specs.InlineHtml.{behind_inline_html, behind_mark
 ghost use Rattle.cmark_grammar.specs.Letters.{starts};
 ghost use Rattle.cmark_leaf_text.specs.Reads.{IsRead, IsPart, source_of, text_of};
 ghost use Rattle.cmark_inline.specs.MarkupInSource.{AreUnclosed, FindsNone, IsFound, IsInSource, NoneCloses, opens_as, source_from};
-ghost use Rattle.cmark_inline.specs.Stands.{IsContent, begins_link};
+ghost use Rattle.cmark_slots.specs.Slots.{IsContent, begins_link};
 ghost use Rattle.cmark_inline.specs.Tokens.{opens_markup};
 ghost use Rattle.cmark_inline.specs.declared.markup.MarkupKind.TheVariants as kind;
-ghost use Rattle.cmark_inline.specs.declared.slot.SlotKind.TheVariants as slot_kind;
+ghost use Rattle.cmark_slots.specs.declared.slot.SlotKind.TheVariants as slot_kind;
 ghost use Rattle.cmark_leaf_text.specs.declared.leaf_text.LeafText.{LeafText as Leaf};
 
 use crate::place::{is_followed_by, part_end};
-use crate::slot::SlotKind;
+use cmark_slots::slot::SlotKind;
 use cmark_finds::inline_html;
 use cmark_leaf_text::LeafText;
 

@@ -24,14 +24,14 @@ ghost use Rattle.cmark_inline_model.specs.PartLists.{Cut, cut_at, join};
 ghost use Rattle.cmark_inline_model.specs.RowParts.{runs_in, text_slot};
 ghost use Rattle.cmark_inline_model.specs.RowPasses.{StandsFor, has_own_slot, linked_slots};
 ghost use Rattle.cmark_inline_model.specs.SlotRows.{ItemSlot, Slot as RowSlot, marked, marks_by, quoted, run_slots};
-ghost use Rattle.cmark_inline.specs.MarkedSlots.{places_of, siblings_from};
-ghost use Rattle.cmark_inline.specs.QuoteSlots.{characters_of};
+ghost use Rattle.cmark_slots.specs.MarkedSlots.{places_of, siblings_from};
+ghost use Rattle.cmark_slots.specs.QuoteSlots.{characters_of};
 ghost use Rattle.cmark_inline.specs.Reached.{HasRead, bracket_place};
-ghost use Rattle.cmark_inline.specs.SlotViews.{events_to_come, shown_slot, shown_slots};
-ghost use Rattle.cmark_inline.specs.declared.bracket.Bracket.{Bracket};
-ghost use Rattle.cmark_inline.specs.declared.delimiter.PlacedRun.{PlacedRun};
-ghost use Rattle.cmark_inline.specs.declared.quote.PlacedQuote.{PlacedQuote};
-ghost use Rattle.cmark_inline.specs.declared.slot.Slot.{Slot};
+ghost use Rattle.cmark_slots.specs.SlotViews.{all_events, shown_slot, shown_slots};
+ghost use Rattle.cmark_slots.specs.declared.bracket.Bracket.{Bracket};
+ghost use Rattle.cmark_slots.specs.declared.delimiter.PlacedRun.{PlacedRun};
+ghost use Rattle.cmark_slots.specs.declared.quote.PlacedQuote.{PlacedQuote};
+ghost use Rattle.cmark_slots.specs.declared.slot.Slot.{Slot};
 ghost use Rattle.cmark_inline.specs.declared.state.InlineState.{InlineState};
 
 /// Where the grammar's pass has read what a state stands for, it has read one step more with a slot more that is like an item (`own`),
@@ -82,7 +82,7 @@ pub fn a_link_more_is_read()
 
 /// Before a leaf is read, a state with no slots, runs and quotes stands for nothing (`first`). A closing bracket that stays a text has one
 /// slot more (`closing`). Where the grammar's pass has come to the end of the leaf, and all quotes are characters and all pairs have written
-/// their marks, the leaf is read as the events that are still to come, for the answers that were given (`end`).
+/// their marks, the leaf is read as the events of its slots, for the answers that were given (`end`).
 pub fn a_leaf_is_read_from_its_begin_to_its_end()
     ensures first { (leaf : LeafText) (reader : Reader) (read : Leaf) (place : ℕ → ℕ) (before : Between) (state : InlineState)
         → state.slots.items ≡ [] → state.delimiters.placed.items ≡ [] → state.quotes.placed.items ≡ [] → HasRead leaf reader read place before (pass (entering read before) Nil) [] state }
@@ -97,8 +97,8 @@ pub fn a_leaf_is_read_from_its_begin_to_its_end()
         → shown_slots leaf new.texts.items new.links.items new.slots.items
         ≡ marked reader.options (places_of old.delimiters.placed.items) (marks_by (length (places_of old.delimiters.placed.items)) pairs)
         (quoted (map (λ (q : PlacedQuote). q.slot) old.quotes.placed.items) (characters_of old.quotes.placed.items) (shown_slots leaf old.texts.items old.links.items old.slots.items)) []
-        → new.walk.next ≡ 0 → new.walk.opened.items ≡ [] → (all rest : List Exchange) → all ≡ p.state.asked ++ rest
-        → ReadsLeaf reader (IsNext all) read before (events_to_come leaf new) (leaving p.state) }
+        → (all rest : List Exchange) → all ≡ p.state.asked ++ rest
+        → ReadsLeaf reader (IsNext all) read before (all_events leaf new.texts.items new.links.items new.slots.items) (leaving p.state) }
 {}
 
 /// Where the grammar's closing bracket forms what shows nothing of what stands between the brackets, as a footnote reference does and a

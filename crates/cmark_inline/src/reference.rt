@@ -10,10 +10,11 @@ ghost use Rattle.cmark_text_parts.specs.Shown.{shown_link_type, shown_options, t
 ghost use Rattle.cmark_inline.specs.Asking.{AsksOnce};
 ghost use Rattle.cmark_inline.specs.Decided.{is_full};
 ghost use Rattle.cmark_inline.specs.Footnoted.{as_label};
-ghost use Rattle.cmark_inline.specs.Stands.{SameSpans, IsLinkReference, IsBracket};
+ghost use Rattle.cmark_inline.specs.Stands.{SameSpans, IsLinkReference};
+ghost use Rattle.cmark_slots.specs.Slots.{IsBracket};
 ghost use Rattle.cmark_grammar.specs.Tokens.{slice};
 
-use crate::bracket::Bracket;
+use cmark_slots::bracket::Bracket;
 use crate::callback::{BrokenLink, BrokenLinkCallback};
 use crate::footnote::{full_label, is_footnote_label};
 use crate::link::Target;

@@ -5,11 +5,12 @@ ghost use Rattle.cmark_grammar.specs.Answers.{Lookup};
 ghost use Rattle.cmark_text_parts.specs.Shown.{shown_options};
 ghost use Rattle.cmark_leaf_text.specs.Reads.{IsPart};
 ghost use Rattle.cmark_inline.specs.ReadsOn.{ReadsOn};
-ghost use Rattle.cmark_inline.specs.Stands.{IsAtByte, AreSlots, NoNewLink, Stands};
-ghost use Rattle.cmark_inline.specs.Tokens.{AppendsRun, Passes, PassesOver, byte_slots, is_run_delimiter, is_other};
+ghost use Rattle.cmark_inline.specs.Stands.{IsAtByte, Stands};
+ghost use Rattle.cmark_slots.specs.Slots.{AreSlots, NoNewLink, byte_slots};
+ghost use Rattle.cmark_inline.specs.Tokens.{AppendsRun, Passes, PassesOver, is_run_delimiter, is_other};
 
 use crate::place::{character_at, character_before, run_end};
-use crate::slot::{SlotKind, push_slot};
+use cmark_slots::slot::{SlotKind, push_slot};
 use crate::state::InlineState;
 use crate::step::Cursor;
 use cmark_emphasis::{Run, flanking_of};

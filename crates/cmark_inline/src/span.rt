@@ -11,12 +11,13 @@ ghost use Rattle.cmark_inline.specs.ReadsOn.{ReadsOn};
 ghost use Rattle.cmark_inline.specs.Stands.{IsAtByte, IsCursor, Moves, Stands};
 ghost use Rattle.cmark_inline.specs.Tokens.{Appends, PutsAutolink, TakesEscaped};
 ghost use Rattle.cmark_inline.specs.MarkupInSource.{AreUnclosed, ReadsLess};
-ghost use Rattle.cmark_inline.specs.Sound.{AreEnded, IsSound};
+ghost use Rattle.cmark_slots.specs.Standing.{AreEnded};
+ghost use Rattle.cmark_inline.specs.Sound.{IsSound};
 
-use crate::event::text_between;
+use cmark_slots::text::text_between;
 use crate::markup::Unclosed;
 use crate::place::{autolink_end, behind, is_followed_by, onto_words, pass, run_end, text_start};
-use crate::slot::{Element, Slot, SlotKind};
+use cmark_slots::slot::{Element, Slot, SlotKind};
 use crate::state::InlineState;
 use crate::step::Cursor;
 use cmark_finds::BacktickRuns;

@@ -5,11 +5,10 @@ ghost use Rattle.cmark_inline.specs.CursorProgress.{IsCleared};
 ghost use Rattle.cmark_inline.specs.Sound.{IsSound};
 ghost use Rattle.cmark_inline.specs.Stands.{Stands};
 
-use crate::bracket::Brackets;
-use crate::delimiter::Delimiters;
-use crate::event::Walk;
-use crate::quote::Quotes;
-use crate::slot::Slot;
+use cmark_slots::bracket::Brackets;
+use cmark_slots::delimiter::Delimiters;
+use cmark_slots::quote::Quotes;
+use cmark_slots::slot::Slot;
 use cmark_items::Link;
 use cmark_text::CowStr;
 use std::alloc::Global;
@@ -21,17 +20,19 @@ const LEAST_REFERENCE_EXPANSION_LIMIT: usize = 100_000;
 #[derive(Drop)]
 pub struct InlineState<'a> {
     pub(crate) alloc: Global,
-    pub(crate) slots: Vec<Slot>,
+    /// The slots of the leaf that was resolved last.
+    pub slots: Vec<Slot>,
     pub(crate) brackets: Brackets,
     /// Two brackets that touch, each pair as one; the nearest is the last.
     pub(crate) doubled: Brackets,
     pub(crate) delimiters: Delimiters,
     pub(crate) quotes: Quotes,
-    pub(crate) texts: Vec<CowStr<'a>>,
-    pub(crate) links: Vec<Link<'a>>,
+    /// The texts that its slots name.
+    pub texts: Vec<CowStr<'a>>,
+    /// The links that they name.
+    pub links: Vec<Link<'a>>,
     pub(crate) expansion_left: usize,
     pub(crate) label_close: Option<usize>,
-    pub(crate) walk: Walk,
 }
 
 impl<'a> InlineState<'a> {
@@ -51,7 +52,6 @@ impl<'a> InlineState<'a> {
             links: Vec::new(alloc),
             expansion_left: source_len.max(LEAST_REFERENCE_EXPANSION_LIMIT),
             label_close: None,
-            walk: Walk::new(alloc),
         }
     }
 
@@ -70,6 +70,5 @@ impl<'a> InlineState<'a> {
         self.texts.clear();
         self.links.clear();
         self.label_close = None;
-        self.walk.clear();
     }
 }

@@ -9,12 +9,14 @@ ghost use Rattle.cmark_inline.specs.Asking.{AsksBetween, AsksUpTo, closing_brack
 ghost use Rattle.cmark_inline.specs.CursorProgress.{ComesOn};
 ghost use Rattle.cmark_inline.specs.PlainStretches.{IsSetOf};
 ghost use Rattle.cmark_inline.specs.Resolved.{Resolves};
-ghost use Rattle.cmark_inline.specs.Stands.{IsAtByte, AreSlots, IsCursor, IsSlot, Moves, Stands, PushesText, begins_link};
+ghost use Rattle.cmark_inline.specs.Stands.{IsAtByte, IsCursor, Moves, Stands};
+ghost use Rattle.cmark_slots.specs.Slots.{AreSlots, IsSlot, PushesText, begins_link};
 ghost use Rattle.cmark_inline.specs.Footnoted.{SameFootnotes};
 ghost use Rattle.cmark_inline.specs.MarkupInSource.{AreUnclosed};
-ghost use Rattle.cmark_inline.specs.MarkedSlots.{AreWhole, EndWithin};
-ghost use Rattle.cmark_inline.specs.Sound.{AreEnded, IsSound};
-ghost use Rattle.cmark_inline.specs.SlotViews.{AreLeft};
+ghost use Rattle.cmark_slots.specs.MarkedSlots.{AreWhole, EndWithin};
+ghost use Rattle.cmark_slots.specs.Standing.{AreEnded};
+ghost use Rattle.cmark_inline.specs.Sound.{IsSound};
+ghost use Rattle.cmark_slots.specs.SlotViews.{CanBeGiven};
 ghost use Rattle.cmark_inline.specs.SpecialReads.{ReadsSpecial};
 ghost use Rattle.cmark_inline.specs.Tokens.{Puts};
 ghost use Rattle.cmark_grammar.specs.SpecialBytes.{is_special};
@@ -26,7 +28,7 @@ use crate::callback::BrokenLinkCallback;
 use crate::markup::Unclosed;
 use crate::place::behind;
 use crate::read::Reader;
-use crate::slot::{Slot, push_slot, push_text};
+use cmark_slots::slot::{Slot, push_slot, push_text};
 use crate::state::InlineState;
 use cmark_finds::{BacktickRuns, Dollars};
 use cmark_items::FootnoteDefs;
@@ -52,7 +54,7 @@ pub struct Sought {
 }
 
 impl<'a> InlineState<'a> {
-    /// Reads the text of a leaf: its events are then given by `next`. A use is counted of each footnote of `footnotes` that it refers to.
+    /// Reads the text of a leaf: its slots are then those of the leaf, and the texts and links those that they name. A use is counted of each footnote of `footnotes` that it refers to.
     /// A leaf without a byte, as an empty cell, takes no memory.
     #[inline(always)]
     pub fn resolve<E: EntityLookup, F: BrokenLinkCallback<'a>>(
@@ -67,10 +69,8 @@ impl<'a> InlineState<'a> {
         ensures spent { self.old.expansion_left ≡ 0 → callback.new ≡ callback.old }
         ensures few { OnOk result (length self.new.slots.items ≤ length (text_of leaf.now)) }
         ensures slots { OnOk result (AreSlots (text_of leaf.now) (length (text_of leaf.now)) self.new.slots.items) }
-        ensures opened { OnOk result (self.new.walk.opened.items ≡ []) }
-        ensures left { OnOk result (AreLeft leaf.now self.new) }
+        ensures left { OnOk result (CanBeGiven leaf.now self.new.texts.items self.new.links.items self.new.slots.items) }
         ensures whole { OnOk result (AreWhole self.new.slots.items × EndWithin self.new.slots.items) }
-        ensures first { OnOk result (self.new.walk.next ≡ 0) }
         ensures footnotes { SameFootnotes footnotes.old footnotes.new }
         ensures succeeds { text_of leaf.now ≡ [] → IsOk result }
         ensures reads { IsSetOf (shown_options reader.now.options) reader.now.special.now → OnOk result (Resolves F.answers (shown_options reader.now.options) (E.replacement reader.now.entities.now) reader.now.references.now footnotes.old leaf.now self.old.expansion_left self.new callback.old callback.new) }
@@ -99,7 +99,6 @@ impl<'a> InlineState<'a> {
         self.flush(text, cursor, text.len())?;
         self.quotes.resolve(0, &mut self.slots)?;
         self.delimiters.resolve(0, reader.options, &mut self.slots)?;
-        self.walk.clear();
         Ok(())
     }
 

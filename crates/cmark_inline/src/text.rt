@@ -7,13 +7,13 @@ ghost use Rattle.cmark_grammar.specs.Options.{Options};
 ghost use Rattle.cmark_inline.specs.ReadsOn.{ReadsOn};
 ghost use Rattle.cmark_inline.specs.Stands.{IsAtByte};
 ghost use Rattle.cmark_inline.specs.Tokens.{Appends, Escapes, EscapesPipe, Passes};
-ghost use Rattle.cmark_inline.specs.declared.slot.SlotKind.TheVariants as slot_kind;
+ghost use Rattle.cmark_slots.specs.declared.slot.SlotKind.TheVariants as slot_kind;
 
 use crate::place::{
     before_blanks, behind, end_behind, is_escape, is_lone_backtick, is_pipe_escape, onto_words,
     pass,
 };
-use crate::slot::{Slot, SlotKind};
+use cmark_slots::slot::{Slot, SlotKind};
 use crate::state::InlineState;
 use crate::step::Cursor;
 use cmark_finds::line_break;

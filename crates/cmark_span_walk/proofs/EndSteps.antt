@@ -9,9 +9,9 @@ use Rattle.cmark_grammar.specs.Questions.{Exchange, Saying, IsNext}
 use Rattle.cmark_grammar.specs.Readers.{Reader}
 use Rattle.cmark_grammar.specs.SpanDocuments.{Segment, Given, Content, Left, ReadsAll}
 use Rattle.cmark_grammar.specs.TagEnd.{TagEnd}
-use Rattle.cmark_inline.specs.SlotViews.{events_to_come}
+use Rattle.cmark_leaf_events.specs.Events.{events_to_come}
 use Rattle.cmark_inline.specs.declared.callback.BrokenLink.{BrokenLink}
-use Rattle.cmark_inline.specs.declared.state.InlineState.{InlineState}
+use Rattle.cmark_leaf_events.specs.declared.leaf_events.LeafEvents.{LeafEvents}
 use Rattle.cmark_inline_model.specs.FirstEvents.{BeginWithEnd, BeginWithoutEnd, IsEnd}
 use Rattle.cmark_inline_model.specs.LeafModel.{HaveLineEnds}
 use Rattle.cmark_inline_model.specs.PlacedLeaves.{IsPlaced}
@@ -72,8 +72,8 @@ segments-begin reader Says (Content leaf ∷ others) before after events placed 
 
 module _ {E F : Type 0} (replacement : E → Lookup) (reader : Reader) where
   -- in a leaf
-  pub spans-begin : (walk : SpanWalk E F) → walk.in_leaf ≡ true → BeginWithoutEnd (events_to_come walk.leaf walk.inline) → NoEndIsNext replacement reader walk
-  spans-begin walk inside w exchanges events m b = without-append (events_to_come walk.leaf walk.inline) m.later w (subst BeginWithEnd (m.are ∙ ap (λ z. spans_to_come z walk ++ m.later) inside) b)
+  pub spans-begin : (walk : SpanWalk E F) → walk.in_leaf ≡ true → BeginWithoutEnd (events_to_come walk.leaf walk.events) → NoEndIsNext replacement reader walk
+  spans-begin walk inside w exchanges events m b = without-append (events_to_come walk.leaf walk.events) m.later w (subst BeginWithEnd (m.are ∙ ap (λ z. spans_to_come z walk ++ m.later) inside) b)
 
   -- outside of a leaf
   pub blocks-begin : (walk : SpanWalk E F) → walk.in_leaf ≡ false → walking.NoEndIsNext walk.walk → NoEndIsNext replacement reader walk
@@ -83,18 +83,18 @@ module _ {E F : Type 0} (replacement : E → Lookup) (reader : Reader) where
       segments-begin reader (IsNext exchanges) by.left (record { expansion_left = expansion_left_of walk; asked = [] }) left.after events by.placed (n by.left by.stands.blocks.remains) left.reads b
 
   -- the leaf has no more events, and what is left behind it is left
-  pub closed-keeps : (walk : SpanWalk E F) (inline : InlineState) → walk.in_leaf ≡ true → inline.expansion_left ≡ walk.inline.expansion_left → events_to_come walk.leaf walk.inline ≡ [] → KeepsLeft replacement reader walk (closed walk inline)
-  closed-keeps walk inline inside expansion_left none exchanges events m =
+  pub closed-keeps : (walk : SpanWalk E F) (leaf_events : LeafEvents) → walk.in_leaf ≡ true → events_to_come walk.leaf walk.events ≡ [] → KeepsLeft replacement reader walk (closed walk leaf_events)
+  closed-keeps walk leaf_events inside none exchanges events m =
       let r = m.read_by in
-      let new : SpanWalk E F = closed walk inline in
+      let new : SpanWalk E F = closed walk leaf_events in
       let read : IsReadBy replacement reader new = record {
         left = r.left;
-        stands = closed-at walk inline r.left r.stands;
+        stands = closed-at walk leaf_events r.left r.stands;
         placed = r.placed;
         same = record { source = r.same.source; options_are = r.same.options_are; lookup_is = r.same.lookup_is; definitions = r.same.definitions; footnotes_are = r.same.footnotes_are; callback = r.same.callback };
       } in
       let later : events ≡ m.later = m.are ∙ ap (λ z. spans_to_come z walk ++ m.later) inside ∙ ap (λ l. l ++ m.later) none in
-      outside-remains replacement reader new read refl exchanges events (subst (λ l. Left reader r.left (expansion_left_of new) exchanges l) (sym later) (subst (λ n. Left reader r.left n exchanges m.later) (sym expansion_left) m.reads))
+      outside-remains replacement reader new read refl exchanges events (subst (λ l. Left reader r.left (expansion_left_of new) exchanges l) (sym later) m.reads)
 
   -- ## Before a leaf
 
@@ -125,8 +125,8 @@ module _ {E F : Type 0} (replacement : E → Lookup) (reader : Reader) where
           let spans : h.0 ≡ [] = leaf-none reader (IsNext exchanges) leaf before h.0 h.2 turn text h.3 in
           let kept : h.2 ≡ before = leaf-same reader (IsNext exchanges) leaf before h.0 h.2 turn text h.3 in
           let own = reads.resolves.reads [] in
-          let none : events_to_come new.leaf new.inline ≡ [] = leaf-none reader (IsNext (asked ++ [])) leaf entered (events_to_come new.leaf new.inline) between turn text own in
-          let limit : expansion_left_of new ≡ expansion_left_of mid = ap (λ (z : Between). z.expansion_left) (leaf-same reader (IsNext (asked ++ [])) leaf entered (events_to_come new.leaf new.inline) between turn text own) ∙ same in
+          let none : events_to_come new.leaf new.events ≡ [] = leaf-none reader (IsNext (asked ++ [])) leaf entered (events_to_come new.leaf new.events) between turn text own in
+          let limit : expansion_left_of new ≡ expansion_left_of mid = ap (λ (z : Between). z.expansion_left) (leaf-same reader (IsNext (asked ++ [])) leaf entered (events_to_come new.leaf new.events) between turn text own) ∙ same in
           let later : events ≡ h.1 = h.5 ∙ ap (λ l. l ++ h.1) spans in
           let rest : ReadsAll reader (IsNext exchanges) others before events left.after =
           subst (λ l. ReadsAll reader (IsNext exchanges) others before l left.after) (sym later) (subst (λ z. ReadsAll reader (IsNext exchanges) others z h.1 left.after) kept h.4) in

@@ -15,13 +15,13 @@ use Rattle.cmark_grammar.specs.Tokens.{slice}
 use Rattle.cmark_inline.specs.Asking.{AsksOnce, AsksUpTo}
 use Rattle.cmark_inline.specs.Decided.{shown_answer, shown_question}
 use Rattle.cmark_inline.specs.Linked.{said_by}
-use Rattle.cmark_inline.specs.LinkStarts as starts
-use Rattle.cmark_inline.specs.LinkStarts.{IsStartFirst}
+use Rattle.cmark_leaf_events.specs.LinkStarts as starts
+use Rattle.cmark_leaf_events.specs.LinkStarts.{IsStartFirst}
 use Rattle.cmark_inline.specs.PlainStretches.{StandUpTo}
 use Rattle.cmark_inline.specs.Resolved.{Answered}
-use Rattle.cmark_inline.specs.SlotViews.{events_to_come}
+use Rattle.cmark_leaf_events.specs.Events.{events_to_come}
 use Rattle.cmark_inline.specs.declared.callback.BrokenLink.{BrokenLink}
-use Rattle.cmark_inline.specs.declared.state.InlineState.{InlineState}
+use Rattle.cmark_leaf_events.specs.declared.leaf_events.LeafEvents.{LeafEvents}
 use Rattle.cmark_inline_model.specs.FirstEvents.{BeginWithEnd}
 use Rattle.cmark_inline_model.specs.PlacedLeaves.{StandWhole}
 use Rattle.cmark_inline_model.proofs.Backwards.{left-given, left-leaf}
@@ -143,57 +143,57 @@ module _ {E F : Type 0} (Says : F → BrokenLink → Option (CowStr × CowStr) �
 
     -- ## In a leaf
 
-    same-inline : (walk : SpanWalk E F) (inline : InlineState) → ReadsSame replacement reader walk → ReadsSame replacement reader (record walk { inline = inline })
-    same-inline walk inline s = record { source = s.source; options_are = s.options_are; lookup_is = s.lookup_is; definitions = s.definitions; footnotes_are = s.footnotes_are; callback = s.callback }
+    same-events : (walk : SpanWalk E F) (leaf_events : LeafEvents) → ReadsSame replacement reader walk → ReadsSame replacement reader (record walk { events = leaf_events })
+    same-events walk leaf_events s = record { source = s.source; options_are = s.options_are; lookup_is = s.lookup_is; definitions = s.definitions; footnotes_are = s.footnotes_are; callback = s.callback }
 
     -- spans of the leaf, or none
-    pub spanned : (walk : SpanWalk E F) (inline : InlineState) (front : List Ranged) (r : IsReadBy replacement reader walk) → walk.in_leaf ≡ true → StandsAt (record walk { inline = inline }) r.left → inline.expansion_left ≡ walk.inline.expansion_left
-        → events_to_come walk.leaf walk.inline ≡ front ++ events_to_come walk.leaf inline → Passes Says replacement reader front walk (record walk { inline = inline })
-    spanned walk inline front r inside stands expansion_left first = record { taken = []; answered = refl; read_by = read; back = back }
+    pub spanned : (walk : SpanWalk E F) (leaf_events : LeafEvents) (front : List Ranged) (r : IsReadBy replacement reader walk) → walk.in_leaf ≡ true → StandsAt (record walk { events = leaf_events }) r.left
+        → events_to_come walk.leaf walk.events ≡ front ++ events_to_come walk.leaf leaf_events → Passes Says replacement reader front walk (record walk { events = leaf_events })
+    spanned walk leaf_events front r inside stands first = record { taken = []; answered = refl; read_by = read; back = back }
       where
         new : SpanWalk E F
-        new = record walk { inline = inline }
+        new = record walk { events = leaf_events }
 
         read : IsReadBy replacement reader new
-        read = record { left = r.left; stands = stands; placed = r.placed; same = same-inline walk inline r.same }
+        read = record { left = r.left; stands = stands; placed = r.placed; same = same-events walk leaf_events r.same }
 
         back : (rest : List Exchange) (events : List Ranged) → Remains replacement reader new rest events → Remains replacement reader walk rest (front ++ events)
         back rest events m = record {
           read_by = r;
           later = m.later;
-          reads = subst (λ n. Left reader r.left n rest m.later) expansion_left (remains-left replacement reader new read rest events m);
+          reads = remains-left replacement reader new read rest events m;
           are =
               ap (λ l. front ++ l) (m.are ∙ ap (λ b. spans_to_come b new ++ m.later) inside)
-              ∙ sym (append_assoc front (events_to_come walk.leaf inline) m.later)
+              ∙ sym (append_assoc front (events_to_come walk.leaf leaf_events) m.later)
               ∙ ap (λ l. l ++ m.later) (sym first)
               ∙ sym (ap (λ b. spans_to_come b walk ++ m.later) inside);
         }
 
     -- the start of a link
-    pub start-passes : (walk : SpanWalk E F) (inline : InlineState) (r : IsReadBy replacement reader walk) → walk.in_leaf ≡ true → StandsAt (record walk { inline = inline }) r.left → inline.expansion_left ≡ walk.inline.expansion_left
-        → IfSome (starts.link_to_come walk.inline) (λ link. IsStartFirst (source_of walk) (opened_of walk) (shown_link link) inline.walk.opened.items (events_to_come walk.leaf walk.inline) (events_to_come walk.leaf inline))
-        → IfSome (link_to_come walk) (λ link. GivesStart Says replacement reader walk (shown_link link) (record walk { inline = inline }))
-    start-passes walk inline r inside stands expansion_left first = subst (λ b. IfSome (link_in b walk) Starts) (sym inside) (go (starts.link_to_come walk.inline) first)
+    pub start-passes : (walk : SpanWalk E F) (leaf_events : LeafEvents) (r : IsReadBy replacement reader walk) → walk.in_leaf ≡ true → StandsAt (record walk { events = leaf_events }) r.left
+        → IfSome (starts.link_to_come walk.events) (λ link. IsStartFirst (source_of walk) (opened_of walk) (shown_link link) leaf_events.walk.opened.items (events_to_come walk.leaf walk.events) (events_to_come walk.leaf leaf_events))
+        → IfSome (link_to_come walk) (λ link. GivesStart Says replacement reader walk (shown_link link) (record walk { events = leaf_events }))
+    start-passes walk leaf_events r inside stands first = subst (λ b. IfSome (link_in b walk) Starts) (sym inside) (go (starts.link_to_come walk.events) first)
       where
         Starts : Link → Type 0
-        Starts link = GivesStart Says replacement reader walk (shown_link link) (record walk { inline = inline })
+        Starts link = GivesStart Says replacement reader walk (shown_link link) (record walk { events = leaf_events })
 
-        go : (found : Option Link) → IfSome found (λ link. IsStartFirst (source_of walk) (opened_of walk) (shown_link link) inline.walk.opened.items (events_to_come walk.leaf walk.inline) (events_to_come walk.leaf inline)) → IfSome found Starts
+        go : (found : Option Link) → IfSome found (λ link. IsStartFirst (source_of walk) (opened_of walk) (shown_link link) leaf_events.walk.opened.items (events_to_come walk.leaf walk.events) (events_to_come walk.leaf leaf_events)) → IfSome found Starts
         go None h = tt
-        go (Some link) h = record { given = h.given; is = h.is; range = h.follows.range; passes = spanned walk inline (h.given ∷ []) r inside stands expansion_left h.first }
+        go (Some link) h = record { given = h.given; is = h.is; range = h.follows.range; passes = spanned walk leaf_events (h.given ∷ []) r inside stands h.first }
 
     -- the leaf has no more
-    pub closed-passes : (walk : SpanWalk E F) (inline : InlineState) (r : IsReadBy replacement reader walk) → walk.in_leaf ≡ true → inline.expansion_left ≡ walk.inline.expansion_left → events_to_come walk.leaf walk.inline ≡ []
-        → Passes Says replacement reader [] walk (closed walk inline)
-    closed-passes walk inline r inside expansion_left none = record { taken = []; answered = refl; read_by = read; back = back }
+    pub closed-passes : (walk : SpanWalk E F) (leaf_events : LeafEvents) (r : IsReadBy replacement reader walk) → walk.in_leaf ≡ true → events_to_come walk.leaf walk.events ≡ []
+        → Passes Says replacement reader [] walk (closed walk leaf_events)
+    closed-passes walk leaf_events r inside none = record { taken = []; answered = refl; read_by = read; back = back }
       where
         new : SpanWalk E F
-        new = closed walk inline
+        new = closed walk leaf_events
 
         read : IsReadBy replacement reader new
         read = record {
           left = r.left;
-          stands = closed-at walk inline r.left r.stands;
+          stands = closed-at walk leaf_events r.left r.stands;
           placed = r.placed;
           same = record { source = r.same.source; options_are = r.same.options_are; lookup_is = r.same.lookup_is; definitions = r.same.definitions; footnotes_are = r.same.footnotes_are; callback = r.same.callback };
         }
@@ -202,7 +202,7 @@ module _ {E F : Type 0} (Says : F → BrokenLink → Option (CowStr × CowStr) �
         back rest events m = record {
           read_by = r;
           later = events;
-          reads = subst (λ n. Left reader r.left n rest events) expansion_left (remains-outside replacement reader new read refl rest events m);
+          reads = remains-outside replacement reader new read refl rest events m;
           are = sym (ap (λ b. spans_to_come b walk ++ events) inside ∙ ap (λ l. l ++ events) none);
         }
 
@@ -283,13 +283,13 @@ module _ {E F : Type 0} (Says : F → BrokenLink → Option (CowStr × CowStr) �
           between : Between
           between = record { expansion_left = expansion_left_of new; asked = taken }
 
-          leaf-read : ReadsGrammarLeaf reader (IsNext taken) leaf (record { expansion_left = expansion_left_of mid; asked = [] }) (events_to_come new.leaf new.inline) between
-          leaf-read = subst (λ xs. ReadsGrammarLeaf reader (IsNext xs) leaf (record { expansion_left = expansion_left_of mid; asked = [] }) (events_to_come new.leaf new.inline) between) (append-nil taken) (reads.resolves.reads [])
+          leaf-read : ReadsGrammarLeaf reader (IsNext taken) leaf (record { expansion_left = expansion_left_of mid; asked = [] }) (events_to_come new.leaf new.events) between
+          leaf-read = subst (λ xs. ReadsGrammarLeaf reader (IsNext xs) leaf (record { expansion_left = expansion_left_of mid; asked = [] }) (events_to_come new.leaf new.events) between) (append-nil taken) (reads.resolves.reads [])
 
           back : (rest : List Exchange) (events : List Ranged) → Remains replacement reader new rest events → Remains replacement reader mid (taken ++ rest) events
           back rest events m =
               subst (Remains replacement reader mid (taken ++ rest)) (sym (m.are ∙ ap (λ b. spans_to_come b new ++ m.later) enters.inside))
-              (behind-leaf leaf others r is taken rest (events_to_come new.leaf new.inline) m.later between leaf-read refl (remains-left replacement reader new read rest events m))
+              (behind-leaf leaf others r is taken rest (events_to_come new.leaf new.events) m.later between leaf-read refl (remains-left replacement reader new read rest events m))
 
       -- a leaf that is one plain text
       pub plain-passes : (budget : ℕ) (leaf : Leaf) (others : List Segment) (text : List ℕ) (r : IsReadBy replacement reader mid) → r.left ≡ Content leaf ∷ others → walking.Remains walk others → budget ≡ mid.budget - 1

@@ -5,12 +5,14 @@ use Rattle.std.specs.Global.{Vec}
 use Rattle.cmark_grammar.specs.LeafText.{Leaf}
 use Rattle.cmark_grammar.specs.SpanDocuments.{Segment, Content}
 use Rattle.cmark_items.specs.declared.footnotes.FootnoteDefs.{FootnoteDefs}
-use Rattle.cmark_inline.specs.declared.event.Opened.{Opened}
-use Rattle.cmark_inline.specs.declared.slot.Slot.{Slot}
+use Rattle.cmark_leaf_events.specs.declared.leaf_events.Opened.{Opened}
+use Rattle.cmark_slots.specs.declared.slot.Slot.{Slot}
 use Rattle.cmark_inline.specs.declared.state.InlineState.{InlineState}
+use Rattle.cmark_leaf_events.specs.declared.leaf_events.LeafEvents.{LeafEvents}
 use Rattle.cmark_inline.specs.Footnoted.{SameFootnotes}
-use Rattle.cmark_inline.specs.SlotViews.{AreLeft}
-use Rattle.cmark_inline.specs.Stands.{AreOpened, AreSlots}
+use Rattle.cmark_leaf_events.specs.Events.{AreLeft}
+use Rattle.cmark_leaf_events.specs.Opens.{AreOpened}
+use Rattle.cmark_slots.specs.Slots.{AreSlots}
 use Rattle.cmark_leaf_text.specs.declared.leaf_text.LeafText.{LeafText}
 use Rattle.cmark_leaf_text.specs.declared.stretch.LeafLine.{LeafLine}
 use Rattle.cmark_leaf_text.specs.Reads.{IsRead, text_of}
@@ -41,16 +43,16 @@ module _ {E F : Type 0} where
   new-stands walk text left out source special remains same few = record { blocks = record { remains = remains; few = few; same_text = same ∙ sym source; special = special }; leaf = outside walk out }
 
   -- one more span, or none
-  pub spanned-at : (walk : SpanWalk E F) (inline : InlineState) (left : List Segment) → StandsAt walk left → walk.in_leaf ≡ true → inline.slots ≡ walk.inline.slots → AreOpened (source_of walk) inline.walk.opened.items → AreLeft walk.leaf inline
-      → StandsAt (record walk { inline = inline }) left
-  spanned-at walk inline left s inside slots opened given =
-      let new : SpanWalk E F = record walk { inline = inline } in
+  pub spanned-at : (walk : SpanWalk E F) (leaf_events : LeafEvents) (left : List Segment) → StandsAt walk left → walk.in_leaf ≡ true → leaf_events.slots ≡ walk.events.slots → AreOpened (source_of walk) leaf_events.walk.opened.items → AreLeft walk.leaf leaf_events
+      → StandsAt (record walk { events = leaf_events }) left
+  spanned-at walk leaf_events left s inside slots opened given =
+      let new : SpanWalk E F = record walk { events = leaf_events } in
       let h = in-leaf walk inside s.leaf in
       let here : StandsInLeaf new = record { read = h.read; slots = subst (λ (v : Vec Slot). AreSlots (text_of walk.leaf) (length (text_of walk.leaf)) v.items) (sym slots) h.slots; opened = opened; given = given } in
       record { blocks = record { remains = s.blocks.remains; few = s.blocks.few; same_text = s.blocks.same_text; special = s.blocks.special }; leaf = subst (λ b. StandsIn b new) (sym inside) here }
 
   -- the slots that are left in a leaf can be given
-  pub given-left : (walk : SpanWalk E F) (left : List Segment) → StandsAt walk left → walk.in_leaf ≡ true → AreLeft walk.leaf walk.inline
+  pub given-left : (walk : SpanWalk E F) (left : List Segment) → StandsAt walk left → walk.in_leaf ≡ true → AreLeft walk.leaf walk.events
   given-left walk left s inside = (in-leaf walk inside s.leaf).given
 
   -- the start of a link comes next only in a leaf
@@ -62,20 +64,20 @@ module _ {E F : Type 0} where
       go false e = let q : false ≡ true = sym (ap (λ b. is_some (link_in b walk)) e) ∙ h in cc
 
   -- a leaf has no more spans
-  abbrev pub closed : SpanWalk E F → InlineState → SpanWalk E F
-  closed walk inline = record walk { inline = inline; in_leaf = false }
+  abbrev pub closed : SpanWalk E F → LeafEvents → SpanWalk E F
+  closed walk leaf_events = record walk { events = leaf_events; in_leaf = false }
 
-  pub closed-at : (walk : SpanWalk E F) (inline : InlineState) (left : List Segment) → StandsAt walk left → StandsAt (closed walk inline) left
-  closed-at walk inline left s = record { blocks = record { remains = s.blocks.remains; few = s.blocks.few; same_text = s.blocks.same_text; special = s.blocks.special }; leaf = tt }
+  pub closed-at : (walk : SpanWalk E F) (leaf_events : LeafEvents) (left : List Segment) → StandsAt walk left → StandsAt (closed walk leaf_events) left
+  closed-at walk leaf_events left s = record { blocks = record { remains = s.blocks.remains; few = s.blocks.few; same_text = s.blocks.same_text; special = s.blocks.special }; leaf = tt }
 
   -- into a leaf
-  pub enters : (old : SpanWalk E F) (leaf : LeafText) (inline : InlineState) (footnotes : FootnoteDefs) (callback : F) (is_cell : Bool) → IsRead leaf → leaf.source.now ≡ source_of old
-      → AreSlots (text_of leaf) (length (text_of leaf)) inline.slots.items → inline.walk.opened.items ≡ [] → AreLeft leaf inline
-      → (one : Leaf) (others : List Segment) → BeforeLeaf old is_cell one others → EntersLeaf others (record old { leaf = leaf; inline = inline; footnotes = footnotes; in_leaf = true; callback = callback })
-  enters old leaf inline footnotes callback is_cell read source slots none given one others before = record {
+  pub enters : (old : SpanWalk E F) (leaf : LeafText) (inline : InlineState) (leaf_events : LeafEvents) (footnotes : FootnoteDefs) (callback : F) (is_cell : Bool) → IsRead leaf → leaf.source.now ≡ source_of old
+      → AreSlots (text_of leaf) (length (text_of leaf)) leaf_events.slots.items → leaf_events.walk.opened.items ≡ [] → AreLeft leaf leaf_events
+      → (one : Leaf) (others : List Segment) → BeforeLeaf old is_cell one others → EntersLeaf others (record old { leaf = leaf; inline = inline; events = leaf_events; footnotes = footnotes; in_leaf = true; callback = callback })
+  enters old leaf inline leaf_events footnotes callback is_cell read source slots none given one others before = record {
     stands = record {
       blocks = record { remains = before.blocks.remains; few = before.blocks.few; same_text = before.blocks.same_text ∙ sym source; special = before.blocks.special };
-      leaf = record { read = read; slots = slots; opened = none-opened leaf.source.now inline.walk.opened.items none; given = given };
+      leaf = record { read = read; slots = slots; opened = none-opened leaf.source.now leaf_events.walk.opened.items none; given = given };
     };
     inside = refl;
     none_open = none;
@@ -100,7 +102,7 @@ module _ {E F : Type 0} where
   lasts-none walk s = record { stands = s; budget = omega arith; most = inl (omega arith); definitions = refl; footnotes = λ folded. refl; source = refl }
 
   -- what was counted down since the call began
-  pub most-since : (old head new : SpanWalk E F) → Lasts old head → events_left new ≤ events_left head → (head.in_leaf ≡ true → length new.inline.slots.items < 18446744073709551616) → new.inline.slots ≡ head.inline.slots → new.budget ≡ head.budget
+  pub most-since : (old head new : SpanWalk E F) → Lasts old head → events_left new ≤ events_left head → (head.in_leaf ≡ true → length new.events.slots.items < 18446744073709551616) → new.events.slots ≡ head.events.slots → new.budget ≡ head.budget
       → events_left new ≤ events_left old
   most-since old head new l most few slots budget = by l.most
     where
@@ -113,7 +115,7 @@ module _ {E F : Type 0} where
           let spent = fresh.spent in
           omega (arith, most, f, same, none, spent, budget)
 
-  pub less-since : (old head new : SpanWalk E F) → Lasts old head → events_left new < events_left head → (head.in_leaf ≡ true → length new.inline.slots.items < 18446744073709551616) → new.inline.slots ≡ head.inline.slots → new.budget ≡ head.budget
+  pub less-since : (old head new : SpanWalk E F) → Lasts old head → events_left new < events_left head → (head.in_leaf ≡ true → length new.events.slots.items < 18446744073709551616) → new.events.slots ≡ head.events.slots → new.budget ≡ head.budget
       → events_left new < events_left old
   less-since old head new l less few slots budget = by l.most
     where
@@ -163,7 +165,7 @@ module _ {E F : Type 0} where
 
     -- fewer events are left behind an event
     pub met-fewer : (old head : SpanWalk E F) (budget : ℕ) (left : List Segment) (x : Segment) (others : List Segment) → StandsAt mid left → left ≡ x ∷ others → Lasts old head
-        → events_left mid ≤ events_left head → (head.in_leaf ≡ true → length mid.inline.slots.items < 18446744073709551616) → mid.inline.slots ≡ head.inline.slots → mid.budget ≡ head.budget → budget ≡ mid.budget - 1
+        → events_left mid ≤ events_left head → (head.in_leaf ≡ true → length mid.events.slots.items < 18446744073709551616) → mid.events.slots ≡ head.events.slots → mid.budget ≡ head.budget → budget ≡ mid.budget - 1
         → events_left (met-by budget) < events_left old
     met-fewer old head budget left x others s e l most few slots same less =
         let counted = most-since old head mid l most few slots same in

@@ -22,14 +22,15 @@ use Rattle.cmark_items.specs.declared.definitions.RefDefs.{RefDefs}
 use Rattle.cmark_items.specs.declared.footnotes.FootnoteDefs.{FootnoteDefs}
 use Rattle.cmark_inline.specs.Decided.{said}
 use Rattle.cmark_inline.specs.Linked.{said_by}
-use Rattle.cmark_inline.specs.LinkStarts as starts
-use Rattle.cmark_inline.specs.Opens as opens
+use Rattle.cmark_leaf_events.specs.LinkStarts as starts
+use Rattle.cmark_leaf_events.specs.Opens as opens
 use Rattle.cmark_inline.specs.PlainStretches.{IsSetOf}
 use Rattle.cmark_inline.specs.Resolved.{Answered, ResolvesAs}
-use Rattle.cmark_inline.specs.SlotViews.{AreLeft, events_to_come}
-use Rattle.cmark_inline.specs.Stands.{AreOpened, AreSlots}
+use Rattle.cmark_leaf_events.specs.Events.{AreLeft, events_to_come}
+use Rattle.cmark_leaf_events.specs.Opens.{AreOpened}
+use Rattle.cmark_slots.specs.Slots.{AreSlots}
 use Rattle.cmark_inline.specs.declared.callback.BrokenLink.{BrokenLink}
-use Rattle.cmark_inline.specs.declared.event.Opened.{Opened}
+use Rattle.cmark_leaf_events.specs.declared.leaf_events.Opened.{Opened}
 use Rattle.cmark_leaf_text.specs.Reads as reads
 use Rattle.cmark_leaf_text.specs.Reads.{IsPart, IsRead, text_of}
 use Rattle.cmark_leaf_text.specs.declared.stretch.LeafLine.{LeafLine}
@@ -78,7 +79,7 @@ module _ {E F : Type 0} where
   source_of walk = reads.source_of walk.leaf
 
   abbrev pub opened_of : SpanWalk E F → List Opened
-  opened_of walk = walk.inline.walk.opened.items
+  opened_of walk = walk.events.walk.opened.items
 
   -- the options that spans are read with
   abbrev pub options_of : SpanWalk E F → Options
@@ -122,9 +123,9 @@ module _ {E F : Type 0} where
   -- in a leaf
   pub record StandsInLeaf (walk : SpanWalk E F) : Type 0 where
     pub read : IsRead walk.leaf
-    pub slots : AreSlots (text_of walk.leaf) (length (text_of walk.leaf)) walk.inline.slots.items
+    pub slots : AreSlots (text_of walk.leaf) (length (text_of walk.leaf)) walk.events.slots.items
     pub opened : AreOpened (source_of walk) (opened_of walk)
-    pub given : AreLeft walk.leaf walk.inline
+    pub given : AreLeft walk.leaf walk.events
 
   abbrev pub StandsIn : (in_leaf : Bool) → SpanWalk E F → Type 0
   StandsIn true walk = StandsInLeaf walk
@@ -140,12 +141,12 @@ module _ {E F : Type 0} where
 
   -- the spans that are left in a leaf
   abbrev pub spans_to_come : (in_leaf : Bool) → SpanWalk E F → List Ranged
-  spans_to_come true walk = events_to_come walk.leaf walk.inline
+  spans_to_come true walk = events_to_come walk.leaf walk.events
   spans_to_come false walk = []
 
   -- the link whose start comes next in a leaf, if one does
   abbrev pub link_in : (in_leaf : Bool) → SpanWalk E F → Option Link
-  link_in true walk = starts.link_to_come walk.inline
+  link_in true walk = starts.link_to_come walk.events
   link_in false walk = None
 
   abbrev pub link_to_come : SpanWalk E F → Option Link
@@ -153,7 +154,7 @@ module _ {E F : Type 0} where
 
   -- more than the number of all events that are left, where a leaf has fewer than 2^66
   abbrev pub events_left : SpanWalk E F → ℕ
-  events_left walk = walk.budget * 73786976294838206464 + opens.events_left walk.inline
+  events_left walk = walk.budget * 73786976294838206464 + opens.events_left walk.events
 
   -- fewer are left behind an event that was given, and no more where none was
   abbrev pub LeavesFewer : SpanWalk E F → Next → SpanWalk E F → Type 0
@@ -287,5 +288,5 @@ module _ {E F : Type 0} (Says : F → BrokenLink → Option (CowStr × CowStr) �
 
   -- the leaf is read as the spans that are still to come
   pub record ReadsLeaf (leaf : Leaf) (old new : SpanWalk E F) : Type 0 where
-    pub resolves : ResolvesAs Says new.leaf reader leaf (expansion_left_of old) new.inline (callback_of old) (callback_of new)
+    pub resolves : ResolvesAs Says reader leaf (expansion_left_of old) (events_to_come new.leaf new.events) (expansion_left_of new) (callback_of old) (callback_of new)
     pub same : ReadsSame replacement reader new

@@ -21,6 +21,7 @@ ghost use Rattle.cmark_span_walk.specs.Walking.{ArePlaced, HasAsked, HasPlaces, 
 use crate::coming::Coming;
 use cmark_inline::{BrokenLinkCallback, InlineState, Reader, SpecialBytes, special_bytes};
 use cmark_items::{FootnoteDefs, Link, RefDefs};
+use cmark_leaf_events::LeafEvents;
 use cmark_leaf_text::{LeafLine, LeafText};
 use cmark_text::{EntityLookup, Excerpt, Next, Options, Ranged, Short};
 use cmark_walk::{Brief, Met, Walk};
@@ -41,6 +42,7 @@ pub struct SpanWalk<'input, 'e, E, F> {
     lines: Vec<LeafLine>,
     leaf: LeafText<'input>,
     inline: InlineState<'input>,
+    events: LeafEvents<'input>,
     footnotes: FootnoteDefs,
     entities: &'e E,
     options: Options,
@@ -92,6 +94,7 @@ impl<'input, 'e, E: EntityLookup, F: BrokenLinkCallback<'input> + Drop> SpanWalk
             lines: Vec::new(alloc),
             leaf: LeafText::new(alloc, text),
             inline: InlineState::new(alloc, text.len()),
+            events: LeafEvents::new(alloc),
             footnotes,
             entities,
             options,
@@ -185,7 +188,7 @@ impl<'input, 'e, E: EntityLookup, F: BrokenLinkCallback<'input> + Drop> SpanWalk
         if !self.in_leaf {
             return None;
         }
-        self.inline.link_ahead()
+        self.events.link_ahead()
     }
 
     /// Counts the start of the link that comes next as given, as `next` does with no event made. Where memory is refused, the walk is lost.
@@ -202,7 +205,7 @@ impl<'input, 'e, E: EntityLookup, F: BrokenLinkCallback<'input> + Drop> SpanWalk
         ensures footnotes { SameFootnotes (footnotes_of self.old) (footnotes_of self.new) }
         ensures source { source_of self.new ≡ source_of self.old }
     {
-        self.inline.pass_link(&self.leaf)
+        self.events.pass_link(&self.leaf)
     }
 
     // What `next_short` would give of the leaf at hand; where there is no leaf or it has no more events, nothing is left there, and the walk
@@ -217,14 +220,14 @@ impl<'input, 'e, E: EntityLookup, F: BrokenLinkCallback<'input> + Drop> SpanWalk
         ensures ends { OnErr result ((reader : GrammarReader) → NoEndIsNext E.replacement reader self.old) }
         ensures fewer { IfOk result (λ next. LeavesFewer self.old next self.new) }
         ensures most { OnOk result (events_left self.new ≤ events_left self.old) }
-        ensures few { OnOk result (self.old.in_leaf ≡ true → length self.new.inline.slots.items < 18446744073709551616) }
-        ensures slots { OnOk result (self.new.inline.slots ≡ self.old.inline.slots) }
+        ensures few { OnOk result (self.old.in_leaf ≡ true → length self.new.events.slots.items < 18446744073709551616) }
+        ensures slots { OnOk result (self.new.events.slots ≡ self.old.events.slots) }
         ensures around { KeepsAround self.old self.new }
     {
         if !self.in_leaf {
             return Ok(Next::Over);
         }
-        match self.inline.next_short(&self.leaf)? {
+        match self.events.next_short(&self.leaf)? {
             Next::Short(short) => Ok(Next::Short(short)),
             Next::Long => Ok(Next::Long),
             Next::Over => {
@@ -246,14 +249,14 @@ impl<'input, 'e, E: EntityLookup, F: BrokenLinkCallback<'input> + Drop> SpanWalk
         ensures lent { IfOk result (λ given. IfSome given (IsRangedZeroCopy (source_of self.old))) }
         ensures fewer { IfOk result (λ given. OnSome given (events_left self.new < events_left self.old)) }
         ensures most { OnOk result (events_left self.new ≤ events_left self.old) }
-        ensures few { OnOk result (self.old.in_leaf ≡ true → length self.new.inline.slots.items < 18446744073709551616) }
-        ensures slots { OnOk result (self.new.inline.slots ≡ self.old.inline.slots) }
+        ensures few { OnOk result (self.old.in_leaf ≡ true → length self.new.events.slots.items < 18446744073709551616) }
+        ensures slots { OnOk result (self.new.events.slots ≡ self.old.events.slots) }
         ensures around { KeepsAround self.old self.new }
     {
         if !self.in_leaf {
             return Ok(None);
         }
-        match self.inline.next(&self.leaf)? {
+        match self.events.next(&self.leaf)? {
             Some(given) => Ok(Some(given)),
             None => {
                 self.in_leaf = false;
@@ -308,6 +311,9 @@ impl<'input, 'e, E: EntityLookup, F: BrokenLinkCallback<'input> + Drop> SpanWalk
         let footnotes = &mut self.footnotes;
         self.inline
             .resolve(&self.leaf, &reader, footnotes, &mut self.callback)?;
+        let inline = &mut self.inline;
+        self.events
+            .begin_leaf(&mut inline.slots, &mut inline.texts, &mut inline.links);
         self.in_leaf = true;
         Ok(())
     }

@@ -1,11 +1,5 @@
-//! Tests that cross the crates, of what no program shows: options, callbacks, definitions, and ranges from the midst of a reading.
+//! Tests of a reading that goes on, which no program shows: definitions at each point of it, and ranges from the midst of it.
 #![tactic(auto)]
 
-#[cfg(test)]
-mod asking;
-#[cfg(test)]
-mod extensions;
-#[cfg(test)]
-mod leaves;
 #[cfg(test)]
 mod reading;

@@ -6,6 +6,7 @@ use cmark_inline::{
     Reader, special_bytes,
 };
 use cmark_items::{FootnoteDefs, LinkDef, RefDefs};
+use cmark_leaf_events::LeafEvents;
 use cmark_leaf_text::{LeafLine, LeafText};
 use cmark_text::{BasicEntities, CowStr, Event, LinkLabel, LinkType, Options, Tag, TagEnd};
 use std::alloc::{AllocError, Global};
@@ -97,8 +98,10 @@ pub fn events_with<'a, F: BrokenLinkCallback<'a>>(
     };
     let mut state: InlineState<'a> = InlineState::new(alloc, 0);
     state.resolve(&leaf, &reader, footnotes, callback)?;
+    let mut events: LeafEvents<'a> = LeafEvents::new(alloc);
+    events.begin_leaf(&mut state.slots, &mut state.texts, &mut state.links);
     for _ in 0..500 {
-        let Some(given) = state.next(&leaf)? else {
+        let Some(given) = events.next(&leaf)? else {
             break;
         };
         write!(

@@ -1,7 +1,7 @@
 use Rattle.std.proofs.Common.{ℕ, arith}
-use Rattle.cmark_inline.specs.Stands.{bytes_of}
-use Rattle.cmark_inline.specs.declared.bracket.Brackets.{Brackets}
-use Rattle.cmark_inline.proofs.Steps.{Keeps, keeps-push}
+use Rattle.cmark_slots.specs.Slots.{bytes_of}
+use Rattle.cmark_slots.specs.declared.bracket.Brackets.{Brackets}
+use Rattle.cmark_slots.proofs.Steps.{Keeps, keeps-push}
 use Rattle.cmark_inline.proofs.state.InlineState.add.Goals as goal
 
 pub returns-clause-stands : goal.returns-clause-stands

@@ -1,9 +1,9 @@
 use Rattle.std.proofs.Common.{◌≡◌, rules, ℕ, ◌+◌, ◌-◌, List, ◌∷◌, [], ◌++◌, sym, subst, refl, ap, ◌∙◌, length}
 use Rattle.cmark_grammar.specs.Tokens.{slice}
 use Rattle.cmark_inline.specs.Stands.{Stands}
-use Rattle.cmark_inline.specs.declared.slot.Element.TheVariants as element
-use Rattle.cmark_inline.specs.declared.slot.Slot.{Slot}
-use Rattle.cmark_inline.specs.declared.slot.SlotKind.TheVariants as kind
+use Rattle.cmark_slots.specs.declared.slot.Element.TheVariants as element
+use Rattle.cmark_slots.specs.declared.slot.Slot.{Slot}
+use Rattle.cmark_slots.specs.declared.slot.SlotKind.TheVariants as kind
 use Rattle.cmark_inline.specs.declared.state.InlineState.{InlineState}
 use Rattle.cmark_inline.proofs.state.InlineState.autolink.Goals as goal
 

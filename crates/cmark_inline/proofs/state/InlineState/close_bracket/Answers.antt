@@ -7,17 +7,18 @@ use Rattle.cmark_grammar.specs.Labels.{normal_form}
 use Rattle.cmark_inline.specs.Footnoted.{KeepsLabel, footnote_of, forms_footnote}
 use Rattle.cmark_inline.specs.Hiding.{WritesReference, WritesWikilink}
 use Rattle.cmark_inline.specs.Closers.{LeavesFootnote, LeavesWikilink, LinksTaken}
-use Rattle.cmark_inline.specs.Doubled.{nearest}
-use Rattle.cmark_inline.specs.Stands.{HoldNoLink, Moves, Stands}
-use Rattle.cmark_inline.specs.declared.bracket.Bracket.{Bracket}
+use Rattle.cmark_slots.specs.Doubled.{nearest}
+use Rattle.cmark_slots.specs.Slots.{HoldNoLink}
+use Rattle.cmark_inline.specs.Stands.{Moves, Stands}
+use Rattle.cmark_slots.specs.declared.bracket.Bracket.{Bracket}
 use Rattle.cmark_inline.specs.declared.state.InlineState.{InlineState}
 use Rattle.cmark_inline.specs.declared.step.Cursor.{Cursor}
-use Rattle.cmark_inline.specs.declared.slot.SlotKind.TheVariants as kind
+use Rattle.cmark_slots.specs.declared.slot.SlotKind.TheVariants as kind
 use Rattle.cmark_inline.proofs.ClosingReads.{SameRows, puts-one, rows-brackets, rows-doubled, rows-on, rows-same, rows-unlinked, text-reads}
 use Rattle.cmark_inline.proofs.CloserMakes.{footnote-closes, inside-up, linked-closes, remembers-on, taken-stage, text-closes, tried-stage, wikilink-closes, IsTriedStage}
 use Rattle.cmark_inline.specs.Sound.{IsTakenFrom}
 use Rattle.cmark_inline.proofs.Keeping.{keeps-pending, keeps-puts, some-taken}
-use Rattle.cmark_inline.specs.Sound.{AreEnded}
+use Rattle.cmark_slots.specs.Standing.{AreEnded}
 use Rattle.cmark_inline.proofs.state.InlineState.close_bracket.Goals as goal
 
 pub returns-in-Some-clause-closes : goal.returns-in-Some-clause-closes

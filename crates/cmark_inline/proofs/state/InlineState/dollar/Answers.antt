@@ -7,7 +7,7 @@ use Rattle.cmark_finds.specs.Dollars.{IsFormulaAt, shown_formula}
 use Rattle.cmark_finds.specs.declared.dollars.Formula.{Formula}
 use Rattle.cmark_inline.proofs.FormulaSteps.{formula-appends, sign-appends}
 use Rattle.cmark_inline.proofs.Keeping.{formula-alone, keeps-puts}
-use Rattle.cmark_inline.specs.Sound.{StandsAlone}
+use Rattle.cmark_slots.specs.Standing.{StandsAlone}
 use Rattle.cmark_inline.proofs.state.InlineState.dollar.Goals as goal
 
 pub returns-in-Some-clause-token : goal.returns-in-Some-clause-token

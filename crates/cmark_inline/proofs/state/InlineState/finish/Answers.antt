@@ -2,19 +2,19 @@ use Rattle.std.proofs.Common.{◌≡◌, ◌≤◌, ◌+◌, ◌++◌, ◌∷◌
 use Rattle.std.proofs.lemmas.List.{length_push}
 use Rattle.cmark_inline_model.specs.SlotRows.{marked, marks_by}
 use Rattle.cmark_text_parts.specs.Shown.{shown_options}
-use Rattle.cmark_inline.specs.MarkedSlots.{AreWhole, EndWithin, HaveBytes, HaveTexts, SameBefore, places_of}
-use Rattle.cmark_inline.specs.QuoteSlots.{characters_of, with_characters}
-use Rattle.cmark_inline.specs.SlotViews.{shown_slots}
-use Rattle.cmark_inline.specs.Sound.{CanSettle, NamesNoMore}
+use Rattle.cmark_slots.specs.MarkedSlots.{AreWhole, EndWithin, HaveBytes, HaveTexts, SameBefore, places_of}
+use Rattle.cmark_slots.specs.QuoteSlots.{characters_of, with_characters}
+use Rattle.cmark_slots.specs.SlotViews.{shown_slots}
+use Rattle.cmark_slots.specs.Standing.{CanSettle, NamesNoMore}
 use Rattle.cmark_inline.specs.FormedSlots.{dressed_behind}
-use Rattle.cmark_inline.specs.declared.delimiter.PlacedRun.{PlacedRun}
-use Rattle.cmark_inline.specs.declared.quote.PlacedQuote.{PlacedQuote}
-use Rattle.cmark_inline.specs.declared.slot.Slot.{Slot}
-use Rattle.cmark_inline.specs.declared.slot.SlotKind.TheVariants as kind
-use Rattle.cmark_inline.proofs.Naming.{no-more-on, no-more-push}
-use Rattle.cmark_inline.proofs.RunPlaces.{have-all, same-on}
-use Rattle.cmark_inline.proofs.Settling.{before-push, can-push, letters-before, letters-name, letters-settle}
-use Rattle.cmark_inline.proofs.Steps.{no-new, slots-push}
+use Rattle.cmark_slots.specs.declared.delimiter.PlacedRun.{PlacedRun}
+use Rattle.cmark_slots.specs.declared.quote.PlacedQuote.{PlacedQuote}
+use Rattle.cmark_slots.specs.declared.slot.Slot.{Slot}
+use Rattle.cmark_slots.specs.declared.slot.SlotKind.TheVariants as kind
+use Rattle.cmark_slots.proofs.Naming.{no-more-on, no-more-push}
+use Rattle.cmark_slots.proofs.RunPlaces.{have-all, same-on}
+use Rattle.cmark_slots.proofs.Settling.{before-push, can-push, letters-before, letters-name, letters-settle}
+use Rattle.cmark_slots.proofs.Steps.{no-new, slots-push}
 use Rattle.cmark_inline.proofs.state.InlineState.finish.Goals as goal
 
 pub returns-clause-slots : goal.returns-clause-slots

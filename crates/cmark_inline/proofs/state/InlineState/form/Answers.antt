@@ -1,23 +1,24 @@
 use Rattle.std.proofs.Common.{rules, ◌≡◌, ◌≤◌, ◌<◌, ◌+◌, ◌++◌, ◌∷◌, [], true, false, List, ℕ, drop, length, set, get_or, refl, sym, ap, subst, ◌∙◌, arith}
 use Rattle.std.proofs.lemmas.List.{length_push}
 use Rattle.cmark_inline.specs.Closers.{LeavesElement}
-use Rattle.cmark_inline.specs.Stands.{IsSlot, IsTarget, AreBrackets, AreFree, bytes_of}
+use Rattle.cmark_slots.specs.Slots.{IsSlot, AreBrackets, AreFree, bytes_of}
+use Rattle.cmark_inline.specs.Stands.{IsTarget}
 use Rattle.cmark_leaf_text.specs.Reads.{IsPart}
-use Rattle.cmark_inline.specs.declared.bracket.Brackets.{Brackets}
+use Rattle.cmark_slots.specs.declared.bracket.Brackets.{Brackets}
 use Rattle.cmark_inline.specs.declared.link.Target.{Target}
-use Rattle.cmark_inline.specs.declared.slot.Slot.{Slot}
-use Rattle.cmark_inline.specs.declared.slot.SlotKind.TheVariants as kind
-use Rattle.cmark_inline.proofs.Steps.{slots-on, brackets-on, free-on, part-from}
-use Rattle.cmark_inline.specs.MarkedSlots.{begun_as}
+use Rattle.cmark_slots.specs.declared.slot.Slot.{Slot}
+use Rattle.cmark_slots.specs.declared.slot.SlotKind.TheVariants as kind
+use Rattle.cmark_slots.proofs.Steps.{slots-on, brackets-on, free-on, part-from}
+use Rattle.cmark_slots.specs.MarkedSlots.{begun_as}
 use Rattle.cmark_text_parts.specs.Shown.{shown_options}
-use Rattle.cmark_inline.specs.SlotViews.{link_named, shown_slots}
+use Rattle.cmark_slots.specs.SlotViews.{link_named, shown_slots}
 use Rattle.cmark_inline.specs.FormedSlots.{WritesElement, dressed_behind, end_slot}
-use Rattle.cmark_inline.specs.Sound.{CanSettle, IsSettled}
-use Rattle.cmark_inline.specs.declared.slot.Element.TheVariants as element
+use Rattle.cmark_slots.specs.Standing.{CanSettle, IsSettled}
+use Rattle.cmark_slots.specs.declared.slot.Element.TheVariants as element
 use Rattle.cmark_inline.proofs.ElementWrites.{image-shown, link-shown, writes-element}
 use Rattle.cmark_inline.proofs.Forming.{link-formed, settle-set, settled-ended, sound-same}
-use Rattle.cmark_inline.proofs.Marks.{no-slot}
-use Rattle.cmark_inline.proofs.Soundness.{sound-settles}
+use Rattle.cmark_slots.proofs.Marks.{no-slot}
+use Rattle.cmark_slots.proofs.Soundness.{sound-settles}
 use Rattle.cmark_inline.proofs.state.InlineState.form.Goals as goal
 
 last-slot : (text : List ℕ) (close : ℕ) (target : Target) → IsPart text close (close + 1) → IsTarget text close target → IsSlot text target.resume (record { kind = kind.End; start = close; end = target.end })

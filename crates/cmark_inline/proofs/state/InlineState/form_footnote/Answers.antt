@@ -1,17 +1,17 @@
 use Rattle.std.proofs.Common.{rules, ◌≡◌, ◌≤◌, ◌+◌, List, ℕ, length, take, refl, sym, ap, subst, ◌∙◌, arith}
 use Rattle.std.proofs.lemmas.List.{length_push}
-use Rattle.cmark_inline.specs.Doubled.{DropsBehind}
+use Rattle.cmark_slots.specs.Doubled.{DropsBehind}
 use Rattle.cmark_inline.specs.Footnoted.{PutsReference, reference_as}
 use Rattle.cmark_leaf_text.specs.Reads.{IsPart}
-use Rattle.cmark_inline.specs.Stands.{AreBrackets, AreFree, IsBracket, IsSlot, bytes_of}
-use Rattle.cmark_inline.specs.declared.bracket.Bracket.{Bracket}
-use Rattle.cmark_inline.specs.declared.bracket.Brackets.{Brackets}
-use Rattle.cmark_inline.specs.declared.slot.Slot.{Slot}
+use Rattle.cmark_slots.specs.Slots.{AreBrackets, AreFree, IsBracket, IsSlot, bytes_of}
+use Rattle.cmark_slots.specs.declared.bracket.Bracket.{Bracket}
+use Rattle.cmark_slots.specs.declared.bracket.Brackets.{Brackets}
+use Rattle.cmark_slots.specs.declared.slot.Slot.{Slot}
 use Rattle.cmark_inline.specs.declared.state.InlineState.{InlineState}
 use Rattle.cmark_inline.proofs.FootnoteSteps.{reference-part}
 use Rattle.cmark_inline.proofs.HiddenSlots.{writes-reference}
 use Rattle.cmark_inline.proofs.Forming.{reference-ended, reference-formed, sound-same}
-use Rattle.cmark_inline.proofs.Steps.{brackets-on, free-on, slots-on}
+use Rattle.cmark_slots.proofs.Steps.{brackets-on, free-on, slots-on}
 use Rattle.cmark_inline.proofs.state.InlineState.form_footnote.Goals as goal
 
 pub returns-clause-stands : goal.returns-clause-stands

@@ -2,21 +2,21 @@ use Rattle.std.proofs.Common.{rules, ◌≡◌, ◌++◌, ◌∷◌, ◌≤◌, 
 use Rattle.std.proofs.lemmas.List.{length_push}
 use Rattle.cmark_grammar.specs.Emphasis.{IsEmphasis}
 use Rattle.cmark_text_parts.specs.Shown.{shown_options}
-use Rattle.cmark_inline.specs.Doubled.{DropsBehind}
-use Rattle.cmark_inline.specs.MarkedSlots.{begun_as, siblings_from}
-use Rattle.cmark_inline.specs.SlotViews.{shown_slots}
-use Rattle.cmark_inline.specs.Sound.{CanSettle, IsSettled}
-use Rattle.cmark_inline.specs.Stands.{IsEnd, AreBrackets, AreFree, bytes_of}
+use Rattle.cmark_slots.specs.Doubled.{DropsBehind}
+use Rattle.cmark_slots.specs.MarkedSlots.{begun_as, siblings_from}
+use Rattle.cmark_slots.specs.SlotViews.{shown_slots}
+use Rattle.cmark_slots.specs.Standing.{CanSettle, IsSettled}
+use Rattle.cmark_slots.specs.Slots.{IsEnd, AreBrackets, AreFree, bytes_of}
 use Rattle.cmark_inline.specs.FormedSlots.{dressed_behind, end_slot}
-use Rattle.cmark_inline.specs.declared.bracket.Bracket.{Bracket}
-use Rattle.cmark_inline.specs.declared.bracket.Brackets.{Brackets}
-use Rattle.cmark_inline.specs.declared.slot.Slot.{Slot}
+use Rattle.cmark_slots.specs.declared.bracket.Bracket.{Bracket}
+use Rattle.cmark_slots.specs.declared.bracket.Brackets.{Brackets}
+use Rattle.cmark_slots.specs.declared.slot.Slot.{Slot}
 use Rattle.cmark_inline.specs.declared.state.InlineState.{InlineState}
-use Rattle.cmark_inline.specs.declared.slot.SlotKind.TheVariants as kind
+use Rattle.cmark_slots.specs.declared.slot.SlotKind.TheVariants as kind
 use Rattle.cmark_inline.proofs.Forming.{settle-set, settled-ended, sound-same, take-fewer, wikilink-formed}
-use Rattle.cmark_inline.proofs.Marks.{no-slot}
-use Rattle.cmark_inline.proofs.Soundness.{sound-more}
-use Rattle.cmark_inline.proofs.Steps.{brackets-on}
+use Rattle.cmark_slots.proofs.Marks.{no-slot}
+use Rattle.cmark_slots.proofs.Soundness.{sound-more}
+use Rattle.cmark_slots.proofs.Steps.{brackets-on}
 use Rattle.cmark_inline.proofs.WikiSlots.{writes-shown}
 use Rattle.cmark_inline.proofs.state.InlineState.form_wikilink.Goals as goal
 

@@ -1,8 +1,7 @@
 use Rattle.std.proofs.Common.{refl, sym, ap, ◌∙◌}
 use Rattle.cmark_inline.specs.Tokens.{read_on}
 use Rattle.cmark_inline.proofs.AngleMakes.{by-autolink, by-html, by-none}
-use Rattle.cmark_inline.proofs.Keeping.{found-alone, keeps-autolink, keeps-puts, keeps-source}
-use Rattle.cmark_inline.proofs.Keeping.{ended-puts}
+use Rattle.cmark_inline.proofs.Keeping.{found-alone, keeps-autolink, keeps-puts, keeps-source, ended-puts}
 use Rattle.cmark_inline.proofs.SourceOrder.{found-ends}
 use Rattle.cmark_inline.proofs.state.InlineState.less_than.Goals as goal
 

@@ -3,9 +3,9 @@ use Rattle.cmark_grammar.specs.LineBreaks.{ends_with_two_spaces}
 use Rattle.cmark_inline.specs.Stands.{Stands}
 use Rattle.cmark_inline.proofs.Appended.{break-appends}
 use Rattle.cmark_inline.proofs.Keeping.{break-alone, keeps-puts, keeps-same}
-use Rattle.cmark_inline.specs.Sound.{StandsAlone}
+use Rattle.cmark_slots.specs.Standing.{StandsAlone}
 use Rattle.cmark_inline.specs.Tokens.{read_on}
-use Rattle.cmark_inline.specs.declared.slot.Slot.{Slot}
+use Rattle.cmark_slots.specs.declared.slot.Slot.{Slot}
 use Rattle.cmark_inline.proofs.state.InlineState.line_ending.Goals as goal
 
 pub returns-clause-token : goal.returns-clause-token

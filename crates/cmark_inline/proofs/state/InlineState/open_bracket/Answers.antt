@@ -1,19 +1,19 @@
 use Rattle.std.proofs.Common.{rules, ◌≡◌, ◌≤◌, ◌<◌, List, [], ◌∷◌, ◌++◌, ℕ, length, refl, sym, ap, subst, ◌∙◌, arith}
 use Rattle.std.proofs.lemmas.List.Elements.{All-push}
 use Rattle.cmark_text_parts.specs.Shown.{shown_options}
-use Rattle.cmark_inline.specs.Doubled.{doubles}
-use Rattle.cmark_inline.specs.declared.bracket.Bracket.{Bracket}
+use Rattle.cmark_slots.specs.Doubled.{doubles}
+use Rattle.cmark_slots.specs.declared.bracket.Bracket.{Bracket}
 use Rattle.cmark_inline.specs.declared.state.InlineState.{InlineState}
 use Rattle.cmark_inline.proofs.CloserSteps.{opens-as}
-use Rattle.cmark_inline.specs.Stands.{AreBrackets, AreFree, HoldNoLink, IsBracket, bytes_of}
-use Rattle.cmark_inline.specs.declared.bracket.Brackets.{Brackets}
-use Rattle.cmark_inline.specs.declared.slot.Slot.{Slot}
-use Rattle.cmark_inline.specs.declared.slot.SlotKind.TheVariants as kind
-use Rattle.cmark_inline.proofs.Steps.{Keeps, free-push, keeps-push, last-holds-none}
-use Rattle.cmark_inline.specs.Sound.{AreEnded, AreSound}
+use Rattle.cmark_slots.specs.Slots.{AreBrackets, AreFree, HoldNoLink, IsBracket, bytes_of}
+use Rattle.cmark_slots.specs.declared.bracket.Brackets.{Brackets}
+use Rattle.cmark_slots.specs.declared.slot.Slot.{Slot}
+use Rattle.cmark_slots.specs.declared.slot.SlotKind.TheVariants as kind
+use Rattle.cmark_slots.proofs.Steps.{Keeps, free-push, keeps-push, last-holds-none}
+use Rattle.cmark_slots.specs.Standing.{AreEnded, AreSound}
 use Rattle.cmark_inline.proofs.Keeping.{keeps-pending}
-use Rattle.cmark_inline.proofs.Naming.{ended-on, no-more-push}
-use Rattle.cmark_inline.proofs.Opening.{doubles-are, sound-opened}
+use Rattle.cmark_slots.proofs.Naming.{ended-on, no-more-push}
+use Rattle.cmark_slots.proofs.Opening.{doubles-are, sound-opened}
 use Rattle.cmark_inline.proofs.state.InlineState.open_bracket.Goals as goal
 
 pub returns-clause-opens : goal.returns-clause-opens

@@ -1,11 +1,11 @@
 use Rattle.std.proofs.Common.{◌≡◌, ◌≤◌, ◌<◌, ◌+◌, ◌-◌, ◌++◌, ℕ, List, length, refl, ap, ◌∙◌, arith}
 use Rattle.std.proofs.lemmas.List.{length_push}
-use Rattle.cmark_inline.specs.declared.slot.Slot.{Slot}
+use Rattle.cmark_slots.specs.declared.slot.Slot.{Slot}
 use Rattle.cmark_inline.specs.declared.state.InlineState.{InlineState}
-use Rattle.cmark_inline.specs.declared.slot.SlotKind.TheVariants as kind
-use Rattle.cmark_inline.specs.Tokens.{byte_slots}
+use Rattle.cmark_slots.specs.declared.slot.SlotKind.TheVariants as kind
+use Rattle.cmark_slots.specs.Slots.{byte_slots}
 use Rattle.cmark_inline.proofs.Appended.{push-byte}
-use Rattle.cmark_inline.proofs.Steps.{after, byte-slot, no-new, slots-push}
+use Rattle.cmark_slots.proofs.Steps.{after, byte-slot, no-new, slots-push}
 use Rattle.cmark_inline.proofs.state.InlineState.push_bytes.Goals as goal
 
 pub loop-at-preserved : goal.loop-at-preserved

@@ -1,7 +1,6 @@
 use Rattle.std.proofs.Common.{◌≡◌, ◌≤◌, ◌+◌, ◌-◌, ◌++◌, length}
 use Rattle.std.specs.Str.{IsCharBoundary}
-use Rattle.cmark_inline.specs.Stands.{AreSlots, NoNewLink}
-use Rattle.cmark_inline.specs.Tokens.{byte_slots}
+use Rattle.cmark_slots.specs.Slots.{AreSlots, NoNewLink, byte_slots}
 use Rattle.cmark_inline.proofs.state.InlineState.push_bytes.Given as goal
 
 abbrev pub invariant-loop-at : goal.invariant-loop-at

@@ -7,23 +7,24 @@ use Rattle.cmark_leaf_text.specs.Reads.{text_of}
 use Rattle.cmark_text_parts.specs.Shown.{shown_options}
 use Rattle.cmark_inline_model.specs.SlotRows.{marked, marks_by, quoted}
 use Rattle.cmark_inline.specs.CursorProgress.{HasCome}
-use Rattle.cmark_inline.specs.SlotViews.{shown_slots}
+use Rattle.cmark_slots.specs.SlotViews.{shown_slots}
 use Rattle.cmark_inline.proofs.ComeLoops.{begin-comes, comes-further}
 use Rattle.cmark_inline.proofs.ComeEnds.{end-reads}
 use Rattle.cmark_inline.specs.Asking.{AsksUpTo, closing_brackets}
-use Rattle.cmark_inline.specs.MarkedSlots.{AreWhole, EndWithin, HaveBytes, places_of, siblings_from}
-use Rattle.cmark_inline.specs.QuoteSlots.{characters_of, with_characters}
-use Rattle.cmark_inline.specs.Sound.{AreEnded, IsSound, NamesNoMore}
-use Rattle.cmark_inline.specs.Stands.{AreSlots, PushesText}
-use Rattle.cmark_inline.specs.declared.delimiter.PlacedRun.{PlacedRun}
-use Rattle.cmark_inline.specs.declared.quote.PlacedQuote.{PlacedQuote}
-use Rattle.cmark_inline.specs.declared.slot.Slot.{Slot}
+use Rattle.cmark_slots.specs.MarkedSlots.{AreWhole, EndWithin, HaveBytes, places_of, siblings_from}
+use Rattle.cmark_slots.specs.QuoteSlots.{characters_of, with_characters}
+use Rattle.cmark_slots.specs.Standing.{AreEnded, NamesNoMore}
+use Rattle.cmark_inline.specs.Sound.{IsSound}
+use Rattle.cmark_slots.specs.Slots.{AreSlots, PushesText}
+use Rattle.cmark_slots.specs.declared.delimiter.PlacedRun.{PlacedRun}
+use Rattle.cmark_slots.specs.declared.quote.PlacedQuote.{PlacedQuote}
+use Rattle.cmark_slots.specs.declared.slot.Slot.{Slot}
 use Rattle.cmark_inline.specs.declared.state.InlineState.{InlineState}
 use Rattle.cmark_inline.proofs.Keeping.{keeps-pending}
-use Rattle.cmark_inline.proofs.Naming.{ended-on, named-on, no-more-on}
+use Rattle.cmark_slots.proofs.Naming.{ended-on, named-on, no-more-on}
 use Rattle.cmark_inline.proofs.SourceOrder.{ends-behind, left-of}
-use Rattle.cmark_inline.proofs.Settling.{letters-name, letters-settle}
-use Rattle.cmark_inline.proofs.Soundness.{sound-settles-all}
+use Rattle.cmark_slots.proofs.Settling.{letters-name, letters-settle}
+use Rattle.cmark_slots.proofs.Soundness.{sound-settles-all}
 use Rattle.cmark_inline.proofs.Questions.{asks-all, asks-on}
 use Rattle.cmark_inline.proofs.state.InlineState.resolve.Goals as goal
 
@@ -109,7 +110,7 @@ returns-clause-left g c =
     let ended = ended-on one new names leaf ((keeps-pending c.loop-cursor.self mid c.in_ok-flush.ensures.others c.loop-cursor.cursor.pending _ c.in_ok-flush.ensures.slots).ends leaf c.loop-cursor.invariant.9) in
     let text : List ℕ = c.as_str-text.result.now in
     let slots = c.in_ok-resolve-2.ensures.slots text (length text) (c.in_ok-resolve.ensures.slots text (length text) c.in_ok-flush.ensures.stands.slots) in
-    left-of leaf mid.texts.items mid.links.items new c.clear-2.new.self.next c.clear-2.ensures.next named (λ k d lt. ends-behind leaf (get_or new k d) (get_or new k d).kind (slots k d lt).part.some (ended k d lt))
+    left-of leaf mid.texts.items mid.links.items new named (λ k d lt. ends-behind leaf (get_or new k d) (get_or new k d).kind (slots k d lt).part.some (ended k d lt))
 
 pub returns-clause-reads : goal.returns-clause-reads
 returns-clause-reads g c = λ set reader read place same places.
@@ -135,10 +136,10 @@ returns-clause-reads g c = λ set reader read place same places.
     let at : cursor.at ≡ length (text_of leaf) = omega (arith, le, over, size) in
     end-reads leaf reader read place places g.F.BrokenLinkCallback.answers c.args.self.now.expansion_left c.args.callback.now c.loop-cursor.callback cursor c.loop-cursor.self mid
     (subst (λ n. HasCome g.F.BrokenLinkCallback.answers leaf reader read place (record { expansion_left = n; asked = [] }) c.args.callback.now cursor c.loop-cursor.self c.loop-cursor.callback) c.clear.ensures.expansion_left (c.loop-cursor.invariant.10 set reader read place same places))
-    at (subst (λ n. PushesText cursor.pending n c.loop-cursor.self.slots.items mid.slots.items) size c.in_ok-flush.ensures.slots) c.in_ok-flush.ensures.others same.source _
+    at (subst (λ n. PushesText cursor.pending n c.loop-cursor.self.slots.items mid.slots.items) size c.in_ok-flush.ensures.slots) c.in_ok-flush.ensures.others same.source (record mid { slots = c.resolve-2.new.slots })
     (marks ∙ ap (λ l. marked (shown_options c.args.reader.now.options) (places_of runs) (marks_by (length (places_of runs)) (pairs_of (siblings_from 0 runs))) l []) letters
     ∙ ap (λ o. marked o (places_of runs) (marks_by (length (places_of runs)) (pairs_of (siblings_from 0 runs))) (quoted (map (λ (q : PlacedQuote). q.slot) quotes) (characters_of quotes) (shown_slots leaf mid.texts.items mid.links.items one)) []) (sym same.options_are))
-    c.clear-2.ensures.next c.clear-2.ensures.opened refl
+    refl
 
 pub resolve-requires-clause-texts : goal.resolve-requires-clause-texts
 resolve-requires-clause-texts g c =

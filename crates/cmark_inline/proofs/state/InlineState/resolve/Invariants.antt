@@ -6,7 +6,8 @@ use Rattle.cmark_inline.specs.CursorProgress.{ComesTo}
 use Rattle.cmark_inline.specs.Footnoted.{SameFootnotes}
 use Rattle.cmark_inline.specs.MarkupInSource.{AreUnclosed}
 use Rattle.cmark_inline.specs.PlainStretches.{IsSetOf}
-use Rattle.cmark_inline.specs.Sound.{AreEnded, IsSound}
+use Rattle.cmark_slots.specs.Standing.{AreEnded}
+use Rattle.cmark_inline.specs.Sound.{IsSound}
 use Rattle.cmark_inline.specs.Stands.{Stands, IsCursor}
 use Rattle.cmark_text_parts.specs.Shown.{shown_options}
 use Rattle.cmark_inline.proofs.state.InlineState.resolve.Given as goal

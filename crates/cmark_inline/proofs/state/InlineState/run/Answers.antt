@@ -2,7 +2,7 @@ use Rattle.std.proofs.Common.{◌≡◌, ◌||◌, ◌-◌, inl, inr, true, fals
 use Rattle.std.proofs.lemmas.Bool.{or_left, or_right}
 use Rattle.cmark_emphasis.specs.Shown.{shown_flanking}
 use Rattle.cmark_emphasis.specs.declared.run.Run.{Run}
-use Rattle.cmark_inline.specs.declared.delimiter.Delimiters.{Delimiters}
+use Rattle.cmark_slots.specs.declared.delimiter.Delimiters.{Delimiters}
 use Rattle.cmark_inline.specs.declared.state.InlineState.{InlineState}
 use Rattle.cmark_text_parts.specs.Shown.{shown_options}
 use Rattle.cmark_grammar.specs.Flanking.{Flanking}

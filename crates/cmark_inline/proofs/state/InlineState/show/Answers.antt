@@ -1,19 +1,19 @@
 use Rattle.std.proofs.Common.{◌≡◌, ◌≤◌, ◌+◌, ◌++◌, ◌∷◌, [], ℕ, List, drop, length, refl, sym, ap, subst, ◌∙◌, arith}
 use Rattle.std.proofs.lemmas.List.{length_push}
-use Rattle.cmark_inline.specs.MarkedSlots.{SameBefore}
-use Rattle.cmark_inline.specs.Sound.{AreEnded, AreNamed, CanSettle, NamesNoMore}
-use Rattle.cmark_inline.specs.Wikilinks.{Hides, cut_at}
-use Rattle.cmark_inline.specs.declared.bracket.Bracket.{Bracket}
-use Rattle.cmark_inline.specs.declared.delimiter.PlacedRun.{PlacedRun}
-use Rattle.cmark_inline.specs.declared.quote.PlacedQuote.{PlacedQuote}
-use Rattle.cmark_inline.specs.declared.slot.Slot.{Slot}
+use Rattle.cmark_slots.specs.MarkedSlots.{SameBefore}
+use Rattle.cmark_slots.specs.Standing.{AreEnded, AreNamed, CanSettle, NamesNoMore}
+use Rattle.cmark_slots.specs.Cuts.{Hides, cut_at}
+use Rattle.cmark_slots.specs.declared.bracket.Bracket.{Bracket}
+use Rattle.cmark_slots.specs.declared.delimiter.PlacedRun.{PlacedRun}
+use Rattle.cmark_slots.specs.declared.quote.PlacedQuote.{PlacedQuote}
+use Rattle.cmark_slots.specs.declared.slot.Slot.{Slot}
 use Rattle.cmark_inline.specs.declared.state.InlineState.{InlineState}
-use Rattle.cmark_inline.proofs.Naming.{adds-push, ended-on, named-none, named-on, one-ended}
-use Rattle.cmark_inline.proofs.RunPlaces.{same-on}
-use Rattle.cmark_inline.proofs.Settling.{before-push, can-push}
-use Rattle.cmark_inline.proofs.Showing.{shown-before, shown-length, shown-names, shown-settles}
-use Rattle.cmark_inline.specs.declared.slot.SlotKind.TheVariants as kind
-use Rattle.cmark_inline.proofs.Steps.{no-new, part-from, slots-on, slots-push}
+use Rattle.cmark_slots.proofs.Naming.{adds-push, ended-on, named-none, named-on, one-ended}
+use Rattle.cmark_slots.proofs.RunPlaces.{same-on}
+use Rattle.cmark_slots.proofs.Settling.{before-push, can-push}
+use Rattle.cmark_slots.proofs.Showing.{shown-before, shown-length, shown-names, shown-settles}
+use Rattle.cmark_slots.specs.declared.slot.SlotKind.TheVariants as kind
+use Rattle.cmark_slots.proofs.Steps.{no-new, part-from, slots-on, slots-push}
 use Rattle.cmark_inline.proofs.state.InlineState.show.Goals as goal
 
 pub cut-requires-clause-slots : goal.cut-requires-clause-slots

@@ -4,7 +4,7 @@ use Rattle.cmark_grammar.specs.OpenBrackets.{nearest}
 use Rattle.cmark_inline.specs.BracketViews.{TakenAs}
 use Rattle.cmark_inline.proofs.AfterSteps.{took, taken_if}
 use Rattle.cmark_inline.specs.declared.state.InlineState.{InlineState}
-use Rattle.cmark_inline.proofs.Opening.{is-taken, last-nearest, sound-taken}
+use Rattle.cmark_slots.proofs.Opening.{is-taken, last-nearest, sound-taken}
 use Rattle.cmark_inline.proofs.state.InlineState.take_bracket.Goals as goal
 
 pub returns-in_err-bracket-clause-stands : goal.returns-in_err-bracket-clause-stands

@@ -1,9 +1,9 @@
 use Rattle.cmark_text.specs.Ranged.{IsRangedZeroCopy}
 use Rattle.std.specs.Prelude.{IfSome}
-use Rattle.cmark_inline.specs.Opens as opens
+use Rattle.cmark_leaf_events.specs.Opens as opens
 use Rattle.std.proofs.Common.{subst, ◌<◌, refl, arith, OnSome}
-use Rattle.cmark_inline.specs.Opens.{Gives as GivesSlot}
-use Rattle.cmark_inline.specs.SlotViews.{IsFirst, events_to_come}
+use Rattle.cmark_leaf_events.specs.Opens.{Gives as GivesSlot}
+use Rattle.cmark_leaf_events.specs.Events.{IsFirst, events_to_come}
 use Rattle.cmark_walk.proofs.WalkSteps.{on-err}
 use Rattle.cmark_span_walk.specs.Walking.{opened_of, source_of}
 use Rattle.cmark_span_walk.proofs.EndSteps.{closed-keeps, spans-begin}
@@ -28,8 +28,8 @@ returns-in-Some-clause-given g c = λ reader r.
     let inside = c.if-not-self.false in
     let e = c.in_ok-given.ensures in
     let follows = subst (λ o. GivesSlot (source_of walk) (opened_of walk) o c.next.new.self.walk.opened.items) c.in-Some.is e.gives in
-    let first = subst (λ o. IsFirst o (events_to_come walk.leaf walk.inline) (events_to_come walk.leaf c.next.new.self)) c.in-Some.is e.events in
-    (follows.range, spanned g.F.BrokenLinkCallback.answers g.E.EntityLookup.replacement reader walk c.next.new.self _ r inside (spanned-at walk c.next.new.self r.left r.stands inside e.slots e.opened e.left) e.expansion_left first)
+    let first = subst (λ o. IsFirst o (events_to_come walk.leaf walk.events) (events_to_come walk.leaf c.next.new.self)) c.in-Some.is e.events in
+    (follows.range, spanned g.F.BrokenLinkCallback.answers g.E.EntityLookup.replacement reader walk c.next.new.self _ r inside (spanned-at walk c.next.new.self r.left r.stands inside e.slots e.opened e.left) first)
 
 pub returns-in-None-clause-stands : goal.returns-in-None-clause-stands
 returns-in-None-clause-stands g c = let s = c.requires in (s.0, closed-at c.args.self.now c.next.new.self s.0 s.1)
@@ -39,16 +39,16 @@ returns-in-None-clause-given g c = λ reader r.
     let walk = c.args.self.now in
     let inside = c.if-not-self.false in
     let e = c.in_ok-given.ensures in
-    let first = subst (λ o. IsFirst o (events_to_come walk.leaf walk.inline) (events_to_come walk.leaf c.next.new.self)) c.in-None.is e.events in
-    closed-passes g.F.BrokenLinkCallback.answers g.E.EntityLookup.replacement reader walk c.next.new.self r inside e.expansion_left first.0
+    let first = subst (λ o. IsFirst o (events_to_come walk.leaf walk.events) (events_to_come walk.leaf c.next.new.self)) c.in-None.is e.events in
+    closed-passes g.F.BrokenLinkCallback.answers g.E.EntityLookup.replacement reader walk c.next.new.self r inside first.0
 
 pub returns-in-None-clause-kept : goal.returns-in-None-clause-kept
 returns-in-None-clause-kept g c = λ reader none.
     let walk = c.args.self.now in
     let inside = c.if-not-self.false in
     let e = c.in_ok-given.ensures in
-    let first = subst (λ o. IsFirst o (events_to_come walk.leaf walk.inline) (events_to_come walk.leaf c.next.new.self)) c.in-None.is e.events in
-    closed-keeps g.E.EntityLookup.replacement reader walk c.next.new.self inside e.expansion_left first.0
+    let first = subst (λ o. IsFirst o (events_to_come walk.leaf walk.events) (events_to_come walk.leaf c.next.new.self)) c.in-None.is e.events in
+    closed-keeps g.E.EntityLookup.replacement reader walk c.next.new.self inside first.0
 
 pub returns-in_err-given-clause-ends : goal.returns-in_err-given-clause-ends
 returns-in_err-given-clause-ends g c = on-err c.from_residual.result _ (λ reader.
@@ -77,7 +77,7 @@ returns-in-Some-clause-lent g c = subst (λ o. IfSome o (IsRangedZeroCopy (sourc
 
 pub returns-in-Some-clause-fewer : goal.returns-in-Some-clause-fewer
 returns-in-Some-clause-fewer g c =
-    let fewer = subst (λ o. OnSome o (opens.events_left c.next.new.self < opens.events_left c.args.self.now.inline)) c.in-Some.is c.in_ok-given.ensures.fewer in
+    let fewer = subst (λ o. OnSome o (opens.events_left c.next.new.self < opens.events_left c.args.self.now.events)) c.in-Some.is c.in_ok-given.ensures.fewer in
     omega (arith, fewer)
 
 pub returns-in-Some-clause-most : goal.returns-in-Some-clause-most

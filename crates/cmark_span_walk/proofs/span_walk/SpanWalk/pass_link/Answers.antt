@@ -19,7 +19,7 @@ returns-clause-given g c = λ reader r.
     let inside = link-inside walk c.requires.ahead in
     let e = c.pass_link.ensures in
     on_ok_weaker c.pass_link.result
-    (λ both. start-passes g.F.BrokenLinkCallback.answers g.E.EntityLookup.replacement reader walk new r inside (spanned-at walk new r.left r.stands inside e.slots e.opened both.0) e.expansion_left both.1)
+    (λ both. start-passes g.F.BrokenLinkCallback.answers g.E.EntityLookup.replacement reader walk new r inside (spanned-at walk new r.left r.stands inside e.slots e.opened both.0) both.1)
     (on-both c.pass_link.result _ _ (e.left (given-left walk r.left r.stands inside)) e.events)
 
 pub returns-clause-ends : goal.returns-clause-ends

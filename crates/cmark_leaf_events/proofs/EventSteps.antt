@@ -1,0 +1,218 @@
+-- Slots as those of the model, of which texts and links are taken one after the other.
+use Rattle.std.proofs.Common.{◌≡◌, ◌≢◌, ℕ, zero, suc, ◌<◌, ◌≤◌, ◌+◌, drop, List, [], ◌∷◌, ◌++◌, length, get_or, set, Option, Some, None, refl, sym, ap, subst, ◌∙◌, arith}
+use Rattle.std.specs.Prelude.{All, map, reverse, slice_get}
+use Rattle.std.proofs.Math.Seq.{drop-cons}
+use Rattle.std.proofs.lemmas.List.{drop_all, length-set, reverse-append, map-append}
+use Rattle.cmark_grammar.specs.Event as event
+use Rattle.cmark_grammar.specs.Event.{Ranged}
+use Rattle.cmark_grammar.specs.InlineReading.{over}
+use Rattle.cmark_grammar.specs.Items as items
+use Rattle.cmark_grammar.specs.Tag as tag
+use Rattle.cmark_grammar.specs.Tag.{Tag}
+use Rattle.cmark_grammar.specs.TagEnd.{end_of}
+use Rattle.cmark_inline_model.specs.SlotRows as row
+use Rattle.cmark_inline_model.specs.SlotRows.{slot_events}
+use Rattle.cmark_leaf_text.specs.Reads.{source_of}
+use Rattle.cmark_leaf_text.specs.declared.leaf_text.LeafText.{LeafText}
+use Rattle.cmark_text_parts.specs.declared.text.CowStr.{CowStr}
+use Rattle.cmark_text.specs.Ranged.{shown_ranged}
+use Rattle.cmark_text.specs.Shown.{shown}
+use Rattle.cmark_text.specs.declared.ranged.Ranged.{Ranged as Given}
+use Rattle.cmark_leaf_events.specs.Opens.{Gives, Passes}
+use Rattle.cmark_slots.specs.SlotViews.{slot_as, shown_slot, shown_slots, first_of, slot_end, item_slot, text_named, link_of, link_named, linked_or_none, bytes_or_none, shown_element, IsThere, Differ, AreOnce, EndsBehind, CanBeGiven}
+use Rattle.cmark_leaf_events.specs.Events.{shown_open, shown_opened, events_of, event_in, KeepsOthers, IsFirst, with_given}
+use Rattle.cmark_leaf_events.specs.declared.leaf_events.Opened.{Opened}
+use Rattle.cmark_items.specs.declared.allocations.Link.{Link}
+use Rattle.cmark_slots.specs.declared.slot.Element.{Element}
+use Rattle.cmark_slots.specs.declared.slot.Element.TheVariants as element
+use Rattle.cmark_slots.specs.declared.slot.Slot.{Slot}
+use Rattle.cmark_slots.specs.declared.slot.SlotKind.{SlotKind}
+use Rattle.cmark_slots.specs.declared.slot.SlotKind.TheVariants as kind
+use Rattle.cmark_slots.proofs.Longer.{SameAt, same-slot}
+
+-- ## Tables from which something is taken
+
+pub keeps-all : {X : Type 0} (taken : Option ℕ) (xs : List X) → KeepsOthers taken xs xs
+keeps-all taken xs = record { size = refl; others = λ i differ. refl }
+
+pub keeps-same : {X : Type 0} (taken : Option ℕ) (old new : List X) → new ≡ old → KeepsOthers taken old new
+keeps-same taken old new e = subst (KeepsOthers taken old) (sym e) (keeps-all taken old)
+
+get-other : {X : Type 0} (xs : List X) (at i : ℕ) (x : X) → i ≢ at → slice_get (set xs at x) i ≡ slice_get xs i
+get-other [] at i x differ = refl
+get-other (y ∷ xs) zero zero x differ = absurd (differ refl)
+get-other (y ∷ xs) zero (suc i) x differ = refl
+get-other (y ∷ xs) (suc at) zero x differ = refl
+get-other (y ∷ xs) (suc at) (suc i) x differ = get-other xs at i x (λ e. differ (ap suc e))
+
+pub keeps-set : {X : Type 0} (xs : List X) (at : ℕ) (x : X) → KeepsOthers (Some at) xs (set xs at x)
+keeps-set xs at x = record { size = length-set xs at x; others = λ i differ. get-other xs at i x (λ e. differ (ap Some (sym e))) }
+
+none-some : (i : ℕ) → None ≢ Some i
+none-some i e = cc
+
+same-at : {X : Type 0} (taken named : Option ℕ) (old new : List X) → KeepsOthers taken old new → Differ taken named → SameAt named old new
+same-at taken None old new k d = tt
+same-at None (Some index) old new k d = k.others index (none-some index)
+same-at (Some other) (Some index) old new k d = k.others index (λ e. d (sym e))
+
+-- ## Slots whose texts and links are there as before
+
+module _ (leaf : LeafText) (texts texts1 : List CowStr) (links links1 : List Link) where
+  abbrev AllDiffer : (SlotKind → Option ℕ) → Option ℕ → List Slot → Type 0
+  AllDiffer named taken slots = All (λ (slot : Slot). Differ taken (named slot.kind)) slots
+
+  same-slots : (slots : List Slot) (text link : Option ℕ) → KeepsOthers text texts texts1 → KeepsOthers link links links1 → AllDiffer text_named text slots → AllDiffer link_named link slots
+      → shown_slots leaf texts1 links1 slots ≡ shown_slots leaf texts links slots
+  same-slots [] text link ts ls dt dl = refl
+  same-slots (slot ∷ slots) text link ts ls dt dl =
+      let zero-in : 0 < length (slot ∷ slots) = omega arith in
+      let first : shown_slot leaf texts1 links1 slot ≡ shown_slot leaf texts links slot =
+      same-slot leaf texts texts1 links links1 slot slot.kind (same-at text (text_named slot.kind) texts texts1 ts (dt 0 slot zero-in)) (same-at link (link_named slot.kind) links links1 ls (dl 0 slot zero-in)) in
+      let after = same-slots slots text link ts ls (λ k d lt. dt (suc k) d (let q : suc k < length (slot ∷ slots) = omega (arith, lt) in q)) (λ k d lt. dl (suc k) d (let q : suc k < length (slot ∷ slots) = omega (arith, lt) in q)) in
+      ap (λ x. x ∷ shown_slots leaf texts1 links1 slots) first ∙ ap (λ l. shown_slot leaf texts links slot ∷ l) after
+
+-- of slots each of which names its own, those behind the first name nothing that it names
+differ-behind : (named : SlotKind → Option ℕ) (slot : Slot) (slots : List Slot) → AreOnce named (slot ∷ slots) → All (λ (s : Slot). Differ (named slot.kind) (named s.kind)) slots
+differ-behind named slot slots once k d lt = once 0 (suc k) d (omega arith) (let q : suc k < length (slot ∷ slots) = omega (arith, lt) in q)
+
+once-behind : (named : SlotKind → Option ℕ) (slot : Slot) (slots : List Slot) → AreOnce named (slot ∷ slots) → AreOnce named slots
+once-behind named slot slots once i j d lt within = once (suc i) (suc j) d (omega (arith, lt)) (let q : suc j < length (slot ∷ slots) = omega (arith, within) in q)
+
+all-behind : (P : Slot → Type 0) (slot : Slot) (slots : List Slot) → All P (slot ∷ slots) → All P slots
+all-behind P slot slots all k d lt = all (suc k) d (let q : suc k < length (slot ∷ slots) = omega (arith, lt) in q)
+
+there-in : (m n : ℕ) (named : Option ℕ) → m ≡ n → IsThere n named → IsThere m named
+there-in m n named e there = subst (λ k. IsThere k named) (sym e) there
+
+module _ (leaf : LeafText) (texts texts1 : List CowStr) (links links1 : List Link) (slot : Slot) (slots : List Slot) where
+  -- what the first slot names is taken, and those behind it stand for what they stood for
+  pub seen-behind : CanBeGiven leaf texts links (slot ∷ slots) → KeepsOthers (text_named slot.kind) texts texts1 → KeepsOthers (link_named slot.kind) links links1
+      → shown_slots leaf texts1 links1 slots ≡ shown_slots leaf texts links slots
+  seen-behind h ts ls =
+      same-slots leaf texts texts1 links links1 slots (text_named slot.kind) (link_named slot.kind) ts ls (differ-behind text_named slot slots h.texts_once) (differ-behind link_named slot slots h.links_once)
+
+  pub left-behind : CanBeGiven leaf texts links (slot ∷ slots) → KeepsOthers (text_named slot.kind) texts texts1 → KeepsOthers (link_named slot.kind) links links1 → CanBeGiven leaf texts1 links1 slots
+  left-behind h ts ls = record {
+    texts_there = λ k d lt. there-in (length texts1) (length texts) (text_named (get_or slots k d).kind) ts.size (all-behind (λ (s : Slot). IsThere (length texts) (text_named s.kind)) slot slots h.texts_there k d lt);
+    links_there = λ k d lt. there-in (length links1) (length links) (link_named (get_or slots k d).kind) ls.size (all-behind (λ (s : Slot). IsThere (length links) (link_named s.kind)) slot slots h.links_there k d lt);
+    texts_once = once-behind text_named slot slots h.texts_once;
+    links_once = once-behind link_named slot slots h.links_once;
+    ends = all-behind (λ (s : Slot). EndsBehind leaf s s.kind) slot slots h.ends;
+  }
+
+-- ## Elements that are open
+
+pub opened-more : (opened : List Opened) (one : Opened) → shown_opened (opened ++ (one ∷ [])) ≡ shown_open one ∷ shown_opened opened
+opened-more opened one = ap reverse (map-append shown_open opened (one ∷ [])) ∙ reverse-append (map shown_open opened) (shown_open one ∷ [])
+
+-- ## The events of the first slot
+
+module _ (leaf : LeafText) (texts : List CowStr) (links : List Link) (slot : Slot) (slots : List Slot) (opened : List Opened) where
+  by-kind : (k : SlotKind) → slot.kind ≡ k → events_of leaf texts links (slot ∷ slots) opened ≡ slot_events (source_of leaf) (slot_as leaf texts links slot k ∷ shown_slots leaf texts links slots) (shown_opened opened)
+  by-kind k e = ap (λ (x : SlotKind). slot_events (source_of leaf) (slot_as leaf texts links slot x ∷ shown_slots leaf texts links slots) (shown_opened opened)) e
+
+  abbrev begins : Element → Ranged
+  begins e = over (source_of leaf) (first_of leaf slot) (slot_end leaf slot) (event.Start (shown_element links e))
+
+  abbrev closes : Element → Ranged
+  closes e = over (source_of leaf) (first_of leaf slot) (slot_end leaf slot) (event.End (end_of (shown_element links e)))
+
+  -- an element begins
+  pub begin-first : (texts1 : List CowStr) (links1 : List Link) (opened1 : List Opened) (given : Given) (e : Element) → slot.kind ≡ kind.Begin e → CanBeGiven leaf texts links (slot ∷ slots)
+      → texts1 ≡ texts → KeepsOthers (link_of e) links links1 → shown_ranged given ≡ begins e → shown_opened opened1 ≡ closes e ∷ shown_opened opened
+      → events_of leaf texts links (slot ∷ slots) opened ≡ shown_ranged given ∷ events_of leaf texts1 links1 slots opened1
+  begin-first texts1 links1 opened1 given e is h ts ls g o =
+      let seen = seen-behind leaf texts texts1 links links1 slot slots h (keeps-same (text_named slot.kind) texts texts1 ts) (subst (λ (k : SlotKind). KeepsOthers (link_named k) links links1) (sym is) ls) in
+      by-kind (kind.Begin e) is
+      ∙ ap (λ l. begins e ∷ slot_events (source_of leaf) (shown_slots leaf texts links slots) l) (sym o)
+      ∙ ap (λ l. begins e ∷ slot_events (source_of leaf) l (shown_opened opened1)) (sym seen)
+      ∙ ap (λ x. x ∷ events_of leaf texts1 links1 slots opened1) (sym g)
+
+  -- what has the range of its bytes
+  single-kind : (k : SlotKind) → ((end : ℕ) → k ≡ kind.SourceHtml end → ⊥) → ((end : ℕ) → k ≡ kind.SourceText end → ⊥) → (k ≡ kind.Empty → ⊥) → ((e : Element) → k ≡ kind.Begin e → ⊥) → (k ≡ kind.End → ⊥) → (k ≡ kind.Nothing → ⊥)
+      → (rows : List row.Slot) (ends : List Ranged) → slot_events (source_of leaf) (slot_as leaf texts links slot k ∷ rows) ends ≡ over (source_of leaf) (first_of leaf slot) (slot_end leaf slot) (event_in leaf texts slot k) ∷ slot_events (source_of leaf) rows ends
+  single-kind kind.Text html text empty begin end nothing rows ends = refl
+  single-kind (kind.OwnedText index) html text empty begin end nothing rows ends = refl
+  single-kind (kind.Character character) html text empty begin end nothing rows ends = refl
+  single-kind (kind.Whole last) html text empty begin end nothing rows ends = refl
+  single-kind kind.SoftBreak html text empty begin end nothing rows ends = refl
+  single-kind kind.HardBreak html text empty begin end nothing rows ends = refl
+  single-kind (kind.Code from to) html text empty begin end nothing rows ends = refl
+  single-kind (kind.InlineMath from to) html text empty begin end nothing rows ends = refl
+  single-kind (kind.DisplayMath from to) html text empty begin end nothing rows ends = refl
+  single-kind kind.InlineHtml html text empty begin end nothing rows ends = refl
+  single-kind (kind.SourceHtml place) html text empty begin end nothing rows ends = absurd (html place refl)
+  single-kind (kind.CutHtml from) html text empty begin end nothing rows ends = refl
+  single-kind (kind.SourceText place) html text empty begin end nothing rows ends = absurd (text place refl)
+  single-kind kind.Empty html text empty begin end nothing rows ends = absurd (empty refl)
+  single-kind (kind.FootnoteReference index) html text empty begin end nothing rows ends = refl
+  single-kind (kind.Begin e) html text empty begin end nothing rows ends = absurd (begin e refl)
+  single-kind kind.End html text empty begin end nothing rows ends = absurd (end refl)
+  single-kind kind.Nothing html text empty begin end nothing rows ends = absurd (nothing refl)
+
+  pub single-first : (texts1 : List CowStr) (links1 : List Link) (opened1 : List Opened) (given : Given) → ((end : ℕ) → slot.kind ≡ kind.SourceHtml end → ⊥) → ((end : ℕ) → slot.kind ≡ kind.SourceText end → ⊥) → (slot.kind ≡ kind.Empty → ⊥)
+      → ((e : Element) → slot.kind ≡ kind.Begin e → ⊥) → (slot.kind ≡ kind.End → ⊥) → (slot.kind ≡ kind.Nothing → ⊥) → CanBeGiven leaf texts links (slot ∷ slots) → KeepsOthers (text_named slot.kind) texts texts1 → links1 ≡ links → opened1 ≡ opened
+      → shown given.event ≡ event_in leaf texts slot slot.kind → given.range.start ≡ first_of leaf slot → given.range.end ≡ slot_end leaf slot
+      → events_of leaf texts links (slot ∷ slots) opened ≡ shown_ranged given ∷ events_of leaf texts1 links1 slots opened1
+  single-first texts1 links1 opened1 given html text empty begin end nothing h ts ls o value start last =
+      let seen = seen-behind leaf texts texts1 links links1 slot slots h ts (keeps-same (link_named slot.kind) links links1 ls) in
+      let here : over (source_of leaf) (first_of leaf slot) (slot_end leaf slot) (event_in leaf texts slot slot.kind) ≡ shown_ranged given = cc in
+      single-kind slot.kind html text empty begin end nothing (shown_slots leaf texts links slots) (shown_opened opened)
+      ∙ ap (λ x. x ∷ events_of leaf texts links slots opened) here
+      ∙ ap (λ l. shown_ranged given ∷ slot_events (source_of leaf) l (shown_opened opened)) (sym seen)
+      ∙ ap (λ (l : List Opened). shown_ranged given ∷ slot_events (source_of leaf) (shown_slots leaf texts1 links1 slots) (shown_opened l)) (sym o)
+
+-- an element that ends leaves what none leaves, where none is open
+pub passes-ended : (source : List ℕ) (old new : List Opened) (given : Option Given) → Gives source old given new → Passes source old given new
+passes-ended source old new None h = h.1 ∙ sym h.0
+passes-ended source old new (Some given) h = h
+
+-- ## The next event
+
+-- what the next slot names is there
+pub named-there : (leaf : LeafText) (texts : List CowStr) (links : List Link) (slots : List Slot) (next : ℕ) (slot : Slot) → next < length slots → slot ≡ get_or slots next slot → CanBeGiven leaf texts links (drop next slots)
+    → IsThere (length texts) (text_named slot.kind) × IsThere (length links) (link_named slot.kind)
+named-there leaf texts links slots next slot lt is h =
+    let s : drop next slots ≡ slot ∷ drop (suc next) slots = drop-cons slots next slot lt ∙ ap (λ x. x ∷ drop (suc next) slots) (sym is) in
+    let here = subst (CanBeGiven leaf texts links) s h in
+    let first : 0 < length (slot ∷ drop (suc next) slots) = omega arith in
+    (here.texts_there 0 slot first, here.links_there 0 slot first)
+
+module _ (leaf : LeafText) (texts texts1 : List CowStr) (links links1 : List Link) (slots slots1 : List Slot) (opened opened1 : List Opened) (next next1 : ℕ) (same : slots1 ≡ slots) (place : next1 ≡ next) where
+  split : (slot : Slot) → next < length slots → slot ≡ get_or slots next slot → drop next slots ≡ slot ∷ drop (next1 + 1) slots1
+  split slot lt is =
+      drop-cons slots next slot lt
+      ∙ ap (λ x. x ∷ drop (suc next) slots) (sym is)
+      ∙ ap (λ l. slot ∷ drop (suc next) l) (sym same)
+      ∙ ap (λ n. slot ∷ drop n slots1) (let q : suc next ≡ next1 + 1 = omega (arith, place) in q)
+
+  -- behind a slot
+  pub events-behind : (slot : Slot) (given : Option Given) → next < length slots → slot ≡ get_or slots next slot → CanBeGiven leaf texts links (drop next slots)
+      → ((behind : List Slot) → CanBeGiven leaf texts links (slot ∷ behind) → events_of leaf texts links (slot ∷ behind) opened ≡ with_given given (events_of leaf texts1 links1 behind opened1))
+      → events_of leaf texts links (drop next slots) opened ≡ with_given given (events_of leaf texts1 links1 (drop (next1 + 1) slots1) opened1)
+  events-behind slot given lt is h gives =
+      let s = split slot lt is in
+      ap (λ (l : List Slot). events_of leaf texts links l opened) s ∙ gives (drop (next1 + 1) slots1) (subst (CanBeGiven leaf texts links) s h)
+
+  pub left-next : (slot : Slot) → next < length slots → slot ≡ get_or slots next slot → CanBeGiven leaf texts links (drop next slots) → ((behind : List Slot) → CanBeGiven leaf texts links (slot ∷ behind) → CanBeGiven leaf texts1 links1 behind)
+      → CanBeGiven leaf texts1 links1 (drop (next1 + 1) slots1)
+  left-next slot lt is h keeps = keeps (drop (next1 + 1) slots1) (subst (CanBeGiven leaf texts links) (split slot lt is) h)
+
+  -- behind the last slot
+  pub events-last : (given : Option Given) → length slots ≤ next → IsFirst given (shown_opened opened) (shown_opened opened1)
+      → IsFirst given (events_of leaf texts links (drop next slots) opened) (events_of leaf texts1 links1 (drop next1 slots1) opened1)
+  events-last given le h =
+      let none = drop_all next slots le in
+      let none1 : drop next1 slots1 ≡ [] = ap (λ n. drop n slots1) place ∙ ap (drop next) same ∙ none in
+      subst (λ (l : List Slot). IsFirst given (events_of leaf texts links l opened) (events_of leaf texts1 links1 (drop next1 slots1) opened1)) (sym none)
+      (subst (λ (l : List Slot). IsFirst given (shown_opened opened) (events_of leaf texts1 links1 l opened1)) (sym none1) h)
+
+  pub left-last : texts1 ≡ texts → links1 ≡ links → CanBeGiven leaf texts links (drop next slots) → CanBeGiven leaf texts1 links1 (drop next1 slots1)
+  left-last ts ls h =
+      subst (λ (t : List CowStr). CanBeGiven leaf t links1 (drop next1 slots1)) (sym ts)
+      (subst (λ (k : List Link). CanBeGiven leaf texts k (drop next1 slots1)) (sym ls) (subst (λ (l : List Slot). CanBeGiven leaf texts links l) (sym (ap (λ n. drop n slots1) place ∙ ap (drop next) same)) h))
+
+-- the first of the events before some are those before others
+pub first-before : (given : Option Given) (before here behind : List Ranged) → before ≡ here → IsFirst given here behind → IsFirst given before behind
+first-before given before here behind e h = subst (λ l. IsFirst given l behind) (sym e) h

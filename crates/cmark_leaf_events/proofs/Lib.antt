@@ -1,0 +1,6 @@
+pub mod EventSteps
+pub mod LinkStartSteps
+pub mod NoEnds
+pub mod ShortFirst
+pub mod ShortSteps
+pub mod StillToCome

@@ -1,0 +1,70 @@
+use Rattle.std.proofs.Common.{◌≤◌, ◌+◌, sym, subst, ◌∙◌, ◌-◌, ◌<◌, length, ap, arith}
+use Rattle.cmark_leaf_events.specs.declared.leaf_events.LeafEvents.{LeafEvents}
+use Rattle.cmark_leaf_events.proofs.StillToCome.{left-later}
+use Rattle.cmark_leaf_text.specs.Reads.{source_of}
+use Rattle.cmark_leaf_events.specs.Opens.{AreOpened}
+use Rattle.cmark_leaf_events.specs.Shorts.{IfShort, StandsFor}
+use Rattle.cmark_leaf_events.proofs.ShortFirst.{stands-at}
+use Rattle.cmark_leaf_events.proofs.ShortSteps.{any-slot}
+use Rattle.cmark_inline_model.specs.FirstEvents.{BeginWithoutEnd}
+use Rattle.cmark_leaf_events.proofs.NoEnds.{here-no-end, on-err}
+use Rattle.cmark_leaf_events.proofs.leaf_events.LeafEvents.next_short.Goals as goal
+
+pub returns-clause-opened : goal.returns-clause-opened
+returns-clause-opened c = c.end_short.ensures.opened (source_of c.args.leaf.now) (subst (AreOpened (source_of c.args.leaf.now)) (sym c.loop-self.invariant.1) c.requires.opened)
+
+pub returns-clause-stands : goal.returns-clause-stands
+returns-clause-stands c = any-slot c.end_short.result c.args.leaf.now c.args.self.now.slots.items (c.end_short.new.self.walk.next - 1) c.end_short.ensures.stands
+
+pub returns-in-Short-clause-stands : goal.returns-in-Short-clause-stands
+returns-in-Short-clause-stands c =
+    let i = c.loop-self.invariant in
+    let e = c.in_ok-short.ensures in
+    let old = c.loop-self.self in
+    let t = c.loop-self-test.true in
+    let n = c.len.ensures in
+    let lt : old.walk.next < length old.slots.items = omega (arith, t, n) in
+    stands-at c.args.leaf.now old.slots.items c.args.self.now.slots.items old.walk.next c.give_short.new.self.walk.next c.index-slot.result.now c.in-Short.short (ap (λ v. v.items) i.0) lt c.index-slot.ensures e.place
+    (subst (λ n. IfShort n (StandsFor c.args.leaf.now c.index-slot.result.now)) c.in-Short.is e.stands)
+
+pub returns-in-Short-clause-left : goal.returns-in-Short-clause-left
+returns-in-Short-clause-left c = λ left.
+    let i = c.loop-self.invariant in
+    let old : LeafEvents = c.args.self.now in
+    let new : LeafEvents = record c.give_short.new.self { walk = record c.give_short.new.self.walk { next = c.give_short.new.self.walk.next + 1 } } in
+    let g = c.give_short.ensures in
+    let low = i.2 in
+    let place = g.place in
+    left-later c.args.leaf.now old new (g.texts ∙ i.3) (g.links ∙ i.4) (g.slots ∙ i.0) (let q : old.walk.next ≤ new.walk.next = omega (arith, low, place) in q) left
+
+pub returns-in-Long-clause-left : goal.returns-in-Long-clause-left
+returns-in-Long-clause-left c = λ left.
+    let i = c.loop-self.invariant in
+    let old : LeafEvents = c.args.self.now in
+    let new : LeafEvents = c.give_short.new.self in
+    let g = c.give_short.ensures in
+    let low = i.2 in
+    let place = g.place in
+    left-later c.args.leaf.now old new (g.texts ∙ i.3) (g.links ∙ i.4) (g.slots ∙ i.0) (let q : old.walk.next ≤ new.walk.next = omega (arith, low, place) in q) left
+
+pub returns-clause-left : goal.returns-clause-left
+returns-clause-left c = λ left.
+    let i = c.loop-self.invariant in
+    let old : LeafEvents = c.args.self.now in
+    let new : LeafEvents = c.end_short.new.self in
+    let g = c.end_short.ensures in
+    let low = i.2 in
+    let place = g.place in
+    left-later c.args.leaf.now old new (g.texts ∙ i.3) (g.links ∙ i.4) (g.slots ∙ i.0) (let q : old.walk.next ≤ new.walk.next = omega (arith, low, place) in q) left
+
+pub returns-in_err-short-clause-ends : goal.returns-in_err-short-clause-ends
+returns-in_err-short-clause-ends c =
+    let i = c.loop-self.invariant in
+    let old = c.loop-self.self in
+    let t = c.loop-self-test.true in
+    let n = c.len.ensures in
+    let lt : old.walk.next < length old.slots.items = omega (arith, t, n) in
+    on-err c.from_residual.result _
+    (subst BeginWithoutEnd (sym i.5)
+    (here-no-end c.args.leaf.now old.texts.items old.links.items old.slots.items old.walk.opened.items old.walk.next c.index-slot.result.now lt c.index-slot.ensures
+    (c.in_err-short.ensures.ends old.texts.items old.links.items)))

@@ -1,0 +1,71 @@
+-- The events that are read off the slots of a leaf.
+use Rattle.std.specs.Prelude.{◌≡◌, ◌≢◌, ℕ, ◌-◌, List, [], ◌∷◌, length, map, reverse, drop, slice_get, encode_utf8, Option, None, Some}
+use Rattle.cmark_grammar.specs.CodeSpans.{code_text}
+use Rattle.cmark_grammar.specs.Event as event
+use Rattle.cmark_grammar.specs.Event.{Ranged}
+use Rattle.cmark_grammar.specs.InlineTokens.{as_in}
+use Rattle.cmark_grammar.specs.Tokens.{slice}
+use Rattle.cmark_inline_model.specs.SlotRows.{slot_events}
+use Rattle.cmark_leaf_text.specs.Reads.{is_cell_of, source_of}
+use Rattle.cmark_leaf_text.specs.declared.leaf_text.LeafText.{LeafText}
+use Rattle.cmark_text.specs.Ranged.{shown_ranged}
+use Rattle.cmark_text.specs.Shown.{shown_end}
+use Rattle.cmark_text.specs.declared.ranged.Ranged.{Ranged as Given}
+use Rattle.cmark_text_parts.specs.declared.text.CowStr.{CowStr}
+use Rattle.cmark_leaf_events.specs.declared.leaf_events.Opened.{Opened}
+use Rattle.cmark_items.specs.declared.allocations.Link.{Link}
+use Rattle.cmark_slots.specs.declared.slot.Slot.{Slot}
+use Rattle.cmark_slots.specs.declared.slot.SlotKind.{SlotKind}
+use Rattle.cmark_slots.specs.declared.slot.SlotKind.TheVariants as kind
+use Rattle.cmark_leaf_events.specs.declared.leaf_events.LeafEvents.{LeafEvents}
+use Rattle.cmark_slots.specs.SlotViews.{CanBeGiven, first_of, shown_slots, slot_end, text_at, written}
+
+-- the ends of the elements that began and have not ended, the last first
+abbrev pub shown_open : Opened → Ranged
+shown_open one = record { event = event.End (shown_end one.tag); start = one.start; end = one.end }
+
+abbrev pub shown_opened : List Opened → List Ranged
+shown_opened opened = reverse (map shown_open opened)
+
+-- the events of some slots, and behind the last the ends of what is still open
+abbrev pub events_of : LeafText → List CowStr → List Link → List Slot → List Opened → List Ranged
+events_of leaf texts links slots opened = slot_events (source_of leaf) (shown_slots leaf texts links slots) (shown_opened opened)
+
+-- the events that are still to come
+abbrev pub events_to_come : LeafText → LeafEvents → List Ranged
+events_to_come leaf events = events_of leaf events.texts.items events.links.items (drop events.walk.next events.slots.items) events.walk.opened.items
+
+-- an event is the first of some, and these are behind it; or there is none
+abbrev pub IsFirst : Option Given → (events behind : List Ranged) → Type 0
+IsFirst None events behind = (events ≡ []) × (behind ≡ [])
+IsFirst (Some given) events behind = events ≡ shown_ranged given ∷ behind
+
+-- an event in front of others, if there is one
+abbrev pub with_given : Option Given → List Ranged → List Ranged
+with_given None behind = behind
+with_given (Some given) behind = shown_ranged given ∷ behind
+
+-- the same of the slots that were not given yet
+abbrev pub AreLeft : LeafText → LeafEvents → Type 0
+AreLeft leaf events = CanBeGiven leaf events.texts.items events.links.items (drop events.walk.next events.slots.items)
+
+-- of a table nothing changed but what stood at an index, if any
+pub record KeepsOthers {X : Type 0} (taken : Option ℕ) (old new : List X) : Type 0 where
+  pub size : length new ≡ length old
+  pub others : (i : ℕ) → taken ≢ Some i → slice_get new i ≡ slice_get old i
+
+-- ## What a slot gives that has the range of its bytes
+
+abbrev pub event_in : LeafText → List CowStr → Slot → SlotKind → event.Event
+event_in leaf texts slot (kind.OwnedText index) = event.Text (text_at texts index)
+event_in leaf texts slot (kind.Character character) = event.Text (encode_utf8 character)
+event_in leaf texts slot (kind.Whole last) = event.Text (slice (source_of leaf) (first_of leaf slot) (slot_end leaf slot))
+event_in leaf texts slot (kind.FootnoteReference index) = event.FootnoteReference (text_at texts index)
+event_in leaf texts slot kind.SoftBreak = event.SoftBreak
+event_in leaf texts slot kind.HardBreak = event.HardBreak
+event_in leaf texts slot (kind.Code from to) = event.Code (code_text (as_in (is_cell_of leaf) (written leaf from to)))
+event_in leaf texts slot (kind.InlineMath from to) = event.InlineMath (as_in (is_cell_of leaf) (written leaf from to))
+event_in leaf texts slot (kind.DisplayMath from to) = event.DisplayMath (as_in (is_cell_of leaf) (written leaf from to))
+event_in leaf texts slot (kind.CutHtml from) = event.InlineHtml (written leaf from slot.end)
+event_in leaf texts slot kind.InlineHtml = event.InlineHtml (written leaf slot.start slot.end)
+event_in leaf texts slot _ = event.Text (written leaf slot.start slot.end)

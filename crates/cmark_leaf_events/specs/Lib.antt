@@ -1,0 +1,5 @@
+pub mod Contents
+pub mod Events
+pub mod LinkStarts
+pub mod Opens
+pub mod Shorts

@@ -1,0 +1,85 @@
+//! What code spans and formulas hold.
+
+ghost use Rattle.std.specs.Prelude.{◌≡◌, false, IfOk};
+ghost use Rattle.cmark_grammar.specs.CodeSpans.{code_text};
+ghost use Rattle.cmark_grammar.specs.InlineHtml.{takes_lines};
+ghost use Rattle.cmark_grammar.specs.InlineTokens.{without_pipe_escapes};
+ghost use Rattle.cmark_leaf_text.specs.Reads.{IsPart, IsRead, source_of, text_of};
+ghost use Rattle.cmark_scan_parts.specs.Shown.{IsBorrowed};
+ghost use Rattle.cmark_text_parts.specs.Shown.{text_bytes};
+ghost use Rattle.cmark_text_parts.specs.Lending.{IsPartIfBorrowed};
+ghost use Rattle.cmark_leaf_events.specs.Contents.{IsInLeaf, IsUnbroken, read_as, written};
+
+use cmark_finds::code_text;
+use cmark_leaf_text::LeafText;
+use cmark_scan_parts::without_pipe_escapes;
+use cmark_slots::text::text_between;
+use cmark_text::CowStr;
+use std::alloc::{AllocError, Global};
+
+/// The bytes of a leaf's text that a code span or a formula holds.
+#[derive(Clone, Copy)]
+pub struct Content<'s, 'a> {
+    pub leaf: &'s LeafText<'a>,
+    pub from: usize,
+    pub to: usize,
+}
+
+impl<'s, 'a> Content<'s, 'a> {
+    /// The text of a code span: borrowed where it stands in the source without a gap and no line ends in it. In the cell of a table a
+    /// pipe stands in the place of each escaped one, and it is a text of its own then (GFM 4.10).
+    pub fn code(&self, alloc: Global) -> Result<CowStr<'a>, AllocError>
+        requires { IsInLeaf self.now }
+        ensures value { IfOk result (λ text. text_bytes text ≡ code_text (read_as self.now)) }
+        ensures lent { IsUnbroken self.now → takes_lines (written self.now) ≡ false → read_as self.now ≡ written self.now → IfOk result IsBorrowed }
+        ensures part { IfOk result (IsPartIfBorrowed (source_of self.now.leaf.now)) }
+    {
+        if self.from >= self.to {
+            return Ok(CowStr::Borrowed(""));
+        }
+        if self.leaf.is_cell() {
+            return self.code_in_cell(alloc);
+        }
+        match self.leaf.slice(self.from, self.to) {
+            Some(content) => code_text(alloc, content),
+            None => {
+                code_text(alloc, &self.leaf.as_str()[self.from..self.to])?.into_static(alloc)
+            }
+        }
+    }
+
+    // The same, in the cell of a table.
+    #[inline(never)]
+    fn code_in_cell(&self, alloc: Global) -> Result<CowStr<'a>, AllocError>
+        requires read { IsRead self.now.leaf.now }
+        requires part { IsPart (text_of self.now.leaf.now) self.now.from self.now.to }
+        ensures value { IfOk result (λ text. text_bytes text ≡ code_text (without_pipe_escapes (written self.now))) }
+        ensures lent { IsUnbroken self.now → takes_lines (written self.now) ≡ false → without_pipe_escapes (written self.now) ≡ written self.now → IfOk result IsBorrowed }
+        ensures part { IfOk result (IsPartIfBorrowed (source_of self.now.leaf.now)) }
+    {
+        let written = text_between(alloc, self.leaf, self.from, self.to)?;
+        let content = without_pipe_escapes(alloc, written)?;
+        if let CowStr::Borrowed(part) = &content {
+            return code_text(alloc, *part);
+        }
+        code_text(alloc, content.as_str())?.into_static(alloc)
+    }
+
+    /// The text of a formula, with its line endings and blanks: borrowed where it stands in the source without a gap. In the cell of a
+    /// table a pipe stands in the place of each escaped one, and it is a text of its own then (GFM 4.10).
+    pub fn formula(&self, alloc: Global) -> Result<CowStr<'a>, AllocError>
+        requires { IsInLeaf self.now }
+        ensures value { IfOk result (λ text. text_bytes text ≡ read_as self.now) }
+        ensures lent { IsUnbroken self.now → read_as self.now ≡ written self.now → IfOk result IsBorrowed }
+        ensures part { IfOk result (IsPartIfBorrowed (source_of self.now.leaf.now)) }
+    {
+        if self.from >= self.to {
+            return Ok(CowStr::Borrowed(""));
+        }
+        let text = text_between(alloc, self.leaf, self.from, self.to)?;
+        if self.leaf.is_cell() {
+            return without_pipe_escapes(alloc, text);
+        }
+        Ok(text)
+    }
+}

@@ -1,0 +1,382 @@
+//! The events of a leaf's slots, one after the other.
+
+ghost use Rattle.std.specs.Prelude.{◌≡◌, ◌⊎◌, ◌<◌, ◌≤◌, ◌+◌, ◌-◌, ◌∷◌, ℕ, List, [], Some, IfOk, IfSome, OnErr, OnOk, OnSome, length};
+ghost use Rattle.std.specs.Str.{IsCharBoundary};
+ghost use Rattle.cmark_grammar.specs.Event.{Start, End, Text};
+ghost use Rattle.cmark_grammar.specs.InlineReading.{over};
+ghost use Rattle.cmark_grammar.specs.LeafSpans.{IsInline, IsRange, IsSpan};
+ghost use Rattle.cmark_grammar.specs.Tokens.{slice};
+ghost use Rattle.cmark_inline_model.specs.FirstEvents.{BeginWithoutEnd};
+ghost use Rattle.cmark_leaf_text.specs.Reads.{IsRead, IsPart, place_of, text_of, source_of};
+ghost use Rattle.cmark_scan_parts.specs.Shown.{IsBorrowed};
+ghost use Rattle.cmark_grammar.specs.Tag as grammar_tag;
+ghost use Rattle.cmark_grammar.specs.TagEnd as grammar_end;
+ghost use Rattle.cmark_grammar.specs.TagEnd.{end_of};
+ghost use Rattle.cmark_text.specs.Ranged.{IsRangedZeroCopy, shown_ranged};
+ghost use Rattle.cmark_text.specs.Shown.{shown, shown_end, shown_tag};
+ghost use Rattle.cmark_text_parts.specs.Shown.{text_bytes, IsBoxed, IsInlined};
+ghost use Rattle.cmark_text.specs.ZeroCopy.{IsZeroCopy};
+ghost use Rattle.cmark_text_parts.specs.Lending.{IsLentBy};
+ghost use Rattle.cmark_leaf_events.specs.Opens.{element_end, Follows, Gives, Passes, events_left, AreOpened};
+ghost use Rattle.cmark_items.specs.Links.{shown_link};
+ghost use Rattle.cmark_leaf_events.specs.Events.{AreLeft, IsFirst, KeepsOthers, event_in, events_of, events_to_come, shown_opened, with_given};
+ghost use Rattle.cmark_slots.specs.SlotViews.{CanBeGiven, IsThere, link_named, link_of, linked_at, shown_element, text_at, text_named};
+ghost use Rattle.cmark_slots.specs.Slots.{AreSlots, IsSlot};
+ghost use Rattle.cmark_slots.specs.declared.slot.Slot.{Slot as Slots};
+
+use crate::content::Content;
+use cmark_slots::slot::{Element, Slot, SlotKind};
+use cmark_slots::text::{copied, text_between};
+use crate::leaf_events::{LeafEvents, Opened};
+use cmark_items::Link;
+use cmark_leaf_text::LeafText;
+use cmark_text::{CowStr, Event, Ranged, Tag, TagEnd};
+use std::alloc::{AllocError, Global};
+use std::ops::Range;
+
+impl<'a> LeafEvents<'a> {
+    /// The next event of the leaf that was resolved, with its range in the source; `None` behind the last. The end of an element takes no
+    /// memory.
+    #[inline(always)]
+    pub fn next(&mut self, leaf: &LeafText<'a>) -> Result<Option<Ranged<'a>>, AllocError>
+        requires read { IsRead leaf.now }
+        requires slots { AreSlots (text_of leaf.now) (length (text_of leaf.now)) self.old.slots.items }
+        requires opened { AreOpened (source_of leaf.now) self.old.walk.opened.items }
+        requires left { AreLeft leaf.now self.old }
+        ensures slots { self.new.slots ≡ self.old.slots }
+        ensures opened { AreOpened (source_of leaf.now) self.new.walk.opened.items }
+        ensures gives { IfOk result (λ given. Gives (source_of leaf.now) self.old.walk.opened.items given self.new.walk.opened.items) }
+        ensures lent { IfOk result (λ given. IfSome given (IsRangedZeroCopy (source_of leaf.now))) }
+        ensures fewer { IfOk result (λ given. OnSome given (events_left self.new < events_left self.old)) }
+        ensures most { OnOk result (events_left self.new ≤ events_left self.old) }
+        ensures few { OnOk result (length self.new.slots.items < 18446744073709551616) }
+        ensures events { IfOk result (λ given. IsFirst given (events_to_come leaf.now self.old) (events_to_come leaf.now self.new)) }
+        ensures left { OnOk result (AreLeft leaf.now self.new) }
+        ensures ends { OnErr result (BeginWithoutEnd (events_to_come leaf.now self.old)) }
+    {
+        while self.walk.next < self.slots.len() {
+            let slot = self.slots[self.walk.next];
+            if let Some(given) = self.give(leaf, slot)? {
+                self.walk.next += 1;
+                return Ok(Some(given));
+            }
+            self.walk.next += 1;
+        }
+        Ok(self.end_last())
+    }
+
+    // The event of a slot, if it has one.
+    #[inline(always)]
+    fn give(&mut self, leaf: &LeafText<'a>, slot: Slot) -> Result<Option<Ranged<'a>>, AllocError>
+        requires read { IsRead leaf.now }
+        requires slot { IsSlot (text_of leaf.now) (length (text_of leaf.now)) slot }
+        requires opened { AreOpened (source_of leaf.now) self.old.walk.opened.items }
+        requires text { IsThere (length self.old.texts.items) (text_named slot.kind) }
+        requires link { IsThere (length self.old.links.items) (link_named slot.kind) }
+        ensures slots { self.new.slots ≡ self.old.slots }
+        ensures place { self.new.walk.next ≡ self.old.walk.next }
+        ensures opened { AreOpened (source_of leaf.now) self.new.walk.opened.items }
+        ensures gives { IfOk result (λ given. Passes (source_of leaf.now) self.old.walk.opened.items given self.new.walk.opened.items) }
+        ensures lent { IfOk result (λ given. IfSome given (IsRangedZeroCopy (source_of leaf.now))) }
+        ensures events { (behind : List Slots) → CanBeGiven leaf.now self.old.texts.items self.old.links.items (slot ∷ behind)
+            → IfOk result (λ given. events_of leaf.now self.old.texts.items self.old.links.items (slot ∷ behind) self.old.walk.opened.items
+            ≡ with_given given (events_of leaf.now self.new.texts.items self.new.links.items behind self.new.walk.opened.items)) }
+        ensures left { (behind : List Slots) → CanBeGiven leaf.now self.old.texts.items self.old.links.items (slot ∷ behind)
+            → OnOk result (CanBeGiven leaf.now self.new.texts.items self.new.links.items behind) }
+        ensures ends { OnErr result ((behind : List Slots) → BeginWithoutEnd (events_of leaf.now self.old.texts.items self.old.links.items (slot ∷ behind) self.old.walk.opened.items)) }
+    {
+        match slot.kind {
+            SlotKind::Begin(element) => {
+                let given = self.begin(leaf, slot, element)?;
+                Ok(Some(given))
+            }
+            SlotKind::End => Ok(self.end_last()),
+            SlotKind::Nothing => Ok(None),
+            SlotKind::SourceHtml(end) => {
+                let (html, range) = source_part(leaf, slot, end);
+                let event = Event::InlineHtml(html);
+                Ok(Some(Ranged { event, range }))
+            }
+            SlotKind::SourceText(end) => {
+                let (text, range) = source_part(leaf, slot, end);
+                let event = Event::Text(text);
+                Ok(Some(Ranged { event, range }))
+            }
+            SlotKind::Empty => Ok(Some(empty_text(leaf, slot))),
+            _ => {
+                let event = self.single(leaf, slot)?;
+                let range = leaf.range(slot.start, slot.end);
+                Ok(Some(Ranged { event, range }))
+            }
+        }
+    }
+
+    #[inline(always)]
+    fn begin(
+        &mut self,
+        leaf: &LeafText<'a>,
+        slot: Slot,
+        element: Element,
+    ) -> Result<Ranged<'a>, AllocError>
+        requires read { IsRead leaf.now }
+        requires slot { IsSlot (text_of leaf.now) (length (text_of leaf.now)) slot }
+        requires opened { AreOpened (source_of leaf.now) self.old.walk.opened.items }
+        requires link { IsThere (length self.old.links.items) (link_of element) }
+        ensures slots { self.new.slots ≡ self.old.slots }
+        ensures place { self.new.walk.next ≡ self.old.walk.next }
+        ensures opened { AreOpened (source_of leaf.now) self.new.walk.opened.items }
+        ensures gives { IfOk result (λ given. Follows (source_of leaf.now) self.old.walk.opened.items (shown_ranged given) self.new.walk.opened.items) }
+        ensures lent { IfOk result (IsRangedZeroCopy (source_of leaf.now)) }
+        ensures event { IfOk result (λ given. shown_ranged given ≡ over (source_of leaf.now) (place_of leaf.now slot.start) (place_of leaf.now (slot.end - 1) + 1) (Start (shown_element self.old.links.items element))) }
+        ensures opens { OnOk result (shown_opened self.new.walk.opened.items ≡ over (source_of leaf.now) (place_of leaf.now slot.start) (place_of leaf.now (slot.end - 1) + 1) (End (end_of (shown_element self.old.links.items element))) ∷ shown_opened self.old.walk.opened.items) }
+        ensures links { KeepsOthers (link_of element) self.old.links.items self.new.links.items }
+        ensures texts { self.new.texts ≡ self.old.texts }
+    {
+        let range = leaf.range(slot.start, slot.end);
+        // The push comes first: where memory is refused, nothing was taken that has to be dropped.
+        self.walk.opened.push(Opened {
+            tag: element_end(element),
+            start: range.start,
+            end: range.end,
+        })?;
+        Ok(Ranged {
+            event: Event::Start(self.tag(element)),
+            range,
+        })
+    }
+
+    #[inline(always)]
+    fn end_last(&mut self) -> Option<Ranged<'a>>
+        ensures slots { self.new.slots ≡ self.old.slots }
+        ensures place { self.new.walk.next ≡ self.old.walk.next }
+        ensures opened { (source : List ℕ) → AreOpened source self.old.walk.opened.items → AreOpened source self.new.walk.opened.items }
+        ensures gives { (source : List ℕ) → AreOpened source self.old.walk.opened.items → Gives source self.old.walk.opened.items result self.new.walk.opened.items }
+        ensures lent { (source : List ℕ) → IfSome result (IsRangedZeroCopy source) }
+        ensures fewer { OnSome result (length self.new.walk.opened.items < length self.old.walk.opened.items) }
+        ensures most { length self.new.walk.opened.items ≤ length self.old.walk.opened.items }
+        ensures first { IsFirst result (shown_opened self.old.walk.opened.items) (shown_opened self.new.walk.opened.items) }
+        ensures links { self.new.links ≡ self.old.links }
+        ensures texts { self.new.texts ≡ self.old.texts }
+    {
+        let opened = self.walk.opened.pop()?;
+        Some(Ranged {
+            event: Event::End(opened.tag),
+            range: opened.start..opened.end,
+        })
+    }
+
+    fn tag(&mut self, element: Element) -> Tag<'a>
+        requires { IsThere (length self.old.links.items) (link_of element) }
+        ensures span { IsSpan (shown_tag result) }
+        ensures end { end_of (shown_tag result) ≡ element_end element }
+        ensures slots { self.new.slots ≡ self.old.slots }
+        ensures walk { self.new.walk ≡ self.old.walk }
+        ensures value { shown_tag result ≡ shown_element self.old.links.items element }
+        ensures links { KeepsOthers (link_of element) self.old.links.items self.new.links.items }
+        ensures texts { self.new.texts ≡ self.old.texts }
+    {
+        match element {
+            Element::Emphasis => Tag::Emphasis,
+            Element::Strong => Tag::Strong,
+            Element::Strikethrough => Tag::Strikethrough,
+            Element::Superscript => Tag::Superscript,
+            Element::Subscript => Tag::Subscript,
+            Element::Link(index) | Element::Autolink(index) => link_tag(self.take_link(index)),
+            Element::Image(index) => image_tag(self.take_link(index)),
+        }
+    }
+
+    fn take_link(&mut self, index: usize) -> Link<'a>
+        requires { index < length self.old.links.items }
+        ensures slots { self.new.slots ≡ self.old.slots }
+        ensures walk { self.new.walk ≡ self.old.walk }
+        ensures value { shown_link result ≡ linked_at self.old.links.items index }
+        ensures links { KeepsOthers (Some index) self.old.links.items self.new.links.items }
+        ensures texts { self.new.texts ≡ self.old.texts }
+    {
+        std::mem::replace(&mut self.links[index], Link::none())
+    }
+
+    fn take_text(&mut self, index: usize) -> CowStr<'a>
+        requires { index < length self.old.texts.items }
+        ensures slots { self.new.slots ≡ self.old.slots }
+        ensures walk { self.new.walk ≡ self.old.walk }
+        ensures value { text_bytes result ≡ text_at self.old.texts.items index }
+        ensures texts { KeepsOthers (Some index) self.old.texts.items self.new.texts.items }
+        ensures links { self.new.links ≡ self.old.links }
+    {
+        std::mem::replace(&mut self.texts[index], CowStr::Borrowed(""))
+    }
+
+    #[inline(always)]
+    fn single(&mut self, leaf: &LeafText<'a>, slot: Slot) -> Result<Event<'a>, AllocError>
+        requires read { IsRead leaf.now }
+        requires slot { IsSlot (text_of leaf.now) (length (text_of leaf.now)) slot }
+        requires text { IsThere (length self.old.texts.items) (text_named slot.kind) }
+        ensures slots { self.new.slots ≡ self.old.slots }
+        ensures walk { self.new.walk ≡ self.old.walk }
+        ensures inline { IfOk result (λ event. IsInline (shown event)) }
+        ensures lent { IfOk result (λ event. IsZeroCopy (source_of leaf.now) event (place_of leaf.now slot.start) (place_of leaf.now (slot.end - 1) + 1)) }
+        ensures value { IfOk result (λ event. shown event ≡ event_in leaf.now self.old.texts.items slot slot.kind) }
+        ensures texts { KeepsOthers (text_named slot.kind) self.old.texts.items self.new.texts.items }
+        ensures links { self.new.links ≡ self.old.links }
+    {
+        match slot.kind {
+            SlotKind::OwnedText(index) => {
+                let text = self.take_text(index);
+                Ok(Event::Text(written(self.alloc, leaf, slot, text)?))
+            }
+            SlotKind::Character(character) => {
+                let text = CowStr::from(character);
+                Ok(Event::Text(written(self.alloc, leaf, slot, text)?))
+            }
+            SlotKind::Whole(_) => Ok(Event::Text(CowStr::Borrowed(leaf.source_between(
+                slot.start, slot.end,
+            )))),
+            SlotKind::FootnoteReference(index) => {
+                Ok(Event::FootnoteReference(self.take_text(index)))
+            }
+            SlotKind::SoftBreak => Ok(Event::SoftBreak),
+            SlotKind::HardBreak => Ok(Event::HardBreak),
+            SlotKind::Code(from, to) => Ok(Event::Code(Content { leaf, from, to }.code(
+                self.alloc,
+            )?)),
+            SlotKind::InlineMath(from, to) => {
+                Ok(Event::InlineMath(Content { leaf, from, to }.formula(self.alloc)?))
+            }
+            SlotKind::DisplayMath(from, to) => {
+                Ok(Event::DisplayMath(Content { leaf, from, to }.formula(self.alloc)?))
+            }
+            SlotKind::CutHtml(from) => {
+                Ok(Event::InlineHtml(cut_html(self.alloc, leaf, slot, from)?))
+            }
+            SlotKind::InlineHtml => Ok(Event::InlineHtml(text_between(
+                self.alloc, leaf, slot.start, slot.end,
+            )?)),
+            _ => Ok(Event::Text(text_between(self.alloc, leaf, slot.start, slot.end)?)),
+        }
+    }
+}
+
+// The end of an element.
+fn element_end(element: Element) -> TagEnd
+    ensures { shown_end result ≡ element_end element }
+{
+    match element {
+        Element::Emphasis => TagEnd::Emphasis,
+        Element::Strong => TagEnd::Strong,
+        Element::Strikethrough => TagEnd::Strikethrough,
+        Element::Superscript => TagEnd::Superscript,
+        Element::Subscript => TagEnd::Subscript,
+        Element::Link(_) | Element::Autolink(_) => TagEnd::Link,
+        Element::Image(_) => TagEnd::Image,
+    }
+}
+
+fn link_tag<'a>(link: Link<'a>) -> Tag<'a>
+    ensures span { IsSpan (shown_tag result) }
+    ensures end { end_of (shown_tag result) ≡ grammar_end.Link }
+    ensures value { shown_tag result ≡ grammar_tag.Link (shown_link link.entry) }
+{
+    let Link {
+        link_type,
+        dest_url,
+        title,
+        id,
+    } = link;
+    Tag::Link {
+        link_type,
+        dest_url,
+        title,
+        id,
+    }
+}
+
+fn image_tag<'a>(link: Link<'a>) -> Tag<'a>
+    ensures span { IsSpan (shown_tag result) }
+    ensures end { end_of (shown_tag result) ≡ grammar_end.Image }
+    ensures value { shown_tag result ≡ grammar_tag.Image (shown_link link.entry) }
+{
+    let Link {
+        link_type,
+        dest_url,
+        title,
+        id,
+    } = link;
+    Tag::Image {
+        link_type,
+        dest_url,
+        title,
+        id,
+    }
+}
+
+// A text that stands for what is written at a slot, as that of an entity: the text of its own that it is, if it is not the same.
+#[inline(never)]
+fn written<'a>(
+    alloc: Global,
+    leaf: &LeafText<'a>,
+    slot: Slot,
+    text: CowStr<'a>,
+) -> Result<CowStr<'a>, AllocError>
+    requires read { IsRead leaf.now }
+    requires slot { IsSlot (text_of leaf.now) (length (text_of leaf.now)) slot }
+    ensures value { IfOk result (λ made. text_bytes made ≡ text_bytes text.entry) }
+    ensures lent { IfOk result (IsLentBy (slice (source_of leaf.now) (place_of leaf.now slot.start) (place_of leaf.now (slot.end - 1) + 1))) }
+{
+    let part = leaf.source_between(slot.start, slot.end);
+    text.lent_by(alloc, part)
+}
+
+// A part of the source at a slot, up to this end behind the slot's begin: borrowed, with the prefixes of its later lines, and where it stands.
+fn source_part<'a>(leaf: &LeafText<'a>, slot: Slot, end: usize) -> (CowStr<'a>, Range<usize>)
+    requires read { IsRead leaf.now }
+    requires slot { IsSlot (text_of leaf.now) (length (text_of leaf.now)) slot }
+    ensures start { result.1.start ≡ place_of leaf.now slot.start }
+    ensures end { place_of leaf.now slot.start < end → IsCharBoundary (source_of leaf.now) end → result.1.end ≡ end }
+    ensures part { IsPart (source_of leaf.now) result.1.start result.1.end }
+    ensures value { text_bytes result.0 ≡ slice (source_of leaf.now) result.1.start result.1.end }
+    ensures lent { IsLentBy (slice (source_of leaf.now) result.1.start result.1.end) result.0 }
+{
+    let range = leaf.range_up_to(slot.start, slot.end, end);
+    let part = leaf.source_at(range.start, range.end);
+    (CowStr::Borrowed(part), range)
+}
+
+// A text of no bytes, before the first byte of a slot.
+fn empty_text<'a>(leaf: &LeafText<'a>, slot: Slot) -> Ranged<'a>
+    requires read { IsRead leaf.now }
+    requires slot { IsSlot (text_of leaf.now) (length (text_of leaf.now)) slot }
+    ensures start { result.range.start ≡ place_of leaf.now slot.start }
+    ensures end { result.range.end ≡ place_of leaf.now slot.start }
+    ensures range { IsRange (source_of leaf.now) result.range.start result.range.end }
+    ensures value { shown result.event ≡ Text [] }
+    ensures lent { IsRangedZeroCopy (source_of leaf.now) result }
+{
+    let start = leaf.range(slot.start, slot.end).start;
+    Ranged {
+        event: Event::Text(CowStr::Borrowed("")),
+        range: start..start,
+    }
+}
+
+// A tag over lines that begins at a place, of which the slot has the last bytes.
+#[inline(never)]
+fn cut_html<'a>(
+    alloc: Global,
+    leaf: &LeafText<'a>,
+    slot: Slot,
+    from: usize,
+) -> Result<CowStr<'a>, AllocError>
+    requires read { IsRead leaf.now }
+    requires slot { IsSlot (text_of leaf.now) (length (text_of leaf.now)) slot }
+    requires from { IsCharBoundary (text_of leaf.now) from }
+    ensures value { IfOk result (λ made. text_bytes made ≡ slice (text_of leaf.now) from slot.end) }
+    ensures lent { IfOk result (IsLentBy (slice (source_of leaf.now) (place_of leaf.now slot.start) (place_of leaf.now (slot.end - 1) + 1))) }
+{
+    if from >= slot.end {
+        return written(alloc, leaf, slot, CowStr::Borrowed(""));
+    }
+    let tag = copied(alloc, &leaf.as_str()[from..slot.end])?;
+    written(alloc, leaf, slot, tag)
+}

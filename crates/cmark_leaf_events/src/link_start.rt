@@ -1,0 +1,63 @@
+//! The start of a link, of which no event is made: its link is lent where it stands, and then the start is passed.
+
+ghost use Rattle.std.specs.Prelude.{◌≡◌, ◌<◌, true, IfSome, OnErr, OnOk, is_some, length, option_map};
+ghost use Rattle.cmark_inline_model.specs.FirstEvents.{BeginWithoutEnd};
+ghost use Rattle.cmark_items.specs.Links.{shown_link};
+ghost use Rattle.cmark_leaf_text.specs.Reads.{IsRead, source_of, text_of};
+ghost use Rattle.cmark_leaf_events.specs.LinkStarts.{IsStartFirst, link_to_come};
+ghost use Rattle.cmark_leaf_events.specs.Opens.{events_left, AreOpened};
+ghost use Rattle.cmark_leaf_events.specs.Events.{AreLeft, events_to_come};
+ghost use Rattle.cmark_slots.specs.Slots.{AreSlots};
+
+use crate::leaf_events::Opened;
+use cmark_slots::slot::{Element, SlotKind};
+use crate::leaf_events::LeafEvents;
+use cmark_items::Link;
+use cmark_leaf_text::LeafText;
+use cmark_text::TagEnd;
+use std::alloc::AllocError;
+
+impl<'a> LeafEvents<'a> {
+    /// The link that the next slot begins, or the autolink; `None` where that slot begins neither, or where there is none. Nothing counts as
+    /// given then: [`pass_link`](LeafEvents::pass_link) goes on behind the start.
+    #[inline(always)]
+    pub fn link_ahead(&self) -> Option<&Link<'a>>
+        ensures { option_map (λ link. link.now) result ≡ link_to_come self.now }
+    {
+        let slot = self.slots.get(self.walk.next)?;
+        match slot.kind {
+            SlotKind::Begin(Element::Link(index) | Element::Autolink(index)) => {
+                self.links.get(index)
+            }
+            _ => None,
+        }
+    }
+
+    /// Counts the start of the link that comes next as given, as `next` does with no event made: the link's end is then still to come, and what
+    /// the table holds of the link stays there. Fails where memory is refused.
+    #[inline(always)]
+    pub fn pass_link(&mut self, leaf: &LeafText<'a>) -> Result<(), AllocError>
+        requires read { IsRead leaf.now }
+        requires slots { AreSlots (text_of leaf.now) (length (text_of leaf.now)) self.old.slots.items }
+        requires opened { AreOpened (source_of leaf.now) self.old.walk.opened.items }
+        requires ahead { is_some (link_to_come self.old) ≡ true }
+        ensures slots { self.new.slots ≡ self.old.slots }
+        ensures left { AreLeft leaf.now self.old → OnOk result (AreLeft leaf.now self.new) }
+        ensures opened { AreOpened (source_of leaf.now) self.new.walk.opened.items }
+        ensures fewer { OnOk result (events_left self.new < events_left self.old) }
+        ensures events { OnOk result (IfSome (link_to_come self.old) (λ link. IsStartFirst (source_of leaf.now) self.old.walk.opened.items (shown_link link) self.new.walk.opened.items (events_to_come leaf.now self.old) (events_to_come leaf.now self.new))) }
+        ensures ends { OnErr result (BeginWithoutEnd (events_to_come leaf.now self.old)) }
+    {
+        // The place behind the slot is a number too.
+        prove!(self.walk.next < self.slots.len());
+        let slot = self.slots[self.walk.next];
+        let range = leaf.range(slot.start, slot.end);
+        self.walk.opened.push(Opened {
+            tag: TagEnd::Link,
+            start: range.start,
+            end: range.end,
+        })?;
+        self.walk.next += 1;
+        Ok(())
+    }
+}

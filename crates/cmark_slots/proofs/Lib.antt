@@ -1,0 +1,17 @@
+pub mod Cutting
+pub mod DisplaySlots
+pub mod Lending
+pub mod Longer
+pub mod Marks
+pub mod Merging
+pub mod Naming
+pub mod Opening
+pub mod Placing
+pub mod QuotedSlots
+pub mod Quotes
+pub mod RunPlaces
+pub mod Runs
+pub mod Settling
+pub mod Showing
+pub mod Soundness
+pub mod Steps

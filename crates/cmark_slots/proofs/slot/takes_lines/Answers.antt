@@ -1,0 +1,9 @@
+use Rattle.std.proofs.Common.{ap, ◌∙◌}
+use Rattle.memchr.specs.Find.{is_byte2}
+use Rattle.cmark_grammar.specs.InlineHtml.{takes_lines}
+use Rattle.cmark_scan_parts.proofs.Lists.{any_first}
+use Rattle.cmark_slots.proofs.slot.takes_lines.Goals as goal
+
+pub returns-then-from-end : goal.returns-then-from-end
+returns-then-from-end c =
+    c.is_some.ensures ∙ any_first (is_byte2 10 13) c.as_bytes.result.now c.find_line_end.result c.find_line_end.ensures ∙ ap takes_lines (c.as_bytes.ensures.value ∙ c.range.ensures.value)

@@ -1,0 +1,24 @@
+-- Which elements are those of emphasis.
+use Rattle.std.specs.Prelude.{◌≡◌, Option, Some, None}
+use Rattle.cmark_grammar.specs.Options.{Options}
+use Rattle.cmark_grammar.specs.Spans.{SpanKind, span_tag}
+use Rattle.cmark_grammar.specs.Tag.{Tag}
+use Rattle.cmark_grammar.specs.Tag as tag
+use Rattle.cmark_slots.specs.declared.slot.Element.{Element}
+use Rattle.cmark_slots.specs.declared.slot.Element.TheVariants as element
+
+-- the tag of an element of emphasis; links and images are none
+abbrev pub emphasis_tag : Element → Option Tag
+emphasis_tag element.Emphasis = Some tag.Emphasis
+emphasis_tag element.Strong = Some tag.Strong
+emphasis_tag element.Strikethrough = Some tag.Strikethrough
+emphasis_tag element.Superscript = Some tag.Superscript
+emphasis_tag element.Subscript = Some tag.Subscript
+emphasis_tag (element.Link index) = None
+emphasis_tag (element.Autolink index) = None
+emphasis_tag (element.Image index) = None
+
+-- what stands around a span, if anything
+abbrev pub IsElementOf : Options → SpanKind → Option Element → Type 0
+IsElementOf options kind None = span_tag options kind ≡ None
+IsElementOf options kind (Some element) = span_tag options kind ≡ emphasis_tag element

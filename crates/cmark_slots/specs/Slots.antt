@@ -1,0 +1,117 @@
+-- The slots of a leaf's text, and the opening brackets that stand in them.
+use Rattle.std.specs.Prelude.{◌≡◌, ℕ, ◌+◌, ◌≤◌, ◌<◌, Bool, true, false, List, [], ◌∷◌, ◌++◌, length, get_or, All}
+use Rattle.std.specs.List.{sum_by}
+use Rattle.std.specs.Str.{IsCharBoundary}
+use Rattle.cmark_leaf_text.specs.Reads.{IsPart}
+use Rattle.cmark_slots.specs.declared.bracket.Bracket.{Bracket}
+use Rattle.cmark_slots.specs.declared.delimiter.PlacedRun.{PlacedRun}
+use Rattle.cmark_slots.specs.declared.slot.Element.{Element}
+use Rattle.cmark_slots.specs.declared.slot.Element.TheVariants as element
+use Rattle.cmark_slots.specs.declared.slot.Slot.{Slot}
+use Rattle.cmark_slots.specs.declared.slot.SlotKind.{SlotKind}
+use Rattle.cmark_slots.specs.declared.slot.SlotKind.TheVariants as kind
+use Rattle.std.specs.Prelude.{ℕ, ◌+◌, nat_lt, if◌then◌else◌, List, [], ◌∷◌, ◌++◌, length, set}
+use Rattle.std.specs.Prelude.{ℕ, zero, suc, ◌+◌, ◌-◌, List, [], ◌∷◌}
+
+-- what a code span or a formula holds is a part of the text
+abbrev pub IsContent : List ℕ → SlotKind → Type 0
+IsContent text kind.Text = Unit {0}
+IsContent text (kind.OwnedText index) = Unit {0}
+IsContent text (kind.Character character) = Unit {0}
+IsContent text (kind.Whole last) = Unit {0}
+IsContent text kind.SoftBreak = Unit {0}
+IsContent text kind.HardBreak = Unit {0}
+IsContent text (kind.Code from to) = IsCharBoundary text from × IsCharBoundary text to
+IsContent text (kind.InlineMath from to) = IsCharBoundary text from × IsCharBoundary text to
+IsContent text (kind.DisplayMath from to) = IsCharBoundary text from × IsCharBoundary text to
+IsContent text kind.InlineHtml = Unit {0}
+IsContent text (kind.SourceHtml end) = Unit {0}
+IsContent text (kind.CutHtml from) = IsCharBoundary text from
+IsContent text (kind.SourceText end) = Unit {0}
+IsContent text kind.Empty = Unit {0}
+IsContent text (kind.FootnoteReference index) = Unit {0}
+IsContent text (kind.Begin element) = Unit {0}
+IsContent text kind.End = Unit {0}
+IsContent text kind.Nothing = Unit {0}
+
+-- a slot stands at some bytes of the text before this place, and cuts no character
+pub record IsSlot (text : List ℕ) (at : ℕ) (slot : Slot) : Type 0 where
+  pub part : IsPart text slot.start slot.end
+  pub before : slot.end ≤ at
+  pub content : IsContent text slot.kind
+
+abbrev pub AreSlots : (text : List ℕ) → (at : ℕ) → List Slot → Type 0
+AreSlots text at slots = All (IsSlot text at) slots
+
+-- an opening bracket stands before this place; the `!` of an image is a character of its own
+pub record IsBracket (text : List ℕ) (at : ℕ) (bracket : Bracket) : Type 0 where
+  pub part : IsPart text bracket.start bracket.inside
+  pub mark : bracket.is_image ≡ true → IsCharBoundary text (bracket.start + 1)
+  pub before : bracket.inside ≤ at
+
+abbrev pub AreBrackets : (text : List ℕ) → (at : ℕ) → List Bracket → Type 0
+AreBrackets text at brackets = All (IsBracket text at) brackets
+
+-- a link or a wikilink begins, which is neither an autolink nor an image
+abbrev pub is_link : Element → Bool
+is_link element.Emphasis = false
+is_link element.Strong = false
+is_link element.Strikethrough = false
+is_link element.Superscript = false
+is_link element.Subscript = false
+is_link (element.Link index) = true
+is_link (element.Autolink index) = false
+is_link (element.Image index) = false
+
+abbrev pub begins_link : SlotKind → Bool
+begins_link kind.Text = false
+begins_link (kind.OwnedText index) = false
+begins_link (kind.Character character) = false
+begins_link (kind.Whole last) = false
+begins_link kind.SoftBreak = false
+begins_link kind.HardBreak = false
+begins_link (kind.Code from to) = false
+begins_link (kind.InlineMath from to) = false
+begins_link (kind.DisplayMath from to) = false
+begins_link kind.InlineHtml = false
+begins_link (kind.SourceHtml end) = false
+begins_link (kind.CutHtml from) = false
+begins_link (kind.SourceText end) = false
+begins_link kind.Empty = false
+begins_link (kind.FootnoteReference index) = false
+begins_link (kind.Begin element) = is_link element
+begins_link kind.End = false
+begins_link kind.Nothing = false
+
+-- no link begins in a slot from this one on
+abbrev pub HoldNoLink : (slots : List Slot) → (from : ℕ) → Type 0
+HoldNoLink slots from = (k : ℕ) (d : Slot) → from ≤ k → k < length slots → begins_link (get_or slots k d).kind ≡ false
+
+-- no link begins where none began before
+abbrev pub NoNewLink : (old new : List Slot) → Type 0
+NoNewLink old new = (from : ℕ) → HoldNoLink old from → HoldNoLink new from
+
+-- behind each bracket that may still form a link no link begins: a link holds no other (CommonMark 6.3)
+abbrev pub AreFree : List Slot → (brackets : List Bracket) → (inactive_below : ℕ) → Type 0
+AreFree slots brackets inactive_below = (i : ℕ) (d : Bracket) → inactive_below ≤ i → i < length brackets → HoldNoLink slots (get_or brackets i d).slot
+
+-- how many bytes delimiter runs have
+abbrev pub bytes_of : List PlacedRun → ℕ
+bytes_of placed = sum_by (λ (p : PlacedRun). p.run.run_length) placed
+
+-- the end of an element is a slot of the text
+abbrev pub IsEnd : (text : List ℕ) → (at close end : ℕ) → Type 0
+IsEnd text at close end = IsSlot text at (record { kind = kind.End; start = close; end = end })
+
+-- a text was appended as a slot, unless it is empty
+abbrev pub PushesText : (start end : ℕ) → (old new : List Slot) → Type 0
+PushesText start end old new = (start < end → new ≡ old ++ (record { kind = kind.Text; start = start; end = end } ∷ [])) × (end ≤ start → new ≡ old)
+
+-- a slot is put at an index, in the place of the one there or behind the last
+abbrev pub put_at : (at : ℕ) → Slot → List Slot → List Slot
+put_at at slot slots = if nat_lt at (length slots) then set slots at slot else slots ++ (slot ∷ [])
+
+-- a slot for each of so many bytes from a place on
+abbrev pub byte_slots : (start size : ℕ) → List Slot
+byte_slots start zero = []
+byte_slots start (suc size) = record { kind = kind.Text; start = start; end = start + 1 } ∷ byte_slots (start + 1) size

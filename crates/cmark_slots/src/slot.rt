@@ -1,0 +1,359 @@
+//! Slots: what stands in a leaf's text, one behind the other.
+
+ghost use Rattle.std.specs.Prelude.{◌≡◌, ◌<◌, ◌≤◌, ◌+◌, ◌++◌, ◌∷◌, ◌&&◌, nat_lt, true, false, [], ℕ, List, get_or, length, set, IsOk, OnOk};
+ghost use Rattle.std.specs.Str.{IsCharBoundary};
+ghost use Rattle.cmark_grammar.specs.InlineHtml.{takes_lines};
+ghost use Rattle.cmark_grammar.specs.Tokens.{slice};
+ghost use Rattle.cmark_slots.specs.Slots.{put_at, AreSlots, HoldNoLink, IsContent, IsSlot, NoNewLink, PushesText, begins_link, is_link};
+ghost use Rattle.cmark_slots.specs.MarkedSlots.{AreWhole, Merges, begun_as, ended, last_in, whole_to};
+ghost use Rattle.cmark_slots.specs.QuoteSlots.{with_character};
+ghost use Rattle.cmark_leaf_text.specs.Reads.{IsPart};
+ghost use Rattle.cmark_slots.specs.Cuts.{Hides, IsFirstBehind, cut_at, cut_kind, cut_slot, ends_by, hidden};
+ghost use Rattle.cmark_slots.specs.declared.slot.Slot.{Slot as Slots};
+ghost use Rattle.cmark_slots.specs.declared.slot.SlotKind.TheVariants as kind;
+
+use cmark_search::find_line_end;
+use std::alloc::AllocError;
+
+/// An element around other slots.
+#[derive(Clone, Copy)]
+pub enum Element {
+    Emphasis,
+    Strong,
+    Strikethrough,
+    Superscript,
+    Subscript,
+    /// The link of this index.
+    Link(usize),
+    /// The autolink of this index.
+    Autolink(usize),
+    /// The image of this index.
+    Image(usize),
+}
+
+/// What a slot stands for.
+#[derive(Clone, Copy)]
+pub enum SlotKind {
+    /// The bytes of its range.
+    Text,
+    /// The owned text of this index.
+    OwnedText(usize),
+    /// This character.
+    Character(char),
+    /// The bytes of the source that its range reaches over. The slots behind it up to that of this index are nothing any more.
+    Whole(usize),
+    SoftBreak,
+    HardBreak,
+    /// A code span, with the range of what it holds.
+    Code(usize, usize),
+    /// A formula in the line, with the range of what it holds.
+    InlineMath(usize, usize),
+    /// A display, with the range of what it holds.
+    DisplayMath(usize, usize),
+    /// A tag: the bytes of its range.
+    InlineHtml,
+    /// Inline HTML that is a part of the source, up to before this place there.
+    SourceHtml(usize),
+    /// A tag over lines that begins at this place, of which its range has the last bytes.
+    CutHtml(usize),
+    /// A text that is a part of the source, up to before this place there.
+    SourceText(usize),
+    /// A text of no bytes, before those of its range.
+    Empty,
+    /// A footnote reference, whose label is the owned text of this index.
+    FootnoteReference(usize),
+    /// An element begins. The range is the whole element's.
+    Begin(Element),
+    /// The element that began last ends.
+    End,
+    /// Nothing any more: a delimiter that another slot stands for.
+    Nothing,
+}
+
+/// What stands at some bytes of a leaf's text.
+#[derive(Clone, Copy)]
+pub struct Slot {
+    pub kind: SlotKind,
+    /// Byte offsets of the leaf's text.
+    pub start: usize,
+    pub end: usize,
+}
+
+/// Appends a slot.
+pub fn push_slot(
+    slots: &mut Vec<Slot>,
+    kind: SlotKind,
+    start: usize,
+    end: usize,
+) -> Result<(), AllocError>
+    ensures { OnOk result (slots.new.items ≡ slots.old.items ++ (record { kind = kind; start = start; end = end } ∷ [])) }
+{
+    slots.push(Slot { kind, start, end })?;
+    Ok(())
+}
+
+/// Appends a text, unless it is empty.
+pub fn push_text(slots: &mut Vec<Slot>, start: usize, end: usize) -> Result<(), AllocError>
+    ensures pushes { OnOk result (PushesText start end slots.old.items slots.new.items) }
+    ensures succeeds { end ≤ start → IsOk result }
+{
+    if start < end {
+        push_slot(slots, SlotKind::Text, start, end)?;
+    }
+    Ok(())
+}
+
+/// Makes a slot the begin of an element that reaches at least up to a place.
+pub fn begin(slots: &mut Vec<Slot>, at: usize, element: Element, end: usize)
+    requires there { at < length slots.old.items }
+    ensures slots { (text : List ℕ) (place : ℕ) → AreSlots text place slots.old.items → IsCharBoundary text end → end ≤ place → AreSlots text place slots.new.items }
+    ensures length { length slots.new.items ≡ length slots.old.items }
+    ensures links { is_link element ≡ false → NoNewLink slots.old.items slots.new.items }
+    ensures behind { HoldNoLink slots.old.items at → HoldNoLink slots.new.items (at + 1) }
+    ensures value { (d : Slots) → slots.new.items ≡ set slots.old.items at (begun_as element end (get_or slots.old.items at d)) }
+{
+    let slot = slots[at];
+    slots[at] = Slot {
+        kind: SlotKind::Begin(element),
+        start: slot.start,
+        end: slot.end.max(end),
+    };
+}
+
+/// Makes a slot another one.
+pub fn replace_slot(slots: &mut Vec<Slot>, at: usize, slot: Slot)
+    requires there { at < length slots.old.items }
+    requires kind { begins_link slot.kind ≡ false }
+    ensures value { slots.new.items ≡ set slots.old.items at slot }
+    ensures slots { (text : List ℕ) (place : ℕ) → AreSlots text place slots.old.items → IsSlot text place slot → AreSlots text place slots.new.items }
+    ensures length { length slots.new.items ≡ length slots.old.items }
+    ensures links { NoNewLink slots.old.items slots.new.items }
+{
+    slots[at] = slot;
+}
+
+/// Puts a slot at this index, in the place of the one there or behind the last.
+pub fn put_slot(slots: &mut Vec<Slot>, at: usize, slot: Slot) -> Result<(), AllocError>
+    requires within { at ≤ length slots.old.items }
+    requires kind { begins_link slot.kind ≡ false }
+    ensures value { OnOk result (slots.new.items ≡ put_at at slot slots.old.items) }
+    ensures slots { OnOk result ((text : List ℕ) (place : ℕ) → AreSlots text place slots.old.items → IsSlot text place slot → AreSlots text place slots.new.items) }
+    ensures length { OnOk result (length slots.new.items ≤ length slots.old.items + 1) }
+    ensures longer { OnOk result (length slots.old.items ≤ length slots.new.items) }
+    ensures links { OnOk result (NoNewLink slots.old.items slots.new.items) }
+{
+    if at < slots.len() {
+        replace_slot(slots, at, slot);
+        return Ok(());
+    }
+    push_slot(slots, slot.kind, slot.start, slot.end)?;
+    Ok(())
+}
+
+/// Makes a slot that of a delimiter: the end of an element, or nothing any more.
+pub fn use_up(slots: &mut Vec<Slot>, at: usize, ends: bool)
+    requires there { at < length slots.old.items }
+    ensures slots { (text : List ℕ) (place : ℕ) → AreSlots text place slots.old.items → AreSlots text place slots.new.items }
+    ensures length { length slots.new.items ≡ length slots.old.items }
+    ensures links { NoNewLink slots.old.items slots.new.items }
+    ensures hides { (d : Slots) → ends ≡ false → slots.new.items ≡ set slots.old.items at (hidden (get_or slots.old.items at d)) }
+    ensures ends { (d : Slots) → ends ≡ true → slots.new.items ≡ set slots.old.items at (ended (get_or slots.old.items at d)) }
+{
+    let slot = slots[at];
+    let kind = if ends {
+        SlotKind::End
+    } else {
+        SlotKind::Nothing
+    };
+    slots[at] = Slot { kind, ..slot };
+}
+
+/// Makes a slot that of a character.
+pub fn become_character(slots: &mut Vec<Slot>, at: usize, character: char)
+    requires there { at < length slots.old.items }
+    ensures value { slots.new.items ≡ with_character at character slots.old.items }
+    ensures slots { (text : List ℕ) (place : ℕ) → AreSlots text place slots.old.items → AreSlots text place slots.new.items }
+    ensures length { length slots.new.items ≡ length slots.old.items }
+    ensures links { NoNewLink slots.old.items slots.new.items }
+{
+    let slot = slots[at];
+    slots[at] = Slot {
+        kind: SlotKind::Character(character),
+        ..slot
+    };
+}
+
+/// Makes one text of the slots from one to another, which is a text: the bytes of the source from the begin of the first to the end of
+/// the last.
+pub fn merge(slots: &mut Vec<Slot>, first: usize, last: usize)
+    requires ordered { first < last }
+    requires within { last < length slots.old.items }
+    requires text { (d : Slots) → (get_or slots.old.items last d).kind ≡ kind.Text }
+    requires whole { AreWhole slots.old.items }
+    ensures slots { (text : List ℕ) (place : ℕ) → AreSlots text place slots.old.items → AreSlots text place slots.new.items }
+    ensures length { length slots.new.items ≡ length slots.old.items }
+    ensures links { NoNewLink slots.old.items slots.new.items }
+    ensures value { Merges first last slots.old.items slots.new.items }
+{
+    let end = slots[last].end;
+    use_up_between(slots, first, last);
+    become_whole(slots, first, last, end);
+}
+
+// Makes a slot the text of all slots up to another, which reaches at least up to a place.
+fn become_whole(slots: &mut Vec<Slot>, at: usize, last: usize, end: usize)
+    requires there { at < length slots.old.items }
+    ensures slots { (text : List ℕ) (place : ℕ) → AreSlots text place slots.old.items → IsCharBoundary text end → end ≤ place → AreSlots text place slots.new.items }
+    ensures length { length slots.new.items ≡ length slots.old.items }
+    ensures links { NoNewLink slots.old.items slots.new.items }
+    ensures value { (d : Slots) → slots.new.items ≡ set slots.old.items at (whole_to last end (get_or slots.old.items at d)) }
+{
+    let slot = slots[at];
+    slots[at] = Slot {
+        kind: SlotKind::Whole(last),
+        start: slot.start,
+        end: slot.end.max(end),
+    };
+}
+
+// Makes the slots behind one up to another, which is a text, nothing any more. Those that are nothing already, behind a whole text, are
+// passed over.
+fn use_up_between(slots: &mut Vec<Slot>, first: usize, last: usize)
+    requires ordered { first < last }
+    requires within { last < length slots.old.items }
+    requires text { (d : Slots) → (get_or slots.old.items last d).kind ≡ kind.Text }
+    requires whole { AreWhole slots.old.items }
+    ensures slots { (text : List ℕ) (place : ℕ) → AreSlots text place slots.old.items → AreSlots text place slots.new.items }
+    ensures length { length slots.new.items ≡ length slots.old.items }
+    ensures links { NoNewLink slots.old.items slots.new.items }
+    ensures hides { Hides (first + 1) (last + 1) slots.old.items slots.new.items }
+{
+    let mut at = first;
+    while at < last {
+        at += 1;
+        let end = last_of(slots[at].kind, at);
+        use_up(slots, at, false);
+        at = end;
+    }
+}
+
+/// The index of the first slot from one on that ends behind a place; the number of slots, where none does.
+pub fn first_behind(slots: &[Slot], from: usize, place: usize) -> usize
+    requires { from ≤ length slots.now }
+    ensures { IsFirstBehind slots.now from place result }
+{
+    let mut at = from;
+    while at < slots.len() && ends_by(slots[at], place) {
+        at += 1;
+    }
+    at
+}
+
+// Whether a slot has no bytes behind a place. The end of an element and what is nothing have none of their own, and a text of no
+// bytes ends where it begins.
+fn ends_by(slot: Slot, place: usize) -> bool
+    ensures value { result ≡ ends_by place slot }
+    ensures behind { result ≡ false → place < slot.end }
+{
+    let has_none = match slot.kind {
+        SlotKind::End | SlotKind::Nothing => true,
+        SlotKind::Empty => slot.start <= place,
+        _ => false,
+    };
+    has_none || slot.end <= place
+}
+
+/// Makes the slots from one up to before another nothing any more.
+pub fn hide(slots: &mut Vec<Slot>, from: usize, to: usize)
+    requires ordered { from ≤ to }
+    requires within { to ≤ length slots.old.items }
+    ensures hides { Hides from to slots.old.items slots.new.items }
+    ensures slots { (text : List ℕ) (place : ℕ) → AreSlots text place slots.old.items → AreSlots text place slots.new.items }
+    ensures links { NoNewLink slots.old.items slots.new.items }
+{
+    let mut at = from;
+    while at < to {
+        use_up(slots, at, false);
+        at += 1;
+    }
+}
+
+/// Makes the first slot that ends behind a place begin there, if that is inside it; there is none where its index is the number of
+/// slots. What it holds stays whole, but for a text and for HTML on one line, which are what stands there.
+pub fn cut(slots: &mut Vec<Slot>, at: usize, text: &str, place: usize)
+    requires within { at ≤ length slots.old.items }
+    requires slots { (end : ℕ) × AreSlots text.now end slots.old.items }
+    requires place { IsCharBoundary text.now place }
+    ensures value { slots.new.items ≡ cut_at text.now place at slots.old.items }
+    ensures slots { (end : ℕ) → AreSlots text.now end slots.old.items → AreSlots text.now end slots.new.items }
+    ensures length { length slots.new.items ≡ length slots.old.items }
+    ensures links { NoNewLink slots.old.items slots.new.items }
+{
+    if at < slots.len() {
+        let slot = slots[at];
+        slots[at] = cut_slot(slot, text, place);
+    }
+}
+
+// A slot that begins at a place, if that is inside it.
+fn cut_slot(slot: Slot, text: &str, place: usize) -> Slot
+    requires part { IsPart text.now slot.start slot.end }
+    requires content { IsContent text.now slot.kind }
+    ensures value { result ≡ cut_slot text.now place slot }
+    ensures slot { (end : ℕ) → IsSlot text.now end slot → IsCharBoundary text.now place → IsSlot text.now end result }
+    ensures link { begins_link result.kind ≡ begins_link slot.kind }
+{
+    if is_inside(slot, place) {
+        return Slot {
+            kind: cut_kind(slot, text),
+            start: place,
+            end: slot.end,
+        };
+    }
+    slot
+}
+
+// Whether a place is inside a slot.
+fn is_inside(slot: Slot, place: usize) -> bool
+    ensures { result ≡ (nat_lt slot.start place && nat_lt place slot.end) }
+{
+    slot.start < place && place < slot.end
+}
+
+// What a slot stands for that begins behind its first bytes.
+fn cut_kind(slot: Slot, text: &str) -> SlotKind
+    requires part { IsPart text.now slot.start slot.end }
+    requires content { IsContent text.now slot.kind }
+    ensures value { result ≡ cut_kind text.now slot.start slot.end slot.kind }
+    ensures content { IsContent text.now slot.kind → IsContent text.now result }
+    ensures link { begins_link result ≡ begins_link slot.kind }
+{
+    match slot.kind {
+        SlotKind::OwnedText(_) | SlotKind::Character(_) => SlotKind::Whole(0),
+        SlotKind::InlineHtml if takes_lines(text, slot.start, slot.end) => {
+            SlotKind::CutHtml(slot.start)
+        }
+        SlotKind::CutHtml(from) if !takes_lines(text, from, slot.end) => SlotKind::InlineHtml,
+        kind => kind,
+    }
+}
+
+// Whether a line ends between two places of the text.
+fn takes_lines(text: &str, from: usize, end: usize) -> bool
+    requires from { IsCharBoundary text.now from }
+    requires end { IsCharBoundary text.now end }
+    ensures { result ≡ takes_lines (slice text.now from end) }
+{
+    from < end && find_line_end(text[from..end].as_bytes()).is_some()
+}
+
+// The index of the last slot that belongs to that of this index.
+fn last_of(kind: SlotKind, at: usize) -> usize
+    ensures order { at ≤ result }
+    ensures value { result ≡ last_in kind at }
+{
+    match kind {
+        SlotKind::Whole(last) => last.max(at),
+        _ => at,
+    }
+}

@@ -1,0 +1,41 @@
+//! Texts of the bytes between two places of a leaf's text.
+
+ghost use Rattle.std.specs.Prelude.{◌≡◌, ◌⊎◌, ◌+◌, ◌-◌, IfOk};
+ghost use Rattle.cmark_grammar.specs.Tokens.{slice};
+ghost use Rattle.cmark_leaf_text.specs.Reads.{IsPart, IsRead, place_of, source_of, text_of};
+ghost use Rattle.cmark_scan_parts.specs.Shown.{IsBorrowed};
+ghost use Rattle.cmark_text_parts.specs.Lending.{IsLentBy};
+ghost use Rattle.cmark_text_parts.specs.Shown.{IsBoxed, IsInlined, text_bytes};
+
+use cmark_leaf_text::LeafText;
+use cmark_text_parts::CowStr;
+use std::alloc::{AllocError, Global};
+
+/// The bytes of a leaf's text between two places: borrowed where they stand in the source without a gap. Fails where memory is refused.
+#[inline(always)]
+pub fn text_between<'a>(
+    alloc: Global,
+    leaf: &LeafText<'a>,
+    from: usize,
+    to: usize,
+) -> Result<CowStr<'a>, AllocError>
+    requires read { IsRead leaf.now }
+    requires part { IsPart (text_of leaf.now) from to }
+    ensures value { IfOk result (λ text. text_bytes text ≡ slice (text_of leaf.now) from to) }
+    ensures lent { place_of leaf.now (to - 1) + 1 ≡ place_of leaf.now from + (to - from) → IfOk result IsBorrowed }
+    ensures source { IfOk result (IsLentBy (slice (source_of leaf.now) (place_of leaf.now from) (place_of leaf.now (to - 1) + 1))) }
+{
+    match leaf.slice(from, to) {
+        Some(text) => Ok(CowStr::Borrowed(text)),
+        None => copied(alloc, &leaf.as_str()[from..to]),
+    }
+}
+
+/// A text of these bytes, which borrows nothing. Fails where memory is refused.
+#[inline(never)]
+pub fn copied<'a>(alloc: Global, text: &str) -> Result<CowStr<'a>, AllocError>
+    ensures value { IfOk result (λ copy. text_bytes copy ≡ text.now) }
+    ensures own { IfOk result (λ copy. IsBoxed copy ⊎ IsInlined copy) }
+{
+    CowStr::Borrowed(text).into_static(alloc)
+}
