@@ -1,5 +1,5 @@
 -- The begin and the end of a leaf, in the states of the code and of the grammar, and a closing bracket that stays a text.
-use Rattle.std.specs.Prelude.{map, drop}
+use Rattle.std.specs.Prelude.{map}
 use Rattle.std.proofs.Common.{◌≡◌, ℕ, List, [], ◌∷◌, ◌++◌, length, sym, ap, ◌∙◌, subst}
 use Rattle.std.proofs.lemmas.List.{map-append}
 use Rattle.cmark_grammar.specs.BracketDecisions.{decide}

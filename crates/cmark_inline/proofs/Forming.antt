@@ -7,7 +7,7 @@ use Rattle.cmark_leaf_text.specs.declared.leaf_text.LeafText.{LeafText}
 use Rattle.cmark_slots.specs.Doubled.{DropsBehind}
 use Rattle.cmark_inline.specs.Footnoted.{PutsReference, reference_slot, with_mark}
 use Rattle.cmark_slots.specs.Slots.{put_at, AreBrackets}
-use Rattle.cmark_slots.specs.MarkedSlots.{AreWhole, EndWithin, HaveBytes, SameBefore, last_in}
+use Rattle.cmark_slots.specs.MarkedSlots.{AreWhole, EndWithin, SameBefore, last_in}
 use Rattle.cmark_slots.specs.SlotViews.{link_named, text_named}
 use Rattle.cmark_slots.specs.Standing.{AreEnded, AreNamed, AreSound, BeginsBefore, CanSettle, EndInOrder, EndsIn, IsPlain, IsSettled, IsTaken, IsTakenPair, NamesAs, source_end}
 use Rattle.cmark_slots.specs.declared.bracket.Bracket.{Bracket}
@@ -17,7 +17,7 @@ use Rattle.cmark_slots.specs.declared.slot.Slot.{Slot}
 use Rattle.cmark_slots.specs.declared.slot.SlotKind.TheVariants as kind
 use Rattle.cmark_slots.proofs.Marks.{no-slot, whole-set, within-set}
 use Rattle.cmark_slots.proofs.Naming.{AddsOne, adds-set, adds-then, named-link, named-text, one-ended, same-as}
-use Rattle.cmark_slots.proofs.Placing.{all-cons, have-kept, texts-kept, runs-low}
+use Rattle.cmark_slots.proofs.Placing.{have-kept, texts-kept, runs-low}
 use Rattle.cmark_slots.proofs.Settling.{nothing-text}
 use Rattle.cmark_slots.proofs.Soundness.{sound-back, sound-fewer}
 

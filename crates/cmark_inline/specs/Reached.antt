@@ -1,5 +1,5 @@
 -- How far a leaf is read, in the states of the code and of the grammar.
-use Rattle.std.specs.Prelude.{◌≡◌, ℕ, suc, ◌-◌, false, ◌==◌, List, get_or, map}
+use Rattle.std.specs.Prelude.{◌≡◌, ℕ, suc, ◌-◌, false, ◌==◌, List, get_or, map, ◌<◌, length}
 use Rattle.cmark_grammar.specs.Emphasis.{Run}
 use Rattle.cmark_grammar.specs.LeafReading.{Between}
 use Rattle.cmark_grammar.specs.LeafText.{InTurn, Leaf, begin_of}
@@ -8,7 +8,6 @@ use Rattle.cmark_grammar.specs.Readers.{Reader}
 use Rattle.cmark_leaf_text.specs.Reads.{is_cell_of, place_of, text_of}
 use Rattle.cmark_leaf_text.specs.declared.leaf_text.LeafText.{LeafText}
 use Rattle.cmark_emphasis.specs.Shown.{shown_quote, shown_run}
-use Rattle.std.specs.Prelude.{◌<◌, length}
 use Rattle.cmark_inline_model.specs.BracketPass.{Pass}
 use Rattle.cmark_inline_model.specs.LeafModel.{HaveLineEnds}
 use Rattle.cmark_inline_model.specs.PlacedTokens.{AreLeafPlaces}

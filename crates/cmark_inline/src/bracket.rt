@@ -1,12 +1,10 @@
 //! Where an opening bracket begins (CommonMark 6.3 and 6.4).
 
-ghost use Rattle.std.specs.Prelude.{◌≡◌, ◌≤◌, min, true, false, ◌-◌, ◌++◌, ◌∷◌, [], ℕ, List, length, take, OnOk, IfSome, ◌⊎◌, Bool, slice_index, IfOk, ◌+◌};
-ghost use Rattle.cmark_slots.specs.Doubled.{DropsBehind, doubles, nearest, touching};
+ghost use Rattle.std.specs.Prelude.{◌≡◌, true, OnOk, ◌⊎◌, Bool, slice_index, IfOk, ◌+◌};
+ghost use Rattle.cmark_slots.specs.Doubled.{doubles};
 ghost use Rattle.cmark_text_parts.specs.Shown.{shown_options};
 ghost use Rattle.cmark_inline.specs.ReadsOn.{ReadsOn};
 ghost use Rattle.cmark_inline.specs.Stands.{IsAtByte, IsCursor, Stands};
-ghost use Rattle.cmark_slots.specs.Slots.{AreBrackets, AreFree, HoldNoLink, IsBracket};
-ghost use Rattle.cmark_slots.specs.declared.slot.Slot.{Slot};
 ghost use Rattle.cmark_grammar.specs.Answers.{Lookup};
 ghost use Rattle.cmark_inline.specs.SpecialReads.{OpensBracket};
 ghost use Rattle.cmark_inline.specs.Tokens.{Passes, PutsBracket};

@@ -25,17 +25,17 @@ ghost use Rattle.cmark_slots.specs.MarkedSlots.{siblings_from};
 ghost use Rattle.cmark_slots.specs.SlotViews.{shown_slots};
 ghost use Rattle.cmark_items.specs.declared.allocations.Link.{Link as Links};
 
-use cmark_slots::bracket::Bracket;
 use crate::callback::BrokenLinkCallback;
 use crate::link::{Target, inline_target};
 use crate::place::behind;
 use crate::read::Reader;
 use crate::reference::link_reference_at;
-use cmark_slots::slot::{Element, Slot, SlotKind, begin, push_slot};
 use crate::state::InlineState;
 use crate::step::Cursor;
 use cmark_items::FootnoteDefs;
 use cmark_leaf_text::LeafText;
+use cmark_slots::bracket::Bracket;
+use cmark_slots::slot::{Element, Slot, SlotKind, begin, push_slot};
 use cmark_text::{EntityLookup, Options};
 use std::alloc::AllocError;
 

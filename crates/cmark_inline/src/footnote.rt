@@ -20,9 +20,7 @@ ghost use Rattle.cmark_leaf_text.specs.declared.leaf_text.LeafText.{LeafText as 
 ghost use Rattle.cmark_slots.specs.Slots.{AreSlots, IsBracket, IsSlot, NoNewLink, begins_link};
 ghost use Rattle.cmark_inline.specs.Stands.{Moves, Stands};
 
-use cmark_slots::bracket::Bracket;
 use crate::reference::label_text;
-use cmark_slots::slot::{Slot, SlotKind, hide, put_slot, replace_slot};
 use crate::state::InlineState;
 use crate::step::Cursor;
 use bitflags::Flags;
@@ -30,6 +28,8 @@ use cmark_definitions::behind_byte;
 use cmark_finds::{Label, has_line_ending, is_bracketed_label, link_tail, reference_label};
 use cmark_items::FootnoteDefs;
 use cmark_leaf_text::LeafText;
+use cmark_slots::bracket::Bracket;
+use cmark_slots::slot::{Slot, SlotKind, hide, put_slot, replace_slot};
 use cmark_text::{CowStr, FootnoteLabel, Options};
 use std::alloc::{AllocError, Global};
 

@@ -11,10 +11,10 @@ ghost use Rattle.cmark_inline.specs.Tokens.{Appends};
 ghost use Rattle.cmark_slots.specs.declared.slot.SlotKind.TheVariants as slot_kind;
 
 use crate::place::behind;
-use cmark_slots::slot::{Slot, SlotKind};
 use crate::state::InlineState;
 use crate::step::Cursor;
 use cmark_finds::{Dollars, Formula};
+use cmark_slots::slot::{Slot, SlotKind};
 use std::alloc::AllocError;
 
 impl<'a> InlineState<'a> {

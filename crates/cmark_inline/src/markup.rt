@@ -13,9 +13,9 @@ ghost use Rattle.cmark_slots.specs.declared.slot.SlotKind.TheVariants as slot_ki
 ghost use Rattle.cmark_leaf_text.specs.declared.leaf_text.LeafText.{LeafText as Leaf};
 
 use crate::place::{is_followed_by, part_end};
-use cmark_slots::slot::SlotKind;
 use cmark_finds::inline_html;
 use cmark_leaf_text::LeafText;
+use cmark_slots::slot::SlotKind;
 
 /// Which markup a `<` opens.
 #[derive(Clone, Copy)]

@@ -14,7 +14,6 @@ ghost use Rattle.cmark_inline.specs.Stands.{SameSpans, IsLinkReference};
 ghost use Rattle.cmark_slots.specs.Slots.{IsBracket};
 ghost use Rattle.cmark_grammar.specs.Tokens.{slice};
 
-use cmark_slots::bracket::Bracket;
 use crate::callback::{BrokenLink, BrokenLinkCallback};
 use crate::footnote::{full_label, is_footnote_label};
 use crate::link::Target;
@@ -24,6 +23,7 @@ use cmark_finds::{collapsed_end, is_bracketed_label};
 use cmark_items::{Link, RefDefs};
 use cmark_leaf_text::LeafText;
 use cmark_scan_parts::with_literal_pipes;
+use cmark_slots::bracket::Bracket;
 use cmark_text::{CowStr, EntityLookup, LinkLabel, LinkType, Options};
 use std::alloc::{AllocError, Global};
 

@@ -10,10 +10,10 @@ ghost use Rattle.cmark_slots.specs.Slots.{AreSlots, NoNewLink, byte_slots};
 ghost use Rattle.cmark_inline.specs.Tokens.{AppendsRun, Passes, PassesOver, is_run_delimiter, is_other};
 
 use crate::place::{character_at, character_before, run_end};
-use cmark_slots::slot::{SlotKind, push_slot};
 use crate::state::InlineState;
 use crate::step::Cursor;
 use cmark_emphasis::{Run, flanking_of};
+use cmark_slots::slot::{SlotKind, push_slot};
 use cmark_text::Options;
 use std::alloc::AllocError;
 

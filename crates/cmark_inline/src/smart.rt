@@ -9,10 +9,10 @@ ghost use Rattle.cmark_inline.specs.Stands.{IsAtByte, Moves};
 ghost use Rattle.cmark_inline.specs.Tokens.{Appends, AppendsQuote, Passes};
 
 use crate::place::{behind, character_at, character_before, pass, run_end};
-use cmark_slots::slot::{Slot, SlotKind};
 use crate::state::InlineState;
 use crate::step::Cursor;
 use cmark_emphasis::quote_of;
+use cmark_slots::slot::{Slot, SlotKind};
 use cmark_text::CowStr;
 use std::alloc::{AllocError, Global};
 

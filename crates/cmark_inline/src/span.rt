@@ -14,15 +14,15 @@ ghost use Rattle.cmark_inline.specs.MarkupInSource.{AreUnclosed, ReadsLess};
 ghost use Rattle.cmark_slots.specs.Standing.{AreEnded};
 ghost use Rattle.cmark_inline.specs.Sound.{IsSound};
 
-use cmark_slots::text::text_between;
 use crate::markup::Unclosed;
 use crate::place::{autolink_end, behind, is_followed_by, onto_words, pass, run_end, text_start};
-use cmark_slots::slot::{Element, Slot, SlotKind};
 use crate::state::InlineState;
 use crate::step::Cursor;
 use cmark_finds::BacktickRuns;
 use cmark_items::Link;
 use cmark_leaf_text::LeafText;
+use cmark_slots::slot::{Element, Slot, SlotKind};
+use cmark_slots::text::text_between;
 use cmark_text::{CowStr, LinkType};
 use std::alloc::AllocError;
 

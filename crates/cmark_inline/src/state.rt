@@ -5,11 +5,11 @@ ghost use Rattle.cmark_inline.specs.CursorProgress.{IsCleared};
 ghost use Rattle.cmark_inline.specs.Sound.{IsSound};
 ghost use Rattle.cmark_inline.specs.Stands.{Stands};
 
+use cmark_items::Link;
 use cmark_slots::bracket::Brackets;
 use cmark_slots::delimiter::Delimiters;
 use cmark_slots::quote::Quotes;
 use cmark_slots::slot::Slot;
-use cmark_items::Link;
 use cmark_text::CowStr;
 use std::alloc::Global;
 

@@ -28,11 +28,11 @@ use crate::callback::BrokenLinkCallback;
 use crate::markup::Unclosed;
 use crate::place::behind;
 use crate::read::Reader;
-use cmark_slots::slot::{Slot, push_slot, push_text};
 use crate::state::InlineState;
 use cmark_finds::{BacktickRuns, Dollars};
 use cmark_items::FootnoteDefs;
 use cmark_leaf_text::LeafText;
+use cmark_slots::slot::{Slot, push_slot, push_text};
 use cmark_text::EntityLookup;
 use std::alloc::AllocError;
 

@@ -13,11 +13,11 @@ use crate::place::{
     before_blanks, behind, end_behind, is_escape, is_lone_backtick, is_pipe_escape, onto_words,
     pass,
 };
-use cmark_slots::slot::{Slot, SlotKind};
 use crate::state::InlineState;
 use crate::step::Cursor;
 use cmark_finds::line_break;
 use cmark_scan_parts::scan_entity;
+use cmark_slots::slot::{Slot, SlotKind};
 use cmark_text::EntityLookup;
 use std::alloc::AllocError;
 

@@ -21,15 +21,15 @@ ghost use Rattle.cmark_inline.specs.Stands.{Moves, Stands};
 ghost use Rattle.cmark_inline.specs.Wikilinks.{IsNamed, IsWikilink, Shows, forms_wikilink, wiki_text};
 ghost use Rattle.cmark_items.specs.declared.allocations.Link.{Link as Links};
 
-use cmark_slots::bracket::Bracket;
 use crate::place::is_followed_by;
-use cmark_slots::slot::{Element, SlotKind, begin, cut, first_behind, hide, push_slot};
 use crate::state::InlineState;
 use crate::step::Cursor;
 use bitflags::Flags;
 use cmark_items::Link;
 use cmark_leaf_text::LeafText;
 use cmark_scan_parts::scan_wikilink_pipe;
+use cmark_slots::bracket::Bracket;
+use cmark_slots::slot::{Element, SlotKind, begin, cut, first_behind, hide, push_slot};
 use cmark_text::{CowStr, LinkType, Options};
 use std::alloc::AllocError;
 

@@ -6,9 +6,6 @@ use Rattle.std.proofs.lemmas.List.{drop_all, length-set, reverse-append, map-app
 use Rattle.cmark_grammar.specs.Event as event
 use Rattle.cmark_grammar.specs.Event.{Ranged}
 use Rattle.cmark_grammar.specs.InlineReading.{over}
-use Rattle.cmark_grammar.specs.Items as items
-use Rattle.cmark_grammar.specs.Tag as tag
-use Rattle.cmark_grammar.specs.Tag.{Tag}
 use Rattle.cmark_grammar.specs.TagEnd.{end_of}
 use Rattle.cmark_inline_model.specs.SlotRows as row
 use Rattle.cmark_inline_model.specs.SlotRows.{slot_events}
@@ -19,12 +16,11 @@ use Rattle.cmark_text.specs.Ranged.{shown_ranged}
 use Rattle.cmark_text.specs.Shown.{shown}
 use Rattle.cmark_text.specs.declared.ranged.Ranged.{Ranged as Given}
 use Rattle.cmark_leaf_events.specs.Opens.{Gives, Passes}
-use Rattle.cmark_slots.specs.SlotViews.{slot_as, shown_slot, shown_slots, first_of, slot_end, item_slot, text_named, link_of, link_named, linked_or_none, bytes_or_none, shown_element, IsThere, Differ, AreOnce, EndsBehind, CanBeGiven}
+use Rattle.cmark_slots.specs.SlotViews.{slot_as, shown_slot, shown_slots, first_of, slot_end, text_named, link_of, link_named, shown_element, IsThere, Differ, AreOnce, EndsBehind, CanBeGiven}
 use Rattle.cmark_leaf_events.specs.Events.{shown_open, shown_opened, events_of, event_in, KeepsOthers, IsFirst, with_given}
 use Rattle.cmark_leaf_events.specs.declared.leaf_events.Opened.{Opened}
 use Rattle.cmark_items.specs.declared.allocations.Link.{Link}
 use Rattle.cmark_slots.specs.declared.slot.Element.{Element}
-use Rattle.cmark_slots.specs.declared.slot.Element.TheVariants as element
 use Rattle.cmark_slots.specs.declared.slot.Slot.{Slot}
 use Rattle.cmark_slots.specs.declared.slot.SlotKind.{SlotKind}
 use Rattle.cmark_slots.specs.declared.slot.SlotKind.TheVariants as kind

@@ -1,5 +1,5 @@
 -- The events that are read off the slots of a leaf.
-use Rattle.std.specs.Prelude.{◌≡◌, ◌≢◌, ℕ, ◌-◌, List, [], ◌∷◌, length, map, reverse, drop, slice_get, encode_utf8, Option, None, Some}
+use Rattle.std.specs.Prelude.{◌≡◌, ◌≢◌, ℕ, List, [], ◌∷◌, length, map, reverse, drop, slice_get, encode_utf8, Option, None, Some}
 use Rattle.cmark_grammar.specs.CodeSpans.{code_text}
 use Rattle.cmark_grammar.specs.Event as event
 use Rattle.cmark_grammar.specs.Event.{Ranged}

@@ -1,5 +1,5 @@
 -- The events of a leaf, and the elements that are open between them.
-use Rattle.std.specs.Prelude.{◌≡◌, ℕ, ◌+◌, ◌-◌, ◌*◌, List, [], ◌∷◌, ◌++◌, length, Option, Some, None}
+use Rattle.std.specs.Prelude.{◌≡◌, ℕ, ◌+◌, ◌-◌, ◌*◌, List, [], ◌∷◌, ◌++◌, length, Option, Some, None, All}
 use Rattle.cmark_grammar.specs.TagEnd as end
 use Rattle.cmark_grammar.specs.TagEnd.{end_of}
 use Rattle.cmark_grammar.specs.Event.{Event, Start, End, Ranged}
@@ -11,7 +11,6 @@ use Rattle.cmark_leaf_events.specs.declared.leaf_events.Opened.{Opened}
 use Rattle.cmark_slots.specs.declared.slot.Element.{Element}
 use Rattle.cmark_slots.specs.declared.slot.Element.TheVariants as element
 use Rattle.cmark_leaf_events.specs.declared.leaf_events.LeafEvents.{LeafEvents}
-use Rattle.std.specs.Prelude.{ℕ, List, All}
 use Rattle.cmark_leaf_text.specs.Reads.{IsPart}
 
 -- the end of an element

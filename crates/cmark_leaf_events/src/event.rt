@@ -1,6 +1,6 @@
 //! The events of a leaf's slots, one after the other.
 
-ghost use Rattle.std.specs.Prelude.{◌≡◌, ◌⊎◌, ◌<◌, ◌≤◌, ◌+◌, ◌-◌, ◌∷◌, ℕ, List, [], Some, IfOk, IfSome, OnErr, OnOk, OnSome, length};
+ghost use Rattle.std.specs.Prelude.{◌≡◌, ◌<◌, ◌≤◌, ◌+◌, ◌-◌, ◌∷◌, ℕ, List, [], Some, IfOk, IfSome, OnErr, OnOk, OnSome, length};
 ghost use Rattle.std.specs.Str.{IsCharBoundary};
 ghost use Rattle.cmark_grammar.specs.Event.{Start, End, Text};
 ghost use Rattle.cmark_grammar.specs.InlineReading.{over};
@@ -8,13 +8,12 @@ ghost use Rattle.cmark_grammar.specs.LeafSpans.{IsInline, IsRange, IsSpan};
 ghost use Rattle.cmark_grammar.specs.Tokens.{slice};
 ghost use Rattle.cmark_inline_model.specs.FirstEvents.{BeginWithoutEnd};
 ghost use Rattle.cmark_leaf_text.specs.Reads.{IsRead, IsPart, place_of, text_of, source_of};
-ghost use Rattle.cmark_scan_parts.specs.Shown.{IsBorrowed};
 ghost use Rattle.cmark_grammar.specs.Tag as grammar_tag;
 ghost use Rattle.cmark_grammar.specs.TagEnd as grammar_end;
 ghost use Rattle.cmark_grammar.specs.TagEnd.{end_of};
 ghost use Rattle.cmark_text.specs.Ranged.{IsRangedZeroCopy, shown_ranged};
 ghost use Rattle.cmark_text.specs.Shown.{shown, shown_end, shown_tag};
-ghost use Rattle.cmark_text_parts.specs.Shown.{text_bytes, IsBoxed, IsInlined};
+ghost use Rattle.cmark_text_parts.specs.Shown.{text_bytes};
 ghost use Rattle.cmark_text.specs.ZeroCopy.{IsZeroCopy};
 ghost use Rattle.cmark_text_parts.specs.Lending.{IsLentBy};
 ghost use Rattle.cmark_leaf_events.specs.Opens.{element_end, Follows, Gives, Passes, events_left, AreOpened};
@@ -25,11 +24,11 @@ ghost use Rattle.cmark_slots.specs.Slots.{AreSlots, IsSlot};
 ghost use Rattle.cmark_slots.specs.declared.slot.Slot.{Slot as Slots};
 
 use crate::content::Content;
-use cmark_slots::slot::{Element, Slot, SlotKind};
-use cmark_slots::text::{copied, text_between};
 use crate::leaf_events::{LeafEvents, Opened};
 use cmark_items::Link;
 use cmark_leaf_text::LeafText;
+use cmark_slots::slot::{Element, Slot, SlotKind};
+use cmark_slots::text::{copied, text_between};
 use cmark_text::{CowStr, Event, Ranged, Tag, TagEnd};
 use std::alloc::{AllocError, Global};
 use std::ops::Range;

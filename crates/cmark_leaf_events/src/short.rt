@@ -25,11 +25,10 @@ ghost use Rattle.cmark_text.specs.declared.event.TagEnd.{TagEnd as TagEnds};
 ghost use Rattle.cmark_text_parts.specs.declared.text.CowStr.{CowStr as Texts};
 ghost use Rattle.cmark_text.specs.declared.short.PlainTag.{PlainTag as PlainTags};
 
-use crate::leaf_events::Opened;
-use cmark_slots::slot::{Element, Slot, SlotKind};
-use crate::leaf_events::LeafEvents;
+use crate::leaf_events::{LeafEvents, Opened};
 use cmark_finds::code_part;
 use cmark_leaf_text::LeafText;
+use cmark_slots::slot::{Element, Slot, SlotKind};
 use cmark_text::{Excerpt, Next, PlainTag, Short, TagEnd};
 use std::alloc::AllocError;
 

@@ -1,5 +1,5 @@
 -- Slots that become nothing, and slots that are cut at a place.
-use Rattle.std.specs.Prelude.{◌≡◌, ℕ, zero, suc, ◌-◌, ◌≤◌, ◌<◌, nat_le, nat_lt, Bool, true, false, ◌&&◌, ◌||◌, if◌then◌else◌, List, [], ◌∷◌, length, get_or}
+use Rattle.std.specs.Prelude.{◌≡◌, ℕ, zero, suc, ◌≤◌, ◌<◌, nat_le, nat_lt, Bool, true, false, ◌&&◌, ◌||◌, if◌then◌else◌, List, [], ◌∷◌, length, get_or}
 use Rattle.cmark_grammar.specs.InlineHtml.{takes_lines}
 use Rattle.cmark_grammar.specs.Tokens.{slice}
 use Rattle.cmark_slots.specs.declared.slot.Slot.{Slot}

@@ -1,5 +1,5 @@
 -- The slots of a leaf's text, and the opening brackets that stand in them.
-use Rattle.std.specs.Prelude.{◌≡◌, ℕ, ◌+◌, ◌≤◌, ◌<◌, Bool, true, false, List, [], ◌∷◌, ◌++◌, length, get_or, All}
+use Rattle.std.specs.Prelude.{◌≡◌, ℕ, ◌+◌, ◌≤◌, ◌<◌, Bool, true, false, List, [], ◌∷◌, ◌++◌, length, get_or, All, nat_lt, if◌then◌else◌, set, zero, suc}
 use Rattle.std.specs.List.{sum_by}
 use Rattle.std.specs.Str.{IsCharBoundary}
 use Rattle.cmark_leaf_text.specs.Reads.{IsPart}
@@ -10,8 +10,6 @@ use Rattle.cmark_slots.specs.declared.slot.Element.TheVariants as element
 use Rattle.cmark_slots.specs.declared.slot.Slot.{Slot}
 use Rattle.cmark_slots.specs.declared.slot.SlotKind.{SlotKind}
 use Rattle.cmark_slots.specs.declared.slot.SlotKind.TheVariants as kind
-use Rattle.std.specs.Prelude.{ℕ, ◌+◌, nat_lt, if◌then◌else◌, List, [], ◌∷◌, ◌++◌, length, set}
-use Rattle.std.specs.Prelude.{ℕ, zero, suc, ◌+◌, ◌-◌, List, [], ◌∷◌}
 
 -- what a code span or a formula holds is a part of the text
 abbrev pub IsContent : List ℕ → SlotKind → Type 0

@@ -6,10 +6,6 @@ mod fault;
 mod read;
 mod render;
 pub mod run;
-#[cfg(test)]
-mod scripted;
-#[cfg(test)]
-mod tests;
 mod watched;
 mod write;
 

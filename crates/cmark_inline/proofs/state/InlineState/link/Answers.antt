@@ -1,9 +1,8 @@
-use Rattle.std.proofs.Common.{refl}
+use Rattle.std.proofs.Common.{refl, subst}
 use Rattle.cmark_text_parts.specs.Shown.{shown_options}
 use Rattle.cmark_inline.proofs.CloserSteps.{links-none, links-some}
 use Rattle.cmark_inline.specs.Sound.{IsTakenFrom}
 use Rattle.std.specs.Prelude.{IfSome}
-use Rattle.std.proofs.Common.{subst}
 use Rattle.cmark_inline.proofs.Keeping.{spans-ended, spans-sound, spans-taken}
 use Rattle.cmark_inline.proofs.state.InlineState.link.Goals as goal
 

@@ -1,4 +1,4 @@
-use Rattle.std.proofs.Common.{◌-◌, length, sym, ◌∙◌, arith}
+use Rattle.std.proofs.Common.{◌-◌, length, sym, ◌∙◌, arith, ◌+◌, ℕ, List, subst}
 use Rattle.cmark_text_parts.specs.Shown.{shown_options}
 use Rattle.cmark_inline.specs.Hiding.{WritesWikilink}
 use Rattle.cmark_slots.specs.declared.bracket.Bracket.{Bracket}
@@ -7,7 +7,6 @@ use Rattle.cmark_slots.proofs.Opening.{is-pair, last-nearest, sound-pair-taken, 
 use Rattle.cmark_inline.proofs.WikiSlots.{writes-taken}
 use Rattle.cmark_inline.proofs.WikiSteps.{two-brackets}
 use Rattle.std.specs.Prelude.{Some, IfSome, Option, Bool}
-use Rattle.std.proofs.Common.{◌+◌, ℕ, List, subst}
 use Rattle.cmark_leaf_text.specs.Reads.{IsPart}
 use Rattle.cmark_slots.specs.Standing.{EndsIn}
 use Rattle.cmark_inline.proofs.SourceOrder.{ends-at-byte}

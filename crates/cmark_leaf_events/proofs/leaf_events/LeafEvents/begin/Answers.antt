@@ -1,5 +1,4 @@
 use Rattle.cmark_leaf_events.specs.Events.{shown_opened}
-use Rattle.cmark_leaf_events.specs.declared.leaf_events.Opened.{Opened}
 use Rattle.cmark_leaf_events.specs.declared.leaf_events.Walk.{Walk}
 use Rattle.cmark_leaf_events.proofs.EventSteps.{opened-more}
 use Rattle.std.proofs.Common.{ap}

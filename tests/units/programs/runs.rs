@@ -1,11 +1,10 @@
+//! Tests of what the programs share: runs whose reads and writes go as a list of answers says.
+
 ghost use Rattle.std.specs.Prelude.{◌≡◌, ◌++◌, codes};
 
-use crate::fault::{RunFault, status};
-use crate::read::read_all;
-use crate::render::Render;
-use crate::run::run;
-use crate::scripted::{Answer, Scripted};
-use crate::watched::{PATIENCE, Watched};
+use super::scripted::{Answer, Scripted};
+use mdhtml_parts::run::run;
+use mdhtml_parts::{PATIENCE, Render, RunFault, Watched, read_all, status};
 use std::alloc::{AllocError, Global};
 use std::test::Fail;
 
