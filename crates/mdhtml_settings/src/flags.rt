@@ -1,8 +1,8 @@
 //! The flags of the command line, one for each option of the parser.
 
-ghost use Rattle.std.specs.Prelude.{◌≡◌, map, option_map, IfOk};
-ghost use Rattle.clap.specs.Words.{app_of, first_of, found_of, rows_of};
-ghost use Rattle.mdhtml_settings.specs.Line.{bits_given, is_given, option_bits, shown_flag, with_flag_rules};
+ghost use Rattle.std.specs.Prelude.{◌≡◌, false, map, option_map, IfOk};
+ghost use Rattle.clap.specs.Words.{app_of, first_of, found_of, rows_of, rule_of};
+ghost use Rattle.mdhtml_settings.specs.Line.{bits_given, flag_rule, is_given, option_bits, shown_flag, with_flag_rules};
 
 use bitflags::Flags;
 use clap::{Arg, ArgAction, ArgMatches, Command};
@@ -105,13 +105,20 @@ pub fn with_flags<'a>(
     ensures { IfOk result (λ c. app_of c ≡ with_flag_rules (app_of command.entry) (map shown_flag flags.now)) }
 {
     for flag in flags {
-        let arg = Arg::new(alloc, flag.name)
-            .long(flag.name)
-            .action(ArgAction::SetTrue)
-            .help(flag.help);
-        command = command.arg(arg)?;
+        command = command.arg(flag_arg(alloc, *flag))?;
     }
     Ok(command)
+}
+
+/// The argument of a flag, which takes no value.
+fn flag_arg<'a>(alloc: Global, flag: LineFlag) -> Arg<'a>
+    ensures rule { rule_of result ≡ flag_rule flag.name.now }
+    ensures local { result.global ≡ false }
+{
+    Arg::new(alloc, flag.name)
+        .long(flag.name)
+        .action(ArgAction::SetTrue)
+        .help(flag.help)
 }
 
 /// The first value of an argument, as a text.

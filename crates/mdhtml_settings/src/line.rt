@@ -1,8 +1,8 @@
 //! The words of a command line.
 
-ghost use Rattle.std.specs.Prelude.{◌≡◌, true, map, string_bytes, option_map, None, IfOk, IfErr, MatchResult};
-ghost use Rattle.clap.specs.Words.{app_of, fault_of, found_of, kind_of, matches_of, rows_of, takes};
-ghost use Rattle.mdhtml_settings.specs.Line.{bits_given, file_given, flags, line_command, option_bits, AnswersBy, HasLineFault};
+ghost use Rattle.std.specs.Prelude.{◌≡◌, true, false, map, string_bytes, option_map, None, IfOk, IfErr, MatchResult};
+ghost use Rattle.clap.specs.Words.{app_of, fault_of, found_of, kind_of, matches_of, rows_of, rule_of, takes};
+ghost use Rattle.mdhtml_settings.specs.Line.{bits_given, file_given, file_rule, flags, line_command, option_bits, AnswersBy, HasLineFault};
 ghost use Rattle.mdhtml_settings.specs.declared.line.LineFault.TheVariants.{Memory};
 
 use crate::flags::{FLAGS, options_given, text_given, with_flags};
@@ -64,12 +64,19 @@ fn line_reader<'a>(alloc: Global, name: &'a str, about: &'a str) -> Result<Comma
     ensures { IfOk result (λ c. app_of c ≡ line_command name.entry.now) }
 {
     let command = Command::new(alloc, name).version(VERSION).about(about);
-    let file = Arg::new(alloc, "entities")
+    with_flags(alloc, command, FLAGS.as_slice())?.arg(file_arg(alloc))
+}
+
+/// The argument of the file with the texts of entity names.
+fn file_arg<'a>(alloc: Global) -> Arg<'a>
+    ensures rule { rule_of result ≡ file_rule }
+    ensures local { result.global ≡ false }
+{
+    Arg::new(alloc, "entities")
         .long("entities")
         .action(ArgAction::Set)
         .value_name("FILE")
-        .help("The texts of entity names: a JSON object of texts");
-    with_flags(alloc, command, FLAGS.as_slice())?.arg(file)
+        .help("The texts of entity names: a JSON object of texts")
 }
 
 /// What the matches of the words ask for.
