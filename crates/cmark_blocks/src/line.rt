@@ -93,8 +93,7 @@ impl<'a, E: EntityLookup> Pass<'a, E> {
         }
         let opening = what_opens(rest, self.options);
         if let Opening::Nests(start) = opening {
-            let entered = self.begin_container(start, rest)?;
-            return Ok(entered);
+            return self.begin_container(start, rest);
         }
         self.begin_leaf(opening, rest, bare)?;
         Ok(None)
