@@ -1,7 +1,7 @@
 use Rattle.std.proofs.Common.{subst}
 use Rattle.cmark_walk.specs.declared.reading.Brief.TheVariants as brief
 use Rattle.cmark_walk.specs.Walking.{GivesShortStep}
-use Rattle.cmark_walk.proofs.ShortSteps.{after-lasting, lasts-on}
+use Rattle.cmark_walk.proofs.ShortSteps.{after-lasting, lasts-on, some-range}
 use Rattle.cmark_walk.proofs.WalkSteps.{on-err}
 use Rattle.cmark_walk.proofs.walk.Walk.next_short.Goals as goal
 
@@ -11,7 +11,8 @@ returns-in_err-short-clause-refused c = on-err c.from_residual.result _ (λ left
 pub returns-in-Short-clause-given : goal.returns-in-Short-clause-given
 returns-in-Short-clause-given c =
     after-lasting c.args.self.now c.loop-short.self c.short_step.new.self (brief.Short c.in-Short.short) c.short_step.new.lines.items c.loop-short.invariant
-    (subst (λ b. GivesShortStep c.loop-short.self b c.short_step.new.lines.items c.short_step.new.self) c.in-Short.is c.in_ok-short.ensures.given)
+    (some-range c.loop-short.self c.short_step.new.self c.in-Short.short _ _
+    (subst (λ b. GivesShortStep c.loop-short.self b c.short_step.new.lines.items c.short_step.new.self) c.in-Short.is c.in_ok-short.ensures.given))
 
 pub returns-in-Leaf-clause-given : goal.returns-in-Leaf-clause-given
 returns-in-Leaf-clause-given c =
@@ -21,7 +22,7 @@ returns-in-Leaf-clause-given c =
 pub returns-in-Long-clause-given : goal.returns-in-Long-clause-given
 returns-in-Long-clause-given c =
     after-lasting c.args.self.now c.loop-short.self c.short_step.new.self brief.Long c.short_step.new.lines.items c.loop-short.invariant
-    (subst (λ b. GivesShortStep c.loop-short.self b c.short_step.new.lines.items c.short_step.new.self) c.in-Long.is c.in_ok-short.ensures.given)
+    (subst (λ b. GivesShortStep c.loop-short.self b c.short_step.new.lines.items c.short_step.new.self) c.in-Long.is c.in_ok-short.ensures.given).0
 
 pub returns-in-Over-clause-given : goal.returns-in-Over-clause-given
 returns-in-Over-clause-given c =
