@@ -40,7 +40,10 @@ impl<'a> Walk<'a> {
             _ => CowStr::Borrowed(""),
         };
         let part = &self.text[item.start..item.end];
-        Ok(Event::Text(text.lent_by(self.alloc, part)?))
+        let Ok(text) = text.lent_by(self.alloc, part) else {
+            return Err(AllocError);
+        };
+        Ok(Event::Text(text))
     }
 
     // The tag of an element that has a text of its own.
@@ -57,7 +60,9 @@ impl<'a> Walk<'a> {
                 heading(self.alloc, level, words)
             }
             ItemBody::FencedCodeBlock(index) => {
-                let info = self.allocations[index].clone(self.alloc)?;
+                let Ok(info) = self.allocations[index].clone(self.alloc) else {
+                    return Err(AllocError);
+                };
                 Ok(Tag::CodeBlock(CodeBlockKind::Fenced(info)))
             }
             ItemBody::Table(index) => {
@@ -65,7 +70,9 @@ impl<'a> Walk<'a> {
                 table(self.alloc, row)
             }
             ItemBody::FootnoteDefinition(index) => {
-                let label = self.allocations[index].clone(self.alloc)?;
+                let Ok(label) = self.allocations[index].clone(self.alloc) else {
+                    return Err(AllocError);
+                };
                 Ok(Tag::FootnoteDefinition(label))
             }
             // The caller asks for no other item.

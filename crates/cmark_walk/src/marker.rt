@@ -1,6 +1,6 @@
 //! Task markers in a walk over a document's tree (GFM 5.3).
 
-ghost use Rattle.std.specs.Prelude.{◌≡◌, List, Some, IfOk, OnErr};
+ghost use Rattle.std.specs.Prelude.{◌≡◌, ℕ, List, Some, IfOk, OnErr};
 ghost use Rattle.cmark_tree.specs.Zip.{Zip};
 ghost use Rattle.cmark_grammar.specs.BlockDocument.{BlockNode};
 ghost use Rattle.cmark_grammar.specs.BlockReading as reads;
@@ -8,13 +8,14 @@ ghost use Rattle.cmark_grammar.specs.BlockReading.{read_as};
 ghost use Rattle.cmark_grammar.specs.DrawnDocument.{kind_within};
 ghost use Rattle.cmark_grammar.specs.SpanDocuments.{Segment};
 ghost use Rattle.cmark_text.specs.Shown.{shown_tag};
+ghost use Rattle.cmark_text.specs.declared.event.Event.TheVariants as event;
 ghost use Rattle.cmark_leaf_text.specs.declared.stretch.LeafLine.{LeafLine};
 ghost use Rattle.cmark_walk.specs.declared.reading.Stage.TheVariants as stage;
-ghost use Rattle.cmark_walk.specs.Walking.{GoesOn, LeavesTheSame, Drawn, Remains, Goes, Gives, Outer, StandsBelow, text_of, texts_of, tight_below, IsAt, MeetsZeroCopy, IsTaskAt, IsTitleIn, IsListBehind, IsLeafBehind, IsLeafElement};
+ghost use Rattle.cmark_walk.specs.Walking.{GivesRanged, GoesOn, LeavesTheSame, Drawn, Remains, Goes, Gives, Outer, StandsBelow, text_of, texts_of, tight_below, IsAt, MeetsZeroCopy, IsTaskAt, IsTitleIn, IsListBehind, IsLeafBehind, IsLeafElement};
 
 use crate::kind::{is_leaf, is_list, is_title};
 use crate::reading::{Glance, Met, Stage};
-use crate::walk::{Walk, given};
+use crate::walk::{Walk, begun, given};
 use cmark_items::Item;
 use cmark_text::{Event, Tag};
 use cmark_tree::TreeIndex;
@@ -44,15 +45,13 @@ impl<'a> Walk<'a> {
                 start: item.start,
                 end: item.end,
             };
-            let start = Event::Start(Tag::DefinitionList);
-            return Ok(given(start, list.start, list.end));
+            return Ok(begun(Tag::DefinitionList, list));
         }
         if let Some(leaf) = self.leaf_behind(ix) {
             return self.pass_to_leaf(ix, is_checked, leaf);
         }
         self.tree.next_sibling(ix);
-        let marker = Event::TaskListMarker(is_checked);
-        Ok(given(marker, item.start, item.end))
+        Ok(marker(is_checked, item.start, item.end))
     }
 
     // Past a task marker to this paragraph or heading behind it, whose start is given.
@@ -81,7 +80,7 @@ impl<'a> Walk<'a> {
             start: item.start,
             end: item.end,
         };
-        Ok(given(Event::Start(tag), leaf.start, leaf.end))
+        Ok(begun(tag, leaf))
     }
 
     // The tag of a paragraph or a heading.
@@ -121,12 +120,11 @@ impl<'a> Walk<'a> {
                     start,
                     end,
                 };
-                let start = Event::Start(Tag::DefinitionListTitle);
-                Ok(given(start, title.start, title.end))
+                Ok(begun(Tag::DefinitionListTitle, title))
             }
             None => {
                 self.stage = Stage::Before;
-                Ok(given(Event::TaskListMarker(is_checked), start, end))
+                Ok(marker(is_checked, start, end))
             }
         }
     }
@@ -176,6 +174,15 @@ impl<'a> Walk<'a> {
         ensures goes_on { GoesOn self.old self.new }
     {
         self.stage = Stage::Lines;
-        given(Event::TaskListMarker(is_checked), start, end)
+        marker(is_checked, start, end)
     }
+}
+
+// A task marker with its range.
+#[inline(always)]
+fn marker<'a>(is_checked: bool, start: usize, end: usize) -> Met<'a>
+    ensures value { GivesRanged (event.TaskListMarker is_checked) start end result }
+    ensures lent { (text : List ℕ) → MeetsZeroCopy text result }
+{
+    given(Event::TaskListMarker(is_checked), start, end)
 }

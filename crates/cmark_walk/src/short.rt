@@ -37,7 +37,10 @@ impl<'a> Walk<'a> {
     {
         // Only paragraphs of tight lists give nothing, each at its begin and at its end.
         loop {
-            match self.short_step(lines)? {
+            let Ok(step) = self.short_step(lines) else {
+                return Err(AllocError);
+            };
+            match step {
                 BriefStep::Short(short, _, _) => return Ok(Brief::Short(short)),
                 BriefStep::Leaf { is_cell } => return Ok(Brief::Leaf { is_cell }),
                 BriefStep::Long(_) => return Ok(Brief::Long),

@@ -8,7 +8,7 @@ ghost use Rattle.cmark_grammar.specs.BlockDocument.{BlockDocument};
 ghost use Rattle.cmark_grammar.specs.DrawnDocument.{settled};
 ghost use Rattle.cmark_grammar.specs.Ranges.{InOrder, AllAt};
 ghost use Rattle.cmark_grammar.specs.SpanDocuments.{Segment, segments};
-ghost use Rattle.cmark_grammar.specs.Event as event;
+ghost use Rattle.cmark_text.specs.declared.event.Event.TheVariants as event;
 ghost use Rattle.cmark_items.specs.ItemNodes.{shown_forest, nodes_of};
 ghost use Rattle.cmark_text.specs.ZeroCopy.{IsZeroCopy};
 ghost use Rattle.cmark_leaf_text.specs.declared.stretch.LeafLine.{LeafLine};
@@ -20,7 +20,7 @@ use crate::kind::{is_leaf, is_synthesized, task_of};
 use crate::reading::{BriefStep, Met, Stage};
 use cmark_items::{Allocations, Item, RefDefs};
 use cmark_leaf_text::LeafLine;
-use cmark_text::{Event, Ranged};
+use cmark_text::{Event, Ranged, Tag};
 use cmark_tree::{Tree, TreeIndex};
 use std::alloc::{AllocError, Global};
 
@@ -90,7 +90,10 @@ impl<'a> Walk<'a> {
     {
         // Only paragraphs of tight lists give nothing, each at its begin and at its end.
         loop {
-            match self.short_step(lines)? {
+            let Ok(step) = self.short_step(lines) else {
+                return Err(AllocError);
+            };
+            match step {
                 BriefStep::Short(short, start, end) => {
                     let event = event_of(self.alloc, short);
                     return Ok(given(event, start, end));
@@ -181,16 +184,25 @@ impl<'a> Walk<'a> {
         };
         if is_leaf(item) {
             self.stage = Stage::Lines;
-            return Ok(given(Event::Start(tag), item.start, item.end));
+            return Ok(begun(tag, item));
         }
         match self.tree.push() {
-            Ok(()) => Ok(given(Event::Start(tag), item.start, item.end)),
+            Ok(()) => Ok(begun(tag, item)),
             Err(AllocError) => {
                 drop(tag);
                 Err(AllocError)
             }
         }
     }
+}
+
+// The start of an element with an item's range.
+#[inline(always)]
+pub(crate) fn begun<'a>(tag: Tag<'a>, item: Item) -> Met<'a>
+    ensures value { GivesRanged (event.Start tag.entry) item.start item.end result }
+    ensures lent { (text : List ℕ) → MeetsZeroCopy text result }
+{
+    given(Event::Start(tag), item.start, item.end)
 }
 
 // An event with its range.

@@ -12,7 +12,7 @@ push-requires c = has-focus c.args.self.now c.args.item c.args.ix c.requires.at.
 
 pub returns-then-is_leaf-clause-given : goal.returns-then-is_leaf-clause-given
 returns-then-is_leaf-clause-given c left lines r =
-    gives-met (text_event.Start c.in-Ok.tag) c.args.item.start c.args.item.end c.given.result lines left _ c.given.ensures.value
+    gives-met (text_event.Start c.in-Ok.tag) c.args.item.start c.args.item.end c.begun.result lines left _ c.begun.ensures.value
     (enters-leaf-as c.args.self.now c.args.item c.args.ix c.args.self.now.tree c.requires.at.1 c.requires.item c.requires.before _
     (λ z above node b d. tag-around _ _ (c.in-Ok.ensures z above node b d)) (λ text texts node d. sym c.if-is_leaf.true ∙ c.is_leaf.ensures text texts node d) left r)
 
@@ -27,7 +27,7 @@ returns-then-is_leaf-clause-goes_on c = record {
 
 pub returns-in-Ok-push-clause-given : goal.returns-in-Ok-push-clause-given
 returns-in-Ok-push-clause-given c left lines r =
-    gives-met (text_event.Start c.in-Ok.tag) c.args.item.start c.args.item.end c.given-in-Ok-push.result lines left _ c.given-in-Ok-push.ensures.value
+    gives-met (text_event.Start c.in-Ok.tag) c.args.item.start c.args.item.end c.begun-in-Ok-push.result lines left _ c.begun-in-Ok-push.ensures.value
     (enters-around-as c.args.self.now c.args.item c.args.ix c.push.new.self c.requires.at.1 c.requires.item c.requires.before _
     (λ z above node b d. tag-around _ _ (c.in-Ok.ensures z above node b d)) (λ text texts node d. sym c.if-is_leaf.false ∙ c.is_leaf.ensures text texts node d) c.in-Ok-push.ensures.ok left r)
 

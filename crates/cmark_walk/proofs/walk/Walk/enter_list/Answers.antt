@@ -12,7 +12,7 @@ push-requires c = here-focus c.args.self.now c.args.ix c.requires.at.1 c.require
 
 pub returns-in-Some-clause-given : goal.returns-in-Some-clause-given
 returns-in-Some-clause-given c left lines r =
-    gives-met (text_event.Start text_tag.DefinitionListTitle) c.in-Some.title.start c.in-Some.title.end c.given.result lines left _ c.given.ensures.value
+    gives-met (text_event.Start text_tag.DefinitionListTitle) c.in-Some.title.start c.in-Some.title.end c.begun.result lines left _ c.begun.ensures.value
     (enters-titled c.args.self.now c.args.ix c.requires.at.1 c.push.new.self c.in_ok-push.ensures.ok c.args.is_checked c.args.start c.args.end c.requires.listed
     c.in-Some.title (subst (IsTitleIn c.args.self.now c.args.ix) c.in-Some.is c.title_in-title.ensures) left r)
 
@@ -27,7 +27,7 @@ returns-in-Some-clause-goes_on c = record {
 
 pub returns-in-None-clause-given : goal.returns-in-None-clause-given
 returns-in-None-clause-given c left lines r =
-    gives-met (text_event.TaskListMarker c.args.is_checked) c.args.start c.args.end c.given-in-None.result lines left _ c.given-in-None.ensures.value
+    gives-met (text_event.TaskListMarker c.args.is_checked) c.args.start c.args.end c.marker.result lines left _ c.marker.ensures.value
     (enters-untitled c.args.self.now c.args.ix c.requires.at.1 c.push.new.self c.in_ok-push.ensures.ok c.args.is_checked c.args.start c.args.end c.requires.listed
     (subst (IsTitleIn c.args.self.now c.args.ix) c.in-None.is c.title_in-title.ensures) left r)
 

@@ -5,7 +5,7 @@ use Rattle.cmark_walk.proofs.WalkSteps.{gives-met, goes-after}
 use Rattle.cmark_walk.proofs.walk.Walk.meet_marker.Goals as goal
 
 pub returns-clause-given : goal.returns-clause-given
-returns-clause-given c left lines r = gives-met (text_event.TaskListMarker c.args.is_checked) c.args.start c.args.end c.given.result lines left _ c.given.ensures.value (meets-marker c.args.self.now c.args.is_checked c.args.start c.args.end c.requires.marked left r)
+returns-clause-given c left lines r = gives-met (text_event.TaskListMarker c.args.is_checked) c.args.start c.args.end c.marker.result lines left _ c.marker.ensures.value (meets-marker c.args.self.now c.args.is_checked c.args.start c.args.end c.requires.marked left r)
 
 pub returns-clause-goes_on : goal.returns-clause-goes_on
 returns-clause-goes_on c = record {

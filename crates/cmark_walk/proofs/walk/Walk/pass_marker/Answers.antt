@@ -11,7 +11,7 @@ item-item-requires c = focus-node c.args.self.now c.args.ix c.requires.at
 
 pub returns-in-Some-clause-given : goal.returns-in-Some-clause-given
 returns-in-Some-clause-given c left lines r =
-    gives-met (text_event.Start text_tag.DefinitionList) c.in-Some.list.start c.in-Some.list.end c.given.result lines left _ c.given.ensures.value
+    gives-met (text_event.Start text_tag.DefinitionList) c.in-Some.list.start c.in-Some.list.end c.begun.result lines left _ c.begun.ensures.value
     (enters-listed c.args.self.now c.item-item.result.now c.args.ix c.next_sibling.new.self c.requires.at.1 c.item-item.ensures c.requires.before c.args.is_checked
     (item-task c.args.self.now c.item-item.result.now c.args.ix c.args.is_checked c.requires.at c.item-item.ensures c.requires.task) c.next_sibling.ensures.past
     c.in-Some.list (subst (IsListBehind c.args.self.now c.args.ix) c.in-Some.is c.definitions_behind.ensures) left r)
@@ -31,7 +31,7 @@ pass_to_leaf-requires-clause-behind c = subst (IsLeafBehind c.args.self.now c.ar
 
 pub returns-clause-given : goal.returns-clause-given
 returns-clause-given c left lines r =
-    gives-met (text_event.TaskListMarker c.args.is_checked) c.item-item.result.now.start c.item-item.result.now.end c.given-2.result lines left _ c.given-2.ensures.value
+    gives-met (text_event.TaskListMarker c.args.is_checked) c.item-item.result.now.start c.item-item.result.now.end c.marker.result lines left _ c.marker.ensures.value
     (passes-marker c.args.self.now c.item-item.result.now c.args.ix c.next_sibling-2.new.self c.requires.at.1 c.item-item.ensures c.requires.before c.args.is_checked
     (item-task c.args.self.now c.item-item.result.now c.args.ix c.args.is_checked c.requires.at c.item-item.ensures c.requires.task) c.next_sibling-2.ensures.past
     (subst (IsLeafBehind c.args.self.now c.args.ix) c.in_default-leaf_behind.is c.leaf_behind.ensures) (subst (IsListBehind c.args.self.now c.args.ix) c.in_default.is c.definitions_behind.ensures) left r)

@@ -13,7 +13,7 @@ item-item-requires c = focus-node c.args.self.now c.args.ix c.requires.at
 
 pub returns-clause-given : goal.returns-clause-given
 returns-clause-given c left lines r =
-    gives-met (text_event.Start c.in-Ok.tag) c.args.leaf.start c.args.leaf.end c.given.result lines left _ c.given.ensures.value
+    gives-met (text_event.Start c.in-Ok.tag) c.args.leaf.start c.args.leaf.end c.begun.result lines left _ c.begun.ensures.value
     (enters-marked c.args.self.now c.item-item.result.now c.args.ix c.next_sibling.new.self c.requires.at.1 c.item-item.ensures c.requires.before c.args.is_checked
     (item-task c.args.self.now c.item-item.result.now c.args.ix c.args.is_checked c.requires.at c.item-item.ensures c.requires.task) c.next_sibling.ensures.past
     c.in-Ok.tag c.args.leaf c.requires.behind c.in-Ok.ensures left r)
