@@ -1,6 +1,6 @@
 -- Steps of a walk with spans: where it stands.
 use Rattle.std.proofs.Common.{◌≡◌, ◌⊎◌, inl, inr, ℕ, ◌<◌, ◌≤◌, ◌-◌, arith, Bool, true, false, List, [], ◌∷◌, length, refl, sym, ap, ◌∙◌, subst}
-use Rattle.std.specs.Prelude.{is_some}
+use Rattle.std.specs.Prelude.{None, Option, Some, is_some}
 use Rattle.std.specs.Global.{Vec}
 use Rattle.cmark_grammar.specs.LeafText.{Leaf}
 use Rattle.cmark_grammar.specs.SpanDocuments.{Segment, Content}
@@ -16,6 +16,9 @@ use Rattle.cmark_slots.specs.Slots.{AreSlots}
 use Rattle.cmark_leaf_text.specs.declared.leaf_text.LeafText.{LeafText}
 use Rattle.cmark_leaf_text.specs.declared.stretch.LeafLine.{LeafLine}
 use Rattle.cmark_leaf_text.specs.Reads.{IsRead, text_of}
+use Rattle.cmark_text.specs.declared.short.Next.{Next}
+use Rattle.cmark_text.specs.declared.short.Next.TheVariants as next
+use Rattle.cmark_text.specs.declared.short.Short.{Short}
 use Rattle.cmark_walk.specs.declared.walk.Walk.{Walk}
 use Rattle.cmark_walk.specs.Walking as walking
 use Rattle.cmark_walk.specs.Walking.{AreLinesOf}
@@ -25,6 +28,21 @@ use Rattle.cmark_span_walk.specs.Walking.{BeforeLeaf, BlocksLeft, EntersLeaf, Ha
 
 none-opened : (source : List ℕ) (opened : List Opened) → opened ≡ [] → AreOpened source opened
 none-opened source opened e = subst (AreOpened source) (sym e) (λ k d lt. absurd (omega (arith, lt)))
+
+-- what an answer is that is no `None`, and what one is that is
+pub some-of : {A : Type 0} (o : Option A) → is_some o ≡ true → (x : A) × (o ≡ Some x)
+some-of (Some x) e = (x, refl)
+some-of None e = absurd (let q : false ≡ true = e in cc)
+
+pub none-of : {A : Type 0} (o : Option A) → is_some o ≡ false → o ≡ None
+none-of (Some x) e = absurd (let q : true ≡ false = e in cc)
+none-of None e = refl
+
+-- what holds where something comes next
+pub before-over : (P : Next → Type 0) (n : Next) → (n ≡ next.Over → ⊥) → ((short : Short) → n ≡ next.Short short → P (next.Short short)) → (n ≡ next.Long → P next.Long) → P n
+before-over P (next.Short short) some s l = s short refl
+before-over P next.Long some s l = l refl
+before-over P next.Over some s l = absurd (some refl)
 
 module _ {E F : Type 0} where
   -- what is left of the document is one list

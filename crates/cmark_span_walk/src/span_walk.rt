@@ -125,10 +125,16 @@ impl<'input, 'e, E: EntityLookup, F: BrokenLinkCallback<'input> + Drop> SpanWalk
         ensures source { source_of self.new ≡ source_of self.old }
     {
         loop {
-            if let Some(given) = self.next_span()? {
+            let Ok(span) = self.next_span() else {
+                return Err(AllocError);
+            };
+            if let Some(given) = span {
                 return Ok(Some(given));
             }
-            match self.walk.next(&mut self.lines)? {
+            let Ok(met) = self.walk.next(&mut self.lines) else {
+                return Err(AllocError);
+            };
+            match met {
                 Met::Event(given) => {
                     self.budget -= 1;
                     return Ok(Some(given));
@@ -156,12 +162,18 @@ impl<'input, 'e, E: EntityLookup, F: BrokenLinkCallback<'input> + Drop> SpanWalk
         ensures source { source_of self.new ≡ source_of self.old }
     {
         loop {
-            match self.next_in_leaf()? {
+            let Ok(span) = self.next_in_leaf() else {
+                return Err(AllocError);
+            };
+            match span {
                 Next::Short(short) => return Ok(Coming::Span(short)),
                 Next::Long => return Ok(Coming::Long),
                 Next::Over => {}
             }
-            match self.walk.next_short(&mut self.lines)? {
+            let Ok(met) = self.walk.next_short(&mut self.lines) else {
+                return Err(AllocError);
+            };
+            match met {
                 Brief::Short(short) => {
                     self.budget -= 1;
                     return Ok(Coming::Block(short));
@@ -227,14 +239,14 @@ impl<'input, 'e, E: EntityLookup, F: BrokenLinkCallback<'input> + Drop> SpanWalk
         if !self.in_leaf {
             return Ok(Next::Over);
         }
-        match self.events.next_short(&self.leaf)? {
-            Next::Short(short) => Ok(Next::Short(short)),
-            Next::Long => Ok(Next::Long),
-            Next::Over => {
-                self.in_leaf = false;
-                Ok(Next::Over)
-            }
+        let Ok(next) = self.events.next_short(&self.leaf) else {
+            return Err(AllocError);
+        };
+        if let Next::Over = next {
+            self.in_leaf = false;
+            return Ok(Next::Over);
         }
+        Ok(next)
     }
 
     // The next event of the leaf at hand; `None` where there is no leaf or it has no more, and the walk then stands in none.
@@ -256,13 +268,14 @@ impl<'input, 'e, E: EntityLookup, F: BrokenLinkCallback<'input> + Drop> SpanWalk
         if !self.in_leaf {
             return Ok(None);
         }
-        match self.events.next(&self.leaf)? {
-            Some(given) => Ok(Some(given)),
-            None => {
-                self.in_leaf = false;
-                Ok(None)
-            }
+        let Ok(given) = self.events.next(&self.leaf) else {
+            return Err(AllocError);
+        };
+        if given.is_some() {
+            return Ok(given);
         }
+        self.in_leaf = false;
+        Ok(given)
     }
 
     // The text of the leaf whose lines were met, if that is one short line in which no byte may begin a span, as that of most cells of

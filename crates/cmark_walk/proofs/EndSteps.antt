@@ -26,10 +26,7 @@ use Rattle.cmark_items.specs.ItemNodes.{columns_of, kind_over, shape, text_at}
 use Rattle.cmark_text_parts.specs.Shown.{level_number}
 use Rattle.cmark_walk.specs.declared.walk.Walk.{Walk}
 use Rattle.cmark_walk.specs.declared.reading.Stage.TheVariants as stage
-use Rattle.cmark_walk.specs.declared.reading.Step.{Step}
-use Rattle.cmark_walk.specs.declared.reading.Step.TheVariants as step
-use Rattle.cmark_text.specs.declared.event.Event.{Event as TextEvent}
-use Rattle.cmark_walk.specs.Walking.{BeginsWithList, ComesNearer, Drawn, Draws, GivesRanged, HasText, IsStaged, MayBeginWithEnd, NoEndIsNext, Outer, OwnsText, StandsBelow, content_of, leaf_at, leaving, left_above, left_from, own_text_end, task_body, tight_below, texts_of}
+use Rattle.cmark_walk.specs.Walking.{BeginsWithList, Drawn, Draws, HasText, IsStaged, MayBeginWithEnd, NoEndIsNext, Outer, OwnsText, StandsBelow, content_of, leaf_at, leaving, left_above, left_from, own_text_end, task_body, tight_below, texts_of}
 use Rattle.cmark_walk.proofs.InsideItems.{not-definition, task-drawn, task-read}
 use Rattle.cmark_walk.proofs.Links.{IsChild, leads-inside}
 use Rattle.cmark_walk.proofs.Paths.{spelt-kind, within-kind}
@@ -202,12 +199,3 @@ has-own-text walk item ix text_end at is own z here above s =
     let f = focus walk item ix z here above s (at z s.below.holds) is in
     let o = one-inside walk.text.now item.start (own_text_end item.body) text_end (Draws walk.text.now (texts_of walk) f.inner f.inside) f.inside own f.draws_inside in
     some-stretches here (λ nil. let q : document.Node _ document.Nil document.Nil ≡ document.Nil = sym o.is ∙ ap content_of (sym f.here_is) ∙ nil in cc)
-
--- ## Steps
-
--- a step that gives an event comes nearer to it
-pub given-nearer : (e : TextEvent) (item : Item) (s : Step) (old new : Walk) → GivesRanged e item s → ComesNearer old s new
-given-nearer e item (step.Event given) old new g = tt
-given-nearer e item (step.Leaf is_cell) old new g = absurd g
-given-nearer e item step.Silent old new g = absurd g
-given-nearer e item step.Over old new g = absurd g

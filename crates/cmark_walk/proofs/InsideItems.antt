@@ -17,7 +17,7 @@ use Rattle.cmark_items.specs.declared.item.ItemBody.{ItemBody}
 use Rattle.cmark_items.specs.declared.item.ItemBody.TheVariants as body
 use Rattle.cmark_grammar.specs.Tables.{delimiter_row}
 use Rattle.cmark_items.specs.ItemNodes.{is_tight, list_number, columns_of, text_at, kind_over, shape}
-use Rattle.cmark_walk.specs.Reads.{event_in, tag_in}
+use Rattle.cmark_walk.specs.Reads.{tag_in}
 use Rattle.cmark_walk.proofs.Paths.{within-kind, spelt-kind}
 use Rattle.cmark_walk.specs.Walking.{Drawn, is_list, task_body}
 
@@ -199,30 +199,3 @@ no-element tight (TaskMarker is_checked) titled other n e = inl refl
 no-element tight (Text bytes) titled other n e = inl refl
 no-element tight (OwnedText bytes) titled other n e = inl refl
 no-element tight (Html bytes) titled other n e = inl refl
-
-pub inside-only : (tight : Bool) (kind : BlockKind) → is_definition kind ≡ false → task_kind kind ≡ None → None ≡ event_in (read_as kind) → None ≡ tag_in (read_as (kind_within tight kind)) → reads.Inside ≡ read_as (kind_within tight kind)
-inside-only true Paragraph n k e t = refl
-inside-only false Paragraph n k e t = absurd (let q : None ≡ Some _ = t in cc)
-inside-only tight TightParagraph n k e t = refl
-inside-only tight (LinkDefinition reference) n k e t = absurd (true≢false n)
-inside-only tight (Heading level attributes) n k e t = absurd (let q : None ≡ Some _ = t in cc)
-inside-only tight IndentedCode n k e t = absurd (let q : None ≡ Some _ = t in cc)
-inside-only tight (FencedCode info) n k e t = absurd (let q : None ≡ Some _ = t in cc)
-inside-only tight HtmlBlock n k e t = absurd (let q : None ≡ Some _ = t in cc)
-inside-only tight (MetadataBlock kind) n k e t = absurd (let q : None ≡ Some _ = t in cc)
-inside-only tight (Table alignments) n k e t = absurd (let q : None ≡ Some _ = t in cc)
-inside-only tight TableHead n k e t = absurd (let q : None ≡ Some _ = t in cc)
-inside-only tight TableRow n k e t = absurd (let q : None ≡ Some _ = t in cc)
-inside-only tight TableCell n k e t = absurd (let q : None ≡ Some _ = t in cc)
-inside-only tight (BlockQuote alert) n k e t = absurd (let q : None ≡ Some _ = t in cc)
-inside-only tight (FootnoteDefinition label) n k e t = absurd (let q : None ≡ Some _ = t in cc)
-inside-only tight (BlockList number z) n k e t = absurd (let q : None ≡ Some _ = t in cc)
-inside-only tight (DefinitionList z) n k e t = absurd (let q : None ≡ Some _ = t in cc)
-inside-only tight DefinitionListTitle n k e t = absurd (let q : None ≡ Some _ = t in cc)
-inside-only tight DefinitionListDefinition n k e t = absurd (let q : None ≡ Some _ = t in cc)
-inside-only tight ListItem n k e t = absurd (let q : None ≡ Some _ = t in cc)
-inside-only tight ThematicBreak n k e t = absurd (let q : None ≡ Some _ = e in cc)
-inside-only tight (Text bytes) n k e t = absurd (let q : None ≡ Some _ = e in cc)
-inside-only tight (OwnedText bytes) n k e t = absurd (let q : None ≡ Some _ = e in cc)
-inside-only tight (Html bytes) n k e t = absurd (let q : None ≡ Some _ = e in cc)
-inside-only tight (TaskMarker is_checked) n k e t = absurd (let q : Some is_checked ≡ None = k in cc)

@@ -5,7 +5,6 @@ use Rattle.cmark_tree.specs.declared.tree_index.TreeIndex.{TreeIndex}
 use Rattle.cmark_tree.specs.Forest.{join}
 use Rattle.cmark_tree.specs.Zip.{Zip, past, Sibling}
 use Rattle.cmark_tree.specs.Tree.{Holds, IsAtSibling}
-use Rattle.cmark_text.specs.declared.event.Event.TheVariants as text_event
 use Rattle.cmark_text.specs.declared.event.TagEnd.{TagEnd as TextEnd}
 use Rattle.cmark_text.specs.Shown.{shown_end}
 use Rattle.cmark_text_parts.specs.declared.text.CowStr.{CowStr}
@@ -19,9 +18,8 @@ use Rattle.cmark_leaf_text.specs.declared.stretch.LeafLine.{LeafLine}
 use Rattle.cmark_walk.specs.declared.walk.Walk.{Walk}
 use Rattle.cmark_walk.specs.declared.reading.Met.TheVariants as met
 use Rattle.cmark_walk.specs.declared.reading.Stage.TheVariants as stage
-use Rattle.cmark_walk.specs.declared.reading.Step.{Step}
-use Rattle.cmark_walk.specs.Walking.{Drawn, Gives, GivesStep, GivesRanged, Goes, HoldsLines, IsStaged, Remains, leaf_at, left_above, left_behind, left_from, leaving, texts_of, tight_below}
-use Rattle.cmark_walk.proofs.WalkSteps.{Focus, IsFocusAt, IsItem, at-item, beyond, gives-step, left-staged, moved, over-range, passed, remains-before, staged}
+use Rattle.cmark_walk.specs.Walking.{Drawn, Gives, Goes, HoldsLines, IsFirst, IsStaged, Remains, leaf_at, left_above, left_behind, left_from, leaving, texts_of, tight_below}
+use Rattle.cmark_walk.proofs.WalkSteps.{Focus, IsFocusAt, IsItem, at-item, at_range, beyond, left-staged, moved, over-range, passed, remains-before, staged}
 use Rattle.cmark_walk.proofs.LeaveSteps.{EndsAs, leaving-none, leaving-some}
 
 -- the lines of the leaf are met, and what stands behind them is left
@@ -68,15 +66,16 @@ module _ (walk : Walk) (item : Item) (ix : TreeIndex) (at : IsFocusAt walk ix) (
         left-staged walk stage.Behind left now r ∙ ap (λ h. left_behind h r.above ++ left_above r.above) f.here_is
         ∙ append_assoc (leaving (read_as (kind_within (tight_below r.above) f.node.kind)) f.node) (segments (settled (tight_below r.above) f.after)) (left_above r.above)
 
-    pub ends-some : (end : TextEnd) (s : Step) → EndsAs walk item (Some (shown_end end)) → GivesRanged (text_event.End end) item s → (left : List Segment) (lines : List LeafLine) → Remains walk left → GivesStep left s lines out
-    ends-some end s ends g left lines r =
+    pub ends-some : (end : TextEnd) → EndsAs walk item (Some (shown_end end)) → (left : List Segment) → Remains walk left → IsFirst left (at_range (event.End (shown_end end)) item) out
+    ends-some end ends left r =
         let f = at-item walk item ix at is r.z r.here r.above r.stands in
-        let e = ends r.z r.above f.node r.stands.below f.drawn in
-        gives-step (text_event.End end) item s lines left (left_from stage.Before f.after r.above) out g
-        (left-leaf left r f
-        ∙ ap (λ l. l ++ left_from stage.Before f.after r.above) (leaving-some (shown_end end) (read_as (kind_within (tight_below r.above) f.node.kind)) f.node e)
-        ∙ ap (λ x. Given x ∷ left_from stage.Before f.after r.above) (over-range walk.text.now (texts_of walk) item f.node (event.End (shown_end end)) f.drawn))
-        (after-leaf left r f)
+        let e = ends r.z r.above f.node r.stands.below f.drawn in (
+          left_from stage.Before f.after r.above,
+          left-leaf left r f
+              ∙ ap (λ l. l ++ left_from stage.Before f.after r.above) (leaving-some (shown_end end) (read_as (kind_within (tight_below r.above) f.node.kind)) f.node e)
+              ∙ ap (λ x. Given x ∷ left_from stage.Before f.after r.above) (over-range walk.text.now (texts_of walk) item f.node (event.End (shown_end end)) f.drawn),
+          after-leaf left r f,
+        )
 
     pub ends-none : EndsAs walk item None → (left : List Segment) → Remains walk left → Remains out left
     ends-none ends left r =

@@ -9,7 +9,6 @@ use Rattle.cmark_tree.specs.Zip.{Level, Zip, siblings, popped, pop_to, past, Sib
 use Rattle.cmark_tree.specs.Tree.{entry_at, Holds, HasNode, IsAtSibling, focus_of, parent_of}
 use Rattle.cmark_tree.proofs.Steps.{in_right}
 use Rattle.cmark_tree.proofs.Entries.{node_at-within}
-use Rattle.cmark_text.specs.declared.event.Event.TheVariants as text_event
 use Rattle.cmark_text.specs.declared.event.TagEnd.{TagEnd as TextEnd}
 use Rattle.cmark_text.specs.Shown.{shown_end}
 use Rattle.cmark_grammar.specs.TagEnd.{TagEnd, end_of}
@@ -21,14 +20,12 @@ use Rattle.cmark_grammar.specs.BlockReading.{Reads, read_as, over}
 use Rattle.cmark_grammar.specs.DrawnDocument.{kind_within}
 use Rattle.cmark_grammar.specs.SpanDocuments.{Segment, Given}
 use Rattle.cmark_items.specs.declared.item.Item.{Item}
-use Rattle.cmark_leaf_text.specs.declared.stretch.LeafLine.{LeafLine}
 use Rattle.cmark_walk.specs.declared.walk.Walk.{Walk}
 use Rattle.cmark_walk.specs.declared.reading.Stage.{Stage}
 use Rattle.cmark_walk.specs.declared.reading.Stage.TheVariants as stage
-use Rattle.cmark_walk.specs.declared.reading.Step.{Step}
-use Rattle.cmark_walk.specs.Reads.{end_in}
-use Rattle.cmark_walk.specs.Walking.{Drawn, Draws, DrawsAbove, Outer, AreElements, IsElement, StandsBelow, StandsAt, IsStaged, Remains, Goes, GivesStep, GivesRanged, left_from, leaving, tight_below, texts_of}
-use Rattle.cmark_walk.proofs.WalkSteps.{moved, over-range, gives-step, left-staged, remains-before, IsItem}
+use Rattle.cmark_walk.specs.Reads.{end_in, tag_in}
+use Rattle.cmark_walk.specs.Walking.{Drawn, Draws, DrawsAbove, Outer, AreElements, IsElement, StandsBelow, StandsAt, IsStaged, Remains, Goes, IsFirst, left_from, leaving, tight_below, texts_of}
+use Rattle.cmark_walk.proofs.WalkSteps.{at_range, moved, over-range, left-staged, remains-before, IsItem}
 
 -- behind the last of the siblings, with a parent
 pub record Behind (walk : Walk) (ix : TreeIndex) (z : Zip Item) (here : BlockDocument) (above : List Outer) : Type 0 where
@@ -104,7 +101,21 @@ leaving-none (reads.Alone ev) node e = refl
 leaving-none (reads.First ev) node e = refl
 leaving-none reads.Silent node e = refl
 
--- an element has an end
+-- what has an end is an element, and an element has one
+pub ends-element : (end : TagEnd) (R : Reads) → Some end ≡ end_in R → IsElement R
+ends-element end (reads.Around tag) e = tt
+ends-element end reads.Inside e = let q : Some end ≡ None = e in cc
+ends-element end (reads.Alone ev) e = let q : Some end ≡ None = e in cc
+ends-element end (reads.First ev) e = let q : Some end ≡ None = e in cc
+ends-element end reads.Silent e = let q : Some end ≡ None = e in cc
+
+pub no-end-no-tag : (R : Reads) → None ≡ end_in R → None ≡ tag_in R
+no-end-no-tag (reads.Around tag) e = absurd (let q : None ≡ Some (end_of tag) = e in cc)
+no-end-no-tag reads.Inside e = refl
+no-end-no-tag (reads.Alone ev) e = refl
+no-end-no-tag (reads.First ev) e = refl
+no-end-no-tag reads.Silent e = refl
+
 element-ends : (R : Reads) → IsElement R → None ≡ end_in R → ⊥
 element-ends (reads.Around tag) i e = let q : None ≡ Some (end_of tag) = e in cc
 element-ends reads.Inside i e = i
@@ -167,18 +178,18 @@ module _ (walk : Walk) (ix : TreeIndex) (t : Tree Item) (none : IsNone-at walk) 
         → left_from stage.Before here above ≡ leaving (read_as (kind_within (tight_below b.outer) b.parent.node.kind)) b.parent.node ++ left_from stage.Before b.parent.after b.outer
     left-parent here above z b = ap (λ h. left_from stage.Before h above) b.here_is ∙ ap (λ a. left_from stage.Before document.Nil a) b.above_is
 
-    pub leaves-some : (end : TextEnd) (s : Step) → EndsAs (moved walk t) item (Some (shown_end end)) → GivesRanged (text_event.End end) item s → (left : List Segment) (lines : List LeafLine)
-        → Remains walk left → GivesStep left s lines (moved walk t2)
-    leaves-some end s ends g left lines r =
+    pub leaves-some : (end : TextEnd) → EndsAs (moved walk t) item (Some (shown_end end)) → (left : List Segment) → Remains walk left → IsFirst left (at_range (event.End (shown_end end)) item) (moved walk t2)
+    leaves-some end ends left r =
         let b = behind walk ix r.z r.here r.above r.stands none parent in
         let d = drawn-item r.z r.here r.above r.stands b in
         let now = before left r b in
-        let e = ends (over-parent r.z r.here r.above b) b.outer b.parent.node (at-parent r.z r.here r.above r.stands b) d in
-        gives-step (text_event.End end) item s lines left (left_from stage.Before b.parent.after b.outer) (moved walk t2) g
-        (left-staged walk stage.Before left now r ∙ left-parent r.here r.above r.z b
-        ∙ ap (λ l. l ++ left_from stage.Before b.parent.after b.outer) (leaving-some (shown_end end) (read_as (kind_within (tight_below b.outer) b.parent.node.kind)) b.parent.node e)
-        ∙ ap (λ x. Given x ∷ left_from stage.Before b.parent.after b.outer) (over-range walk.text.now (texts_of walk) item b.parent.node (event.End (shown_end end)) d))
-        (after-parent r.z r.here r.above r.stands b now)
+        let e = ends (over-parent r.z r.here r.above b) b.outer b.parent.node (at-parent r.z r.here r.above r.stands b) d in (
+          left_from stage.Before b.parent.after b.outer,
+          left-staged walk stage.Before left now r ∙ left-parent r.here r.above r.z b
+              ∙ ap (λ l. l ++ left_from stage.Before b.parent.after b.outer) (leaving-some (shown_end end) (read_as (kind_within (tight_below b.outer) b.parent.node.kind)) b.parent.node e)
+              ∙ ap (λ x. Given x ∷ left_from stage.Before b.parent.after b.outer) (over-range walk.text.now (texts_of walk) item b.parent.node (event.End (shown_end end)) d),
+          after-parent r.z r.here r.above r.stands b now,
+        )
 
     -- the parent is an element, so its end is given
     pub never-none : EndsAs (moved walk t) item None → Goes walk → ⊥

@@ -5,6 +5,7 @@ pub mod LeafLeave
 pub mod LeaveSteps
 pub mod LineSteps
 pub mod Links
+pub mod LongItems
 pub mod ListKinds
 pub mod ListSteps
 pub mod MarkerSteps

@@ -8,8 +8,6 @@ use Rattle.cmark_tree.specs.Arena.{Entry, Placed, first, Stands}
 use Rattle.cmark_tree.specs.Zip.{Zip, pushed, HasFocus}
 use Rattle.cmark_tree.specs.Tree.{Holds, HasNode, entry_at, focus_of}
 use Rattle.cmark_tree.proofs.Steps.{in_right}
-use Rattle.cmark_text.specs.declared.event.Event.TheVariants as text_event
-use Rattle.cmark_text.specs.declared.event.Tag.TheVariants as text_tag
 use Rattle.cmark_text_parts.specs.declared.text.CowStr.{CowStr}
 use Rattle.cmark_grammar.specs.Event as event
 use Rattle.cmark_grammar.specs.Tag as tag
@@ -22,16 +20,14 @@ use Rattle.cmark_grammar.specs.LeafText.{Leaf}
 use Rattle.cmark_grammar.specs.SpanDocuments.{Segment, Given, Content, is_leaf, leaf_of, first_of_segments, segments}
 use Rattle.cmark_grammar.specs.Tightness.{tight_within}
 use Rattle.cmark_items.specs.declared.item.Item.{Item}
-use Rattle.cmark_leaf_text.specs.declared.stretch.LeafLine.{LeafLine}
 use Rattle.cmark_walk.specs.declared.walk.Walk.{Walk}
 use Rattle.cmark_walk.specs.declared.reading.Stage.TheVariants as stage
-use Rattle.cmark_walk.specs.declared.reading.Step.{Step}
-use Rattle.cmark_walk.specs.Walking.{Drawn, Outer, StandsAt, Remains, Goes, GivesStep, GivesRanged, IsElement, IsStaged, IsTitleIn, BeginsWithList, TitleIn, content_of, is_list, left_above, left_from, leaving, texts_of, tight_below}
+use Rattle.cmark_walk.specs.Walking.{Drawn, Outer, StandsAt, Remains, Goes, IsFirst, IsElement, IsStaged, IsTitleIn, BeginsWithList, TitleIn, content_of, is_list, left_above, left_from, leaving, texts_of, tight_below}
 use Rattle.cmark_walk.proofs.InsideItems.{not-definition}
 use Rattle.cmark_walk.proofs.LeafKinds.{settled-leaf}
 use Rattle.cmark_walk.proofs.Links.{IsChild, Begins, Leads, leads-child, leads-inside, leads-nowhere, leads-to}
 use Rattle.cmark_walk.proofs.ListKinds.{list-kind, no-title, title-kind, title-leaf}
-use Rattle.cmark_walk.proofs.WalkSteps.{as_kind, Focus, IsFocusAt, IsItem, at-item, at_range, block-below, down, gives-step, has-focus, into, left-staged, moved, over-range, remains-before, staged}
+use Rattle.cmark_walk.proofs.WalkSteps.{as_kind, Focus, IsFocusAt, IsItem, at-item, at_range, block-below, down, has-focus, into, left-staged, moved, over-range, remains-before, staged}
 
 -- ## The focus
 
@@ -135,7 +131,7 @@ module _ (walk : Walk) (ix : TreeIndex) (at : IsFocusAt walk ix) where
     abbrev pub in_list : Walk
     in_list = staged (moved walk t) stage.Before
 
-    pub enters-untitled : IsTitleIn walk ix None → (left : List Segment) → Remains walk left → (others : List Segment) × (left ≡ Given marker ∷ others) × Remains in_list others
+    pub enters-untitled : IsTitleIn walk ix None → (left : List Segment) → Remains walk left → IsFirst left marker in_list
     enters-untitled none left r =
         let h = at-here walk ix at r.z r.here r.above r.stands in
         let f = h.focus in
@@ -183,19 +179,20 @@ module _ (walk : Walk) (ix : TreeIndex) (at : IsFocusAt walk ix) where
     staged-title title document.Nil b = b
     staged-title title (document.Node own content rest) b = title-leaf own.kind b.1
 
-    pub enters-titled : (title : Item) → IsTitleIn walk ix (Some title) → (s : Step) → GivesRanged (text_event.Start text_tag.DefinitionListTitle) title s → (left : List Segment) (lines : List LeafLine) → Remains walk left → GivesStep left s lines in_title
-    enters-titled title found s g left lines r =
+    pub enters-titled : (title : Item) → IsTitleIn walk ix (Some title) → (left : List Segment) → Remains walk left → IsFirst left (at_range (event.Start tag.DefinitionListTitle) title) in_title
+    enters-titled title found left r =
         let h = at-here walk ix at r.z r.here r.above r.stands in
         let f = h.focus in
         let b = subst (λ d. TitleIn walk (Some title) (content_of d)) f.here_is (found r.z r.here r.above r.stands (listed r)) in
-        let p = inside-of left r h in
-        gives-step (text_event.Start text_tag.DefinitionListTitle) title s lines left (left_from (stage.Marked is_checked start end) f.inside (below f.node f.after r.above)) in_title g
-        (left-listed left r h ∙ titled-left title f.node f.inside f.after r.above b)
-        (record {
-          z = down walk h.item ix t r.z r.here f;
-          here = f.inside;
-          above = below f.node f.after r.above;
-          stands = record { below = record { holds = p.below.holds; draws_above = p.below.draws_above; elements = p.below.elements }; draws = p.draws };
-          staged = staged-title title f.inside b;
-          are = refl;
-        })
+        let p = inside-of left r h in (
+          left_from (stage.Marked is_checked start end) f.inside (below f.node f.after r.above),
+          left-listed left r h ∙ titled-left title f.node f.inside f.after r.above b,
+          record {
+            z = down walk h.item ix t r.z r.here f;
+            here = f.inside;
+            above = below f.node f.after r.above;
+            stands = record { below = record { holds = p.below.holds; draws_above = p.below.draws_above; elements = p.below.elements }; draws = p.draws };
+            staged = staged-title title f.inside b;
+            are = refl;
+          },
+        )

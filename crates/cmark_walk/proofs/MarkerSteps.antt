@@ -8,9 +8,7 @@ use Rattle.cmark_tree.specs.Arena.{Entry, Placed, first, Stands}
 use Rattle.cmark_tree.specs.Zip.{Zip, Sibling, past}
 use Rattle.cmark_tree.specs.Tree.{Holds, HasNode, entry_at, focus_of}
 use Rattle.cmark_tree.proofs.Steps.{in_right}
-use Rattle.cmark_text.specs.declared.event.Event.TheVariants as text_event
 use Rattle.cmark_text.specs.declared.event.Tag.{Tag as TextTag}
-use Rattle.cmark_text.specs.declared.event.Tag.TheVariants as text_tag
 use Rattle.cmark_text_parts.specs.declared.text.CowStr.{CowStr}
 use Rattle.cmark_text.specs.Shown.{shown_tag}
 use Rattle.cmark_grammar.specs.Event as event
@@ -24,21 +22,19 @@ use Rattle.cmark_grammar.specs.DrawnDocument.{settled, kind_within}
 use Rattle.cmark_grammar.specs.SpanDocuments.{Segment, Given, Content, leaf_of, inside_of, first_of_segments, segments}
 use Rattle.cmark_grammar.specs.Tightness.{tight_within}
 use Rattle.cmark_items.specs.declared.item.Item.{Item}
-use Rattle.cmark_leaf_text.specs.declared.stretch.LeafLine.{LeafLine}
 use Rattle.cmark_walk.specs.declared.walk.Walk.{Walk}
 use Rattle.cmark_walk.specs.declared.reading.Stage.TheVariants as stage
-use Rattle.cmark_walk.specs.declared.reading.Step.{Step}
 use Rattle.cmark_walk.specs.Reads.{tag_in}
-use Rattle.cmark_walk.specs.Walking.{IsAt, Drawn, Outer, StandsBelow, StandsAt, Remains, Goes, GivesStep, GivesRanged, IsStaged, IsTaskAt, IsLeafBehind, IsListBehind, ListBehind, BeginsAs, BeginsBehind, BeginsWithList, behind_first, is_list, task_body, left_above, left_from, leaving, texts_of, tight_below}
+use Rattle.cmark_walk.specs.Walking.{IsAt, Drawn, Outer, StandsBelow, StandsAt, Remains, Goes, IsElement, IsFirst, IsStaged, IsTaskAt, IsLeafBehind, IsLeafElement, IsListBehind, ListBehind, BeginsAs, BeginsBehind, BeginsWithList, behind_first, is_list, task_body, left_above, left_from, leaving, texts_of, tight_below}
 use Rattle.cmark_walk.proofs.InsideItems.{not-definition, task-drawn, task-read, no-element}
 use Rattle.cmark_walk.proofs.LeafKinds.{leaf-within}
 use Rattle.cmark_walk.proofs.Links.{IsNext, Begins, leads-behind, leads-node, leads-nowhere, leads-to}
 use Rattle.cmark_walk.proofs.ListKinds.{leaf-starts, list-kind}
-use Rattle.cmark_walk.proofs.WalkSteps.{as_kind, read_with, inside_at, Focus, IsFocusAt, IsItem, Leaf-at, at-focus, at_range, beyond, before-node, gives-step, leaf-inside, left-first, left-staged, moved, over-range, passed, remains-before, staged}
+use Rattle.cmark_walk.proofs.WalkSteps.{as_kind, read_with, inside_at, Focus, IsFocusAt, IsItem, Leaf-at, Reads-at, at-focus, at_range, beyond, before-node, leaf-inside, left-first, left-staged, moved, over-range, passed, remains-before, staged}
 
 -- the marker of a leaf is given, and its lines are to come
 pub meets-marker : (walk : Walk) (is_checked : Bool) (start end : ℕ) → walk.stage ≡ stage.Marked is_checked start end → (left : List Segment) → Remains walk left
-    → (others : List Segment) × (left ≡ Given (record { event = event.TaskListMarker is_checked; start = start; end = end }) ∷ others) × Remains (staged walk stage.Lines) others
+    → IsFirst left (record { event = event.TaskListMarker is_checked; start = start; end = end }) (staged walk stage.Lines)
 meets-marker walk is_checked start end now left r = (
   left_from stage.Lines r.here r.above,
   left-staged walk (stage.Marked is_checked start end) left now r,
@@ -83,13 +79,13 @@ module _ (walk : Walk) (ix : TreeIndex) where
         (not-definition walk.text.now (texts_of walk) item b.node b.drawn) (other z above b.node s.below b.drawn))
 
     -- one of these
-    pub leaf-behind : (tag : TextTag) → Leaf-at walk item true
-        → ((z : Zip Item) (above : List Outer) (node : BlockNode) → StandsBelow walk z above → Drawn walk.text.now (texts_of walk) item node → reads.Around (shown_tag tag) ≡ read_as (kind_within (tight_below above) node.kind))
-        → IsLeafBehind walk ix (Some (tag, item))
-    leaf-behind tag leaf read z here above s =
+    pub leaf-behind : Leaf-at walk item true
+        → ((z : Zip Item) (above : List Outer) (node : BlockNode) → StandsBelow walk z above → Drawn walk.text.now (texts_of walk) item node → IsElement (read_as (kind_within (tight_below above) node.kind)))
+        → IsLeafBehind walk ix (Some item)
+    leaf-behind leaf element z here above s =
         let b = next-drawn z here above s in
-        subst (BeginsAs walk above tag item) (sym b.nodes_are)
-        (b.drawn, sym (leaf walk.text.now (texts_of walk) b.node b.drawn), read z above b.node s.below b.drawn)
+        subst (BeginsAs walk above item) (sym b.nodes_are)
+        (b.drawn, sym (leaf walk.text.now (texts_of walk) b.node b.drawn), element z above b.node s.below b.drawn)
 
     -- no definition list
     pub other-than-list : ((text : List ℕ) (texts : List CowStr) (node : BlockNode) → Drawn text texts item node → false ≡ is_list node.kind) → IsListBehind walk ix None
@@ -106,18 +102,31 @@ module _ (walk : Walk) (ix : TreeIndex) where
 
 -- ## Past the marker
 
-item-task-at : (walk : Walk) (item : Item) (ix : TreeIndex) (is_checked : Bool) (right : Forest (Placed Item)) → Stands (entry_at walk.tree) right → focus_of right ≡ Some ix → IsItem walk.tree ix item → IsTaskAt walk ix is_checked → task_body item.body ≡ Some is_checked
-item-task-at walk item ix is_checked Nil st f is task = absurd (let q : None ≡ Some ix = f in cc)
-item-task-at walk item ix is_checked (Node p f g) st fo is task =
+item-has-at : (walk : Walk) (item : Item) (ix : TreeIndex) (P : Item → Type 0) (right : Forest (Placed Item)) → Stands (entry_at walk.tree) right → focus_of right ≡ Some ix → IsItem walk.tree ix item
+    → ((e : Entry Item) → entry_at walk.tree ix.ix ≡ Some e → P e.item) → P item
+item-has-at walk item ix P Nil st f is has = absurd (let q : None ≡ Some ix = f in cc)
+item-has-at walk item ix P (Node p f g) st fo is has =
     let same = ap (λ k. k.ix) (same_Some (record { ix = p.ix }) ix fo) in
     let entry : Entry Item = record { item = p.item; child = first f; next = first g } in
     let at : entry_at walk.tree ix.ix ≡ Some entry = subst (λ k. entry_at walk.tree k ≡ Some entry) same st.0 in
-    ap (λ i. task_body i.body) (is entry at) ∙ task entry at
+    subst P (sym (is entry at)) (has entry at)
 
--- the item at the focus is the task marker
+-- the item at the focus has what the entry of the focus has
+pub item-has : (walk : Walk) (item : Item) (ix : TreeIndex) (P : Item → Type 0) → IsAt walk ix → IsItem walk.tree ix item → ((e : Entry Item) → entry_at walk.tree ix.ix ≡ Some e → P e.item) → P item
+item-has walk item ix P at is has =
+    item-has-at walk item ix P at.0.1.z.right (in_right walk.tree.nodes walk.tree.first at.0.1.z at.0.1.stands.below.holds.forest) (at.1 at.0.1.z at.0.1.stands.below.holds) is has
+
+-- it is the task marker
 pub item-task : (walk : Walk) (item : Item) (ix : TreeIndex) (is_checked : Bool) → IsAt walk ix → IsItem walk.tree ix item → IsTaskAt walk ix is_checked → task_body item.body ≡ Some is_checked
-item-task walk item ix is_checked at is task =
-    item-task-at walk item ix is_checked at.0.1.z.right (in_right walk.tree.nodes walk.tree.first at.0.1.z at.0.1.stands.below.holds.forest) (at.1 at.0.1.z at.0.1.stands.below.holds) is task
+item-task walk item ix is_checked at is task = item-has walk item ix (λ i. task_body i.body ≡ Some is_checked) at is task
+
+-- the paragraph or heading behind the focus is an element
+element-behind : (walk : Walk) (z : Zip Item) (above : List Outer) (leaf : Item) (after : BlockDocument) → StandsBelow walk z above → BeginsAs walk above leaf after → IsLeafElement walk leaf
+element-behind walk z above leaf document.Nil s b = absurd b
+element-behind walk z above leaf (document.Node node inside after) s b = record { z = z; above = above; node = node; stands = s; drawn = b.0; leaf = b.1; element = b.2 }
+
+pub leaf-element : (walk : Walk) (ix : TreeIndex) (leaf : Item) → IsAt walk ix → IsLeafBehind walk ix (Some leaf) → IsLeafElement walk leaf
+leaf-element walk ix leaf at found = let r = at.0.1 in element-behind walk r.z r.above leaf (behind_first r.here) r.stands.below (found r.z r.here r.above r.stands)
 
 module _ (walk : Walk) (item : Item) (ix : TreeIndex) (t : Tree Item) (at : IsFocusAt walk ix) (is : IsItem walk.tree ix item) (before : walk.stage ≡ stage.Before)
     (is_checked : Bool) (task : task_body item.body ≡ Some is_checked) (next : (z : Zip Item) (s : Sibling z ix.ix) → Holds walk.tree z → Holds t (past z ix.ix s)) where
@@ -142,28 +151,29 @@ module _ (walk : Walk) (item : Item) (ix : TreeIndex) (t : Tree Item) (at : IsFo
   no-starts above after (inr l) n = absurd (n l)
 
   -- where none begins behind it
-  pub passes-marker : IsLeafBehind walk ix None → IsListBehind walk ix None → (s : Step) → GivesRanged (text_event.TaskListMarker is_checked) item s → (left : List Segment) (lines : List LeafLine) → Remains walk left → GivesStep left s lines (moved walk t)
-  passes-marker none no-list s g left lines r =
+  pub passes-marker : IsLeafBehind walk ix None → IsListBehind walk ix None → (left : List Segment) → Remains walk left → IsFirst left marker (moved walk t)
+  passes-marker none no-list left r =
       let f = at-focus walk item ix t at is before r.z r.here r.above r.stands in
       let no : starts_before (settled (tight_below r.above) f.after) ≡ 0 =
-      ap (λ a. starts_before (settled (tight_below r.above) a)) (sym (behind-is r.z r.here f)) ∙ no-starts r.above (behind_first r.here) (none r.z r.here r.above r.stands) (no-list r.z r.here r.above r.stands) in
-      gives-step (text_event.TaskListMarker is_checked) item s lines left (left_from stage.Before f.after r.above) (moved walk t) g
-      (left-marker left r f ∙ ap (λ z. first_of_segments z (Given marker) (segments (settled (tight_below r.above) f.after)) ++ left_above r.above) no)
-      (remains-before (moved walk t) (left_from stage.Before f.after r.above) (beyond walk item ix t r.z r.here f) f.after r.above before (passed walk item ix t r.z r.here r.above r.stands f next) refl)
+      ap (λ a. starts_before (settled (tight_below r.above) a)) (sym (behind-is r.z r.here f)) ∙ no-starts r.above (behind_first r.here) (none r.z r.here r.above r.stands) (no-list r.z r.here r.above r.stands) in (
+        left_from stage.Before f.after r.above,
+        left-marker left r f ∙ ap (λ z. first_of_segments z (Given marker) (segments (settled (tight_below r.above) f.after)) ++ left_above r.above) no,
+        remains-before (moved walk t) (left_from stage.Before f.after r.above) (beyond walk item ix t r.z r.here f) f.after r.above before (passed walk item ix t r.z r.here r.above r.stands f next) refl,
+      )
 
   abbrev pub into_leaf : Walk
   into_leaf = staged (moved walk t) (stage.Marked is_checked item.start item.end)
 
   -- where a paragraph or a heading does
-  entered-left : (tag : TextTag) (leaf : Item) (above : List Outer) (after : BlockDocument) → BeginsAs walk above tag leaf after
+  entered-left : (tag : TextTag) (leaf : Item) (z : Zip Item) (above : List Outer) (after : BlockDocument) → StandsBelow walk z above → Reads-at walk leaf (reads.Around (shown_tag tag)) → BeginsAs walk above leaf after
       → first_of_segments (starts_before (settled (tight_below above) after)) (Given marker) (segments (settled (tight_below above) after)) ++ left_above above
       ≡ Given (at_range (event.Start (shown_tag tag)) leaf) ∷ left_from (stage.Marked is_checked item.start item.end) after above
-  entered-left tag leaf above document.Nil b = absurd b
-  entered-left tag leaf above (document.Node node inside rest) b =
+  entered-left tag leaf z above document.Nil s read b = absurd b
+  entered-left tag leaf z above (document.Node node inside rest) s read b =
       let K : BlockKind = kind_within (tight_below above) node.kind in
       let A : List Segment = segments (settled (tight_below above) rest) in
       let titled : Bool = begins_title (settled (tight_within (tight_below above) node.kind) inside) in
-      marked-around (shown_tag tag) (starts_of K titled) (read_as K) (starts_before (settled (tight_below above) rest)) K node (inside_at walk item ix t at is before above node inside) A (left_above above) (leaf-starts K titled (leaf-within (tight_below above) node.kind ∙ b.1)) b.2
+      marked-around (shown_tag tag) (starts_of K titled) (read_as K) (starts_before (settled (tight_below above) rest)) K node (inside_at walk item ix t at is before above node inside) A (left_above above) (leaf-starts K titled (leaf-within (tight_below above) node.kind ∙ b.1)) (read z above node s b.0)
       ∙ ap (λ I. Given (over node (event.Start (shown_tag tag))) ∷ (Given marker ∷ (I ++ (leaving (read_as K) node ++ (A ++ left_above above))))) (leaf-inside walk item ix t at is before above node inside b.1)
       ∙ ap (λ l. Given (over node (event.Start (shown_tag tag))) ∷ (Given marker ∷ (Content (leaf_of node.kind inside) ∷ l))) (sym (append_assoc (leaving (read_as K) node) A (left_above above)))
       ∙ ap (λ x. Given x ∷ left_from (stage.Marked is_checked item.start item.end) (document.Node node inside rest) above) (over-range walk.text.now (texts_of walk) leaf node (event.Start (shown_tag tag)) b.0)
@@ -175,25 +185,27 @@ module _ (walk : Walk) (item : Item) (ix : TreeIndex) (t : Tree Item) (at : IsFo
           (ap (λ n. first_of_segments n (Given marker) (read_with (reads.Around tag) z (as_kind k node) I A) ++ L) e
           ∙ ap (λ o. Given (over node (event.Start tag)) ∷ (Given marker ∷ o)) (append_assoc (I ++ (Given (over node (event.End (end_of tag))) ∷ [])) A L ∙ append_assoc I (Given (over node (event.End (end_of tag))) ∷ []) (A ++ L)))
 
-  pub enters-marked : (tag : TextTag) (leaf : Item) → IsLeafBehind walk ix (Some (tag, leaf)) → (s : Step) → GivesRanged (text_event.Start tag) leaf s → (left : List Segment) (lines : List LeafLine) → Remains walk left → GivesStep left s lines into_leaf
-  enters-marked tag leaf found s g left lines r =
+  pub enters-marked : (tag : TextTag) (leaf : Item) → IsLeafBehind walk ix (Some leaf) → Reads-at walk leaf (reads.Around (shown_tag tag)) → (left : List Segment) → Remains walk left
+      → IsFirst left (at_range (event.Start (shown_tag tag)) leaf) into_leaf
+  enters-marked tag leaf found read left r =
       let f = at-focus walk item ix t at is before r.z r.here r.above r.stands in
-      let b = subst (BeginsAs walk r.above tag leaf) (behind-is r.z r.here f) (found r.z r.here r.above r.stands) in
-      let p = passed walk item ix t r.z r.here r.above r.stands f next in
-      gives-step (text_event.Start tag) leaf s lines left (left_from (stage.Marked is_checked item.start item.end) f.after r.above) into_leaf g
-      (left-marker left r f ∙ entered-left tag leaf r.above f.after b)
-      (record {
-        z = beyond walk item ix t r.z r.here f;
-        here = f.after;
-        above = r.above;
-        stands = record { below = record { holds = p.below.holds; draws_above = p.below.draws_above; elements = p.below.elements }; draws = p.draws };
-        staged = staged-leaf r.above tag leaf f.after b;
-        are = refl;
-      })
+      let b = subst (BeginsAs walk r.above leaf) (behind-is r.z r.here f) (found r.z r.here r.above r.stands) in
+      let p = passed walk item ix t r.z r.here r.above r.stands f next in (
+        left_from (stage.Marked is_checked item.start item.end) f.after r.above,
+        left-marker left r f ∙ entered-left tag leaf r.z r.above f.after r.stands.below read b,
+        record {
+          z = beyond walk item ix t r.z r.here f;
+          here = f.after;
+          above = r.above;
+          stands = record { below = record { holds = p.below.holds; draws_above = p.below.draws_above; elements = p.below.elements }; draws = p.draws };
+          staged = staged-leaf r.above leaf f.after b;
+          are = refl;
+        },
+      )
     where
-      staged-leaf : (above : List Outer) (tag : TextTag) (leaf : Item) (after : BlockDocument) → BeginsAs walk above tag leaf after → IsStaged (stage.Marked is_checked item.start item.end) after
-      staged-leaf above tag leaf document.Nil b = b
-      staged-leaf above tag leaf (document.Node node inside rest) b = b.1
+      staged-leaf : (above : List Outer) (leaf : Item) (after : BlockDocument) → BeginsAs walk above leaf after → IsStaged (stage.Marked is_checked item.start item.end) after
+      staged-leaf above leaf document.Nil b = b
+      staged-leaf above leaf (document.Node node inside rest) b = b.1
 
   abbrev pub into_list : Walk
   into_list = staged (moved walk t) (stage.Listed is_checked item.start item.end)
@@ -224,21 +236,22 @@ module _ (walk : Walk) (item : Item) (ix : TreeIndex) (t : Tree Item) (at : IsFo
       listed-around k.0 (begins_title within) (kind_within (tight_below above) node.kind) (starts_before (settled (tight_below above) rest)) node within (segments within) (segments (settled (tight_below above) rest)) (left_above above) (ap (kind_within (tight_below above)) k.1)
       ∙ ap (λ x. Given x ∷ left_from (stage.Listed is_checked item.start item.end) (document.Node node inside rest) above) (over-range walk.text.now (texts_of walk) list node (event.Start tag.DefinitionList) b.0)
 
-  pub enters-listed : (list : Item) → IsListBehind walk ix (Some list) → (s : Step) → GivesRanged (text_event.Start text_tag.DefinitionList) list s → (left : List Segment) (lines : List LeafLine) → Remains walk left → GivesStep left s lines into_list
-  enters-listed list found s g left lines r =
+  pub enters-listed : (list : Item) → IsListBehind walk ix (Some list) → (left : List Segment) → Remains walk left → IsFirst left (at_range (event.Start tag.DefinitionList) list) into_list
+  enters-listed list found left r =
       let f = at-focus walk item ix t at is before r.z r.here r.above r.stands in
       let b = subst (ListBehind walk (Some list)) (behind-is r.z r.here f) (found r.z r.here r.above r.stands) in
-      let p = passed walk item ix t r.z r.here r.above r.stands f next in
-      gives-step (text_event.Start text_tag.DefinitionList) list s lines left (left_from (stage.Listed is_checked item.start item.end) f.after r.above) into_list g
-      (left-marker left r f ∙ listed-left list r.above f.after b)
-      (record {
-        z = beyond walk item ix t r.z r.here f;
-        here = f.after;
-        above = r.above;
-        stands = record { below = record { holds = p.below.holds; draws_above = p.below.draws_above; elements = p.below.elements }; draws = p.draws };
-        staged = staged-list list f.after b;
-        are = refl;
-      })
+      let p = passed walk item ix t r.z r.here r.above r.stands f next in (
+        left_from (stage.Listed is_checked item.start item.end) f.after r.above,
+        left-marker left r f ∙ listed-left list r.above f.after b,
+        record {
+          z = beyond walk item ix t r.z r.here f;
+          here = f.after;
+          above = r.above;
+          stands = record { below = record { holds = p.below.holds; draws_above = p.below.draws_above; elements = p.below.elements }; draws = p.draws };
+          staged = staged-list list f.after b;
+          are = refl;
+        },
+      )
     where
       staged-list : (list : Item) (after : BlockDocument) → ListBehind walk (Some list) after → BeginsWithList after
       staged-list list document.Nil b = b

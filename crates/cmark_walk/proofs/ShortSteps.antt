@@ -1,5 +1,5 @@
 -- Steps of a walk of which no event is made.
-use Rattle.std.proofs.Common.{◌≡◌, List, [], true, false, refl, ◌∙◌, subst}
+use Rattle.std.proofs.Common.{◌≡◌, ℕ, List, true, false, refl, sym, ◌∙◌, subst}
 use Rattle.cmark_tree.specs.declared.tree.Tree.{Tree}
 use Rattle.cmark_tree.specs.declared.tree_index.TreeIndex.{TreeIndex}
 use Rattle.cmark_tree.specs.Zip.{Zip, pushed, past, Sibling, HasFocus}
@@ -9,60 +9,45 @@ use Rattle.cmark_grammar.specs.Event as event
 use Rattle.cmark_grammar.specs.SpanDocuments.{Segment}
 use Rattle.cmark_items.specs.declared.item.Item.{Item}
 use Rattle.cmark_leaf_text.specs.declared.stretch.LeafLine.{LeafLine}
-use Rattle.cmark_text.specs.declared.event.Event.TheVariants as text_event
-use Rattle.cmark_text.specs.declared.event.TagEnd.{TagEnd}
+use Rattle.cmark_text.specs.declared.event.Event.{Event}
 use Rattle.cmark_text.specs.declared.short.PlainTag.{PlainTag}
 use Rattle.cmark_text.specs.declared.short.Short.{Short}
 use Rattle.cmark_text.specs.declared.short.Short.TheVariants as short
 use Rattle.cmark_text.specs.Short.{IsShortZeroCopy, shown_plain, shown_short}
-use Rattle.cmark_text.specs.Shown.{shown_end}
-use Rattle.cmark_text.specs.declared.ranged.Ranged.{Ranged}
+use Rattle.cmark_text.specs.Shown.{shown}
 use Rattle.cmark_walk.specs.declared.reading.Brief.{Brief}
 use Rattle.cmark_walk.specs.declared.reading.Brief.TheVariants as brief
 use Rattle.cmark_walk.specs.declared.reading.Stage.TheVariants as stage
-use Rattle.cmark_walk.specs.declared.reading.Step.TheVariants as step
+use Rattle.cmark_walk.specs.declared.reading.Met.{Met}
 use Rattle.cmark_walk.specs.declared.walk.Walk.{Walk}
-use Rattle.cmark_walk.specs.Walking.{GivesBrief, GivesShort, GivesStep, Goes, Remains, definitions_of, text_of}
-use Rattle.cmark_walk.proofs.WalkSteps.{IsFocusAt, IsItem, Lasts, Leaf-at, Reads-at, at_range, enters-around-as, enters-leaf-as, moved, passes-alone-as, staged}
-
--- an event with the range of an item
-abbrev pub ranged_end : TagEnd → Item → Ranged
-ranged_end end item = record { event = text_event.End end; range = record { start = item.start; end = item.end } }
+use Rattle.cmark_walk.specs.Walking.{Gives, GivesBrief, GivesOver, GivesRanged, GivesShort, Goes, IsFirst, Remains, definitions_of, text_of}
+use Rattle.cmark_walk.proofs.WalkSteps.{IsFocusAt, IsItem, Lasts, Leaf-at, Reads-at, enters-around-as, enters-leaf-as, gives-met, moved, passes-alone-as, staged}
 
 module _ (walk : Walk) (item : Item) (ix : TreeIndex) (t : Tree Item) (at : IsFocusAt walk ix) (is : IsItem walk.tree ix item) (before : walk.stage ≡ stage.Before) where
-  pub enters-leaf-short : (tag : PlainTag) → Reads-at walk item (reads.Around (shown_plain tag)) → Leaf-at walk item true → GivesShort walk (short.Start tag) (staged walk stage.Lines)
-  enters-leaf-short tag read leaf = record {
-    given = at_range (event.Start (shown_plain tag)) item;
-    is = refl;
-    gives = enters-leaf-as walk item ix t at is before (shown_plain tag) read leaf;
-    lent = tt;
-  }
+  pub enters-leaf-short : (tag : PlainTag) → Reads-at walk item (reads.Around (shown_plain tag)) → Leaf-at walk item true → GivesOver walk (short.Start tag) item.start item.end (staged walk stage.Lines)
+  enters-leaf-short tag read leaf = record { gives = enters-leaf-as walk item ix t at is before (shown_plain tag) read leaf; lent = tt }
 
   pub enters-around-short : (tag : PlainTag) → Reads-at walk item (reads.Around (shown_plain tag)) → Leaf-at walk item false → ((z : Zip Item) → Holds walk.tree z → HasFocus z → Holds t (pushed z))
-      → GivesShort walk (short.Start tag) (moved walk t)
-  enters-around-short tag read leaf push = record {
-    given = at_range (event.Start (shown_plain tag)) item;
-    is = refl;
-    gives = enters-around-as walk item ix t at is before (shown_plain tag) read leaf push;
-    lent = tt;
-  }
+      → GivesOver walk (short.Start tag) item.start item.end (moved walk t)
+  enters-around-short tag read leaf push = record { gives = enters-around-as walk item ix t at is before (shown_plain tag) read leaf push; lent = tt }
 
   pub passes-short : (s : Short) → Reads-at walk item (reads.Alone (shown_short s)) → ((z : Zip Item) (s : Sibling z ix.ix) → Holds walk.tree z → Holds t (past z ix.ix s))
-      → IsShortZeroCopy (text_of walk) s item.start item.end → GivesShort walk s (moved walk t)
-  passes-short s read next lent = record {
-    given = at_range (shown_short s) item;
-    is = refl;
-    gives = passes-alone-as walk item ix t at is before (shown_short s) read next;
-    lent = lent;
-  }
-
--- an end with the range of an item
-pub ends-short : (old new : Walk) (end : TagEnd) (item : Item) → ((left : List Segment) (lines : List LeafLine) → Remains old left → GivesStep left (step.Event (ranged_end end item)) lines new) → GivesShort old (short.End end) new
-ends-short old new end item gives = record { given = at_range (event.End (shown_end end)) item; is = refl; gives = λ left r. gives left [] r; lent = tt }
+      → IsShortZeroCopy (text_of walk) s item.start item.end → GivesOver walk s item.start item.end (moved walk t)
+  passes-short s read next lent = record { gives = passes-alone-as walk item ix t at is before (shown_short s) read next; lent = lent }
 
 -- the walk goes on
-pub goes-short : (old new : Walk) (s : Short) → GivesShort old s new → Goes old → Goes new
-goes-short old new s g goes = let first = g.gives goes.0 goes.1 in (first.0, first.2)
+pub goes-short : (old new : Walk) (s : Short) (start end : ℕ) → GivesOver old s start end new → Goes old → Goes new
+goes-short old new s start end g goes = let first = g.gives goes.0 goes.1 in (first.0, first.2)
+
+-- whatever the range is
+pub some-range : (old new : Walk) (s : Short) (start end : ℕ) → GivesOver old s start end new → GivesShort old s new
+some-range old new s start end g = record { given = record { event = shown_short s; start = start; end = end }; is = refl; gives = g.gives; lent = g.lent }
+
+-- the event that it stands for is given
+pub gives-made : (old new : Walk) (s : Short) (start end : ℕ) (e : Event) (met : Met) (lines : List LeafLine) → GivesOver old s start end new → shown e ≡ shown_short s → GivesRanged e start end met
+    → (left : List Segment) → Remains old left → Gives left met lines new
+gives-made old new s start end e met lines g is ranged left r =
+    gives-met e start end met lines left new ranged (subst (λ (x : event.Event). IsFirst left (record { event = x; start = start; end = end }) new) (sym is) (g.gives left r))
 
 -- what a step gives that steps without an event stood before
 pub after-lasting : (old walk new : Walk) (b : Brief) (lines : List LeafLine) → Lasts old walk → GivesBrief walk b lines new → GivesBrief old b lines new

@@ -1,5 +1,5 @@
 -- One step of a walk over a document's tree.
-use Rattle.std.proofs.Common.{◌≡◌, ℕ, Bool, true, false, true≢false, List, [], ◌∷◌, ◌++◌, Option, Some, None, Result, Ok, Err, OnErr, option_map, refl, sym, ap, ◌∙◌, subst, append_assoc}
+use Rattle.std.proofs.Common.{◌≡◌, ℕ, Bool, true, false, true≢false, List, [], ◌∷◌, ◌++◌, Option, Some, None, Result, Ok, Err, IfOk, OnErr, option_map, refl, sym, ap, ◌∙◌, subst, append_assoc}
 use Rattle.std.proofs.lemmas.Option.{same_Some}
 use Rattle.cmark_tree.specs.declared.tree.Tree.{Tree}
 use Rattle.cmark_tree.specs.declared.tree_index.TreeIndex.{TreeIndex}
@@ -12,9 +12,7 @@ use Rattle.cmark_tree.proofs.Steps.{in_right}
 use Rattle.cmark_tree.proofs.Entries.{node_at-within}
 use Rattle.cmark_text_parts.specs.declared.text.CowStr.{CowStr}
 use Rattle.cmark_text.specs.declared.event.Event.{Event as TextEvent}
-use Rattle.cmark_text.specs.declared.event.Event.TheVariants as text_event
-use Rattle.cmark_text.specs.declared.event.Tag.{Tag as TextTag}
-use Rattle.cmark_text.specs.Shown.{shown, shown_tag}
+use Rattle.cmark_text.specs.Shown.{shown}
 use Rattle.cmark_grammar.specs.Tag as tag
 use Rattle.cmark_grammar.specs.TagEnd.{end_of}
 use Rattle.cmark_grammar.specs.Event as event
@@ -34,10 +32,10 @@ use Rattle.cmark_leaf_text.specs.declared.stretch.LeafLine.{LeafLine}
 use Rattle.cmark_walk.specs.declared.walk.Walk.{Walk}
 use Rattle.cmark_walk.specs.declared.reading.Stage.{Stage}
 use Rattle.cmark_walk.specs.declared.reading.Stage.TheVariants as stage
-use Rattle.cmark_walk.specs.declared.reading.Step.{Step}
-use Rattle.cmark_walk.specs.declared.reading.Step.TheVariants as step
+use Rattle.cmark_walk.specs.declared.reading.Met.{Met}
+use Rattle.cmark_walk.specs.declared.reading.Met.TheVariants as met
 use Rattle.cmark_walk.specs.Reads.{tag_in}
-use Rattle.cmark_walk.specs.Walking.{Drawn, Draws, DrawsInside, IsOneText, own_text_end, Outer, StandsBelow, StandsAt, Remains, Goes, GivesStep, GivesRanged, IsFirst, IsAt, IsElement, IsStaged, left_from, left_above, leaving, tight_below, text_of, texts_of, definitions_of}
+use Rattle.cmark_walk.specs.Walking.{Drawn, Draws, DrawsInside, IsOneText, own_text_end, Outer, StandsBelow, StandsAt, Remains, Goes, Gives, GivesRanged, IsFirst, IsAt, IsElement, IsStaged, left_from, left_above, leaving, tight_below, text_of, texts_of, definitions_of}
 use Rattle.cmark_walk.proofs.LeafKinds.{leaf-within, inside-leaf, inside-block, settled-leaf, only-leaves-inside}
 
 -- the walk with its tree in another place
@@ -193,21 +191,13 @@ module _ (walk : Walk) (item : Item) (ix : TreeIndex) (t : Tree Item) where
   }
 
 -- what a step gives, and what remains
-pub gives-step : (e : TextEvent) (item : Item) (s : Step) (lines : List LeafLine) (left others : List Segment) (walk : Walk) → GivesRanged e item s → left ≡ Given (at_range (shown e) item) ∷ others
-    → Remains walk others → GivesStep left s lines walk
-gives-step e item (step.Event given) lines left others walk g eq r = (others, eq ∙ ap (λ x. Given x ∷ others) (sym g), r)
-gives-step e item (step.Leaf is_cell) lines left others walk g eq r = absurd g
-gives-step e item step.Silent lines left others walk g eq r = absurd g
-gives-step e item step.Over lines left others walk g eq r = absurd g
+pub gives-met : (e : TextEvent) (start end : ℕ) (met : Met) (lines : List LeafLine) (left : List Segment) (walk : Walk) → GivesRanged e start end met → IsFirst left (record { event = shown e; start = start; end = end }) walk → Gives left met lines walk
+gives-met e start end (met.Event given) lines left walk g f = (f.0, f.1 ∙ ap (λ x. Given x ∷ f.0) (sym g), f.2)
+gives-met e start end (met.Leaf is_cell) lines left walk g f = absurd g
+gives-met e start end met.Over lines left walk g f = absurd g
 
-pub first-step : (e : TextEvent) (item : Item) (s : Step) (lines : List LeafLine) (left : List Segment) (walk : Walk) → GivesRanged e item s → IsFirst left (at_range (shown e) item) walk → GivesStep left s lines walk
-first-step e item s lines left walk g f = gives-step e item s lines left f.0 walk g f.1 f.2
-
-pub goes-after : (left : List Segment) (s : Step) (lines : List LeafLine) (walk : Walk) → GivesStep left s lines walk → Goes walk
-goes-after left (step.Event given) lines walk g = (g.0, g.2)
-goes-after left (step.Leaf is_cell) lines walk g = (g.1, g.4)
-goes-after left step.Silent lines walk g = (left, g)
-goes-after left step.Over lines walk g = ([], g.1)
+pub goes-after : (left : List Segment) (given : event.Ranged) (walk : Walk) → IsFirst left given walk → Goes walk
+goes-after left given walk g = (g.0, g.2)
 
 -- what is left at a stage
 pub left-staged : (walk : Walk) (now : Stage) (left : List Segment) → walk.stage ≡ now → (r : Remains walk left) → left ≡ left_from now r.here r.above
@@ -281,11 +271,6 @@ module _ (walk : Walk) (item : Item) (ix : TreeIndex) (t : Tree Item) (at : IsFo
         remains-before (moved walk t) (left_from stage.Before f.inside below) (down walk item ix t r.z r.here f) f.inside below before (into walk item ix t r.z r.here r.above r.stands is f block (around-element tag (read_as (kind_at r.above f.node)) at-node) push) refl,
       )
 
-  pub enters-around : (tag : TextTag) (s : Step) → Reads-at walk item (reads.Around (shown_tag tag)) → Leaf-at walk item false → ((z : Zip Item) → Holds walk.tree z → HasFocus z → Holds t (pushed z))
-      → GivesRanged (text_event.Start tag) item s
-      → (left : List Segment) (lines : List LeafLine) → Remains walk left → GivesStep left s lines (moved walk t)
-  enters-around tag s read leaf push g left lines r = first-step (text_event.Start tag) item s lines left (moved walk t) g (enters-around-as (shown_tag tag) read leaf push left r)
-
   -- before the lines of a leaf
   at-lines : (left : List Segment) (r : Remains walk left) (f : Focus walk item ix r.z r.here) → is_leaf f.node.kind ≡ true → Remains (staged walk stage.Lines) (left_from stage.Lines r.here r.above)
   at-lines left r f e = record {
@@ -318,10 +303,6 @@ module _ (walk : Walk) (item : Item) (ix : TreeIndex) (t : Tree Item) (at : IsFo
         at-lines left r f is-leaf,
       )
 
-  pub enters-leaf : (tag : TextTag) (s : Step) → Reads-at walk item (reads.Around (shown_tag tag)) → Leaf-at walk item true → GivesRanged (text_event.Start tag) item s
-      → (left : List Segment) (lines : List LeafLine) → Remains walk left → GivesStep left s lines (staged walk stage.Lines)
-  enters-leaf tag s read leaf g left lines r = first-step (text_event.Start tag) item s lines left (staged walk stage.Lines) g (enters-leaf-as (shown_tag tag) read leaf left r)
-
   pub enters-inside : Reads-at walk item reads.Inside → (left : List Segment) → Remains walk left → Remains (staged walk stage.Lines) left
   enters-inside read left r =
       let f = at-focus r.z r.here r.above r.stands in
@@ -345,10 +326,6 @@ module _ (walk : Walk) (item : Item) (ix : TreeIndex) (t : Tree Item) (at : IsFo
         remains-before (moved walk t) (left_from stage.Before f.after r.above) (beyond walk item ix t r.z r.here f) f.after r.above before (passed walk item ix t r.z r.here r.above r.stands f next) refl,
       )
 
-  pub passes-alone : (e : TextEvent) (s : Step) → Reads-at walk item (reads.Alone (shown e)) → ((z : Zip Item) (s : Sibling z ix.ix) → Holds walk.tree z → Holds t (past z ix.ix s)) → GivesRanged e item s
-      → (left : List Segment) (lines : List LeafLine) → Remains walk left → GivesStep left s lines (moved walk t)
-  passes-alone e s read next g left lines r = first-step e item s lines left (moved walk t) g (passes-alone-as (shown e) read next left r)
-
 -- what the calls of a step ask
 module _ (walk : Walk) (item : Item) (ix : TreeIndex) (at : IsFocusAt walk ix) (is : IsItem walk.tree ix item) where
   pub at-item : (z : Zip Item) (here : BlockDocument) (above : List Outer) → StandsAt walk z here above → Focus walk item ix z here
@@ -368,6 +345,14 @@ focus-number walk ix (Node p inner later) st f =
 
 pub focus-node : (walk : Walk) (ix : TreeIndex) → IsAt walk ix → HasNode walk.tree ix.ix
 focus-node walk ix a = focus-number walk ix a.0.1.z.right (in_right walk.tree.nodes walk.tree.first a.0.1.z a.0.1.stands.below.holds.forest) (a.1 a.0.1.z a.0.1.stands.below.holds)
+
+pub err-then : {A E : Type 0} (r : Result A E) (P Q : Type 0) → (P → Q) → OnErr r P → OnErr r Q
+err-then (Ok a) P Q h p = tt
+err-then (Err e) P Q h p = h p
+
+pub ok-then : {A E : Type 0} (r : Result A E) (P Q : A → Type 0) → ((a : A) → P a → Q a) → IfOk r P → IfOk r Q
+ok-then (Ok a) P Q h p = h a p
+ok-then (Err e) P Q h p = tt
 
 pub on-err : {A E : Type 0} (r : Result A E) (P : Type 0) → P → OnErr r P
 on-err (Ok a) P p = tt

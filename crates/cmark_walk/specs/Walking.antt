@@ -7,7 +7,6 @@ use Rattle.cmark_text.specs.declared.short.Short.{Short}
 use Rattle.cmark_text.specs.Ranged.{IsRangedZeroCopy, shown_ranged}
 use Rattle.cmark_text.specs.Short.{IsShortZeroCopy, shown_plain, shown_short}
 use Rattle.cmark_text.specs.Shown.{shown}
-use Rattle.cmark_text.specs.ZeroCopy.{IsZeroCopy}
 use Rattle.cmark_tree.specs.Forest as forest
 use Rattle.cmark_tree.specs.Forest.{Forest}
 use Rattle.cmark_tree.specs.Arena.{Entry, Placed}
@@ -31,8 +30,6 @@ use Rattle.cmark_items.specs.declared.definitions.RefDefs.{RefDefs}
 use Rattle.cmark_items.specs.declared.item.Item.{Item}
 use Rattle.cmark_items.specs.declared.item.ItemBody.{ItemBody}
 use Rattle.cmark_items.specs.declared.item.ItemBody.TheVariants as body
-use Rattle.cmark_text.specs.declared.event.Tag.{Tag as TextTag}
-use Rattle.cmark_text.specs.Shown.{shown_tag}
 use Rattle.cmark_items.specs.ItemNodes.{shown_item}
 use Rattle.cmark_leaf_text.specs.declared.stretch.LeafLine.{LeafLine}
 use Rattle.cmark_leaf_text.specs.Stretches.{AreLines}
@@ -47,10 +44,6 @@ use Rattle.cmark_walk.specs.declared.reading.Glance.{Glance}
 use Rattle.cmark_walk.specs.declared.reading.Glance.TheVariants as glance
 use Rattle.cmark_walk.specs.declared.reading.Stage.{Stage}
 use Rattle.cmark_walk.specs.declared.reading.Stage.TheVariants as stage
-use Rattle.cmark_walk.specs.declared.reading.Reading.{Reading}
-use Rattle.cmark_walk.specs.declared.reading.Reading.TheVariants as reading
-use Rattle.cmark_walk.specs.declared.reading.Step.{Step}
-use Rattle.cmark_walk.specs.declared.reading.Step.TheVariants as step
 
 -- an item is this node, whose range cuts no character of the text
 pub record Drawn (text : List ℕ) (texts : List CowStr) (item : Item) (node : BlockNode) : Type 0 where
@@ -283,19 +276,6 @@ Gives left (met.Event given) lines walk = (others : List Segment) × (left ≡ G
 Gives left (met.Leaf is_cell) lines walk = (leaf : Leaf) × (others : List Segment) × (left ≡ Content leaf ∷ others) × AreLinesOf walk.text.now leaf lines × Remains walk others × (is_cell ≡ leaf.is_cell)
 Gives left met.Over lines walk = (left ≡ []) × Remains walk []
 
-abbrev pub GivesStep : List Segment → Step → List LeafLine → Walk → Type 0
-GivesStep left (step.Event given) lines walk = Gives left (met.Event given) lines walk
-GivesStep left (step.Leaf is_cell) lines walk = Gives left (met.Leaf is_cell) lines walk
-GivesStep left step.Silent lines walk = Remains walk left
-GivesStep left step.Over lines walk = Gives left met.Over lines walk
-
--- a step gives something, or leaves fewer steps that give nothing
-abbrev pub ComesNearer : Walk → Step → Walk → Type 0
-ComesNearer old (step.Event given) new = Unit {0}
-ComesNearer old (step.Leaf is_cell) new = Unit {0}
-ComesNearer old step.Silent new = silent_steps new.stage < silent_steps old.stage
-ComesNearer old step.Over new = Unit {0}
-
 -- the zero-copy law of what is met
 abbrev pub MeetsZeroCopy : List ℕ → Met → Type 0
 MeetsZeroCopy text (met.Event given) = IsRangedZeroCopy text given
@@ -320,37 +300,6 @@ GivesBrief old (brief.Leaf is_cell) lines new = (left : List Segment) → Remain
 GivesBrief old brief.Long lines new = (left : List Segment) → Remains old left → Remains new left
 GivesBrief old brief.Over lines new = (left : List Segment) → Remains old left → Gives left met.Over lines new
 
--- the same of a step, which may give nothing
-abbrev pub GivesShortStep : Walk → BriefStep → List LeafLine → Walk → Type 0
-GivesShortStep old (brief_step.Short short) lines new = GivesBrief old (brief.Short short) lines new
-GivesShortStep old (brief_step.Leaf is_cell) lines new = GivesBrief old (brief.Leaf is_cell) lines new
-GivesShortStep old brief_step.Long lines new = GivesBrief old brief.Long lines new
-GivesShortStep old brief_step.Silent lines new = (left : List Segment) → Remains old left → Remains new left
-GivesShortStep old brief_step.Over lines new = GivesBrief old brief.Over lines new
-
-abbrev pub ComesNearerShort : Walk → BriefStep → Walk → Type 0
-ComesNearerShort old brief_step.Silent new = silent_steps new.stage < silent_steps old.stage
-ComesNearerShort old _ new = Unit {0}
-
--- an item is read so, or has a text of its own
-abbrev pub ReadsAs : Glance → Reads → Type 0
-ReadsAs (glance.Around tag) R = reads.Around (shown_plain tag) ≡ R
-ReadsAs (glance.Alone short) R = reads.Alone (shown_short short) ≡ R
-ReadsAs glance.Inside R = reads.Inside ≡ R
-ReadsAs glance.Long R = Unit {0}
-
-abbrev pub GlancesZeroCopy : List ℕ → Item → Glance → Type 0
-GlancesZeroCopy text item (glance.Alone short) = IsShortZeroCopy text short item.start item.end
-GlancesZeroCopy text item _ = Unit {0}
-
--- these are the lines of the leaf at the focus
-abbrev pub HoldsLines : Walk → List LeafLine → Type 0
-HoldsLines walk lines = (z : Zip Item) (here : BlockDocument) (above : List Outer) → StandsAt walk z here above → AreLinesOf walk.text.now (leaf_at here) lines
-
--- the leaf at the focus has a text
-abbrev pub HasText : Walk → Type 0
-HasText walk = (z : Zip Item) (here : BlockDocument) (above : List Outer) → StandsAt walk z here above → (leaf_at here).stretches ≡ [] → ⊥
-
 -- an element with a text of its own: a heading with attributes, fenced code, a table or a footnote's definition
 abbrev pub has_texts : ItemBody → Bool
 has_texts (body.AttributedHeading level index) = true
@@ -374,6 +323,75 @@ abbrev pub task_body : ItemBody → Option Bool
 task_body (body.TaskListMarker is_checked) = Some is_checked
 task_body _ = None
 
+-- an event of such an item is no short one
+abbrev pub is_long : ItemBody → Bool
+is_long (body.TaskListMarker is_checked) = true
+is_long (body.SynthesizeText index) = true
+is_long (body.SynthesizeChar c) = true
+is_long body = has_texts body
+
+-- the item of a node
+abbrev pub IsItemAt : Walk → TreeIndex → Item → Type 0
+IsItemAt walk ix item = (e : Entry Item) → entry_at walk.tree ix.ix ≡ Some e → item ≡ e.item
+
+abbrev pub IsLongItemAt : Walk → TreeIndex → Type 0
+IsLongItemAt walk ix = (e : Entry Item) → entry_at walk.tree ix.ix ≡ Some e → is_long e.item.body ≡ true
+
+-- whether the event that comes next at a stage is no short one
+abbrev pub IsLongFrom : Stage → Walk → TreeIndex → Type 0
+IsLongFrom stage.Before walk ix = IsLongItemAt walk ix
+IsLongFrom (stage.Marked is_checked start end) walk ix = Unit {0}
+IsLongFrom (stage.Listed is_checked start end) walk ix = Unit {0}
+IsLongFrom stage.Lines walk ix = ⊥
+IsLongFrom stage.Behind walk ix = ⊥
+
+-- the walk stands before this node, or in it, and the event that comes next is no short one
+pub record IsLongAt (walk : Walk) (ix : TreeIndex) : Type 0 where
+  pub at : IsAt walk ix
+  pub long : IsLongFrom walk.stage walk ix
+
+-- that event with this range is the first of what is left, and the others remain
+pub record GivesOver (old : Walk) (short : Short) (start end : ℕ) (new : Walk) : Type 0 where
+  pub gives : (left : List Segment) → Remains old left → IsFirst left (record { event = shown_short short; start = start; end = end }) new
+  pub lent : IsShortZeroCopy (text_of old) short start end
+
+-- the same of a step, which may give nothing; the event of another kind is then the next one, at the focus
+abbrev pub GivesShortStep : Walk → BriefStep → List LeafLine → Walk → Type 0
+GivesShortStep old (brief_step.Short short start end) lines new = GivesOver old short start end new
+GivesShortStep old (brief_step.Leaf is_cell) lines new = GivesBrief old (brief.Leaf is_cell) lines new
+GivesShortStep old (brief_step.Long ix) lines new = GivesBrief old brief.Long lines new × IsLongAt new ix
+GivesShortStep old brief_step.Silent lines new = (left : List Segment) → Remains old left → Remains new left
+GivesShortStep old brief_step.Over lines new = GivesBrief old brief.Over lines new
+
+-- a step gives something, or leaves fewer steps that give nothing
+abbrev pub ComesNearer : Walk → BriefStep → Walk → Type 0
+ComesNearer old brief_step.Silent new = silent_steps new.stage < silent_steps old.stage
+ComesNearer old _ new = Unit {0}
+
+-- an item is read so, or has a text of its own
+abbrev pub ReadsAs : Glance → Reads → Type 0
+ReadsAs (glance.Around tag) R = reads.Around (shown_plain tag) ≡ R
+ReadsAs (glance.Alone short) R = reads.Alone (shown_short short) ≡ R
+ReadsAs glance.Inside R = reads.Inside ≡ R
+ReadsAs glance.Long R = Unit {0}
+
+-- what is not read so is no short event
+abbrev pub IsLongGlance : Glance → ItemBody → Type 0
+IsLongGlance glance.Long body = is_long body ≡ true
+IsLongGlance _ body = Unit {0}
+
+abbrev pub GlancesZeroCopy : List ℕ → Item → Glance → Type 0
+GlancesZeroCopy text item (glance.Alone short) = IsShortZeroCopy text short item.start item.end
+GlancesZeroCopy text item _ = Unit {0}
+
+-- these are the lines of the leaf at the focus
+abbrev pub HoldsLines : Walk → List LeafLine → Type 0
+HoldsLines walk lines = (z : Zip Item) (here : BlockDocument) (above : List Outer) → StandsAt walk z here above → AreLinesOf walk.text.now (leaf_at here) lines
+
+-- the leaf at the focus has a text
+abbrev pub HasText : Walk → Type 0
+HasText walk = (z : Zip Item) (here : BlockDocument) (above : List Outer) → StandsAt walk z here above → (leaf_at here).stretches ≡ [] → ⊥
+
 abbrev pub IsTaskAt : Walk → TreeIndex → Bool → Type 0
 IsTaskAt walk ix is_checked = (e : Entry Item) → entry_at walk.tree ix.ix ≡ Some e → task_body e.item.body ≡ Some is_checked
 
@@ -382,16 +400,26 @@ abbrev pub behind_first : BlockDocument → BlockDocument
 behind_first document.Nil = document.Nil
 behind_first (document.Node node inside after) = after
 
--- these nodes begin with a paragraph or a heading that has this tag and this item
-abbrev pub BeginsAs : Walk → List Outer → TextTag → Item → BlockDocument → Type 0
-BeginsAs walk above tag item document.Nil = ⊥
-BeginsAs walk above tag item (document.Node node inside after) =
-    Drawn walk.text.now (texts_of walk) item node × (is_leaf node.kind ≡ true) × (reads.Around (shown_tag tag) ≡ read_as (kind_within (tight_below above) node.kind))
+-- the item is a paragraph, a heading or a title among the nodes at hand, and an element
+pub record IsLeafElement (walk : Walk) (item : Item) : Type 0 where
+  pub z : Zip Item
+  pub above : List Outer
+  pub node : BlockNode
+  pub stands : StandsBelow walk z above
+  pub drawn : Drawn walk.text.now (texts_of walk) item node
+  pub leaf : is_leaf node.kind ≡ true
+  pub element : IsElement (read_as (kind_within (tight_below above) node.kind))
 
--- a paragraph, a heading or a title begins behind the focus, with this tag and this item, or none does, but perhaps a definition list
-abbrev pub BeginsBehind : Walk → List Outer → Option (TextTag × Item) → BlockDocument → Type 0
+-- these nodes begin with a paragraph, a heading or a title that is an element and has this item
+abbrev pub BeginsAs : Walk → List Outer → Item → BlockDocument → Type 0
+BeginsAs walk above item document.Nil = ⊥
+BeginsAs walk above item (document.Node node inside after) =
+    Drawn walk.text.now (texts_of walk) item node × (is_leaf node.kind ≡ true) × IsElement (read_as (kind_within (tight_below above) node.kind))
+
+-- a paragraph, a heading or a title begins behind the focus, with this item, or none does, but perhaps a definition list
+abbrev pub BeginsBehind : Walk → List Outer → Option Item → BlockDocument → Type 0
 BeginsBehind walk above None after = (starts_before (settled (tight_below above) after) ≡ 0) ⊎ BeginsWithList after
-BeginsBehind walk above (Some begun) after = BeginsAs walk above begun.0 begun.1 after
+BeginsBehind walk above (Some item) after = BeginsAs walk above item after
 
 -- a definition list begins behind the focus, with this item, or none does
 abbrev pub ListBehind : Walk → Option Item → BlockDocument → Type 0
@@ -412,24 +440,11 @@ TitleIn walk (Some item) (document.Node node inside after) = Drawn walk.text.now
 abbrev pub IsTitleIn : Walk → TreeIndex → Option Item → Type 0
 IsTitleIn walk ix found = (z : Zip Item) (here : BlockDocument) (above : List Outer) → StandsAt walk z here above → BeginsWithList here → TitleIn walk found (content_of here)
 
-abbrev pub IsLeafBehind : Walk → TreeIndex → Option (TextTag × Item) → Type 0
+abbrev pub IsLeafBehind : Walk → TreeIndex → Option Item → Type 0
 IsLeafBehind walk ix found = (z : Zip Item) (here : BlockDocument) (above : List Outer) → StandsAt walk z here above → BeginsBehind walk above found (behind_first here)
 
--- this event with the item's range
-abbrev pub GivesRanged : TextEvent → Item → Step → Type 0
-GivesRanged event item (step.Event given) = shown_ranged given ≡ record { event = shown event; start = item.start; end = item.end }
-GivesRanged event item (step.Leaf is_cell) = ⊥
-GivesRanged event item step.Silent = ⊥
-GivesRanged event item step.Over = ⊥
-
--- the zero-copy law of what is read and given: of an event over these bytes of the text
-abbrev pub ReadsZeroCopy : List ℕ → Item → Reading → Type 0
-ReadsZeroCopy text item (reading.Around tag) = Unit {0}
-ReadsZeroCopy text item (reading.Alone event) = IsZeroCopy text event item.start item.end
-ReadsZeroCopy text item reading.Inside = Unit {0}
-
-abbrev pub StepsZeroCopy : List ℕ → Step → Type 0
-StepsZeroCopy text (step.Event given) = IsRangedZeroCopy text given
-StepsZeroCopy text (step.Leaf is_cell) = Unit {0}
-StepsZeroCopy text step.Silent = Unit {0}
-StepsZeroCopy text step.Over = Unit {0}
+-- this event with this range
+abbrev pub GivesRanged : TextEvent → (start end : ℕ) → Met → Type 0
+GivesRanged event start end (met.Event given) = shown_ranged given ≡ record { event = shown event; start = start; end = end }
+GivesRanged event start end (met.Leaf is_cell) = ⊥
+GivesRanged event start end met.Over = ⊥

@@ -1,90 +1,36 @@
 //! What an item of a document's tree is read as: an event, or the tag and the end of an element.
 
-ghost use Rattle.std.specs.Prelude.{◌≡◌, None, List, IfOk, OnErr, option_map, IfSome, true, Some};
+ghost use Rattle.std.specs.Prelude.{◌≡◌, ℕ, Bool, true, List, IfOk, option_map, Some};
 ghost use Rattle.cmark_tree.specs.Zip.{Zip};
 ghost use Rattle.cmark_grammar.specs.BlockDocument.{BlockNode};
+ghost use Rattle.cmark_grammar.specs.BlockReading as reads;
 ghost use Rattle.cmark_grammar.specs.BlockReading.{read_as};
 ghost use Rattle.cmark_grammar.specs.DrawnDocument.{kind_within};
-ghost use Rattle.cmark_walk.specs.Reads.{shown_reading, event_in, tag_in, end_in};
-ghost use Rattle.cmark_walk.specs.Walking.{Drawn, IsDrawn, Outer, StandsBelow, IsBelow, tight_below, text_of, OwnsText, texts_of, ReadsZeroCopy, task_body, is_synthesized, has_texts};
-ghost use Rattle.cmark_grammar.specs.Event as event;
+ghost use Rattle.cmark_walk.specs.Reads.{tag_in, end_in};
+ghost use Rattle.cmark_walk.specs.Walking.{Drawn, IsDrawn, Outer, StandsBelow, IsBelow, tight_below, text_of, texts_of, is_synthesized, has_texts};
+ghost use Rattle.cmark_text.specs.Short.{IsShortZeroCopy, shown_short};
 ghost use Rattle.cmark_text.specs.Shown.{shown, shown_tag, shown_end};
-ghost use Rattle.cmark_text_parts.specs.Shown.{text_bytes, level_number};
+ghost use Rattle.cmark_text_parts.specs.Shown.{level_number};
 ghost use Rattle.cmark_text.specs.ZeroCopy.{IsZeroCopy};
-ghost use Rattle.cmark_text_parts.specs.Lending.{IsLentBy};
-ghost use Rattle.cmark_grammar.specs.Tokens.{slice};
 ghost use Rattle.cmark_grammar.specs.Attributes.{attributes_of};
 ghost use Rattle.cmark_grammar.specs.Tag.{Heading, Table};
 ghost use Rattle.cmark_items.specs.ItemNodes.{columns_of, list_number};
 ghost use Rattle.cmark_grammar.specs.Tables.{delimiter_row};
 
-use crate::reading::Reading;
 use crate::walk::Walk;
 use bitflags::Flags;
 use cmark_items::{HeadingAttributes, Item, ItemBody};
 use cmark_scan::scan_table_head;
-use cmark_text::{CodeBlockKind, CowStr, Event, HeadingLevel, Tag, TagEnd};
+use cmark_text::{CodeBlockKind, CowStr, Event, HeadingLevel, Short, Tag, TagEnd};
 use std::alloc::{AllocError, Global};
 
 impl<'a> Walk<'a> {
-    // How an item among the siblings at hand is read.
-    #[inline(always)]
-    pub(crate) fn read(&self, item: Item) -> Result<Reading<'a>, AllocError>
-        requires below { IsBelow self.now }
-        requires drawn { IsDrawn self.now item }
-        requires unmarked { task_body item.body ≡ None }
-        ensures value { IfOk result (λ reading. (z : Zip Item) (above : List Outer) (node : BlockNode) → StandsBelow self.now z above → Drawn self.now.text.now (texts_of self.now) item node
-            → shown_reading reading ≡ read_as (kind_within (tight_below above) node.kind)) }
-        ensures lent { IfOk result (ReadsZeroCopy (text_of self.now) item) }
-        ensures refused { OnErr result (OwnsText item.body) }
-    {
-        if let Some(event) = self.event(item)? {
-            return Ok(Reading::Alone(event));
-        }
-        match self.tag(item)? {
-            Some(tag) => Ok(Reading::Around(tag)),
-            None => Ok(Reading::Inside),
-        }
-    }
-
-    // The event that an item stands for; none for one that has children.
-    #[inline(always)]
-    fn event(&self, item: Item) -> Result<Option<Event<'a>>, AllocError>
-        requires { IsDrawn self.now item }
-        ensures value { IfOk result (λ event. (node : BlockNode) → Drawn self.now.text.now (texts_of self.now) item node
-            → option_map shown event ≡ event_in (read_as node.kind)) }
-        ensures lent { IfOk result (λ event. IfSome event (λ e. IsZeroCopy (text_of self.now) e item.start item.end)) }
-        ensures refused { OnErr result (OwnsText item.body) }
-    {
-        match item.body {
-            ItemBody::Text { .. } => Ok(Some(Event::Text(self.slice(item)))),
-            ItemBody::Html => Ok(Some(Event::Html(self.slice(item)))),
-            ItemBody::SynthesizeText(_) | ItemBody::SynthesizeChar(_) => {
-                let event = self.synthesized(item)?;
-                Ok(Some(event))
-            }
-            ItemBody::Rule => Ok(Some(Event::Rule)),
-            _ => Ok(None),
-        }
-    }
-
-    // The text that an item stands over.
-    #[inline(always)]
-    pub(crate) fn slice(&self, item: Item) -> CowStr<'a>
-        requires { IsDrawn self.now item }
-        ensures value { text_bytes result ≡ slice self.now.text.now item.start item.end }
-        ensures lent { IsLentBy (slice self.now.text.now item.start item.end) result }
-    {
-        CowStr::Borrowed(&self.text[item.start..item.end])
-    }
-
     // The event of a text that is written nowhere, such as the spaces that are left of a tab.
-    #[inline(never)]
-    fn synthesized(&self, item: Item) -> Result<Event<'a>, AllocError>
+    pub(crate) fn synthesized(&self, item: Item) -> Result<Event<'a>, AllocError>
         requires drawn { IsDrawn self.now item }
         requires synthesized { is_synthesized item.body ≡ true }
-        ensures value { IfOk result (λ made. (node : BlockNode) → Drawn self.now.text.now (texts_of self.now) item node
-            → Some (shown made) ≡ event_in (read_as node.kind)) }
+        ensures value { IfOk result (λ made. (tight : Bool) (node : BlockNode) → Drawn self.now.text.now (texts_of self.now) item node
+            → reads.Alone (shown made) ≡ read_as (kind_within tight node.kind)) }
         ensures lent { IfOk result (λ made. IsZeroCopy (text_of self.now) made item.start item.end) }
     {
         let text = match item.body {
@@ -94,60 +40,14 @@ impl<'a> Walk<'a> {
             _ => CowStr::Borrowed(""),
         };
         let part = &self.text[item.start..item.end];
-        Ok(Event::Text(text.lent_by(self.alloc, part)?))
+        let Ok(text) = text.lent_by(self.alloc, part) else {
+            return Err(AllocError);
+        };
+        Ok(Event::Text(text))
     }
 
-    // The tag of an element among the siblings at hand; none for what is no element.
-    #[inline(always)]
-    pub(crate) fn tag(&self, item: Item) -> Result<Option<Tag<'a>>, AllocError>
-        requires below { IsBelow self.now }
-        requires drawn { IsDrawn self.now item }
-        ensures value { IfOk result (λ tag. (z : Zip Item) (above : List Outer) (node : BlockNode) → StandsBelow self.now z above → Drawn self.now.text.now (texts_of self.now) item node
-            → option_map shown_tag tag ≡ tag_in (read_as (kind_within (tight_below above) node.kind))) }
-        ensures refused { OnErr result (OwnsText item.body) }
-    {
-        match item.body {
-            ItemBody::Paragraph | ItemBody::ParagraphOf(_) => Ok(if self.is_tight() {
-                None
-            } else {
-                Some(Tag::Paragraph)
-            }),
-            ItemBody::Heading(level) => Ok(Some(Tag::Heading {
-                level,
-                id: None,
-                classes: Vec::new(self.alloc),
-                attrs: Vec::new(self.alloc),
-            })),
-            ItemBody::IndentCodeBlock => Ok(Some(Tag::CodeBlock(CodeBlockKind::Indented))),
-            ItemBody::HtmlBlock => Ok(Some(Tag::HtmlBlock)),
-            ItemBody::TableHead => Ok(Some(Tag::TableHead)),
-            ItemBody::TableRow => Ok(Some(Tag::TableRow)),
-            ItemBody::TableCell => Ok(Some(Tag::TableCell)),
-            ItemBody::MetadataBlock(kind) => Ok(Some(Tag::MetadataBlock(kind))),
-            ItemBody::BlockQuote(kind) => Ok(Some(Tag::BlockQuote(kind))),
-            ItemBody::List(_, delimiter, number) => Ok(Some(Tag::List(first_number(
-                delimiter, number,
-            )))),
-            ItemBody::ListItem(_) => Ok(Some(Tag::Item)),
-            ItemBody::DefinitionList(_) => Ok(Some(Tag::DefinitionList)),
-            ItemBody::DefinitionListTitle | ItemBody::DefinitionListTitleOf(_) => {
-                Ok(Some(Tag::DefinitionListTitle))
-            }
-            ItemBody::DefinitionListDefinition(_) => Ok(Some(Tag::DefinitionListDefinition)),
-            ItemBody::AttributedHeading(_, _)
-            | ItemBody::FencedCodeBlock(_)
-            | ItemBody::Table(_)
-            | ItemBody::FootnoteDefinition(_) => {
-                let tag = self.tag_with_texts(item)?;
-                Ok(Some(tag))
-            }
-            _ => Ok(None),
-        }
-    }
-
-    // The tag of an element that has a text of its own. It is made apart, so that no other tag waits for the room that it takes.
-    #[inline(never)]
-    fn tag_with_texts(&self, item: Item) -> Result<Tag<'a>, AllocError>
+    // The tag of an element that has a text of its own.
+    pub(crate) fn tag_with_texts(&self, item: Item) -> Result<Tag<'a>, AllocError>
         requires below { IsBelow self.now }
         requires drawn { IsDrawn self.now item }
         requires texts { has_texts item.body ≡ true }
@@ -160,7 +60,9 @@ impl<'a> Walk<'a> {
                 heading(self.alloc, level, words)
             }
             ItemBody::FencedCodeBlock(index) => {
-                let info = self.allocations[index].clone(self.alloc)?;
+                let Ok(info) = self.allocations[index].clone(self.alloc) else {
+                    return Err(AllocError);
+                };
                 Ok(Tag::CodeBlock(CodeBlockKind::Fenced(info)))
             }
             ItemBody::Table(index) => {
@@ -168,7 +70,9 @@ impl<'a> Walk<'a> {
                 table(self.alloc, row)
             }
             ItemBody::FootnoteDefinition(index) => {
-                let label = self.allocations[index].clone(self.alloc)?;
+                let Ok(label) = self.allocations[index].clone(self.alloc) else {
+                    return Err(AllocError);
+                };
                 Ok(Tag::FootnoteDefinition(label))
             }
             // The caller asks for no other item.
@@ -234,6 +138,25 @@ impl<'a> Walk<'a> {
             }
         }
         false
+    }
+}
+
+// An event that owns nothing, as one of any kind.
+#[inline(always)]
+pub(crate) fn event_of<'a>(alloc: Global, short: Short<'a>) -> Event<'a>
+    ensures value { shown result ≡ shown_short short.entry }
+    ensures lent { (text : List ℕ) (start end : ℕ) → IsShortZeroCopy text short.entry start end → IsZeroCopy text result start end }
+{
+    match short {
+        Short::Text(text) => Event::Text(CowStr::Borrowed(text.as_str())),
+        Short::Code(text) => Event::Code(CowStr::Borrowed(text)),
+        Short::Html(text) => Event::Html(CowStr::Borrowed(text)),
+        Short::InlineHtml(text) => Event::InlineHtml(CowStr::Borrowed(text)),
+        Short::Start(tag) => Event::Start(tag.tag(alloc)),
+        Short::End(tag) => Event::End(tag),
+        Short::SoftBreak => Event::SoftBreak,
+        Short::HardBreak => Event::HardBreak,
+        Short::Rule => Event::Rule,
     }
 }
 

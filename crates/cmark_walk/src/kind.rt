@@ -1,7 +1,7 @@
 //! Which kind of node an item of a document's tree is.
 
 ghost use Rattle.std.specs.Prelude.{◌≡◌, ℕ, List};
-ghost use Rattle.cmark_walk.specs.Walking.{task_body, Drawn, is_list, own_text_end};
+ghost use Rattle.cmark_walk.specs.Walking.{task_body, Drawn, is_list, is_synthesized, own_text_end};
 ghost use Rattle.cmark_grammar.specs.BlockDocument.{BlockNode};
 ghost use Rattle.cmark_grammar.specs.SpanDocuments.{is_leaf, is_cell};
 ghost use Rattle.cmark_text_parts.specs.declared.text.CowStr.{CowStr};
@@ -18,6 +18,17 @@ pub(crate) fn task_of(item: Item) -> Option<bool>
         ItemBody::TaskListMarker(is_checked) => Some(is_checked),
         _ => None,
     }
+}
+
+// Whether an item is a text that is written nowhere in the source.
+#[inline(always)]
+pub(crate) fn is_synthesized(item: Item) -> bool
+    ensures { result ≡ is_synthesized item.body }
+{
+    matches!(
+        item.body,
+        ItemBody::SynthesizeText(_) | ItemBody::SynthesizeChar(_)
+    )
 }
 
 // Whether an item is a leaf, whose lines have spans (CommonMark 4.2, 4.3 and 4.8, GFM 4.10).

@@ -4,14 +4,13 @@ ghost use Rattle.std.specs.Prelude.{◌≡◌, List, IfOk, OnErr, OnOk};
 ghost use Rattle.cmark_grammar.specs.SpanDocuments.{Segment, is_cell};
 ghost use Rattle.cmark_walk.specs.declared.reading.Met.TheVariants as met;
 ghost use Rattle.cmark_walk.specs.declared.reading.Stage.TheVariants as stage;
-ghost use Rattle.cmark_walk.specs.Walking.{GoesOn, LeavesTheSame, Remains, Gives, text_of, IsAt, HoldsLines, HasText, GivesStep, ComesNearer, StepsZeroCopy};
+ghost use Rattle.cmark_walk.specs.Walking.{GoesOn, LeavesTheSame, Remains, Gives, IsAt, HoldsLines, HasText};
 ghost use Rattle.cmark_leaf_text.specs.declared.stretch.LeafLine.{LeafLine};
 
 use crate::kind::{is_cell, own_text_end};
-use crate::reading::{Stage, Step};
-use crate::walk::{Walk, given};
+use crate::reading::Stage;
+use crate::walk::Walk;
 use cmark_leaf_text::LeafLine;
-use cmark_text::Event;
 use cmark_tree::TreeIndex;
 use std::alloc::AllocError;
 
@@ -70,25 +69,5 @@ impl<'a> Walk<'a> {
             next = self.tree.next(line);
         }
         Err(AllocError)
-    }
-
-    // Out of the leaf in the focus, and past it.
-    #[inline(always)]
-    pub(crate) fn leave_leaf(&mut self, ix: TreeIndex) -> Step<'a>
-        requires at { IsAt self.old ix }
-        requires behind { self.old.stage ≡ stage.Behind }
-        ensures given { (left : List Segment) (lines : List LeafLine) → Remains self.old left → GivesStep left result lines self.new }
-        ensures nearer { ComesNearer self.old result self.new }
-        ensures lent { StepsZeroCopy (text_of self.old) result }
-        ensures goes_on { GoesOn self.old self.new }
-    {
-        let item = *self.tree.item(ix);
-        let end = self.end(item);
-        self.tree.next_sibling(ix);
-        self.stage = Stage::Before;
-        match end {
-            Some(end) => given(Event::End(end), item),
-            None => Step::Silent,
-        }
     }
 }

@@ -1,35 +1,40 @@
 //! Task markers in a walk over a document's tree (GFM 5.3).
 
-ghost use Rattle.std.specs.Prelude.{◌≡◌, List, IfOk, OnErr};
+ghost use Rattle.std.specs.Prelude.{◌≡◌, ℕ, List, Some, IfOk, OnErr};
+ghost use Rattle.cmark_tree.specs.Zip.{Zip};
+ghost use Rattle.cmark_grammar.specs.BlockDocument.{BlockNode};
+ghost use Rattle.cmark_grammar.specs.BlockReading as reads;
+ghost use Rattle.cmark_grammar.specs.BlockReading.{read_as};
+ghost use Rattle.cmark_grammar.specs.DrawnDocument.{kind_within};
 ghost use Rattle.cmark_grammar.specs.SpanDocuments.{Segment};
+ghost use Rattle.cmark_text.specs.Shown.{shown_tag};
+ghost use Rattle.cmark_text.specs.declared.event.Event.TheVariants as event;
 ghost use Rattle.cmark_leaf_text.specs.declared.stretch.LeafLine.{LeafLine};
 ghost use Rattle.cmark_walk.specs.declared.reading.Stage.TheVariants as stage;
-ghost use Rattle.cmark_walk.specs.Walking.{GoesOn, LeavesTheSame, Remains, Goes, GivesStep, text_of, IsAt, ComesNearer, StepsZeroCopy, IsTaskAt, IsTitleIn, IsListBehind, IsLeafBehind};
+ghost use Rattle.cmark_walk.specs.Walking.{GivesRanged, GoesOn, LeavesTheSame, Drawn, Remains, Goes, Gives, Outer, StandsBelow, text_of, texts_of, tight_below, IsAt, MeetsZeroCopy, IsTaskAt, IsTitleIn, IsListBehind, IsLeafBehind, IsLeafElement};
 
 use crate::kind::{is_leaf, is_list, is_title};
-use crate::reading::{Stage, Step};
-use crate::walk::{Walk, given};
+use crate::reading::{Glance, Met, Stage};
+use crate::walk::{Walk, begun, given};
 use cmark_items::Item;
-use cmark_text::{Event, Ranged, Tag};
+use cmark_text::{Event, Tag};
 use cmark_tree::TreeIndex;
 use std::alloc::AllocError;
 
 impl<'a> Walk<'a> {
     // Past a task marker: to the lines of the paragraph or heading behind it, where one begins, whose first event the marker is (GFM 5.3), or
     // into the definition list behind it, in whose first title the marker stands.
-    #[inline(always)]
     pub(crate) fn pass_marker(
         &mut self,
         ix: TreeIndex,
         is_checked: bool,
-    ) -> Result<Step<'a>, AllocError>
+    ) -> Result<Met<'a>, AllocError>
         requires at { IsAt self.old ix }
         requires before { self.old.stage ≡ stage.Before }
         requires task { IsTaskAt self.old ix is_checked }
-        ensures given { IfOk result (λ step. (left : List Segment) (lines : List LeafLine) → Remains self.old left → GivesStep left step lines self.new) }
-        ensures lent { IfOk result (StepsZeroCopy (text_of self.old)) }
+        ensures given { IfOk result (λ met. (left : List Segment) (lines : List LeafLine) → Remains self.old left → Gives left met lines self.new) }
+        ensures lent { IfOk result (MeetsZeroCopy (text_of self.old)) }
         ensures refused { OnErr result (LeavesTheSame self.old self.new) }
-        ensures nearer { IfOk result (λ step. ComesNearer self.old step self.new) }
         ensures goes_on { GoesOn self.old self.new }
     {
         let item = *self.tree.item(ix);
@@ -40,39 +45,70 @@ impl<'a> Walk<'a> {
                 start: item.start,
                 end: item.end,
             };
-            return Ok(given(Event::Start(Tag::DefinitionList), list));
+            return Ok(begun(Tag::DefinitionList, list));
         }
-        let behind = self.leaf_behind(ix)?;
+        if let Some(leaf) = self.leaf_behind(ix) {
+            return self.pass_to_leaf(ix, is_checked, leaf);
+        }
         self.tree.next_sibling(ix);
-        match behind {
-            Some((tag, leaf)) => {
-                self.stage = Stage::Marked {
-                    is_checked,
-                    start: item.start,
-                    end: item.end,
-                };
-                Ok(given(Event::Start(tag), leaf))
-            }
-            None => Ok(given(Event::TaskListMarker(is_checked), item)),
+        Ok(marker(is_checked, item.start, item.end))
+    }
+
+    // Past a task marker to this paragraph or heading behind it, whose start is given.
+    fn pass_to_leaf(
+        &mut self,
+        ix: TreeIndex,
+        is_checked: bool,
+        leaf: Item,
+    ) -> Result<Met<'a>, AllocError>
+        requires at { IsAt self.old ix }
+        requires before { self.old.stage ≡ stage.Before }
+        requires task { IsTaskAt self.old ix is_checked }
+        requires behind { IsLeafBehind self.old ix (Some leaf) }
+        ensures given { IfOk result (λ met. (left : List Segment) (lines : List LeafLine) → Remains self.old left → Gives left met lines self.new) }
+        ensures lent { IfOk result (MeetsZeroCopy (text_of self.old)) }
+        ensures refused { OnErr result (LeavesTheSame self.old self.new) }
+        ensures goes_on { GoesOn self.old self.new }
+    {
+        let item = *self.tree.item(ix);
+        let Ok(tag) = self.leaf_tag(leaf) else {
+            return Err(AllocError);
+        };
+        self.tree.next_sibling(ix);
+        self.stage = Stage::Marked {
+            is_checked,
+            start: item.start,
+            end: item.end,
+        };
+        Ok(begun(tag, leaf))
+    }
+
+    // The tag of a paragraph or a heading.
+    fn leaf_tag(&self, leaf: Item) -> Result<Tag<'a>, AllocError>
+        requires { IsLeafElement self.now leaf }
+        ensures { IfOk result (λ tag. (z : Zip Item) (above : List Outer) (node : BlockNode) → StandsBelow self.now z above → Drawn self.now.text.now (texts_of self.now) leaf node
+            → reads.Around (shown_tag tag) ≡ read_as (kind_within (tight_below above) node.kind)) }
+    {
+        match self.glance(leaf) {
+            Glance::Around(tag) => Ok(tag.tag(self.alloc)),
+            _ => self.tag_with_texts(leaf),
         }
     }
 
     // Into what is inside the definition list in the focus, whose start was given: to the lines of the title with which it begins, whose
     // first event the task marker between these byte offsets is (GFM 5.3). Where it begins with no title, the marker is given here.
-    #[inline(always)]
     pub(crate) fn enter_list(
         &mut self,
         ix: TreeIndex,
         is_checked: bool,
         start: usize,
         end: usize,
-    ) -> Result<Step<'a>, AllocError>
+    ) -> Result<Met<'a>, AllocError>
         requires at { IsAt self.old ix }
         requires listed { self.old.stage ≡ stage.Listed is_checked start end }
-        ensures given { IfOk result (λ step. (left : List Segment) (lines : List LeafLine) → Remains self.old left → GivesStep left step lines self.new) }
-        ensures lent { IfOk result (StepsZeroCopy (text_of self.old)) }
+        ensures given { IfOk result (λ met. (left : List Segment) (lines : List LeafLine) → Remains self.old left → Gives left met lines self.new) }
+        ensures lent { IfOk result (MeetsZeroCopy (text_of self.old)) }
         ensures refused { OnErr result (LeavesTheSame self.old self.new) }
-        ensures nearer { IfOk result (λ step. ComesNearer self.old step self.new) }
         ensures goes_on { GoesOn self.old self.new }
     {
         let title = self.title_in(ix);
@@ -84,14 +120,11 @@ impl<'a> Walk<'a> {
                     start,
                     end,
                 };
-                Ok(given(Event::Start(Tag::DefinitionListTitle), title))
+                Ok(begun(Tag::DefinitionListTitle, title))
             }
             None => {
                 self.stage = Stage::Before;
-                Ok(Step::Event(Ranged {
-                    event: Event::TaskListMarker(is_checked),
-                    range: start..end,
-                }))
+                Ok(marker(is_checked, start, end))
             }
         }
     }
@@ -116,39 +149,40 @@ impl<'a> Walk<'a> {
         if is_list(item) { Some(item) } else { None }
     }
 
-    // The tag of the paragraph or heading behind a node, and its item, where one begins there.
-    #[inline(never)]
-    fn leaf_behind(&self, ix: TreeIndex) -> Result<Option<(Tag<'a>, Item)>, AllocError>
+    // The item of the paragraph or heading behind a node, where one begins there.
+    fn leaf_behind(&self, ix: TreeIndex) -> Option<Item>
         requires { IsAt self.now ix }
-        ensures { IfOk result (IsLeafBehind self.now ix) }
+        ensures { IsLeafBehind self.now ix result }
     {
-        let Some(next) = self.tree.next(ix) else {
-            return Ok(None);
-        };
+        let next = self.tree.next(ix)?;
         let item = *self.tree.item(next);
         if !is_leaf(item) {
-            return Ok(None);
+            return None;
         }
-        match self.tag(item)? {
-            Some(tag) => Ok(Some((tag, item))),
-            None => Ok(None),
+        match self.end(item) {
+            Some(_) => Some(item),
+            None => None,
         }
     }
 
     // The task marker of the leaf in the focus, which stands between these byte offsets, and then before its lines.
-    #[inline(always)]
-    pub(crate) fn meet_marker(&mut self, is_checked: bool, start: usize, end: usize) -> Step<'a>
+    pub(crate) fn meet_marker(&mut self, is_checked: bool, start: usize, end: usize) -> Met<'a>
         requires goes { Goes self.old }
         requires marked { self.old.stage ≡ stage.Marked is_checked start end }
-        ensures given { (left : List Segment) (lines : List LeafLine) → Remains self.old left → GivesStep left result lines self.new }
-        ensures nearer { ComesNearer self.old result self.new }
-        ensures lent { StepsZeroCopy (text_of self.old) result }
+        ensures given { (left : List Segment) (lines : List LeafLine) → Remains self.old left → Gives left result lines self.new }
+        ensures lent { MeetsZeroCopy (text_of self.old) result }
         ensures goes_on { GoesOn self.old self.new }
     {
         self.stage = Stage::Lines;
-        Step::Event(Ranged {
-            event: Event::TaskListMarker(is_checked),
-            range: start..end,
-        })
+        marker(is_checked, start, end)
     }
+}
+
+// A task marker with its range.
+#[inline(always)]
+fn marker<'a>(is_checked: bool, start: usize, end: usize) -> Met<'a>
+    ensures value { GivesRanged (event.TaskListMarker is_checked) start end result }
+    ensures lent { (text : List ℕ) → MeetsZeroCopy text result }
+{
+    given(Event::TaskListMarker(is_checked), start, end)
 }

@@ -1,6 +1,7 @@
 //! What a step of a walk reads, and what it gives.
 
-use cmark_text::{Event, PlainTag, Ranged, Short, Tag};
+use cmark_text::{PlainTag, Ranged, Short};
+use cmark_tree::TreeIndex;
 
 /// What a walk meets next.
 #[derive(Drop)]
@@ -63,17 +64,6 @@ pub(crate) enum Stage {
     Behind,
 }
 
-/// How an item is read.
-#[derive(Drop)]
-pub(crate) enum Reading<'a> {
-    /// As its start, what is inside it, and its end.
-    Around(Tag<'a>),
-    /// As one event.
-    Alone(Event<'a>),
-    /// As what is inside it.
-    Inside,
-}
-
 /// How an item is read, of which no event is made.
 #[derive(Clone, Copy)]
 pub(crate) enum Glance<'a> {
@@ -83,38 +73,22 @@ pub(crate) enum Glance<'a> {
     Alone(Short<'a>),
     /// As what is inside it.
     Inside,
-    /// As something that has a text of its own.
+    /// As something that has a text of its own, or as a task marker.
     Long,
-}
-
-/// What a step of a walk gives.
-#[derive(Drop)]
-pub(crate) enum Step<'a> {
-    /// An event.
-    Event(Ranged<'a>),
-    /// The lines of a leaf.
-    Leaf {
-        /// Whether it is the cell of a table.
-        is_cell: bool,
-    },
-    /// Neither: a paragraph of a tight list begins or ends.
-    Silent,
-    /// Neither, and nothing is left.
-    Over,
 }
 
 /// What a step of a walk gives, of which no event is made.
 #[derive(Clone, Copy)]
 pub(crate) enum BriefStep<'a> {
-    /// An event that owns nothing.
-    Short(Short<'a>),
+    /// An event that owns nothing, and the byte offsets of the text where its range begins and ends.
+    Short(Short<'a>, usize, usize),
     /// The lines of a leaf.
     Leaf {
         /// Whether it is the cell of a table.
         is_cell: bool,
     },
-    /// An event of another kind, which was not met yet.
-    Long,
+    /// An event of another kind, which was not met yet, and the focus.
+    Long(TreeIndex),
     /// Nothing: a paragraph of a tight list begins or ends.
     Silent,
     /// Nothing: the document is over.

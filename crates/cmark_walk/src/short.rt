@@ -10,7 +10,7 @@ ghost use Rattle.cmark_grammar.specs.Tokens.{slice};
 ghost use Rattle.cmark_text.specs.Excerpt.{excerpt_bytes};
 ghost use Rattle.cmark_leaf_text.specs.declared.stretch.LeafLine.{LeafLine as LeafLines};
 ghost use Rattle.cmark_walk.specs.declared.reading.Stage.TheVariants as stage;
-ghost use Rattle.cmark_walk.specs.Walking.{GoesOn, LeavesTheSame, ComesNearerShort, Drawn, GivesBrief, GivesShortStep, GlancesZeroCopy, Goes, IsAt, IsBelow, IsDrawn, IsPast, NoEndIsNext, Outer, ReadsAs, Remains, StandsBelow, definitions_of, text_of, texts_of, tight_below};
+ghost use Rattle.cmark_walk.specs.Walking.{GoesOn, LeavesTheSame, ComesNearer, Drawn, GivesBrief, GivesShortStep, GlancesZeroCopy, Goes, IsAt, IsBelow, IsDrawn, IsLongGlance, IsPast, NoEndIsNext, Outer, ReadsAs, Remains, StandsBelow, definitions_of, text_of, texts_of, tight_below};
 
 use crate::item::first_number;
 use crate::kind::is_leaf;
@@ -37,10 +37,13 @@ impl<'a> Walk<'a> {
     {
         // Only paragraphs of tight lists give nothing, each at its begin and at its end.
         loop {
-            match self.short_step(lines)? {
-                BriefStep::Short(short) => return Ok(Brief::Short(short)),
+            let Ok(step) = self.short_step(lines) else {
+                return Err(AllocError);
+            };
+            match step {
+                BriefStep::Short(short, _, _) => return Ok(Brief::Short(short)),
                 BriefStep::Leaf { is_cell } => return Ok(Brief::Leaf { is_cell }),
-                BriefStep::Long => return Ok(Brief::Long),
+                BriefStep::Long(_) => return Ok(Brief::Long),
                 BriefStep::Silent => {}
                 BriefStep::Over => return Ok(Brief::Over),
             }
@@ -49,11 +52,14 @@ impl<'a> Walk<'a> {
 
     // Into the focus or past it, or up from behind the last sibling; nothing where a paragraph of a tight list begins or ends.
     #[inline(always)]
-    fn short_step(&mut self, lines: &mut Vec<LeafLine>) -> Result<BriefStep<'a>, AllocError>
+    pub(crate) fn short_step(
+        &mut self,
+        lines: &mut Vec<LeafLine>,
+    ) -> Result<BriefStep<'a>, AllocError>
         requires { Goes self.old }
         ensures given { IfOk result (λ brief. GivesShortStep self.old brief lines.new.items self.new) }
         ensures refused { OnErr result (LeavesTheSame self.old self.new) }
-        ensures nearer { IfOk result (λ brief. ComesNearerShort self.old brief self.new) }
+        ensures nearer { IfOk result (λ brief. ComesNearer self.old brief self.new) }
         ensures goes_on { GoesOn self.old self.new }
     {
         let Some(ix) = self.tree.cur() else {
@@ -66,7 +72,7 @@ impl<'a> Walk<'a> {
                 Ok(BriefStep::Leaf { is_cell })
             }
             Stage::Behind => Ok(self.leave_leaf_short(ix)),
-            Stage::Marked { .. } | Stage::Listed { .. } => Ok(BriefStep::Long),
+            Stage::Marked { .. } | Stage::Listed { .. } => Ok(BriefStep::Long(ix)),
         }
     }
 
@@ -77,7 +83,7 @@ impl<'a> Walk<'a> {
         requires before { self.old.stage ≡ stage.Before }
         ensures given { IfOk result (λ brief. (lines : List LeafLines) → GivesShortStep self.old brief lines self.new) }
         ensures refused { OnErr result (LeavesTheSame self.old self.new) }
-        ensures nearer { IfOk result (λ brief. ComesNearerShort self.old brief self.new) }
+        ensures nearer { IfOk result (λ brief. ComesNearer self.old brief self.new) }
         ensures goes_on { GoesOn self.old self.new }
     {
         let item = *self.tree.item(ix);
@@ -85,20 +91,20 @@ impl<'a> Walk<'a> {
             Glance::Around(tag) => {
                 if is_leaf(item) {
                     self.stage = Stage::Lines;
-                    return Ok(BriefStep::Short(Short::Start(tag)));
+                    return Ok(BriefStep::Short(Short::Start(tag), item.start, item.end));
                 }
                 self.tree.push()?;
-                Ok(BriefStep::Short(Short::Start(tag)))
+                Ok(BriefStep::Short(Short::Start(tag), item.start, item.end))
             }
             Glance::Alone(short) => {
                 self.tree.next_sibling(ix);
-                Ok(BriefStep::Short(short))
+                Ok(BriefStep::Short(short, item.start, item.end))
             }
             Glance::Inside => {
                 self.stage = Stage::Lines;
                 Ok(BriefStep::Silent)
             }
-            Glance::Long => Ok(BriefStep::Long),
+            Glance::Long => Ok(BriefStep::Long(ix)),
         }
     }
 
@@ -108,7 +114,7 @@ impl<'a> Walk<'a> {
         requires at { IsAt self.old ix }
         requires behind { self.old.stage ≡ stage.Behind }
         ensures given { (lines : List LeafLines) → GivesShortStep self.old result lines self.new }
-        ensures nearer { ComesNearerShort self.old result self.new }
+        ensures nearer { ComesNearer self.old result self.new }
         ensures goes_on { GoesOn self.old self.new }
     {
         let item = *self.tree.item(ix);
@@ -116,7 +122,7 @@ impl<'a> Walk<'a> {
         self.tree.next_sibling(ix);
         self.stage = Stage::Before;
         match end {
-            Some(end) => BriefStep::Short(Short::End(end)),
+            Some(end) => BriefStep::Short(Short::End(end), item.start, item.end),
             None => BriefStep::Silent,
         }
     }
@@ -126,7 +132,7 @@ impl<'a> Walk<'a> {
     fn leave_short(&mut self) -> BriefStep<'a>
         requires { IsPast self.old }
         ensures given { (lines : List LeafLines) → GivesShortStep self.old result lines self.new }
-        ensures nearer { ComesNearerShort self.old result self.new }
+        ensures nearer { ComesNearer self.old result self.new }
         ensures goes_on { GoesOn self.old self.new }
     {
         let Some(ix) = self.tree.pop() else {
@@ -136,19 +142,20 @@ impl<'a> Walk<'a> {
         let end = self.end(item);
         self.tree.next_sibling(ix);
         match end {
-            Some(end) => BriefStep::Short(Short::End(end)),
+            Some(end) => BriefStep::Short(Short::End(end), item.start, item.end),
             None => unreachable!(),
         }
     }
 
     // How an item among the siblings at hand is read, where it has no text of its own.
     #[inline(always)]
-    fn glance(&self, item: Item) -> Glance<'a>
+    pub(crate) fn glance(&self, item: Item) -> Glance<'a>
         requires below { IsBelow self.now }
         requires drawn { IsDrawn self.now item }
         ensures value { (z : Zip Item) (above : List Outer) (node : BlockNode) → StandsBelow self.now z above → Drawn self.now.text.now (texts_of self.now) item node
             → ReadsAs result (read_as (kind_within (tight_below above) node.kind)) }
         ensures lent { GlancesZeroCopy (text_of self.now) item result }
+        ensures long { IsLongGlance result item.body }
     {
         match item.body {
             ItemBody::Text { .. } => Glance::Alone(Short::Text(self.excerpt(item))),
@@ -180,9 +187,17 @@ impl<'a> Walk<'a> {
             ItemBody::DefinitionListDefinition(_) => {
                 Glance::Around(PlainTag::DefinitionListDefinition)
             }
-            _ => Glance::Long,
+            ItemBody::AttributedHeading(_, _)
+            | ItemBody::FencedCodeBlock(_)
+            | ItemBody::Table(_)
+            | ItemBody::FootnoteDefinition(_)
+            | ItemBody::SynthesizeText(_)
+            | ItemBody::SynthesizeChar(_)
+            | ItemBody::TaskListMarker(_) => Glance::Long,
+            _ => Glance::Inside,
         }
     }
+
     // The part of the text that an item stands over.
     #[inline(always)]
     fn part(&self, item: Item) -> &'a str

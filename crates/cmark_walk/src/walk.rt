@@ -1,6 +1,6 @@
 //! The walk over a document's tree.
 
-ghost use Rattle.std.specs.Prelude.{◌≡◌, ℕ, false, List, [], length, IfOk, OnErr};
+ghost use Rattle.std.specs.Prelude.{◌≡◌, ℕ, true, false, List, [], length, IfOk, OnErr};
 ghost use Rattle.std.specs.Str.{IsCharBoundary};
 ghost use Rattle.cmark_tree.specs.Forest.{Forest};
 ghost use Rattle.cmark_tree.specs.Building.{Is};
@@ -8,19 +8,19 @@ ghost use Rattle.cmark_grammar.specs.BlockDocument.{BlockDocument};
 ghost use Rattle.cmark_grammar.specs.DrawnDocument.{settled};
 ghost use Rattle.cmark_grammar.specs.Ranges.{InOrder, AllAt};
 ghost use Rattle.cmark_grammar.specs.SpanDocuments.{Segment, segments};
-ghost use Rattle.cmark_grammar.specs.Event as event;
+ghost use Rattle.cmark_text.specs.declared.event.Event.TheVariants as event;
 ghost use Rattle.cmark_items.specs.ItemNodes.{shown_forest, nodes_of};
 ghost use Rattle.cmark_text.specs.ZeroCopy.{IsZeroCopy};
 ghost use Rattle.cmark_leaf_text.specs.declared.stretch.LeafLine.{LeafLine};
-ghost use Rattle.cmark_walk.specs.declared.reading.Met.TheVariants as met;
 ghost use Rattle.cmark_walk.specs.declared.reading.Stage.TheVariants as stage;
-ghost use Rattle.cmark_walk.specs.Walking.{GoesOn, LeavesTheSame, Remains, Goes, Gives, GivesStep, definitions_of, text_of, IsAt, IsPast, GivesRanged, NoEndIsNext, ComesNearer, StepsZeroCopy, MeetsZeroCopy};
+ghost use Rattle.cmark_walk.specs.Walking.{GoesOn, LeavesTheSame, Remains, Goes, Gives, definitions_of, text_of, IsAt, IsItemAt, IsLongAt, IsLongItemAt, GivesRanged, NoEndIsNext, MeetsZeroCopy, has_texts, is_synthesized};
 
-use crate::kind::{is_leaf, task_of};
-use crate::reading::{Met, Reading, Stage, Step};
+use crate::item::event_of;
+use crate::kind::{is_leaf, is_synthesized, task_of};
+use crate::reading::{BriefStep, Met, Stage};
 use cmark_items::{Allocations, Item, RefDefs};
 use cmark_leaf_text::LeafLine;
-use cmark_text::{Event, Ranged};
+use cmark_text::{Event, Ranged, Tag};
 use cmark_tree::{Tree, TreeIndex};
 use std::alloc::{AllocError, Global};
 
@@ -90,30 +90,32 @@ impl<'a> Walk<'a> {
     {
         // Only paragraphs of tight lists give nothing, each at its begin and at its end.
         loop {
-            match self.step(lines)? {
-                Step::Event(given) => return Ok(Met::Event(given)),
-                Step::Leaf { is_cell } => return Ok(Met::Leaf { is_cell }),
-                Step::Silent => {}
-                Step::Over => return Ok(Met::Over),
+            let Ok(step) = self.short_step(lines) else {
+                return Err(AllocError);
+            };
+            match step {
+                BriefStep::Short(short, start, end) => {
+                    let event = event_of(self.alloc, short);
+                    return Ok(given(event, start, end));
+                }
+                BriefStep::Leaf { is_cell } => return Ok(Met::Leaf { is_cell }),
+                BriefStep::Long(ix) => return self.long_step(ix),
+                BriefStep::Silent => {}
+                BriefStep::Over => return Ok(Met::Over),
             }
         }
     }
 
-    // Into the focus or past it, or up from behind the last sibling.
-    #[inline(always)]
-    fn step(&mut self, lines: &mut Vec<LeafLine>) -> Result<Step<'a>, AllocError>
-        requires { Goes self.old }
-        ensures given { IfOk result (λ step. (left : List Segment) → Remains self.old left → GivesStep left step lines.new.items self.new) }
-        ensures lent { IfOk result (StepsZeroCopy (text_of self.old)) }
+    // Past an event that may own something, at the focus.
+    #[inline(never)]
+    fn long_step(&mut self, ix: TreeIndex) -> Result<Met<'a>, AllocError>
+        requires { IsLongAt self.old ix }
+        ensures given { IfOk result (λ met. (left : List Segment) (lines : List LeafLine) → Remains self.old left → Gives left met lines self.new) }
+        ensures lent { IfOk result (MeetsZeroCopy (text_of self.old)) }
         ensures refused { OnErr result (LeavesTheSame self.old self.new) }
-        ensures nearer { IfOk result (λ step. ComesNearer self.old step self.new) }
         ensures goes_on { GoesOn self.old self.new }
     {
-        let Some(ix) = self.tree.cur() else {
-            return Ok(self.leave());
-        };
         match self.stage {
-            Stage::Before => self.enter(ix),
             Stage::Marked {
                 is_checked,
                 start,
@@ -124,79 +126,93 @@ impl<'a> Walk<'a> {
                 start,
                 end,
             } => self.enter_list(ix, is_checked, start, end),
-            Stage::Lines => {
-                let is_cell = self.meet_leaf(ix, lines)?;
-                Ok(Step::Leaf { is_cell })
-            }
-            Stage::Behind => Ok(self.leave_leaf(ix)),
+            _ => self.enter(ix),
         }
     }
 
-    // Into the focus, or past it if it is one event.
-    #[inline(always)]
-    fn enter(&mut self, ix: TreeIndex) -> Result<Step<'a>, AllocError>
+    // Into the focus or past it, where it has a text of its own or is a task marker.
+    fn enter(&mut self, ix: TreeIndex) -> Result<Met<'a>, AllocError>
         requires at { IsAt self.old ix }
         requires before { self.old.stage ≡ stage.Before }
-        ensures given { IfOk result (λ step. (left : List Segment) (lines : List LeafLine) → Remains self.old left → GivesStep left step lines self.new) }
-        ensures lent { IfOk result (StepsZeroCopy (text_of self.old)) }
+        requires long { IsLongItemAt self.old ix }
+        ensures given { IfOk result (λ met. (left : List Segment) (lines : List LeafLine) → Remains self.old left → Gives left met lines self.new) }
+        ensures lent { IfOk result (MeetsZeroCopy (text_of self.old)) }
         ensures refused { OnErr result (LeavesTheSame self.old self.new) }
-        ensures nearer { IfOk result (λ step. ComesNearer self.old step self.new) }
         ensures goes_on { GoesOn self.old self.new }
     {
         let item = *self.tree.item(ix);
         if let Some(is_checked) = task_of(item) {
             return self.pass_marker(ix, is_checked);
         }
-        match self.read(item)? {
-            Reading::Around(tag) => {
-                if is_leaf(item) {
-                    self.stage = Stage::Lines;
-                    return Ok(given(Event::Start(tag), item));
-                }
-                self.tree.push()?;
-                Ok(given(Event::Start(tag), item))
-            }
-            Reading::Alone(event) => {
-                self.tree.next_sibling(ix);
-                Ok(given(event, item))
-            }
-            Reading::Inside => {
-                self.stage = Stage::Lines;
-                Ok(Step::Silent)
-            }
+        if is_synthesized(item) {
+            return self.pass_text(ix, item);
         }
+        self.enter_element(ix, item)
     }
 
-    // Up from behind the last sibling, and past the parent.
-    #[inline(always)]
-    fn leave(&mut self) -> Step<'a>
-        requires { IsPast self.old }
-        ensures given { (left : List Segment) (lines : List LeafLine) → Remains self.old left → GivesStep left result lines self.new }
-        ensures nearer { ComesNearer self.old result self.new }
-        ensures lent { StepsZeroCopy (text_of self.old) result }
+    // Past a text that is written nowhere.
+    fn pass_text(&mut self, ix: TreeIndex, item: Item) -> Result<Met<'a>, AllocError>
+        requires at { IsAt self.old ix }
+        requires before { self.old.stage ≡ stage.Before }
+        requires item { IsItemAt self.old ix item }
+        requires synthesized { is_synthesized item.body ≡ true }
+        ensures given { IfOk result (λ met. (left : List Segment) (lines : List LeafLine) → Remains self.old left → Gives left met lines self.new) }
+        ensures lent { IfOk result (MeetsZeroCopy (text_of self.old)) }
+        ensures refused { OnErr result (LeavesTheSame self.old self.new) }
         ensures goes_on { GoesOn self.old self.new }
     {
-        let Some(ix) = self.tree.pop() else {
-            return Step::Over;
+        let Ok(event) = self.synthesized(item) else {
+            return Err(AllocError);
         };
-        let item = *self.tree.item(ix);
-        let end = self.end(item);
         self.tree.next_sibling(ix);
-        match end {
-            Some(end) => given(Event::End(end), item),
-            None => unreachable!(),
+        Ok(given(event, item.start, item.end))
+    }
+
+    // Into an element that has a text of its own.
+    fn enter_element(&mut self, ix: TreeIndex, item: Item) -> Result<Met<'a>, AllocError>
+        requires at { IsAt self.old ix }
+        requires before { self.old.stage ≡ stage.Before }
+        requires item { IsItemAt self.old ix item }
+        requires texts { has_texts item.body ≡ true }
+        ensures given { IfOk result (λ met. (left : List Segment) (lines : List LeafLine) → Remains self.old left → Gives left met lines self.new) }
+        ensures lent { IfOk result (MeetsZeroCopy (text_of self.old)) }
+        ensures refused { OnErr result (LeavesTheSame self.old self.new) }
+        ensures goes_on { GoesOn self.old self.new }
+    {
+        let Ok(tag) = self.tag_with_texts(item) else {
+            return Err(AllocError);
+        };
+        if is_leaf(item) {
+            self.stage = Stage::Lines;
+            return Ok(begun(tag, item));
+        }
+        match self.tree.push() {
+            Ok(()) => Ok(begun(tag, item)),
+            Err(AllocError) => {
+                drop(tag);
+                Err(AllocError)
+            }
         }
     }
 }
 
-// An event with an item's range.
+// The start of an element with an item's range.
 #[inline(always)]
-pub(crate) fn given<'a>(event: Event<'a>, item: Item) -> Step<'a>
-    ensures value { GivesRanged event.entry item result }
-    ensures lent { (text : List ℕ) → IsZeroCopy text event.entry item.start item.end → StepsZeroCopy text result }
+pub(crate) fn begun<'a>(tag: Tag<'a>, item: Item) -> Met<'a>
+    ensures value { GivesRanged (event.Start tag.entry) item.start item.end result }
+    ensures lent { (text : List ℕ) → MeetsZeroCopy text result }
 {
-    Step::Event(Ranged {
+    given(Event::Start(tag), item.start, item.end)
+}
+
+// An event with its range.
+#[inline(always)]
+pub(crate) fn given<'a>(event: Event<'a>, start: usize, end: usize) -> Met<'a>
+    ensures value { GivesRanged event.entry start end result }
+    ensures lent { (text : List ℕ) → IsZeroCopy text event.entry start end → MeetsZeroCopy text result }
+{
+    Met::Event(Ranged {
         event,
-        range: item.start..item.end,
+        range: start..end,
     })
 }

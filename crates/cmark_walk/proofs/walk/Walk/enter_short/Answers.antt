@@ -1,4 +1,5 @@
-use Rattle.std.proofs.Common.{refl, sym, ◌∙◌}
+use Rattle.std.proofs.Common.{refl, sym, ap, ◌∙◌, subst}
+use Rattle.cmark_walk.specs.Walking.{IsLongFrom, is_long}
 use Rattle.cmark_walk.proofs.EndSteps.{around-otherwise, before-otherwise}
 use Rattle.cmark_walk.proofs.ShortSteps.{enters-around-short, enters-leaf-short, goes-short, passes-short}
 use Rattle.cmark_walk.proofs.WalkSteps.{focus-node, is-drawn, has-focus, enters-inside, on-err, unchanged-remains}
@@ -21,7 +22,7 @@ returns-then-is_leaf-clause-given c = λ lines.
 pub returns-then-is_leaf-clause-goes_on : goal.returns-then-is_leaf-clause-goes_on
 returns-then-is_leaf-clause-goes_on c = record {
   goes =
-      (goes-short c.args.self.now _ _
+      (goes-short c.args.self.now _ _ _ _
       (enters-leaf-short c.args.self.now c.item-item.result.now c.args.ix c.args.self.now.tree c.requires.at.1 c.item-item.ensures c.requires.before c.in-Around.tag c.in-Around.ensures.value
       (λ text texts node d. sym c.if-is_leaf.true ∙ c.is_leaf.ensures text texts node d))
       c.requires.at.0);
@@ -37,7 +38,7 @@ returns-in_ok-push-in-Around-clause-given c = λ lines.
 pub returns-in_ok-push-in-Around-clause-goes_on : goal.returns-in_ok-push-in-Around-clause-goes_on
 returns-in_ok-push-in-Around-clause-goes_on c = record {
   goes =
-      (goes-short c.args.self.now _ _
+      (goes-short c.args.self.now _ _ _ _
       (enters-around-short c.args.self.now c.item-item.result.now c.args.ix c.push.new.self c.requires.at.1 c.item-item.ensures c.requires.before c.in-Around.tag c.in-Around.ensures.value
       (λ text texts node d. sym c.if-is_leaf.false ∙ c.is_leaf.ensures text texts node d) c.in_ok-push-in-Around.ensures.ok)
       c.requires.at.0);
@@ -52,7 +53,7 @@ returns-in-Alone-clause-given c = λ lines.
 pub returns-in-Alone-clause-goes_on : goal.returns-in-Alone-clause-goes_on
 returns-in-Alone-clause-goes_on c = record {
   goes =
-      (goes-short c.args.self.now _ _
+      (goes-short c.args.self.now _ _ _ _
       (passes-short c.args.self.now c.item-item.result.now c.args.ix c.next_sibling.new.self c.requires.at.1 c.item-item.ensures c.requires.before c.in-Alone.short c.in-Alone.ensures.value c.next_sibling.ensures.past c.in-Alone.ensures.lent)
       c.requires.at.0);
   definitions = refl;
@@ -76,3 +77,12 @@ returns-in_err-push-in-Around-clause-refused c = on-err c.from_residual.result _
   no_end = (before-otherwise c.args.self.now c.item-item.result.now c.args.ix c.args.self.now.tree c.requires.at.1 c.item-item.ensures c.requires.before
       (around-otherwise c.args.self.now c.item-item.result.now _ c.in-Around.ensures.value));
 })
+
+pub returns-in-Long-clause-given : goal.returns-in-Long-clause-given
+returns-in-Long-clause-given c = λ lines. (
+  λ left r. r,
+  record {
+    at = c.requires.at;
+    long = subst (λ s. IsLongFrom s c.args.self.now c.args.ix) (sym c.requires.before) (λ e has. ap (λ i. is_long i.body) (sym (c.item-item.ensures e has)) ∙ c.in-Long.ensures.long);
+  },
+)

@@ -1,8 +1,6 @@
 use Rattle.std.proofs.Common.{refl, sym, ap, ◌∙◌, option_map}
 use Rattle.cmark_text.specs.Shown.{shown_end}
-use Rattle.cmark_walk.specs.declared.reading.Step.TheVariants as step
-use Rattle.cmark_walk.proofs.ShortSteps.{ends-short, goes-short, ranged_end}
-use Rattle.cmark_walk.proofs.WalkSteps.{focus-node}
+use Rattle.cmark_walk.proofs.WalkSteps.{focus-node, goes-after}
 use Rattle.cmark_walk.proofs.LeafLeave.{ends-none, ends-some}
 use Rattle.cmark_walk.proofs.walk.Walk.leave_leaf_short.Goals as goal
 
@@ -10,19 +8,16 @@ pub item-item-requires : goal.item-item-requires
 item-item-requires c = focus-node c.args.self.now c.args.ix c.requires.at
 
 pub returns-in-Some-clause-given : goal.returns-in-Some-clause-given
-returns-in-Some-clause-given c = λ lines.
-    (ends-short c.args.self.now _ c.in-Some.end c.item-item.result.now
-    (ends-some c.args.self.now c.item-item.result.now c.args.ix c.requires.at.1 c.item-item.ensures c.next_sibling.new.self c.next_sibling.ensures.past c.requires.behind
-    c.in-Some.end (step.Event (ranged_end c.in-Some.end c.item-item.result.now)) (λ z above node b d. ap (option_map shown_end) (sym c.in-Some.is) ∙ c.end-end.ensures z above node b d) refl))
+returns-in-Some-clause-given c = λ lines. record {
+  gives = (ends-some c.args.self.now c.item-item.result.now c.args.ix c.requires.at.1 c.item-item.ensures c.next_sibling.new.self c.next_sibling.ensures.past c.requires.behind
+      c.in-Some.end (λ z above node b d. ap (option_map shown_end) (sym c.in-Some.is) ∙ c.end-end.ensures z above node b d));
+  lent = tt;
+}
 
 pub returns-in-Some-clause-goes_on : goal.returns-in-Some-clause-goes_on
 returns-in-Some-clause-goes_on c = record {
-  goes =
-      (goes-short c.args.self.now _ _
-      (ends-short c.args.self.now _ c.in-Some.end c.item-item.result.now
-      (ends-some c.args.self.now c.item-item.result.now c.args.ix c.requires.at.1 c.item-item.ensures c.next_sibling.new.self c.next_sibling.ensures.past c.requires.behind
-      c.in-Some.end (step.Event (ranged_end c.in-Some.end c.item-item.result.now)) (λ z above node b d. ap (option_map shown_end) (sym c.in-Some.is) ∙ c.end-end.ensures z above node b d) refl))
-      c.requires.at.0);
+  goes = goes-after c.requires.at.0.0 _ _ ((ends-some c.args.self.now c.item-item.result.now c.args.ix c.requires.at.1 c.item-item.ensures c.next_sibling.new.self c.next_sibling.ensures.past c.requires.behind
+      c.in-Some.end (λ z above node b d. ap (option_map shown_end) (sym c.in-Some.is) ∙ c.end-end.ensures z above node b d)) c.requires.at.0.0 c.requires.at.0.1);
   definitions = refl;
   text = refl;
 }

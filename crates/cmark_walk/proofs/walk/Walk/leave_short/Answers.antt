@@ -1,7 +1,6 @@
 use Rattle.std.proofs.Common.{refl, sym, ap, ◌∙◌, option_map}
 use Rattle.cmark_text.specs.Shown.{shown_end}
-use Rattle.cmark_walk.specs.declared.reading.Step.TheVariants as step
-use Rattle.cmark_walk.proofs.ShortSteps.{ends-short, goes-short, ranged_end}
+use Rattle.cmark_walk.proofs.WalkSteps.{goes-after}
 use Rattle.cmark_walk.proofs.LeaveSteps.{parent-below, parent-number, leaves-over, leaves-some, never-none}
 use Rattle.cmark_walk.proofs.walk.Walk.leave_short.Goals as goal
 
@@ -12,19 +11,16 @@ pub end-end-requires : goal.end-end-requires
 end-end-requires c = record { below = parent-below c.args.self.now c.in-Some.ix c.pop.new.self c.requires.1 c.in-Some.ensures.result c.in-Some.ensures.popped c.requires.0 }
 
 pub returns-clause-given : goal.returns-clause-given
-returns-clause-given c = λ lines.
-    (ends-short c.args.self.now _ c.in-Some-end.end c.item-item.result.now
-    (leaves-some c.args.self.now c.in-Some.ix c.pop.new.self c.requires.1 c.in-Some.ensures.result c.in-Some.ensures.popped c.item-item.result.now c.next_sibling.new.self c.item-item.ensures c.next_sibling.ensures.past
-    c.in-Some-end.end (step.Event (ranged_end c.in-Some-end.end c.item-item.result.now)) (λ z above node b d. ap (option_map shown_end) (sym c.in-Some-end.is) ∙ c.end-end.ensures z above node b d) refl))
+returns-clause-given c = λ lines. record {
+  gives = (leaves-some c.args.self.now c.in-Some.ix c.pop.new.self c.requires.1 c.in-Some.ensures.result c.in-Some.ensures.popped c.item-item.result.now c.next_sibling.new.self c.item-item.ensures c.next_sibling.ensures.past
+      c.in-Some-end.end (λ z above node b d. ap (option_map shown_end) (sym c.in-Some-end.is) ∙ c.end-end.ensures z above node b d));
+  lent = tt;
+}
 
 pub returns-clause-goes_on : goal.returns-clause-goes_on
 returns-clause-goes_on c = record {
-  goes =
-      (goes-short c.args.self.now _ _
-      (ends-short c.args.self.now _ c.in-Some-end.end c.item-item.result.now
-      (leaves-some c.args.self.now c.in-Some.ix c.pop.new.self c.requires.1 c.in-Some.ensures.result c.in-Some.ensures.popped c.item-item.result.now c.next_sibling.new.self c.item-item.ensures c.next_sibling.ensures.past
-      c.in-Some-end.end (step.Event (ranged_end c.in-Some-end.end c.item-item.result.now)) (λ z above node b d. ap (option_map shown_end) (sym c.in-Some-end.is) ∙ c.end-end.ensures z above node b d) refl))
-      c.requires.0);
+  goes = goes-after c.requires.0.0 _ _ ((leaves-some c.args.self.now c.in-Some.ix c.pop.new.self c.requires.1 c.in-Some.ensures.result c.in-Some.ensures.popped c.item-item.result.now c.next_sibling.new.self c.item-item.ensures c.next_sibling.ensures.past
+      c.in-Some-end.end (λ z above node b d. ap (option_map shown_end) (sym c.in-Some-end.is) ∙ c.end-end.ensures z above node b d)) c.requires.0.0 c.requires.0.1);
   definitions = refl;
   text = refl;
 }

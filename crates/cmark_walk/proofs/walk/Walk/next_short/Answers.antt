@@ -1,33 +1,33 @@
 use Rattle.std.proofs.Common.{subst}
 use Rattle.cmark_walk.specs.declared.reading.Brief.TheVariants as brief
 use Rattle.cmark_walk.specs.Walking.{GivesShortStep}
-use Rattle.cmark_walk.proofs.ShortSteps.{after-lasting, lasts-on}
-use Rattle.cmark_walk.proofs.WalkSteps.{on-err}
+use Rattle.cmark_walk.proofs.ShortSteps.{after-lasting, lasts-on, some-range}
 use Rattle.cmark_walk.proofs.walk.Walk.next_short.Goals as goal
 
-pub returns-in_err-short-clause-refused : goal.returns-in_err-short-clause-refused
-returns-in_err-short-clause-refused c = on-err c.from_residual.result _ (λ left r. c.in_err-short.ensures.refused.remains left (c.loop-short.invariant.remains left r))
+pub returns-in_default-clause-refused : goal.returns-in_default-clause-refused
+returns-in_default-clause-refused c = λ left r. c.in_default.ensures.refused.remains left (c.loop-step.invariant.remains left r)
 
 pub returns-in-Short-clause-given : goal.returns-in-Short-clause-given
 returns-in-Short-clause-given c =
-    after-lasting c.args.self.now c.loop-short.self c.short_step.new.self (brief.Short c.in-Short.short) c.short_step.new.lines.items c.loop-short.invariant
-    (subst (λ b. GivesShortStep c.loop-short.self b c.short_step.new.lines.items c.short_step.new.self) c.in-Short.is c.in_ok-short.ensures.given)
+    after-lasting c.args.self.now c.loop-step.self c.short_step.new.self (brief.Short c.in-Short.short) c.short_step.new.lines.items c.loop-step.invariant
+    (some-range c.loop-step.self c.short_step.new.self c.in-Short.short _ _
+    (subst (λ b. GivesShortStep c.loop-step.self b c.short_step.new.lines.items c.short_step.new.self) c.in-Short.is c.in-Ok.ensures.given))
 
 pub returns-in-Leaf-clause-given : goal.returns-in-Leaf-clause-given
 returns-in-Leaf-clause-given c =
-    after-lasting c.args.self.now c.loop-short.self c.short_step.new.self (brief.Leaf c.in-Leaf.is_cell) c.short_step.new.lines.items c.loop-short.invariant
-    (subst (λ b. GivesShortStep c.loop-short.self b c.short_step.new.lines.items c.short_step.new.self) c.in-Leaf.is c.in_ok-short.ensures.given)
+    after-lasting c.args.self.now c.loop-step.self c.short_step.new.self (brief.Leaf c.in-Leaf.is_cell) c.short_step.new.lines.items c.loop-step.invariant
+    (subst (λ b. GivesShortStep c.loop-step.self b c.short_step.new.lines.items c.short_step.new.self) c.in-Leaf.is c.in-Ok.ensures.given)
 
 pub returns-in-Long-clause-given : goal.returns-in-Long-clause-given
 returns-in-Long-clause-given c =
-    after-lasting c.args.self.now c.loop-short.self c.short_step.new.self brief.Long c.short_step.new.lines.items c.loop-short.invariant
-    (subst (λ b. GivesShortStep c.loop-short.self b c.short_step.new.lines.items c.short_step.new.self) c.in-Long.is c.in_ok-short.ensures.given)
+    after-lasting c.args.self.now c.loop-step.self c.short_step.new.self brief.Long c.short_step.new.lines.items c.loop-step.invariant
+    (subst (λ b. GivesShortStep c.loop-step.self b c.short_step.new.lines.items c.short_step.new.self) c.in-Long.is c.in-Ok.ensures.given).0
 
 pub returns-in-Over-clause-given : goal.returns-in-Over-clause-given
 returns-in-Over-clause-given c =
-    after-lasting c.args.self.now c.loop-short.self c.short_step.new.self brief.Over c.short_step.new.lines.items c.loop-short.invariant
-    (subst (λ b. GivesShortStep c.loop-short.self b c.short_step.new.lines.items c.short_step.new.self) c.in-Over.is c.in_ok-short.ensures.given)
+    after-lasting c.args.self.now c.loop-step.self c.short_step.new.self brief.Over c.short_step.new.lines.items c.loop-step.invariant
+    (subst (λ b. GivesShortStep c.loop-step.self b c.short_step.new.lines.items c.short_step.new.self) c.in-Over.is c.in-Ok.ensures.given)
 
-pub loop-short-preserved : goal.loop-short-preserved
-loop-short-preserved c = lasts-on c.args.self.now c.loop-short.self c.short_step.new.self c.loop-short.invariant
-    (subst (λ b. GivesShortStep c.loop-short.self b c.short_step.new.lines.items c.short_step.new.self) c.in-Silent.is c.in_ok-short.ensures.given) c.in_ok-short.ensures.goes_on.goes c.in_ok-short.ensures.goes_on.definitions c.in_ok-short.ensures.goes_on.text
+pub loop-step-preserved : goal.loop-step-preserved
+loop-step-preserved c = lasts-on c.args.self.now c.loop-step.self c.short_step.new.self c.loop-step.invariant
+    (subst (λ b. GivesShortStep c.loop-step.self b c.short_step.new.lines.items c.short_step.new.self) c.in-Silent.is c.in-Ok.ensures.given) c.in-Ok.ensures.goes_on.goes c.in-Ok.ensures.goes_on.definitions c.in-Ok.ensures.goes_on.text

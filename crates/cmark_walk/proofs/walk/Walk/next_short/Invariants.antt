@@ -2,8 +2,8 @@ use Rattle.cmark_walk.specs.Walking.{silent_steps}
 use Rattle.cmark_walk.proofs.WalkSteps.{Lasts}
 use Rattle.cmark_walk.proofs.walk.Walk.next_short.Given as goal
 
-abbrev pub invariant-loop-short : goal.invariant-loop-short
-invariant-loop-short l = Lasts l.initial.self l.self
+abbrev pub invariant-loop-step : goal.invariant-loop-step
+invariant-loop-step l = Lasts l.initial.self l.self
 
-abbrev pub decreases-loop-short : goal.decreases-loop-short
-decreases-loop-short l = silent_steps l.self.stage
+abbrev pub decreases-loop-step : goal.decreases-loop-step
+decreases-loop-step l = silent_steps l.self.stage
