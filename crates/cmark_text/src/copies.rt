@@ -195,9 +195,6 @@ fn static_held(
 /// An attribute of a heading: its name, and its value if it has one.
 type Attribute<'a> = (CowStr<'a>, Option<CowStr<'a>>);
 
-/// The destination, the title and the label of a link or an image.
-type LinkTexts<'a> = (CowStr<'a>, CowStr<'a>, CowStr<'a>);
-
 /// The elements that lead somewhere.
 #[derive(Clone, Copy)]
 enum LinkKind {
@@ -207,10 +204,15 @@ enum LinkKind {
 
 impl LinkKind {
     /// The tag that has these texts.
-    fn tag<'a>(self, link_type: LinkType, texts: LinkTexts<'a>) -> Tag<'a>
-        ensures { shown_tag result ≡ shown_link_tag self (shown_linked link_type texts.entry.0 texts.entry.1 texts.entry.2) }
+    fn tag<'a>(
+        self,
+        link_type: LinkType,
+        dest_url: CowStr<'a>,
+        title: CowStr<'a>,
+        id: CowStr<'a>,
+    ) -> Tag<'a>
+        ensures { shown_tag result ≡ shown_link_tag self (shown_linked link_type dest_url.entry title.entry id.entry) }
     {
-        let (dest_url, title, id) = texts;
         match self {
             LinkKind::Link => Tag::Link {
                 link_type,
@@ -240,10 +242,20 @@ fn clone_linked<'a>(
     ensures value { IfOk result (λ copy. shown_tag copy ≡ shown_link_tag kind (shown_linked link_type dest_url.now title.now id.now)) }
     ensures succeeds { CopiesInPlace dest_url.now → CopiesInPlace title.now → CopiesInPlace id.now → IsOk result }
 {
-    match clone_link_texts(alloc, dest_url, title, id) {
-        Ok(texts) => Ok(kind.tag(link_type, texts)),
-        Err(error) => Err(error),
-    }
+    // Calls drop the others: drops that the compiler adds are written out at each way out, which is dear to prove.
+    let Ok(dest_url) = dest_url.clone(alloc) else {
+        return Err(AllocError);
+    };
+    let Ok(title) = title.clone(alloc) else {
+        drop(dest_url);
+        return Err(AllocError);
+    };
+    let Ok(id) = id.clone(alloc) else {
+        drop(dest_url);
+        drop(title);
+        return Err(AllocError);
+    };
+    Ok(kind.tag(link_type, dest_url, title, id))
 }
 
 /// The link or the image of this type with these texts, in a value that borrows nothing.
@@ -258,51 +270,7 @@ fn static_linked(
     ensures value { IfOk result (λ made. shown_tag made ≡ shown_link_tag kind (shown_linked link_type dest_url.entry title.entry id.entry)) }
     ensures succeeds { StaysInPlace dest_url.entry → StaysInPlace title.entry → StaysInPlace id.entry → IsOk result }
 {
-    match static_link_texts(alloc, dest_url, title, id) {
-        Ok(texts) => Ok(kind.tag(link_type, texts)),
-        Err(error) => Err(error),
-    }
-}
-
-fn clone_link_texts<'a>(
-    alloc: Global,
-    dest_url: &CowStr<'a>,
-    title: &CowStr<'a>,
-    id: &CowStr<'a>,
-) -> Result<LinkTexts<'a>, AllocError>
-    ensures dest_url { IfOk result (λ copies. text_bytes copies.0 ≡ text_bytes dest_url.now) }
-    ensures title { IfOk result (λ copies. text_bytes copies.1 ≡ text_bytes title.now) }
-    ensures id { IfOk result (λ copies. text_bytes copies.2 ≡ text_bytes id.now) }
-    ensures succeeds { CopiesInPlace dest_url.now → CopiesInPlace title.now → CopiesInPlace id.now → IsOk result }
-{
-    // Calls drop the others: drops that the compiler adds are written out at each way out, which is dear to prove.
-    let Ok(dest_url) = dest_url.clone(alloc) else {
-        return Err(AllocError);
-    };
-    let Ok(title) = title.clone(alloc) else {
-        drop(dest_url);
-        return Err(AllocError);
-    };
-    let Ok(id) = id.clone(alloc) else {
-        drop(dest_url);
-        drop(title);
-        return Err(AllocError);
-    };
-    Ok((dest_url, title, id))
-}
-
-fn static_link_texts(
-    alloc: Global,
-    dest_url: CowStr<'_>,
-    title: CowStr<'_>,
-    id: CowStr<'_>,
-) -> Result<LinkTexts<'static>, AllocError>
-    ensures dest_url { IfOk result (λ made. text_bytes made.0 ≡ text_bytes dest_url.entry) }
-    ensures title { IfOk result (λ made. text_bytes made.1 ≡ text_bytes title.entry) }
-    ensures id { IfOk result (λ made. text_bytes made.2 ≡ text_bytes id.entry) }
-    ensures succeeds { StaysInPlace dest_url.entry → StaysInPlace title.entry → StaysInPlace id.entry → IsOk result }
-{
-    // Calls drop the others, as in `clone_link_texts`.
+    // Calls drop the others, as in `clone_linked`.
     let Ok(dest_url) = dest_url.into_static(alloc) else {
         drop(title);
         drop(id);
@@ -318,23 +286,7 @@ fn static_link_texts(
         drop(title);
         return Err(AllocError);
     };
-    Ok((dest_url, title, id))
-}
-
-/// What the braces of a heading say: its anchor, its classes and its other attributes.
-type HeadingParts<'a> = (Option<CowStr<'a>>, Vec<CowStr<'a>>, Vec<Attribute<'a>>);
-
-/// The tag of a heading that says this in braces.
-fn heading_tag<'a>(level: HeadingLevel, parts: HeadingParts<'a>) -> Tag<'a>
-    ensures { shown_tag result ≡ tag.Heading (level_number level) (shown_attributes parts.entry.0 parts.entry.1.items parts.entry.2.items) }
-{
-    let (id, classes, attrs) = parts;
-    Tag::Heading {
-        level,
-        id,
-        classes,
-        attrs,
-    }
+    Ok(kind.tag(link_type, dest_url, title, id))
 }
 
 /// A copy of the heading of this level that says this in braces.
@@ -348,8 +300,19 @@ fn clone_heading<'a>(
     ensures value { IfOk result (λ copy. shown_tag copy ≡ tag.Heading (level_number level) (shown_attributes id.now classes.now attrs.now)) }
     ensures succeeds { IfSome id.now CopiesInPlace → length classes.now ≡ 0 → length attrs.now ≡ 0 → IsOk result }
 {
-    match clone_heading_parts(alloc, id, classes, attrs) {
-        Ok(copies) => Ok(heading_tag(level, copies)),
+    let Ok(classes) = clone_texts(alloc, classes) else {
+        return Err(AllocError);
+    };
+    let Ok(attrs) = clone_attributes(alloc, attrs) else {
+        return Err(AllocError);
+    };
+    match clone_optional_text(alloc, id) {
+        Ok(id) => Ok(Tag::Heading {
+            level,
+            id,
+            classes,
+            attrs,
+        }),
         Err(error) => Err(error),
     }
 }
@@ -365,50 +328,6 @@ fn static_heading(
     ensures value { IfOk result (λ made. shown_tag made ≡ tag.Heading (level_number level) (shown_attributes id.entry classes.entry.items attrs.entry.items)) }
     ensures succeeds { IfSome id.entry StaysInPlace → length classes.entry.items ≡ 0 → length attrs.entry.items ≡ 0 → IsOk result }
 {
-    match static_heading_parts(alloc, id, classes, attrs) {
-        Ok(parts) => Ok(heading_tag(level, parts)),
-        Err(error) => Err(error),
-    }
-}
-
-fn clone_heading_parts<'a>(
-    alloc: Global,
-    id: &Option<CowStr<'a>>,
-    classes: &[CowStr<'a>],
-    attrs: &[Attribute<'a>],
-) -> Result<HeadingParts<'a>, AllocError>
-    ensures id { IfOk result (λ copies. option_map text_bytes copies.0 ≡ option_map text_bytes id.now) }
-    ensures classes { IfOk result (λ copies. map text_bytes copies.1.items ≡ map text_bytes classes.now) }
-    ensures attrs { IfOk result (λ copies. map shown_attribute copies.2.items ≡ map shown_attribute attrs.now) }
-    ensures succeeds { IfSome id.now CopiesInPlace → length classes.now ≡ 0 → length attrs.now ≡ 0 → IsOk result }
-{
-    let Ok(classes) = clone_texts(alloc, classes) else {
-        return Err(AllocError);
-    };
-    let Ok(attrs) = clone_attributes(alloc, attrs) else {
-        return Err(AllocError);
-    };
-    match clone_optional_text(alloc, id) {
-        Ok(id) => Ok((id, classes, attrs)),
-        Err(error) => Err(error),
-    }
-}
-
-fn static_heading_parts(
-    alloc: Global,
-    id: Option<CowStr<'_>>,
-    classes: Vec<CowStr<'_>>,
-    attrs: Vec<Attribute<'_>>,
-) -> Result<HeadingParts<'static>, AllocError>
-    ensures id { IfOk result (λ made. option_map text_bytes made.0 ≡ option_map text_bytes id.entry) }
-    ensures classes { IfOk result (λ made. map text_bytes made.1.items ≡ map text_bytes classes.entry.items) }
-    ensures attrs { IfOk result (λ made. map shown_attribute made.2.items ≡ map shown_attribute attrs.entry.items) }
-    ensures succeeds { IfSome id.entry StaysInPlace → length classes.entry.items ≡ 0 → length attrs.entry.items ≡ 0 → IsOk result }
-{
-    // Calls drop the anchor, as the texts of a link above. A list is dropped by a call anyway.
-    let Ok(id) = static_optional_text(alloc, id) else {
-        return Err(AllocError);
-    };
     let Ok(classes) = static_texts(alloc, classes) else {
         drop(id);
         return Err(AllocError);
@@ -417,7 +336,15 @@ fn static_heading_parts(
         drop(id);
         return Err(AllocError);
     };
-    Ok((id, classes, attrs))
+    match static_optional_text(alloc, id) {
+        Ok(id) => Ok(Tag::Heading {
+            level,
+            id,
+            classes,
+            attrs,
+        }),
+        Err(error) => Err(error),
+    }
 }
 
 fn clone_optional_text<'a>(
@@ -463,23 +390,6 @@ fn push_clone<'a>(
     Ok(())
 }
 
-fn clone_attribute<'a>(
-    alloc: Global,
-    attribute: &Attribute<'a>,
-) -> Result<Attribute<'a>, AllocError>
-    ensures { IfOk result (λ copy. shown_attribute copy ≡ shown_attribute attribute.now) }
-{
-    let (name, value) = attribute;
-    let Ok(name) = name.clone(alloc) else {
-        return Err(AllocError);
-    };
-    let Ok(value) = clone_optional_text(alloc, value) else {
-        drop(name);
-        return Err(AllocError);
-    };
-    Ok((name, value))
-}
-
 fn clone_attributes<'a>(
     alloc: Global,
     attributes: &[Attribute<'a>],
@@ -506,10 +416,15 @@ fn push_attribute_clone<'a>(
 ) -> Result<(), AllocError>
     ensures { OnOk result (map shown_attribute copies.new.items ≡ map shown_attribute copies.old.items ++ (shown_attribute attribute.now ∷ [])) }
 {
-    let Ok(copy) = clone_attribute(alloc, attribute) else {
+    let (name, value) = attribute;
+    let Ok(name) = name.clone(alloc) else {
         return Err(AllocError);
     };
-    copies.push(copy)?;
+    let Ok(value) = clone_optional_text(alloc, value) else {
+        drop(name);
+        return Err(AllocError);
+    };
+    copies.push((name, value))?;
     Ok(())
 }
 
@@ -556,24 +471,6 @@ fn push_static(
     Ok(())
 }
 
-fn static_attribute(
-    alloc: Global,
-    attribute: Attribute<'_>,
-) -> Result<Attribute<'static>, AllocError>
-    ensures { IfOk result (λ made. shown_attribute made ≡ shown_attribute attribute.entry) }
-{
-    let (name, value) = attribute;
-    let Ok(name) = name.into_static(alloc) else {
-        drop(value);
-        return Err(AllocError);
-    };
-    let Ok(value) = static_optional_text(alloc, value) else {
-        drop(name);
-        return Err(AllocError);
-    };
-    Ok((name, value))
-}
-
 fn static_attributes(
     alloc: Global,
     attributes: Vec<Attribute<'_>>,
@@ -600,9 +497,15 @@ fn push_static_attribute(
 ) -> Result<(), AllocError>
     ensures { OnOk result (map shown_attribute made.new.items ≡ map shown_attribute made.old.items ++ (shown_attribute attribute.entry ∷ [])) }
 {
-    let Ok(attribute) = static_attribute(alloc, attribute) else {
+    let (name, value) = attribute;
+    let Ok(name) = name.into_static(alloc) else {
+        drop(value);
         return Err(AllocError);
     };
-    made.push(attribute)?;
+    let Ok(value) = static_optional_text(alloc, value) else {
+        drop(name);
+        return Err(AllocError);
+    };
+    made.push((name, value))?;
     Ok(())
 }
