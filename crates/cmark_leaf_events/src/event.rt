@@ -127,8 +127,10 @@ impl<'a> LeafEvents<'a> {
             start: range.start,
             end: range.end,
         })?;
-        let event = Event::Start(self.tag(element));
-        Ok(Some(Ranged { event, range }))
+        Ok(Some(Ranged {
+            event: Event::Start(self.tag(element)),
+            range,
+        }))
     }
 
     // The event of a slot that has the range of its bytes, as `give` answers it.
@@ -146,10 +148,19 @@ impl<'a> LeafEvents<'a> {
         ensures links { self.new.links ≡ self.old.links }
     {
         let range = leaf.range(slot.start, slot.end);
-        match self.single(leaf, slot) {
-            Ok(event) => Ok(Some(Ranged { event, range })),
-            Err(error) => Err(error),
-        }
+        let event = match slot.kind {
+            SlotKind::SoftBreak => Event::SoftBreak,
+            SlotKind::HardBreak => Event::HardBreak,
+            SlotKind::Text => match text_between(self.alloc, leaf, slot.start, slot.end) {
+                Ok(text) => Event::Text(text),
+                Err(error) => return Err(error),
+            },
+            _ => match self.held(leaf, slot) {
+                Ok(text) => event_of(slot.kind, text),
+                Err(error) => return Err(error),
+            },
+        };
+        Ok(Some(Ranged { event, range }))
     }
 
     #[inline(always)]
@@ -213,29 +224,6 @@ impl<'a> LeafEvents<'a> {
         ensures links { self.new.links ≡ self.old.links }
     {
         std::mem::replace(&mut self.texts[index], CowStr::Borrowed(""))
-    }
-
-    #[inline(always)]
-    fn single(&mut self, leaf: &LeafText<'a>, slot: Slot) -> Result<Event<'a>, AllocError>
-        requires read { IsRead leaf.now }
-        requires slot { IsSlot (text_of leaf.now) (length (text_of leaf.now)) slot }
-        requires text { IsThere (length self.old.texts.items) (text_named slot.kind) }
-        ensures slots { self.new.slots ≡ self.old.slots }
-        ensures walk { self.new.walk ≡ self.old.walk }
-        ensures lent { IfOk result (λ event. IsZeroCopy (source_of leaf.now) event (place_of leaf.now slot.start) (place_of leaf.now (slot.end - 1) + 1)) }
-        ensures value { IfOk result (λ event. shown event ≡ event_in leaf.now self.old.texts.items slot slot.kind) }
-        ensures texts { KeepsOthers (text_named slot.kind) self.old.texts.items self.new.texts.items }
-        ensures links { self.new.links ≡ self.old.links }
-    {
-        match slot.kind {
-            SlotKind::Text => text(self.alloc, leaf, slot),
-            SlotKind::SoftBreak => Ok(Event::SoftBreak),
-            SlotKind::HardBreak => Ok(Event::HardBreak),
-            _ => match self.held(leaf, slot) {
-                Ok(text) => Ok(event_of(slot.kind, text)),
-                Err(error) => Err(error),
-            },
-        }
     }
 
     // The text of a slot's event, which is no break.
@@ -341,24 +329,6 @@ fn image_tag<'a>(link: Link<'a>) -> Tag<'a>
         dest_url,
         title,
         id,
-    }
-}
-
-// The text of a slot.
-#[inline(always)]
-fn text<'a>(
-    alloc: Global,
-    leaf: &LeafText<'a>,
-    slot: Slot,
-) -> Result<Event<'a>, AllocError>
-    requires read { IsRead leaf.now }
-    requires slot { IsSlot (text_of leaf.now) (length (text_of leaf.now)) slot }
-    ensures lent { IfOk result (λ event. IsZeroCopy (source_of leaf.now) event (place_of leaf.now slot.start) (place_of leaf.now (slot.end - 1) + 1)) }
-    ensures value { IfOk result (λ event. shown event ≡ Text (slice (text_of leaf.now) slot.start slot.end)) }
-{
-    match text_between(alloc, leaf, slot.start, slot.end) {
-        Ok(text) => Ok(Event::Text(text)),
-        Err(error) => Err(error),
     }
 }
 

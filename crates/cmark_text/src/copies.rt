@@ -328,6 +328,7 @@ fn static_heading(
     ensures value { IfOk result (λ made. shown_tag made ≡ tag.Heading (level_number level) (shown_attributes id.entry classes.entry.items attrs.entry.items)) }
     ensures succeeds { IfSome id.entry StaysInPlace → length classes.entry.items ≡ 0 → length attrs.entry.items ≡ 0 → IsOk result }
 {
+    // Calls drop the anchor, as the texts of a link above. A list is dropped by a call anyway.
     let Ok(classes) = static_texts(alloc, classes) else {
         drop(id);
         return Err(AllocError);
