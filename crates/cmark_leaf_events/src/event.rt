@@ -176,7 +176,9 @@ impl<'a> LeafEvents<'a> {
         ensures links { self.new.links ≡ self.old.links }
         ensures texts { self.new.texts ≡ self.old.texts }
     {
-        let opened = self.walk.opened.pop()?;
+        let Some(opened) = self.walk.opened.pop() else {
+            return None;
+        };
         Some(Ranged {
             event: Event::End(opened.tag),
             range: opened.start..opened.end,
