@@ -1,6 +1,6 @@
 -- Slots as those of the model, of which texts and links are taken one after the other.
-use Rattle.std.proofs.Common.{◌≡◌, ◌≢◌, ℕ, zero, suc, ◌<◌, ◌≤◌, ◌+◌, drop, List, [], ◌∷◌, ◌++◌, length, get_or, set, Option, Some, None, refl, sym, ap, subst, ◌∙◌, arith}
-use Rattle.std.specs.Prelude.{All, map, reverse, slice_get}
+use Rattle.std.proofs.Common.{◌≡◌, ◌≢◌, ℕ, zero, suc, ◌<◌, ◌≤◌, ◌+◌, drop, List, [], ◌∷◌, ◌++◌, length, get_or, set, Option, Some, None, Result, Ok, Err, refl, sym, ap, subst, ◌∙◌, arith}
+use Rattle.std.specs.Prelude.{All, IfOk, IsSomeAnd, OnOk, map, reverse, slice_get}
 use Rattle.std.proofs.Math.Seq.{drop-cons}
 use Rattle.std.proofs.lemmas.List.{drop_all, length-set, reverse-append, map-append}
 use Rattle.cmark_grammar.specs.Event as event
@@ -13,7 +13,6 @@ use Rattle.cmark_leaf_text.specs.Reads.{source_of}
 use Rattle.cmark_leaf_text.specs.declared.leaf_text.LeafText.{LeafText}
 use Rattle.cmark_text_parts.specs.declared.text.CowStr.{CowStr}
 use Rattle.cmark_text.specs.Ranged.{shown_ranged}
-use Rattle.cmark_text.specs.Shown.{shown}
 use Rattle.cmark_text.specs.declared.ranged.Ranged.{Ranged as Given}
 use Rattle.cmark_leaf_events.specs.Opens.{Gives, Passes}
 use Rattle.cmark_slots.specs.SlotViews.{slot_as, shown_slot, shown_slots, first_of, slot_end, text_named, link_of, link_named, shown_element, IsThere, Differ, AreOnce, EndsBehind, CanBeGiven}
@@ -115,7 +114,7 @@ module _ (leaf : LeafText) (texts : List CowStr) (links : List Link) (slot : Slo
   closes e = over (source_of leaf) (first_of leaf slot) (slot_end leaf slot) (event.End (end_of (shown_element links e)))
 
   -- an element begins
-  pub begin-first : (texts1 : List CowStr) (links1 : List Link) (opened1 : List Opened) (given : Given) (e : Element) → slot.kind ≡ kind.Begin e → CanBeGiven leaf texts links (slot ∷ slots)
+  begin-first : (texts1 : List CowStr) (links1 : List Link) (opened1 : List Opened) (given : Given) (e : Element) → slot.kind ≡ kind.Begin e → CanBeGiven leaf texts links (slot ∷ slots)
       → texts1 ≡ texts → KeepsOthers (link_of e) links links1 → shown_ranged given ≡ begins e → shown_opened opened1 ≡ closes e ∷ shown_opened opened
       → events_of leaf texts links (slot ∷ slots) opened ≡ shown_ranged given ∷ events_of leaf texts1 links1 slots opened1
   begin-first texts1 links1 opened1 given e is h ts ls g o =
@@ -147,17 +146,40 @@ module _ (leaf : LeafText) (texts : List CowStr) (links : List Link) (slot : Slo
   single-kind kind.End html text empty begin end nothing rows ends = absurd (end refl)
   single-kind kind.Nothing html text empty begin end nothing rows ends = absurd (nothing refl)
 
-  pub single-first : (texts1 : List CowStr) (links1 : List Link) (opened1 : List Opened) (given : Given) → ((end : ℕ) → slot.kind ≡ kind.SourceHtml end → ⊥) → ((end : ℕ) → slot.kind ≡ kind.SourceText end → ⊥) → (slot.kind ≡ kind.Empty → ⊥)
+  single-first : (texts1 : List CowStr) (links1 : List Link) (opened1 : List Opened) (given : Given) → ((end : ℕ) → slot.kind ≡ kind.SourceHtml end → ⊥) → ((end : ℕ) → slot.kind ≡ kind.SourceText end → ⊥) → (slot.kind ≡ kind.Empty → ⊥)
       → ((e : Element) → slot.kind ≡ kind.Begin e → ⊥) → (slot.kind ≡ kind.End → ⊥) → (slot.kind ≡ kind.Nothing → ⊥) → CanBeGiven leaf texts links (slot ∷ slots) → KeepsOthers (text_named slot.kind) texts texts1 → links1 ≡ links → opened1 ≡ opened
-      → shown given.event ≡ event_in leaf texts slot slot.kind → given.range.start ≡ first_of leaf slot → given.range.end ≡ slot_end leaf slot
+      → shown_ranged given ≡ over (source_of leaf) (first_of leaf slot) (slot_end leaf slot) (event_in leaf texts slot slot.kind)
       → events_of leaf texts links (slot ∷ slots) opened ≡ shown_ranged given ∷ events_of leaf texts1 links1 slots opened1
-  single-first texts1 links1 opened1 given html text empty begin end nothing h ts ls o value start last =
+  single-first texts1 links1 opened1 given html text empty begin end nothing h ts ls o is =
       let seen = seen-behind leaf texts texts1 links links1 slot slots h ts (keeps-same (link_named slot.kind) links links1 ls) in
-      let here : over (source_of leaf) (first_of leaf slot) (slot_end leaf slot) (event_in leaf texts slot slot.kind) ≡ shown_ranged given = cc in
       single-kind slot.kind html text empty begin end nothing (shown_slots leaf texts links slots) (shown_opened opened)
-      ∙ ap (λ x. x ∷ events_of leaf texts links slots opened) here
+      ∙ ap (λ x. x ∷ events_of leaf texts links slots opened) (sym is)
       ∙ ap (λ l. shown_ranged given ∷ slot_events (source_of leaf) l (shown_opened opened)) (sym seen)
       ∙ ap (λ (l : List Opened). shown_ranged given ∷ slot_events (source_of leaf) (shown_slots leaf texts1 links1 slots) (shown_opened l)) (sym o)
+
+  -- what is given of the first slot, where memory is not refused
+  abbrev Gives-first : {E : Type 0} → Result (Option Given) E → (texts1 : List CowStr) (links1 : List Link) (opened1 : List Opened) → Type 0
+  Gives-first result texts1 links1 opened1 = IfOk result (λ given. events_of leaf texts links (slot ∷ slots) opened ≡ with_given given (events_of leaf texts1 links1 slots opened1))
+
+  pub begin-given : {E : Type 0} (result : Result (Option Given) E) (texts1 : List CowStr) (links1 : List Link) (opened1 : List Opened) (e : Element) → slot.kind ≡ kind.Begin e → CanBeGiven leaf texts links (slot ∷ slots)
+      → texts1 ≡ texts → KeepsOthers (link_of e) links links1 → IfOk result (λ given. IsSomeAnd given (λ start. shown_ranged start ≡ begins e)) → OnOk result (shown_opened opened1 ≡ closes e ∷ shown_opened opened)
+      → Gives-first result texts1 links1 opened1
+  begin-given (Ok None) texts1 links1 opened1 e is h ts ls g o = absurd g
+  begin-given (Ok (Some start)) texts1 links1 opened1 e is h ts ls g o = begin-first texts1 links1 opened1 start e is h ts ls g o
+  begin-given (Err error) texts1 links1 opened1 e is h ts ls g o = tt
+
+  pub single-given : {E : Type 0} (result : Result (Option Given) E) (texts1 : List CowStr) (links1 : List Link) (opened1 : List Opened) → ((end : ℕ) → slot.kind ≡ kind.SourceHtml end → ⊥) → ((end : ℕ) → slot.kind ≡ kind.SourceText end → ⊥) → (slot.kind ≡ kind.Empty → ⊥)
+      → ((e : Element) → slot.kind ≡ kind.Begin e → ⊥) → (slot.kind ≡ kind.End → ⊥) → (slot.kind ≡ kind.Nothing → ⊥) → CanBeGiven leaf texts links (slot ∷ slots) → KeepsOthers (text_named slot.kind) texts texts1 → links1 ≡ links → opened1 ≡ opened
+      → IfOk result (λ given. IsSomeAnd given (λ single. shown_ranged single ≡ over (source_of leaf) (first_of leaf slot) (slot_end leaf slot) (event_in leaf texts slot slot.kind)))
+      → Gives-first result texts1 links1 opened1
+  single-given (Ok None) texts1 links1 opened1 html text empty begin end nothing h ts ls o g = absurd g
+  single-given (Ok (Some single)) texts1 links1 opened1 html text empty begin end nothing h ts ls o g = single-first texts1 links1 opened1 single html text empty begin end nothing h ts ls o g
+  single-given (Err error) texts1 links1 opened1 html text empty begin end nothing h ts ls o g = tt
+
+-- where memory is not refused, what holds anyway
+pub on-ok : {A E : Type 0} (r : Result A E) (P : Type 0) → P → OnOk r P
+on-ok (Ok a) P p = p
+on-ok (Err e) P p = tt
 
 -- an element that ends leaves what none leaves, where none is open
 pub passes-ended : (source : List ℕ) (old new : List Opened) (given : Option Given) → Gives source old given new → Passes source old given new

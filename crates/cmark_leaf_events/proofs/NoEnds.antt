@@ -1,5 +1,5 @@
 -- Slots whose first event there is, and is not the end of an element.
-use Rattle.std.proofs.Common.{◌≡◌, ℕ, suc, ◌<◌, drop, List, ◌∷◌, get_or, length, sym, ap, subst, ◌∙◌, Result, Ok, Err, OnErr}
+use Rattle.std.proofs.Common.{◌≡◌, ℕ, suc, ◌<◌, drop, List, ◌∷◌, get_or, length, refl, sym, ap, subst, ◌∙◌, Result, Ok, Err, OnErr}
 use Rattle.std.proofs.Math.Seq.{drop-cons}
 use Rattle.cmark_grammar.specs.Event.{Ranged}
 use Rattle.cmark_inline_model.specs.FirstEvents.{BeginWithoutEnd}
@@ -57,3 +57,7 @@ here-no-end leaf texts links slots opened at slot lt is h =
 pub on-err : {A E : Type 0} (r : Result A E) (P : Type 0) → P → OnErr r P
 on-err (Ok a) P p = tt
 on-err (Err e) P p = p
+
+pub at-err : {A E : Type 0} (r : Result A E) (P : Type 0) → ((a : A) → r ≡ Ok a → ⊥) → OnErr r P → P
+at-err (Ok a) P n h = absurd (n a refl)
+at-err (Err e) P n h = h

@@ -11,6 +11,7 @@ use Rattle.cmark_leaf_text.specs.declared.leaf_text.LeafText.{LeafText}
 use Rattle.cmark_text.specs.Ranged.{shown_ranged}
 use Rattle.cmark_text.specs.Shown.{shown_end}
 use Rattle.cmark_text.specs.declared.ranged.Ranged.{Ranged as Given}
+use Rattle.cmark_text_parts.specs.Lending.{IsLentBy, IsPartIfBorrowed}
 use Rattle.cmark_text_parts.specs.declared.text.CowStr.{CowStr}
 use Rattle.cmark_leaf_events.specs.declared.leaf_events.Opened.{Opened}
 use Rattle.cmark_items.specs.declared.allocations.Link.{Link}
@@ -56,16 +57,38 @@ pub record KeepsOthers {X : Type 0} (taken : Option ℕ) (old new : List X) : Ty
 
 -- ## What a slot gives that has the range of its bytes
 
+-- the bytes of its text
+abbrev pub held_in : LeafText → List CowStr → Slot → SlotKind → List ℕ
+held_in leaf texts slot (kind.OwnedText index) = text_at texts index
+held_in leaf texts slot (kind.Character character) = encode_utf8 character
+held_in leaf texts slot (kind.Whole last) = slice (source_of leaf) (first_of leaf slot) (slot_end leaf slot)
+held_in leaf texts slot (kind.FootnoteReference index) = text_at texts index
+held_in leaf texts slot (kind.Code from to) = code_text (as_in (is_cell_of leaf) (written leaf from to))
+held_in leaf texts slot (kind.InlineMath from to) = as_in (is_cell_of leaf) (written leaf from to)
+held_in leaf texts slot (kind.DisplayMath from to) = as_in (is_cell_of leaf) (written leaf from to)
+held_in leaf texts slot (kind.CutHtml from) = written leaf from slot.end
+held_in leaf texts slot _ = written leaf slot.start slot.end
+
+-- an event that has a text
+abbrev pub event_as : SlotKind → (text : List ℕ) → event.Event
+event_as (kind.FootnoteReference index) text = event.FootnoteReference text
+event_as (kind.Code from to) text = event.Code text
+event_as (kind.InlineMath from to) text = event.InlineMath text
+event_as (kind.DisplayMath from to) text = event.DisplayMath text
+event_as kind.InlineHtml text = event.InlineHtml text
+event_as (kind.CutHtml from) text = event.InlineHtml text
+event_as (kind.SourceHtml end) text = event.InlineHtml text
+event_as _ text = event.Text text
+
 abbrev pub event_in : LeafText → List CowStr → Slot → SlotKind → event.Event
-event_in leaf texts slot (kind.OwnedText index) = event.Text (text_at texts index)
-event_in leaf texts slot (kind.Character character) = event.Text (encode_utf8 character)
-event_in leaf texts slot (kind.Whole last) = event.Text (slice (source_of leaf) (first_of leaf slot) (slot_end leaf slot))
-event_in leaf texts slot (kind.FootnoteReference index) = event.FootnoteReference (text_at texts index)
 event_in leaf texts slot kind.SoftBreak = event.SoftBreak
 event_in leaf texts slot kind.HardBreak = event.HardBreak
-event_in leaf texts slot (kind.Code from to) = event.Code (code_text (as_in (is_cell_of leaf) (written leaf from to)))
-event_in leaf texts slot (kind.InlineMath from to) = event.InlineMath (as_in (is_cell_of leaf) (written leaf from to))
-event_in leaf texts slot (kind.DisplayMath from to) = event.DisplayMath (as_in (is_cell_of leaf) (written leaf from to))
-event_in leaf texts slot (kind.CutHtml from) = event.InlineHtml (written leaf from slot.end)
-event_in leaf texts slot kind.InlineHtml = event.InlineHtml (written leaf slot.start slot.end)
-event_in leaf texts slot _ = event.Text (written leaf slot.start slot.end)
+event_in leaf texts slot k = event_as k (held_in leaf texts slot k)
+
+-- its text is lent as the zero-copy law says of the event
+abbrev pub IsHeldAs : SlotKind → (source : List ℕ) → (start end : ℕ) → CowStr → Type 0
+IsHeldAs (kind.FootnoteReference index) source start end text = Unit {0}
+IsHeldAs (kind.Code from to) source start end text = IsPartIfBorrowed source text
+IsHeldAs (kind.InlineMath from to) source start end text = IsPartIfBorrowed source text
+IsHeldAs (kind.DisplayMath from to) source start end text = IsPartIfBorrowed source text
+IsHeldAs _ source start end text = IsLentBy (slice source start end) text

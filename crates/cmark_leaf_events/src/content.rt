@@ -1,12 +1,12 @@
 //! What code spans and formulas hold.
 
-ghost use Rattle.std.specs.Prelude.{◌≡◌, false, IfOk};
+ghost use Rattle.std.specs.Prelude.{◌≡◌, ◌⊎◌, false, IfOk};
 ghost use Rattle.cmark_grammar.specs.CodeSpans.{code_text};
 ghost use Rattle.cmark_grammar.specs.InlineHtml.{takes_lines};
 ghost use Rattle.cmark_grammar.specs.InlineTokens.{without_pipe_escapes};
 ghost use Rattle.cmark_leaf_text.specs.Reads.{IsPart, IsRead, source_of, text_of};
 ghost use Rattle.cmark_scan_parts.specs.Shown.{IsBorrowed};
-ghost use Rattle.cmark_text_parts.specs.Shown.{text_bytes};
+ghost use Rattle.cmark_text_parts.specs.Shown.{IsBoxed, IsInlined, text_bytes};
 ghost use Rattle.cmark_text_parts.specs.Lending.{IsPartIfBorrowed};
 ghost use Rattle.cmark_leaf_events.specs.Contents.{IsInLeaf, IsUnbroken, read_as, written};
 
@@ -42,9 +42,7 @@ impl<'s, 'a> Content<'s, 'a> {
         }
         match self.leaf.slice(self.from, self.to) {
             Some(content) => code_text(alloc, content),
-            None => {
-                code_text(alloc, &self.leaf.as_str()[self.from..self.to])?.into_static(alloc)
-            }
+            None => own_code(alloc, &self.leaf.as_str()[self.from..self.to]),
         }
     }
 
@@ -57,12 +55,16 @@ impl<'s, 'a> Content<'s, 'a> {
         ensures lent { IsUnbroken self.now → takes_lines (written self.now) ≡ false → without_pipe_escapes (written self.now) ≡ written self.now → IfOk result IsBorrowed }
         ensures part { IfOk result (IsPartIfBorrowed (source_of self.now.leaf.now)) }
     {
-        let written = text_between(alloc, self.leaf, self.from, self.to)?;
-        let content = without_pipe_escapes(alloc, written)?;
+        let Ok(written) = text_between(alloc, self.leaf, self.from, self.to) else {
+            return Err(AllocError);
+        };
+        let Ok(content) = without_pipe_escapes(alloc, written) else {
+            return Err(AllocError);
+        };
         if let CowStr::Borrowed(part) = &content {
             return code_text(alloc, *part);
         }
-        code_text(alloc, content.as_str())?.into_static(alloc)
+        own_code(alloc, content.as_str())
     }
 
     /// The text of a formula, with its line endings and blanks: borrowed where it stands in the source without a gap. In the cell of a
@@ -76,10 +78,23 @@ impl<'s, 'a> Content<'s, 'a> {
         if self.from >= self.to {
             return Ok(CowStr::Borrowed(""));
         }
-        let text = text_between(alloc, self.leaf, self.from, self.to)?;
+        let Ok(text) = text_between(alloc, self.leaf, self.from, self.to) else {
+            return Err(AllocError);
+        };
         if self.leaf.is_cell() {
             return without_pipe_escapes(alloc, text);
         }
         Ok(text)
+    }
+}
+
+// The text of a code span that holds these bytes, in a value that borrows nothing.
+fn own_code<'a>(alloc: Global, content: &str) -> Result<CowStr<'a>, AllocError>
+    ensures value { IfOk result (λ text. text_bytes text ≡ code_text content.now) }
+    ensures own { IfOk result (λ text. IsBoxed text ⊎ IsInlined text) }
+{
+    match code_text(alloc, content) {
+        Ok(code) => code.into_static(alloc),
+        Err(error) => Err(error),
     }
 }

@@ -1,10 +1,10 @@
 //! The events of a leaf's slots, one after the other.
 
-ghost use Rattle.std.specs.Prelude.{◌≡◌, ◌<◌, ◌≤◌, ◌+◌, ◌-◌, ◌∷◌, ℕ, List, [], Some, IfOk, IfSome, OnErr, OnOk, OnSome, length};
+ghost use Rattle.std.specs.Prelude.{◌≡◌, ◌<◌, ◌≤◌, ◌+◌, ◌-◌, ◌∷◌, ℕ, List, [], Some, IfOk, IfSome, IsSomeAnd, OnErr, OnOk, OnSome, length};
 ghost use Rattle.std.specs.Str.{IsCharBoundary};
 ghost use Rattle.cmark_grammar.specs.Event.{Start, End, Text};
 ghost use Rattle.cmark_grammar.specs.InlineReading.{over};
-ghost use Rattle.cmark_grammar.specs.LeafSpans.{IsInline, IsRange, IsSpan};
+ghost use Rattle.cmark_grammar.specs.LeafSpans.{IsRange, IsSpan};
 ghost use Rattle.cmark_grammar.specs.Tokens.{slice};
 ghost use Rattle.cmark_inline_model.specs.FirstEvents.{BeginWithoutEnd};
 ghost use Rattle.cmark_leaf_text.specs.Reads.{IsRead, IsPart, place_of, text_of, source_of};
@@ -16,9 +16,9 @@ ghost use Rattle.cmark_text.specs.Shown.{shown, shown_end, shown_tag};
 ghost use Rattle.cmark_text_parts.specs.Shown.{text_bytes};
 ghost use Rattle.cmark_text.specs.ZeroCopy.{IsZeroCopy};
 ghost use Rattle.cmark_text_parts.specs.Lending.{IsLentBy};
-ghost use Rattle.cmark_leaf_events.specs.Opens.{element_end, Follows, Gives, Passes, events_left, AreOpened};
+ghost use Rattle.cmark_leaf_events.specs.Opens.{element_end, Gives, Passes, events_left, AreOpened};
 ghost use Rattle.cmark_items.specs.Links.{shown_link};
-ghost use Rattle.cmark_leaf_events.specs.Events.{AreLeft, IsFirst, KeepsOthers, event_in, events_of, events_to_come, shown_opened, with_given};
+ghost use Rattle.cmark_leaf_events.specs.Events.{AreLeft, IsFirst, IsHeldAs, KeepsOthers, event_as, event_in, held_in, events_of, events_to_come, shown_opened, with_given};
 ghost use Rattle.cmark_slots.specs.SlotViews.{CanBeGiven, IsThere, link_named, link_of, linked_at, shown_element, text_at, text_named};
 ghost use Rattle.cmark_slots.specs.Slots.{AreSlots, IsSlot};
 ghost use Rattle.cmark_slots.specs.declared.slot.Slot.{Slot as Slots};
@@ -55,11 +55,13 @@ impl<'a> LeafEvents<'a> {
     {
         while self.walk.next < self.slots.len() {
             let slot = self.slots[self.walk.next];
-            if let Some(given) = self.give(leaf, slot)? {
-                self.walk.next += 1;
+            let Ok(given) = self.give(leaf, slot) else {
+                return Err(AllocError);
+            };
+            self.walk.next += 1;
+            if let Some(given) = given {
                 return Ok(Some(given));
             }
-            self.walk.next += 1;
         }
         Ok(self.end_last())
     }
@@ -85,38 +87,25 @@ impl<'a> LeafEvents<'a> {
         ensures ends { OnErr result ((behind : List Slots) → BeginWithoutEnd (events_of leaf.now self.old.texts.items self.old.links.items (slot ∷ behind) self.old.walk.opened.items)) }
     {
         match slot.kind {
-            SlotKind::Begin(element) => {
-                let given = self.begin(leaf, slot, element)?;
-                Ok(Some(given))
-            }
+            SlotKind::Begin(element) => self.begin(leaf, slot, element),
             SlotKind::End => Ok(self.end_last()),
             SlotKind::Nothing => Ok(None),
-            SlotKind::SourceHtml(end) => {
-                let (html, range) = source_part(leaf, slot, end);
-                let event = Event::InlineHtml(html);
-                Ok(Some(Ranged { event, range }))
-            }
-            SlotKind::SourceText(end) => {
-                let (text, range) = source_part(leaf, slot, end);
-                let event = Event::Text(text);
-                Ok(Some(Ranged { event, range }))
+            SlotKind::SourceHtml(end) | SlotKind::SourceText(end) => {
+                Ok(Some(source_part(leaf, slot, end)))
             }
             SlotKind::Empty => Ok(Some(empty_text(leaf, slot))),
-            _ => {
-                let event = self.single(leaf, slot)?;
-                let range = leaf.range(slot.start, slot.end);
-                Ok(Some(Ranged { event, range }))
-            }
+            _ => self.over_slot(leaf, slot),
         }
     }
 
+    // The start of an element, as `give` answers it.
     #[inline(always)]
     fn begin(
         &mut self,
         leaf: &LeafText<'a>,
         slot: Slot,
         element: Element,
-    ) -> Result<Ranged<'a>, AllocError>
+    ) -> Result<Option<Ranged<'a>>, AllocError>
         requires read { IsRead leaf.now }
         requires slot { IsSlot (text_of leaf.now) (length (text_of leaf.now)) slot }
         requires opened { AreOpened (source_of leaf.now) self.old.walk.opened.items }
@@ -124,9 +113,9 @@ impl<'a> LeafEvents<'a> {
         ensures slots { self.new.slots ≡ self.old.slots }
         ensures place { self.new.walk.next ≡ self.old.walk.next }
         ensures opened { AreOpened (source_of leaf.now) self.new.walk.opened.items }
-        ensures gives { IfOk result (λ given. Follows (source_of leaf.now) self.old.walk.opened.items (shown_ranged given) self.new.walk.opened.items) }
-        ensures lent { IfOk result (IsRangedZeroCopy (source_of leaf.now)) }
-        ensures event { IfOk result (λ given. shown_ranged given ≡ over (source_of leaf.now) (place_of leaf.now slot.start) (place_of leaf.now (slot.end - 1) + 1) (Start (shown_element self.old.links.items element))) }
+        ensures gives { IfOk result (λ given. Passes (source_of leaf.now) self.old.walk.opened.items given self.new.walk.opened.items) }
+        ensures lent { IfOk result (λ given. IfSome given (IsRangedZeroCopy (source_of leaf.now))) }
+        ensures event { IfOk result (λ given. IsSomeAnd given (λ start. shown_ranged start ≡ over (source_of leaf.now) (place_of leaf.now slot.start) (place_of leaf.now (slot.end - 1) + 1) (Start (shown_element self.old.links.items element)))) }
         ensures opens { OnOk result (shown_opened self.new.walk.opened.items ≡ over (source_of leaf.now) (place_of leaf.now slot.start) (place_of leaf.now (slot.end - 1) + 1) (End (end_of (shown_element self.old.links.items element))) ∷ shown_opened self.old.walk.opened.items) }
         ensures links { KeepsOthers (link_of element) self.old.links.items self.new.links.items }
         ensures texts { self.new.texts ≡ self.old.texts }
@@ -138,10 +127,40 @@ impl<'a> LeafEvents<'a> {
             start: range.start,
             end: range.end,
         })?;
-        Ok(Ranged {
+        Ok(Some(Ranged {
             event: Event::Start(self.tag(element)),
             range,
-        })
+        }))
+    }
+
+    // The event of a slot that has the range of its bytes, as `give` answers it.
+    #[inline(always)]
+    fn over_slot(&mut self, leaf: &LeafText<'a>, slot: Slot) -> Result<Option<Ranged<'a>>, AllocError>
+        requires read { IsRead leaf.now }
+        requires slot { IsSlot (text_of leaf.now) (length (text_of leaf.now)) slot }
+        requires text { IsThere (length self.old.texts.items) (text_named slot.kind) }
+        ensures slots { self.new.slots ≡ self.old.slots }
+        ensures walk { self.new.walk ≡ self.old.walk }
+        ensures gives { IfOk result (λ given. Passes (source_of leaf.now) self.old.walk.opened.items given self.new.walk.opened.items) }
+        ensures lent { IfOk result (λ given. IfSome given (IsRangedZeroCopy (source_of leaf.now))) }
+        ensures event { IfOk result (λ given. IsSomeAnd given (λ single. shown_ranged single ≡ over (source_of leaf.now) (place_of leaf.now slot.start) (place_of leaf.now (slot.end - 1) + 1) (event_in leaf.now self.old.texts.items slot slot.kind))) }
+        ensures texts { KeepsOthers (text_named slot.kind) self.old.texts.items self.new.texts.items }
+        ensures links { self.new.links ≡ self.old.links }
+    {
+        let range = leaf.range(slot.start, slot.end);
+        let event = match slot.kind {
+            SlotKind::SoftBreak => Event::SoftBreak,
+            SlotKind::HardBreak => Event::HardBreak,
+            SlotKind::Text => match text_between(self.alloc, leaf, slot.start, slot.end) {
+                Ok(text) => Event::Text(text),
+                Err(error) => return Err(error),
+            },
+            _ => match self.held(leaf, slot) {
+                Ok(text) => event_of(slot.kind, text),
+                Err(error) => return Err(error),
+            },
+        };
+        Ok(Some(Ranged { event, range }))
     }
 
     #[inline(always)]
@@ -157,7 +176,9 @@ impl<'a> LeafEvents<'a> {
         ensures links { self.new.links ≡ self.old.links }
         ensures texts { self.new.texts ≡ self.old.texts }
     {
-        let opened = self.walk.opened.pop()?;
+        let Some(opened) = self.walk.opened.pop() else {
+            return None;
+        };
         Some(Ranged {
             event: Event::End(opened.tag),
             range: opened.start..opened.end,
@@ -207,53 +228,56 @@ impl<'a> LeafEvents<'a> {
         std::mem::replace(&mut self.texts[index], CowStr::Borrowed(""))
     }
 
+    // The text of a slot's event, which is no break.
     #[inline(always)]
-    fn single(&mut self, leaf: &LeafText<'a>, slot: Slot) -> Result<Event<'a>, AllocError>
+    fn held(&mut self, leaf: &LeafText<'a>, slot: Slot) -> Result<CowStr<'a>, AllocError>
         requires read { IsRead leaf.now }
         requires slot { IsSlot (text_of leaf.now) (length (text_of leaf.now)) slot }
         requires text { IsThere (length self.old.texts.items) (text_named slot.kind) }
         ensures slots { self.new.slots ≡ self.old.slots }
         ensures walk { self.new.walk ≡ self.old.walk }
-        ensures inline { IfOk result (λ event. IsInline (shown event)) }
-        ensures lent { IfOk result (λ event. IsZeroCopy (source_of leaf.now) event (place_of leaf.now slot.start) (place_of leaf.now (slot.end - 1) + 1)) }
-        ensures value { IfOk result (λ event. shown event ≡ event_in leaf.now self.old.texts.items slot slot.kind) }
+        ensures lent { IfOk result (IsHeldAs slot.kind (source_of leaf.now) (place_of leaf.now slot.start) (place_of leaf.now (slot.end - 1) + 1)) }
+        ensures value { IfOk result (λ text. text_bytes text ≡ held_in leaf.now self.old.texts.items slot slot.kind) }
         ensures texts { KeepsOthers (text_named slot.kind) self.old.texts.items self.new.texts.items }
         ensures links { self.new.links ≡ self.old.links }
     {
         match slot.kind {
             SlotKind::OwnedText(index) => {
                 let text = self.take_text(index);
-                Ok(Event::Text(written(self.alloc, leaf, slot, text)?))
+                written(self.alloc, leaf, slot, text)
             }
             SlotKind::Character(character) => {
-                let text = CowStr::from(character);
-                Ok(Event::Text(written(self.alloc, leaf, slot, text)?))
+                written(self.alloc, leaf, slot, CowStr::from(character))
             }
-            SlotKind::Whole(_) => Ok(Event::Text(CowStr::Borrowed(leaf.source_between(
-                slot.start, slot.end,
-            )))),
-            SlotKind::FootnoteReference(index) => {
-                Ok(Event::FootnoteReference(self.take_text(index)))
+            SlotKind::Whole(_) => Ok(CowStr::Borrowed(
+                leaf.source_between(slot.start, slot.end),
+            )),
+            SlotKind::FootnoteReference(index) => Ok(self.take_text(index)),
+            SlotKind::Code(from, to) => Content { leaf, from, to }.code(self.alloc),
+            SlotKind::InlineMath(from, to) | SlotKind::DisplayMath(from, to) => {
+                Content { leaf, from, to }.formula(self.alloc)
             }
-            SlotKind::SoftBreak => Ok(Event::SoftBreak),
-            SlotKind::HardBreak => Ok(Event::HardBreak),
-            SlotKind::Code(from, to) => Ok(Event::Code(Content { leaf, from, to }.code(
-                self.alloc,
-            )?)),
-            SlotKind::InlineMath(from, to) => {
-                Ok(Event::InlineMath(Content { leaf, from, to }.formula(self.alloc)?))
-            }
-            SlotKind::DisplayMath(from, to) => {
-                Ok(Event::DisplayMath(Content { leaf, from, to }.formula(self.alloc)?))
-            }
-            SlotKind::CutHtml(from) => {
-                Ok(Event::InlineHtml(cut_html(self.alloc, leaf, slot, from)?))
-            }
-            SlotKind::InlineHtml => Ok(Event::InlineHtml(text_between(
-                self.alloc, leaf, slot.start, slot.end,
-            )?)),
-            _ => Ok(Event::Text(text_between(self.alloc, leaf, slot.start, slot.end)?)),
+            SlotKind::CutHtml(from) => cut_html(self.alloc, leaf, slot, from),
+            _ => text_between(self.alloc, leaf, slot.start, slot.end),
         }
+    }
+}
+
+// The event of a slot of this kind, which is no break, that has this text.
+#[inline(always)]
+fn event_of<'a>(kind: SlotKind, text: CowStr<'a>) -> Event<'a>
+    ensures value { shown result ≡ event_as kind (text_bytes text.entry) }
+    ensures lent { (source : List ℕ) (start end : ℕ) → IsHeldAs kind source start end text.entry → IsZeroCopy source result start end }
+{
+    match kind {
+        SlotKind::FootnoteReference(_) => Event::FootnoteReference(text),
+        SlotKind::Code(_, _) => Event::Code(text),
+        SlotKind::InlineMath(_, _) => Event::InlineMath(text),
+        SlotKind::DisplayMath(_, _) => Event::DisplayMath(text),
+        SlotKind::InlineHtml | SlotKind::CutHtml(_) | SlotKind::SourceHtml(_) => {
+            Event::InlineHtml(text)
+        }
+        _ => Event::Text(text),
     }
 }
 
@@ -327,19 +351,22 @@ fn written<'a>(
     text.lent_by(alloc, part)
 }
 
-// A part of the source at a slot, up to this end behind the slot's begin: borrowed, with the prefixes of its later lines, and where it stands.
-fn source_part<'a>(leaf: &LeafText<'a>, slot: Slot, end: usize) -> (CowStr<'a>, Range<usize>)
+// A part of the source at a slot, up to this end behind the slot's begin, with the prefixes of its later lines: HTML, or a text.
+fn source_part<'a>(leaf: &LeafText<'a>, slot: Slot, end: usize) -> Ranged<'a>
     requires read { IsRead leaf.now }
     requires slot { IsSlot (text_of leaf.now) (length (text_of leaf.now)) slot }
-    ensures start { result.1.start ≡ place_of leaf.now slot.start }
-    ensures end { place_of leaf.now slot.start < end → IsCharBoundary (source_of leaf.now) end → result.1.end ≡ end }
-    ensures part { IsPart (source_of leaf.now) result.1.start result.1.end }
-    ensures value { text_bytes result.0 ≡ slice (source_of leaf.now) result.1.start result.1.end }
-    ensures lent { IsLentBy (slice (source_of leaf.now) result.1.start result.1.end) result.0 }
+    ensures start { result.range.start ≡ place_of leaf.now slot.start }
+    ensures end { place_of leaf.now slot.start < end → IsCharBoundary (source_of leaf.now) end → result.range.end ≡ end }
+    ensures part { IsPart (source_of leaf.now) result.range.start result.range.end }
+    ensures value { shown result.event ≡ event_as slot.kind (slice (source_of leaf.now) result.range.start result.range.end) }
+    ensures lent { IsRangedZeroCopy (source_of leaf.now) result }
 {
     let range = leaf.range_up_to(slot.start, slot.end, end);
     let part = leaf.source_at(range.start, range.end);
-    (CowStr::Borrowed(part), range)
+    Ranged {
+        event: event_of(slot.kind, CowStr::Borrowed(part)),
+        range,
+    }
 }
 
 // A text of no bytes, before the first byte of a slot.
@@ -376,6 +403,8 @@ fn cut_html<'a>(
     if from >= slot.end {
         return written(alloc, leaf, slot, CowStr::Borrowed(""));
     }
-    let tag = copied(alloc, &leaf.as_str()[from..slot.end])?;
-    written(alloc, leaf, slot, tag)
+    match copied(alloc, &leaf.as_str()[from..slot.end]) {
+        Ok(tag) => written(alloc, leaf, slot, tag),
+        Err(error) => Err(error),
+    }
 }

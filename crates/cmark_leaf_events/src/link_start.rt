@@ -23,7 +23,9 @@ impl<'a> LeafEvents<'a> {
     pub fn link_ahead(&self) -> Option<&Link<'a>>
         ensures { option_map (λ link. link.now) result ≡ link_to_come self.now }
     {
-        let slot = self.slots.get(self.walk.next)?;
+        let Some(slot) = self.slots.get(self.walk.next) else {
+            return None;
+        };
         match slot.kind {
             SlotKind::Begin(Element::Link(index) | Element::Autolink(index)) => {
                 self.links.get(index)

@@ -53,7 +53,10 @@ impl<'a> LeafEvents<'a> {
     {
         while self.walk.next < self.slots.len() {
             let slot = self.slots[self.walk.next];
-            match self.give_short(leaf, slot)? {
+            let Ok(next) = self.give_short(leaf, slot) else {
+                return Err(AllocError);
+            };
+            match next {
                 Next::Short(short) => {
                     self.walk.next += 1;
                     return Ok(Next::Short(short));
@@ -169,13 +172,21 @@ fn part_of<'a>(leaf: &LeafText<'a>, slot: Slot) -> Option<Short<'a>>
 {
     match slot.kind {
         SlotKind::Text => {
-            let ahead = leaf.slice_ahead(slot.start, slot.end)?;
+            let Some(ahead) = leaf.slice_ahead(slot.start, slot.end) else {
+                return None;
+            };
             Some(Short::Text(Excerpt::new(ahead, slot.end - slot.start)))
         }
         SlotKind::SoftBreak => Some(Short::SoftBreak),
         SlotKind::HardBreak => Some(Short::HardBreak),
-        SlotKind::Code(from, to) => Some(Short::Code(code_in(leaf, from, to)?)),
-        SlotKind::InlineHtml => Some(Short::InlineHtml(leaf.slice(slot.start, slot.end)?)),
+        SlotKind::Code(from, to) => match code_in(leaf, from, to) {
+            Some(code) => Some(Short::Code(code)),
+            None => None,
+        },
+        SlotKind::InlineHtml => match leaf.slice(slot.start, slot.end) {
+            Some(html) => Some(Short::InlineHtml(html)),
+            None => None,
+        },
         SlotKind::Whole(_) => {
             let text = leaf.source_between(slot.start, slot.end);
             Some(Short::Text(Excerpt::whole(text)))
@@ -197,5 +208,8 @@ fn code_in<'a>(leaf: &LeafText<'a>, from: usize, to: usize) -> Option<&'a str>
     if from >= to || leaf.is_cell() {
         return None;
     }
-    code_part(leaf.slice(from, to)?)
+    match leaf.slice(from, to) {
+        Some(content) => code_part(content),
+        None => None,
+    }
 }

@@ -1,14 +1,12 @@
 -- A text escaped so far, by a map of each byte.
-use Rattle.std.proofs.Common.{◌≡◌, ℕ, suc, ◌+◌, ◌-◌, ◌<◌, ◌≤◌, Bool, true, false, List, [], ◌∷◌, ◌++◌, length, get_or, take, drop, slice_range, flat_map, position, nat_lt, cond, Option, None, Some, refl, sym, ap, subst, ◌∙◌, arith, add-one, append_assoc, append-nil, take-append-drop, drop-cons, drop-drop, Result, Ok, Err, OnOk, OnErr, is_ok, if◌then◌else◌}
-use Rattle.std.proofs.lemmas.Bool.{false_from_ne_true, ltb-false}
+use Rattle.std.proofs.Common.{◌≡◌, ℕ, suc, ◌+◌, ◌-◌, ◌<◌, ◌≤◌, Bool, true, false, List, [], ◌∷◌, ◌++◌, length, get_or, take, drop, slice_range, flat_map, position, Option, None, Some, refl, sym, ap, subst, ◌∙◌, arith, add-one, append_assoc, append-nil, take-append-drop, drop-cons, drop-drop, Result, Ok, Err, OnOk, OnErr, is_ok, if◌then◌else◌}
+use Rattle.std.proofs.lemmas.Bool.{false_from_ne_true}
 use Rattle.std.proofs.lemmas.Grind.{flat_map-append}
 use Rattle.std.proofs.lemmas.List.{get_or-take, get_or-drop, length-take-le, length-drop}
 use Rattle.std.proofs.lemmas.List.Quantifiers.{position-Some}
-use Rattle.std.proofs.lemmas.List.Sums.{fails_before_first}
-use Rattle.std.specs.List.{position_or_len}
 use Rattle.memchr.specs.Find.{IsFirstByte}
 use Rattle.cmark_text.specs.Appended.{AppendsFront}
-use Rattle.cmark_text_parts.proofs.Kept.{AllKept, all_kept-position}
+use Rattle.cmark_text_parts.proofs.Kept.{AllKept}
 
 -- new is old with a first part of the text escaped, and this rest of the text is left
 pub record Written (escape : ℕ → List ℕ) (old new text rest : List ℕ) : Type 0 where

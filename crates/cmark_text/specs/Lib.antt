@@ -1,6 +1,7 @@
 pub mod Appended
 pub mod Excerpt
 pub mod InPlace
+pub mod Kinds
 pub mod Marks
 pub mod Ranged
 pub mod Short

@@ -4,6 +4,7 @@ ghost use Rattle.std.specs.Prelude.{◌≡◌, ◌∷◌, [], ◌++◌, length, 
 ghost use Rattle.cmark_grammar.specs.Tag as tag;
 ghost use Rattle.cmark_text.specs.InPlace.{TagCopiesInPlace, EventCopiesInPlace, TagStaysInPlace, EventStaysInPlace};
 ghost use Rattle.cmark_text_parts.specs.InPlace.{CopiesInPlace, StaysInPlace};
+ghost use Rattle.cmark_text.specs.Kinds.{shown_link_tag, shown_text};
 ghost use Rattle.cmark_text.specs.Shown.{shown, shown_tag};
 ghost use Rattle.cmark_text_parts.specs.Shown.{level_number, shown_attribute, shown_attributes, shown_linked, text_bytes};
 
@@ -29,19 +30,22 @@ impl<'a> Tag<'a> {
             } => clone_heading(alloc, *level, id, classes, attrs),
             Tag::CodeBlock(kind) => kind.clone(alloc).map(Tag::CodeBlock),
             Tag::FootnoteDefinition(label) => label.clone(alloc).map(Tag::FootnoteDefinition),
-            Tag::Table(alignments) => Ok(Tag::Table(Vec::from_slice(alloc, alignments)?)),
+            Tag::Table(alignments) => match Vec::from_slice(alloc, alignments) {
+                Ok(copies) => Ok(Tag::Table(copies)),
+                Err(error) => Err(error),
+            },
             Tag::Link {
                 link_type,
                 dest_url,
                 title,
                 id,
-            } => clone_link(alloc, *link_type, dest_url, title, id),
+            } => clone_linked(alloc, LinkKind::Link, *link_type, dest_url, title, id),
             Tag::Image {
                 link_type,
                 dest_url,
                 title,
                 id,
-            } => clone_image(alloc, *link_type, dest_url, title, id),
+            } => clone_linked(alloc, LinkKind::Image, *link_type, dest_url, title, id),
             _ => unreachable!(),
         }
     }
@@ -71,13 +75,13 @@ impl<'a> Tag<'a> {
                 dest_url,
                 title,
                 id,
-            } => static_link(alloc, link_type, dest_url, title, id),
+            } => static_linked(alloc, LinkKind::Link, link_type, dest_url, title, id),
             Tag::Image {
                 link_type,
                 dest_url,
                 title,
                 id,
-            } => static_image(alloc, link_type, dest_url, title, id),
+            } => static_linked(alloc, LinkKind::Image, link_type, dest_url, title, id),
             _ => unreachable!(),
         }
     }
@@ -92,13 +96,13 @@ impl<'a> Event<'a> {
         match self {
             Event::Start(tag) => tag.clone(alloc).map(Event::Start),
             Event::End(end) => Ok(Event::End(*end)),
-            Event::Text(text) => text.clone(alloc).map(Event::Text),
-            Event::Code(text) => text.clone(alloc).map(Event::Code),
-            Event::InlineMath(text) => text.clone(alloc).map(Event::InlineMath),
-            Event::DisplayMath(text) => text.clone(alloc).map(Event::DisplayMath),
-            Event::Html(text) => text.clone(alloc).map(Event::Html),
-            Event::InlineHtml(text) => text.clone(alloc).map(Event::InlineHtml),
-            Event::FootnoteReference(text) => text.clone(alloc).map(Event::FootnoteReference),
+            Event::Text(text) => clone_held(alloc, TextKind::Text, text),
+            Event::Code(text) => clone_held(alloc, TextKind::Code, text),
+            Event::InlineMath(text) => clone_held(alloc, TextKind::InlineMath, text),
+            Event::DisplayMath(text) => clone_held(alloc, TextKind::DisplayMath, text),
+            Event::Html(text) => clone_held(alloc, TextKind::Html, text),
+            Event::InlineHtml(text) => clone_held(alloc, TextKind::InlineHtml, text),
+            Event::FootnoteReference(text) => clone_held(alloc, TextKind::FootnoteReference, text),
             Event::SoftBreak => Ok(Event::SoftBreak),
             Event::HardBreak => Ok(Event::HardBreak),
             Event::Rule => Ok(Event::Rule),
@@ -114,13 +118,13 @@ impl<'a> Event<'a> {
         match self {
             Event::Start(tag) => tag.into_static(alloc).map(Event::Start),
             Event::End(end) => Ok(Event::End(end)),
-            Event::Text(text) => text.into_static(alloc).map(Event::Text),
-            Event::Code(text) => text.into_static(alloc).map(Event::Code),
-            Event::InlineMath(text) => text.into_static(alloc).map(Event::InlineMath),
-            Event::DisplayMath(text) => text.into_static(alloc).map(Event::DisplayMath),
-            Event::Html(text) => text.into_static(alloc).map(Event::Html),
-            Event::InlineHtml(text) => text.into_static(alloc).map(Event::InlineHtml),
-            Event::FootnoteReference(text) => text.into_static(alloc).map(Event::FootnoteReference),
+            Event::Text(text) => static_held(alloc, TextKind::Text, text),
+            Event::Code(text) => static_held(alloc, TextKind::Code, text),
+            Event::InlineMath(text) => static_held(alloc, TextKind::InlineMath, text),
+            Event::DisplayMath(text) => static_held(alloc, TextKind::DisplayMath, text),
+            Event::Html(text) => static_held(alloc, TextKind::Html, text),
+            Event::InlineHtml(text) => static_held(alloc, TextKind::InlineHtml, text),
+            Event::FootnoteReference(text) => static_held(alloc, TextKind::FootnoteReference, text),
             Event::SoftBreak => Ok(Event::SoftBreak),
             Event::HardBreak => Ok(Event::HardBreak),
             Event::Rule => Ok(Event::Rule),
@@ -129,122 +133,144 @@ impl<'a> Event<'a> {
     }
 }
 
+/// The events that hold one text alone.
+#[derive(Clone, Copy)]
+enum TextKind {
+    Text,
+    Code,
+    InlineMath,
+    DisplayMath,
+    Html,
+    InlineHtml,
+    FootnoteReference,
+}
+
+impl TextKind {
+    /// The event that holds this text.
+    fn event<'a>(self, text: CowStr<'a>) -> Event<'a>
+        ensures { shown result ≡ shown_text self (text_bytes text.entry) }
+    {
+        match self {
+            TextKind::Text => Event::Text(text),
+            TextKind::Code => Event::Code(text),
+            TextKind::InlineMath => Event::InlineMath(text),
+            TextKind::DisplayMath => Event::DisplayMath(text),
+            TextKind::Html => Event::Html(text),
+            TextKind::InlineHtml => Event::InlineHtml(text),
+            TextKind::FootnoteReference => Event::FootnoteReference(text),
+        }
+    }
+}
+
+/// The event that holds a copy of this text.
+fn clone_held<'a>(
+    alloc: Global,
+    kind: TextKind,
+    text: &CowStr<'a>,
+) -> Result<Event<'a>, AllocError>
+    ensures value { IfOk result (λ copy. shown copy ≡ shown_text kind (text_bytes text.now)) }
+    ensures succeeds { CopiesInPlace text.now → IsOk result }
+{
+    match text.clone(alloc) {
+        Ok(copy) => Ok(kind.event(copy)),
+        Err(error) => Err(error),
+    }
+}
+
+/// The event that holds this text, in a value that borrows nothing.
+fn static_held(
+    alloc: Global,
+    kind: TextKind,
+    text: CowStr<'_>,
+) -> Result<Event<'static>, AllocError>
+    ensures value { IfOk result (λ made. shown made ≡ shown_text kind (text_bytes text.entry)) }
+    ensures succeeds { StaysInPlace text.entry → IsOk result }
+{
+    match text.into_static(alloc) {
+        Ok(made) => Ok(kind.event(made)),
+        Err(error) => Err(error),
+    }
+}
+
 /// An attribute of a heading: its name, and its value if it has one.
 type Attribute<'a> = (CowStr<'a>, Option<CowStr<'a>>);
 
-/// The destination, the title and the label of a link or an image.
-type LinkTexts<'a> = (CowStr<'a>, CowStr<'a>, CowStr<'a>);
+/// The elements that lead somewhere.
+#[derive(Clone, Copy)]
+enum LinkKind {
+    Link,
+    Image,
+}
 
-/// The tag of a link that has these texts.
-fn link_tag<'a>(link_type: LinkType, texts: LinkTexts<'a>) -> Tag<'a>
-    ensures { shown_tag result ≡ tag.Link (shown_linked link_type texts.entry.0 texts.entry.1 texts.entry.2) }
-{
-    let (dest_url, title, id) = texts;
-    Tag::Link {
-        link_type,
-        dest_url,
-        title,
-        id,
+impl LinkKind {
+    /// The tag that has these texts.
+    fn tag<'a>(
+        self,
+        link_type: LinkType,
+        dest_url: CowStr<'a>,
+        title: CowStr<'a>,
+        id: CowStr<'a>,
+    ) -> Tag<'a>
+        ensures { shown_tag result ≡ shown_link_tag self (shown_linked link_type dest_url.entry title.entry id.entry) }
+    {
+        match self {
+            LinkKind::Link => Tag::Link {
+                link_type,
+                dest_url,
+                title,
+                id,
+            },
+            LinkKind::Image => Tag::Image {
+                link_type,
+                dest_url,
+                title,
+                id,
+            },
+        }
     }
 }
 
-/// The tag of an image that has these texts.
-fn image_tag<'a>(link_type: LinkType, texts: LinkTexts<'a>) -> Tag<'a>
-    ensures { shown_tag result ≡ tag.Image (shown_linked link_type texts.entry.0 texts.entry.1 texts.entry.2) }
-{
-    let (dest_url, title, id) = texts;
-    Tag::Image {
-        link_type,
-        dest_url,
-        title,
-        id,
-    }
-}
-
-/// A copy of the link of this type with these texts.
-fn clone_link<'a>(
+/// A copy of the link or the image of this type with these texts.
+fn clone_linked<'a>(
     alloc: Global,
+    kind: LinkKind,
     link_type: LinkType,
     dest_url: &CowStr<'a>,
     title: &CowStr<'a>,
     id: &CowStr<'a>,
 ) -> Result<Tag<'a>, AllocError>
-    ensures value { IfOk result (λ copy. shown_tag copy ≡ tag.Link (shown_linked link_type dest_url.now title.now id.now)) }
+    ensures value { IfOk result (λ copy. shown_tag copy ≡ shown_link_tag kind (shown_linked link_type dest_url.now title.now id.now)) }
     ensures succeeds { CopiesInPlace dest_url.now → CopiesInPlace title.now → CopiesInPlace id.now → IsOk result }
-{
-    Ok(link_tag(link_type, clone_link_texts(alloc, dest_url, title, id)?))
-}
-
-/// The link of this type with these texts, in a value that borrows nothing.
-fn static_link(
-    alloc: Global,
-    link_type: LinkType,
-    dest_url: CowStr<'_>,
-    title: CowStr<'_>,
-    id: CowStr<'_>,
-) -> Result<Tag<'static>, AllocError>
-    ensures value { IfOk result (λ made. shown_tag made ≡ tag.Link (shown_linked link_type dest_url.entry title.entry id.entry)) }
-    ensures succeeds { StaysInPlace dest_url.entry → StaysInPlace title.entry → StaysInPlace id.entry → IsOk result }
-{
-    Ok(link_tag(link_type, static_link_texts(alloc, dest_url, title, id)?))
-}
-
-/// A copy of the image of this type with these texts.
-fn clone_image<'a>(
-    alloc: Global,
-    link_type: LinkType,
-    dest_url: &CowStr<'a>,
-    title: &CowStr<'a>,
-    id: &CowStr<'a>,
-) -> Result<Tag<'a>, AllocError>
-    ensures value { IfOk result (λ copy. shown_tag copy ≡ tag.Image (shown_linked link_type dest_url.now title.now id.now)) }
-    ensures succeeds { CopiesInPlace dest_url.now → CopiesInPlace title.now → CopiesInPlace id.now → IsOk result }
-{
-    Ok(image_tag(link_type, clone_link_texts(alloc, dest_url, title, id)?))
-}
-
-/// The image of this type with these texts, in a value that borrows nothing.
-fn static_image(
-    alloc: Global,
-    link_type: LinkType,
-    dest_url: CowStr<'_>,
-    title: CowStr<'_>,
-    id: CowStr<'_>,
-) -> Result<Tag<'static>, AllocError>
-    ensures value { IfOk result (λ made. shown_tag made ≡ tag.Image (shown_linked link_type dest_url.entry title.entry id.entry)) }
-    ensures succeeds { StaysInPlace dest_url.entry → StaysInPlace title.entry → StaysInPlace id.entry → IsOk result }
-{
-    Ok(image_tag(link_type, static_link_texts(alloc, dest_url, title, id)?))
-}
-
-fn clone_link_texts<'a>(
-    alloc: Global,
-    dest_url: &CowStr<'a>,
-    title: &CowStr<'a>,
-    id: &CowStr<'a>,
-) -> Result<LinkTexts<'a>, AllocError>
-    ensures dest_url { IfOk result (λ copies. text_bytes copies.0 ≡ text_bytes dest_url.now) }
-    ensures title { IfOk result (λ copies. text_bytes copies.1 ≡ text_bytes title.now) }
-    ensures id { IfOk result (λ copies. text_bytes copies.2 ≡ text_bytes id.now) }
-    ensures succeeds { CopiesInPlace dest_url.now → CopiesInPlace title.now → CopiesInPlace id.now → IsOk result }
-{
-    let dest_url = dest_url.clone(alloc)?;
-    let title = title.clone(alloc)?;
-    Ok((dest_url, title, id.clone(alloc)?))
-}
-
-fn static_link_texts(
-    alloc: Global,
-    dest_url: CowStr<'_>,
-    title: CowStr<'_>,
-    id: CowStr<'_>,
-) -> Result<LinkTexts<'static>, AllocError>
-    ensures dest_url { IfOk result (λ made. text_bytes made.0 ≡ text_bytes dest_url.entry) }
-    ensures title { IfOk result (λ made. text_bytes made.1 ≡ text_bytes title.entry) }
-    ensures id { IfOk result (λ made. text_bytes made.2 ≡ text_bytes id.entry) }
-    ensures succeeds { StaysInPlace dest_url.entry → StaysInPlace title.entry → StaysInPlace id.entry → IsOk result }
 {
     // Calls drop the others: drops that the compiler adds are written out at each way out, which is dear to prove.
+    let Ok(dest_url) = dest_url.clone(alloc) else {
+        return Err(AllocError);
+    };
+    let Ok(title) = title.clone(alloc) else {
+        drop(dest_url);
+        return Err(AllocError);
+    };
+    let Ok(id) = id.clone(alloc) else {
+        drop(dest_url);
+        drop(title);
+        return Err(AllocError);
+    };
+    Ok(kind.tag(link_type, dest_url, title, id))
+}
+
+/// The link or the image of this type with these texts, in a value that borrows nothing.
+fn static_linked(
+    alloc: Global,
+    kind: LinkKind,
+    link_type: LinkType,
+    dest_url: CowStr<'_>,
+    title: CowStr<'_>,
+    id: CowStr<'_>,
+) -> Result<Tag<'static>, AllocError>
+    ensures value { IfOk result (λ made. shown_tag made ≡ shown_link_tag kind (shown_linked link_type dest_url.entry title.entry id.entry)) }
+    ensures succeeds { StaysInPlace dest_url.entry → StaysInPlace title.entry → StaysInPlace id.entry → IsOk result }
+{
+    // Calls drop the others, as in `clone_linked`.
     let Ok(dest_url) = dest_url.into_static(alloc) else {
         drop(title);
         drop(id);
@@ -260,23 +286,7 @@ fn static_link_texts(
         drop(title);
         return Err(AllocError);
     };
-    Ok((dest_url, title, id))
-}
-
-/// What the braces of a heading say: its anchor, its classes and its other attributes.
-type HeadingParts<'a> = (Option<CowStr<'a>>, Vec<CowStr<'a>>, Vec<Attribute<'a>>);
-
-/// The tag of a heading that says this in braces.
-fn heading_tag<'a>(level: HeadingLevel, parts: HeadingParts<'a>) -> Tag<'a>
-    ensures { shown_tag result ≡ tag.Heading (level_number level) (shown_attributes parts.entry.0 parts.entry.1.items parts.entry.2.items) }
-{
-    let (id, classes, attrs) = parts;
-    Tag::Heading {
-        level,
-        id,
-        classes,
-        attrs,
-    }
+    Ok(kind.tag(link_type, dest_url, title, id))
 }
 
 /// A copy of the heading of this level that says this in braces.
@@ -290,7 +300,21 @@ fn clone_heading<'a>(
     ensures value { IfOk result (λ copy. shown_tag copy ≡ tag.Heading (level_number level) (shown_attributes id.now classes.now attrs.now)) }
     ensures succeeds { IfSome id.now CopiesInPlace → length classes.now ≡ 0 → length attrs.now ≡ 0 → IsOk result }
 {
-    Ok(heading_tag(level, clone_heading_parts(alloc, id, classes, attrs)?))
+    let Ok(classes) = clone_texts(alloc, classes) else {
+        return Err(AllocError);
+    };
+    let Ok(attrs) = clone_attributes(alloc, attrs) else {
+        return Err(AllocError);
+    };
+    match clone_optional_text(alloc, id) {
+        Ok(id) => Ok(Tag::Heading {
+            level,
+            id,
+            classes,
+            attrs,
+        }),
+        Err(error) => Err(error),
+    }
 }
 
 /// The heading of this level that says this in braces, in a value that borrows nothing.
@@ -304,38 +328,7 @@ fn static_heading(
     ensures value { IfOk result (λ made. shown_tag made ≡ tag.Heading (level_number level) (shown_attributes id.entry classes.entry.items attrs.entry.items)) }
     ensures succeeds { IfSome id.entry StaysInPlace → length classes.entry.items ≡ 0 → length attrs.entry.items ≡ 0 → IsOk result }
 {
-    Ok(heading_tag(level, static_heading_parts(alloc, id, classes, attrs)?))
-}
-
-fn clone_heading_parts<'a>(
-    alloc: Global,
-    id: &Option<CowStr<'a>>,
-    classes: &[CowStr<'a>],
-    attrs: &[Attribute<'a>],
-) -> Result<HeadingParts<'a>, AllocError>
-    ensures id { IfOk result (λ copies. option_map text_bytes copies.0 ≡ option_map text_bytes id.now) }
-    ensures classes { IfOk result (λ copies. map text_bytes copies.1.items ≡ map text_bytes classes.now) }
-    ensures attrs { IfOk result (λ copies. map shown_attribute copies.2.items ≡ map shown_attribute attrs.now) }
-    ensures succeeds { IfSome id.now CopiesInPlace → length classes.now ≡ 0 → length attrs.now ≡ 0 → IsOk result }
-{
-    let classes = clone_texts(alloc, classes)?;
-    let attrs = clone_attributes(alloc, attrs)?;
-    Ok((clone_optional_text(alloc, id)?, classes, attrs))
-}
-
-fn static_heading_parts(
-    alloc: Global,
-    id: Option<CowStr<'_>>,
-    classes: Vec<CowStr<'_>>,
-    attrs: Vec<Attribute<'_>>,
-) -> Result<HeadingParts<'static>, AllocError>
-    ensures id { IfOk result (λ made. option_map text_bytes made.0 ≡ option_map text_bytes id.entry) }
-    ensures classes { IfOk result (λ made. map text_bytes made.1.items ≡ map text_bytes classes.entry.items) }
-    ensures attrs { IfOk result (λ made. map shown_attribute made.2.items ≡ map shown_attribute attrs.entry.items) }
-    ensures succeeds { IfSome id.entry StaysInPlace → length classes.entry.items ≡ 0 → length attrs.entry.items ≡ 0 → IsOk result }
-{
     // Calls drop the anchor, as the texts of a link above. A list is dropped by a call anyway.
-    let id = static_optional_text(alloc, id)?;
     let Ok(classes) = static_texts(alloc, classes) else {
         drop(id);
         return Err(AllocError);
@@ -344,7 +337,15 @@ fn static_heading_parts(
         drop(id);
         return Err(AllocError);
     };
-    Ok((id, classes, attrs))
+    match static_optional_text(alloc, id) {
+        Ok(id) => Ok(Tag::Heading {
+            level,
+            id,
+            classes,
+            attrs,
+        }),
+        Err(error) => Err(error),
+    }
 }
 
 fn clone_optional_text<'a>(
@@ -355,7 +356,7 @@ fn clone_optional_text<'a>(
     ensures succeeds { IfSome text.now CopiesInPlace → IsOk result }
 {
     match text {
-        Some(text) => Ok(Some(text.clone(alloc)?)),
+        Some(text) => text.clone(alloc).map(Some),
         None => Ok(None),
     }
 }
@@ -364,9 +365,13 @@ fn clone_texts<'a>(alloc: Global, texts: &[CowStr<'a>]) -> Result<Vec<CowStr<'a>
     ensures value { IfOk result (λ copies. map text_bytes copies.items ≡ map text_bytes texts.now) }
     ensures succeeds { length texts.now ≡ 0 → IsOk result }
 {
-    let mut copies = Vec::with_capacity(alloc, texts.len())?;
+    let Ok(mut copies) = Vec::with_capacity(alloc, texts.len()) else {
+        return Err(AllocError);
+    };
     for text in texts {
-        push_clone(&mut copies, alloc, text)?;
+        if let Err(error) = push_clone(&mut copies, alloc, text) {
+            return Err(error);
+        }
     }
     Ok(copies)
 }
@@ -379,18 +384,11 @@ fn push_clone<'a>(
 ) -> Result<(), AllocError>
     ensures { OnOk result (map text_bytes copies.new.items ≡ map text_bytes copies.old.items ++ (text_bytes text.now ∷ [])) }
 {
-    copies.push(text.clone(alloc)?)?;
+    let Ok(copy) = text.clone(alloc) else {
+        return Err(AllocError);
+    };
+    copies.push(copy)?;
     Ok(())
-}
-
-fn clone_attribute<'a>(
-    alloc: Global,
-    attribute: &Attribute<'a>,
-) -> Result<Attribute<'a>, AllocError>
-    ensures { IfOk result (λ copy. shown_attribute copy ≡ shown_attribute attribute.now) }
-{
-    let (name, value) = attribute;
-    Ok((name.clone(alloc)?, clone_optional_text(alloc, value)?))
 }
 
 fn clone_attributes<'a>(
@@ -400,9 +398,13 @@ fn clone_attributes<'a>(
     ensures value { IfOk result (λ copies. map shown_attribute copies.items ≡ map shown_attribute attributes.now) }
     ensures succeeds { length attributes.now ≡ 0 → IsOk result }
 {
-    let mut copies = Vec::with_capacity(alloc, attributes.len())?;
+    let Ok(mut copies) = Vec::with_capacity(alloc, attributes.len()) else {
+        return Err(AllocError);
+    };
     for attribute in attributes {
-        push_attribute_clone(&mut copies, alloc, attribute)?;
+        if let Err(error) = push_attribute_clone(&mut copies, alloc, attribute) {
+            return Err(error);
+        }
     }
     Ok(copies)
 }
@@ -415,7 +417,15 @@ fn push_attribute_clone<'a>(
 ) -> Result<(), AllocError>
     ensures { OnOk result (map shown_attribute copies.new.items ≡ map shown_attribute copies.old.items ++ (shown_attribute attribute.now ∷ [])) }
 {
-    copies.push(clone_attribute(alloc, attribute)?)?;
+    let (name, value) = attribute;
+    let Ok(name) = name.clone(alloc) else {
+        return Err(AllocError);
+    };
+    let Ok(value) = clone_optional_text(alloc, value) else {
+        drop(name);
+        return Err(AllocError);
+    };
+    copies.push((name, value))?;
     Ok(())
 }
 
@@ -427,7 +437,7 @@ fn static_optional_text(
     ensures succeeds { IfSome text.entry StaysInPlace → IsOk result }
 {
     match text {
-        Some(text) => Ok(Some(text.into_static(alloc)?)),
+        Some(text) => text.into_static(alloc).map(Some),
         None => Ok(None),
     }
 }
@@ -436,9 +446,13 @@ fn static_texts(alloc: Global, texts: Vec<CowStr<'_>>) -> Result<Vec<CowStr<'sta
     ensures value { IfOk result (λ made. map text_bytes made.items ≡ map text_bytes texts.entry.items) }
     ensures succeeds { length texts.entry.items ≡ 0 → IsOk result }
 {
-    let mut made = Vec::with_capacity(alloc, texts.len())?;
+    let Ok(mut made) = Vec::with_capacity(alloc, texts.len()) else {
+        return Err(AllocError);
+    };
     for text in texts {
-        push_static(&mut made, alloc, text)?;
+        if let Err(error) = push_static(&mut made, alloc, text) {
+            return Err(error);
+        }
     }
     Ok(made)
 }
@@ -451,21 +465,11 @@ fn push_static(
 ) -> Result<(), AllocError>
     ensures { OnOk result (map text_bytes made.new.items ≡ map text_bytes made.old.items ++ (text_bytes text.entry ∷ [])) }
 {
-    made.push(text.into_static(alloc)?)?;
+    let Ok(text) = text.into_static(alloc) else {
+        return Err(AllocError);
+    };
+    made.push(text)?;
     Ok(())
-}
-
-fn static_attribute(
-    alloc: Global,
-    attribute: Attribute<'_>,
-) -> Result<Attribute<'static>, AllocError>
-    ensures { IfOk result (λ made. shown_attribute made ≡ shown_attribute attribute.entry) }
-{
-    let (name, value) = attribute;
-    Ok((
-        name.into_static(alloc)?,
-        static_optional_text(alloc, value)?,
-    ))
 }
 
 fn static_attributes(
@@ -475,9 +479,13 @@ fn static_attributes(
     ensures value { IfOk result (λ made. map shown_attribute made.items ≡ map shown_attribute attributes.entry.items) }
     ensures succeeds { length attributes.entry.items ≡ 0 → IsOk result }
 {
-    let mut made = Vec::with_capacity(alloc, attributes.len())?;
+    let Ok(mut made) = Vec::with_capacity(alloc, attributes.len()) else {
+        return Err(AllocError);
+    };
     for attribute in attributes {
-        push_static_attribute(&mut made, alloc, attribute)?;
+        if let Err(error) = push_static_attribute(&mut made, alloc, attribute) {
+            return Err(error);
+        }
     }
     Ok(made)
 }
@@ -490,6 +498,15 @@ fn push_static_attribute(
 ) -> Result<(), AllocError>
     ensures { OnOk result (map shown_attribute made.new.items ≡ map shown_attribute made.old.items ++ (shown_attribute attribute.entry ∷ [])) }
 {
-    made.push(static_attribute(alloc, attribute)?)?;
+    let (name, value) = attribute;
+    let Ok(name) = name.into_static(alloc) else {
+        drop(value);
+        return Err(AllocError);
+    };
+    let Ok(value) = static_optional_text(alloc, value) else {
+        drop(name);
+        return Err(AllocError);
+    };
+    made.push((name, value))?;
     Ok(())
 }

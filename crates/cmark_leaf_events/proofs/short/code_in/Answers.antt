@@ -6,8 +6,8 @@ use Rattle.cmark_text_parts.specs.declared.text.CowStr.TheVariants.{Borrowed}
 use Rattle.cmark_slots.proofs.Lending.{code-part}
 use Rattle.cmark_leaf_events.proofs.short.code_in.Goals as goal
 
-pub returns-clause-part : goal.returns-clause-part
-returns-clause-part c =
+pub returns-in-Some-clause-part : goal.returns-in-Some-clause-part
+returns-in-Some-clause-part c =
     let part : IsPart (text_of c.args.leaf.now) c.args.from c.args.to = search rules in
     IfSome_then c.code_part.result c.code_part.ensures.part
-    (λ made is. let code : Result CowStr ℕ = Ok (Borrowed made) in code-part code c.in_ok-slice.field-0.now c.args.leaf.now c.args.from c.args.to c.requires.read part c.in_ok-slice.ensures.source is)
+    (λ made is. let code : Result CowStr ℕ = Ok (Borrowed made) in code-part code c.in-Some.content.now c.args.leaf.now c.args.from c.args.to c.requires.read part c.in-Some.ensures.source is)

@@ -5,7 +5,7 @@ use Rattle.cmark_leaf_events.specs.Opens.{Passes, AreOpened}
 use Rattle.cmark_leaf_events.specs.Events.{events_of, events_to_come, with_given}
 use Rattle.cmark_leaf_events.proofs.EventSteps.{events-behind, events-last, first-before, left-last, left-next, named-there}
 use Rattle.cmark_inline_model.specs.FirstEvents.{BeginWithoutEnd}
-use Rattle.cmark_leaf_events.proofs.NoEnds.{here-no-end, on-err}
+use Rattle.cmark_leaf_events.proofs.NoEnds.{at-err, here-no-end}
 use Rattle.cmark_leaf_events.proofs.leaf_events.LeafEvents.next.Goals as goal
 
 pub loop-self-init : goal.loop-self-init
@@ -14,10 +14,10 @@ loop-self-init c = (refl, refl, omega arith, refl, c.requires.left)
 pub loop-self-preserved : goal.loop-self-preserved
 loop-self-preserved c =
     let i = c.loop-self.invariant in
-    let e = c.in_ok-given.ensures in
+    let e = c.in-Ok.ensures in
     let old = c.loop-self.self in
     let new = c.give.new.self in
-    let same = subst (λ given. Passes (source_of c.args.leaf.now) old.walk.opened.items given new.walk.opened.items) c.in_default.is e.gives in
+    let same = subst (λ given. Passes (source_of c.args.leaf.now) old.walk.opened.items given new.walk.opened.items) c.in_default-given.is e.gives in
     let le = i.2 in
     let place = e.place in
     let t = c.loop-self-test.true in
@@ -29,7 +29,7 @@ loop-self-preserved c =
       omega (arith, le, place),
       (i.3
           ∙ events-behind c.args.leaf.now old.texts.items new.texts.items old.links.items new.links.items old.slots.items new.slots.items old.walk.opened.items new.walk.opened.items old.walk.next new.walk.next slots place c.index-slot.result.now None lt c.index-slot.ensures i.4
-          (λ behind can. subst (λ given. events_of c.args.leaf.now old.texts.items old.links.items (c.index-slot.result.now ∷ behind) old.walk.opened.items ≡ with_given given (events_of c.args.leaf.now new.texts.items new.links.items behind new.walk.opened.items)) c.in_default.is (e.events behind can))),
+          (λ behind can. subst (λ given. events_of c.args.leaf.now old.texts.items old.links.items (c.index-slot.result.now ∷ behind) old.walk.opened.items ≡ with_given given (events_of c.args.leaf.now new.texts.items new.links.items behind new.walk.opened.items)) c.in_default-given.is (e.events behind can))),
       (left-next c.args.leaf.now old.texts.items new.texts.items old.links.items new.links.items old.slots.items new.slots.items old.walk.opened.items new.walk.opened.items old.walk.next new.walk.next slots place c.index-slot.result.now lt c.index-slot.ensures i.4 e.left),
     )
 
@@ -58,7 +58,7 @@ returns-clause-left c =
 pub returns-in-Some-clause-events : goal.returns-in-Some-clause-events
 returns-in-Some-clause-events c =
     let i = c.loop-self.invariant in
-    let e = c.in_ok-given.ensures in
+    let e = c.in-Ok.ensures in
     let old = c.loop-self.self in
     let new = c.give.new.self in
     let t = c.loop-self-test.true in
@@ -71,7 +71,7 @@ returns-in-Some-clause-events c =
 pub returns-in-Some-clause-left : goal.returns-in-Some-clause-left
 returns-in-Some-clause-left c =
     let i = c.loop-self.invariant in
-    let e = c.in_ok-given.ensures in
+    let e = c.in-Ok.ensures in
     let old = c.loop-self.self in
     let new = c.give.new.self in
     let t = c.loop-self-test.true in
@@ -95,13 +95,12 @@ give-requires-clause-link c =
     let lt : old.walk.next < length old.slots.items = omega (arith, t, n) in
     (named-there c.args.leaf.now old.texts.items old.links.items old.slots.items old.walk.next c.index-slot.result.now lt c.index-slot.ensures c.loop-self.invariant.4).1
 
-pub returns-in_err-given-clause-ends : goal.returns-in_err-given-clause-ends
-returns-in_err-given-clause-ends c =
+pub returns-in_default-clause-ends : goal.returns-in_default-clause-ends
+returns-in_default-clause-ends c =
     let leaf = c.args.leaf.now in
     let i = c.loop-self.invariant in
     let old = c.loop-self.self in
     let t = c.loop-self-test.true in
     let n = c.len.ensures in
     let lt : old.walk.next < length old.slots.items = omega (arith, t, n) in
-    on-err c.from_residual.result _
-    (subst BeginWithoutEnd (sym i.3) (here-no-end leaf old.texts.items old.links.items old.slots.items old.walk.opened.items old.walk.next c.index-slot.result.now lt c.index-slot.ensures c.in_err-given.ensures.ends))
+    subst BeginWithoutEnd (sym i.3) (here-no-end leaf old.texts.items old.links.items old.slots.items old.walk.opened.items old.walk.next c.index-slot.result.now lt c.index-slot.ensures (at-err c.give.result _ c.in_default.not-Ok c.give.ensures.ends))

@@ -7,7 +7,7 @@ use Rattle.cmark_leaf_events.specs.Shorts.{IfShort, StandsFor}
 use Rattle.cmark_leaf_events.proofs.ShortFirst.{stands-at}
 use Rattle.cmark_leaf_events.proofs.ShortSteps.{any-slot}
 use Rattle.cmark_inline_model.specs.FirstEvents.{BeginWithoutEnd}
-use Rattle.cmark_leaf_events.proofs.NoEnds.{here-no-end, on-err}
+use Rattle.cmark_leaf_events.proofs.NoEnds.{at-err, here-no-end}
 use Rattle.cmark_leaf_events.proofs.leaf_events.LeafEvents.next_short.Goals as goal
 
 pub returns-clause-opened : goal.returns-clause-opened
@@ -19,7 +19,7 @@ returns-clause-stands c = any-slot c.end_short.result c.args.leaf.now c.args.sel
 pub returns-in-Short-clause-stands : goal.returns-in-Short-clause-stands
 returns-in-Short-clause-stands c =
     let i = c.loop-self.invariant in
-    let e = c.in_ok-short.ensures in
+    let e = c.in-Ok.ensures in
     let old = c.loop-self.self in
     let t = c.loop-self-test.true in
     let n = c.len.ensures in
@@ -57,14 +57,13 @@ returns-clause-left c = λ left.
     let place = g.place in
     left-later c.args.leaf.now old new (g.texts ∙ i.3) (g.links ∙ i.4) (g.slots ∙ i.0) (let q : old.walk.next ≤ new.walk.next = omega (arith, low, place) in q) left
 
-pub returns-in_err-short-clause-ends : goal.returns-in_err-short-clause-ends
-returns-in_err-short-clause-ends c =
+pub returns-in_default-clause-ends : goal.returns-in_default-clause-ends
+returns-in_default-clause-ends c =
     let i = c.loop-self.invariant in
     let old = c.loop-self.self in
     let t = c.loop-self-test.true in
     let n = c.len.ensures in
     let lt : old.walk.next < length old.slots.items = omega (arith, t, n) in
-    on-err c.from_residual.result _
-    (subst BeginWithoutEnd (sym i.5)
+    subst BeginWithoutEnd (sym i.5)
     (here-no-end c.args.leaf.now old.texts.items old.links.items old.slots.items old.walk.opened.items old.walk.next c.index-slot.result.now lt c.index-slot.ensures
-    (c.in_err-short.ensures.ends old.texts.items old.links.items)))
+    (at-err c.give_short.result _ c.in_default.not-Ok c.give_short.ensures.ends old.texts.items old.links.items))
