@@ -52,13 +52,12 @@ none-off options is_cell closes_label text close (Some bracket) off = ap (option
     go false = label-off options (slice text bracket.inside close) off
 
 -- a use is counted of the footnote of the label that was found
-pub counts-found : (options : Options) (is_cell cell closes_label closes : Bool) (text : List ℕ) (close : ℕ) (taken : Option Bracket) (bracket : Bracket) (written label : List ℕ) (old new : FootnoteDefs)
-    → taken ≡ Some bracket → closes ≡ closes_label → Some written ≡ footnote_behind options closes (slice text bracket.inside close) (drop (close + 1) text) → cell ≡ is_cell → label ≡ as_label cell written → Counts (fold label) old new
-    → CountsOf (footnote_of options is_cell closes_label text close taken) old new
-counts-found options is_cell cell closes_label closes text close taken bracket written label old new took closing found celled is counts =
-    subst (λ t. CountsOf (footnote_of options is_cell closes_label text close t) old new) (sym took)
-    (subst (λ m. CountsOf (option_map (as_label is_cell) m) old new) (found ∙ ap (λ z. footnote_behind options z (slice text bracket.inside close) (drop (close + 1) text)) closing)
-    (subst (λ l. Counts (fold l) old new) (is ∙ ap (λ z. as_label z written) celled) counts))
+pub counts-found : (options : Options) (is_cell cell closes_label : Bool) (text : List ℕ) (close : ℕ) (bracket : Bracket) (written label : List ℕ) (old new : FootnoteDefs)
+    → Some written ≡ footnote_behind options closes_label (slice text bracket.inside close) (drop (close + 1) text) → cell ≡ is_cell → label ≡ as_label cell written → Counts (fold label) old new
+    → CountsOf (footnote_of options is_cell closes_label text close (Some bracket)) old new
+counts-found options is_cell cell closes_label text close bracket written label old new found celled is counts =
+    subst (λ m. CountsOf (option_map (as_label is_cell) m) old new) found
+    (subst (λ l. Counts (fold l) old new) (is ∙ ap (λ z. as_label z written) celled) counts)
 
 -- ## The slots of a reference, and of the `!` before one
 
