@@ -1,4 +1,6 @@
-use Rattle.std.proofs.Common.{refl, sym, ◌∙◌}
+use Rattle.std.proofs.Common.{ℕ, refl, sym, subst, ◌∙◌, arith}
+use Rattle.std.proofs.lemmas.Str.{IsCharBoundary-after_ascii}
+use Rattle.cmark_inline.specs.Stands.{Stands}
 use Rattle.std.proofs.lemmas.Result.{IfOk-weaker}
 use Rattle.cmark_inline.proofs.AngleMakes.{by-autolink, by-html, by-none}
 use Rattle.cmark_inline.proofs.Keeping.{found-alone, keeps-autolink, keeps-puts, keeps-source, ended-puts}
@@ -46,3 +48,12 @@ returns-in-Some-inline_html-clause-ends c =
 
 pub returns-clause-ends : goal.returns-clause-ends
 returns-clause-ends c = IfOk-weaker c.put.result _ _ (λ next slots. (keeps-puts c.args.self.now c.put.new.self c.put.ensures.others c.args.here.pending c.args.here.at _ slots ((refl, refl, refl), λ i. refl)).ends c.args.leaf.now) c.put.ensures.slots
+
+pub returns-then-is_followed_by-clause-moves : goal.returns-then-is_followed_by-clause-moves
+returns-then-is_followed_by-clause-moves c = record { stands = subst (λ (p : ℕ). Stands c.args.text.now p c.args.self.now) (sym c.pass.ensures.pending) c.requires.byte.stands; cursor = c.pass.ensures.cursor; further = c.pass.ensures.further }
+
+pub inline_html-requires : goal.inline_html-requires
+inline_html-requires c =
+    let edge = IsCharBoundary-after_ascii c.args.text.now c.args.here.at c.utf8.text c.requires.byte.within c.requires.byte.ascii in
+    record { read = c.requires.read; same = c.requires.same; part = record { some = omega arith; within = edge.0; starts = c.requires.byte.cursor.at; ends = edge }; kept = c.requires.kept }
+
