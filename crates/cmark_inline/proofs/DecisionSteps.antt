@@ -17,7 +17,7 @@ use Rattle.cmark_text_parts.specs.Shown.{shown_link_type, text_bytes}
 use Rattle.cmark_text_parts.specs.declared.kind.LinkType.{LinkType}
 use Rattle.cmark_text_parts.specs.declared.text.CowStr.{CowStr}
 use Rattle.cmark_inline.specs.Decided.{said, shown_question, target_outcome, with_left, LeadsTo}
-use Rattle.cmark_inline.specs.Linked.{Said, said_by, said_in, Refers, Answers, IsAnswered, IsQuestion, parted, left_behind}
+use Rattle.cmark_inline.specs.Linked.{Said, said_by, said_in, Refers, Answers, IsAnswered, IsQuestion, parted, left_behind, target_link}
 use Rattle.cmark_inline.specs.declared.callback.BrokenLink.{BrokenLink}
 use Rattle.cmark_inline.specs.declared.reference.Destination.{Destination}
 use Rattle.cmark_inline.specs.declared.link.Target.{Target}
@@ -53,7 +53,7 @@ module _ {F : Type 0} (R : F → BrokenLink → Option (CowStr × CowStr) → F 
   -- a reference with something left of the reference expansion limit
   led : (named : Named) (s : State) (form : LinkType) (defined : Option block.Reference) (def : Option LinkDef) (expansion_left : ℕ) (label_close : Option ℕ) (found : Option Target) (before after : F)
       → reader.has_callback ≡ true → option_map said defined ≡ option_map said_by def → named.link_type ≡ shown_link_type form
-      → Refers R def form (normal_form named.label) taken.opener.bracket.start named.end before after found
+      → Refers R def form (normal_form named.label) taken.opener.bracket.start named.end before after (option_map target_link found)
       → expansion_left ≡ left_behind s.expansion_left found → label_close ≡ s.label_close → ((t : Target) → found ≡ Some t → (place t.end ≡ named.end) × (place t.resume ≡ named.resume))
       → Leads (defined_or_asked reader leaf defined named taken closer s) s expansion_left label_close found before after
   led named s form None (Some def) expansion_left label_close found before after callback defs shown refers left label ends = absurd (let z : ⊥ = cc in z)
@@ -96,7 +96,7 @@ module _ {F : Type 0} (R : F → BrokenLink → Option (CowStr × CowStr) → F 
           ∙ ap (λ z. record { start = z; end = link.span.end; link_type = named.link_type; reference = normal_form named.label }) q.start
           ∙ ap (λ z. record { start = taken.opener.bracket.start; end = z; link_type = named.link_type; reference = normal_form named.label }) q.end
 
-      go : (d : Option Destination) (t : Option Target) → Answers R form (normal_form named.label) taken.opener.bracket.start named.end before after d × IsAnswered form (normal_form named.label) d t
+      go : (d : Option Destination) (t : Option Target) → Answers R form (normal_form named.label) taken.opener.bracket.start named.end before after d × IsAnswered form (normal_form named.label) d (option_map target_link t)
           → expansion_left ≡ left_behind s.expansion_left t → ((x : Target) → t ≡ Some x → (place x.end ≡ named.end) × (place x.resume ≡ named.resume)) → Leads (Asks asks replied) s expansion_left label_close t before after
       go None None h l e = record {
         asked = asked None;
@@ -133,7 +133,7 @@ module _ {F : Type 0} (R : F → BrokenLink → Option (CowStr × CowStr) → F 
 
   pub refers-led : (named : Named) (s : State) (form : LinkType) (def : Option LinkDef) (expansion_left : ℕ) (label_close : Option ℕ) (found : Option Target) (before after : F)
       → reader.has_callback ≡ true → option_map said (reader.definition (fold named.label)) ≡ option_map said_by def → (s.expansion_left == 0) ≡ false → named.link_type ≡ shown_link_type form
-      → Refers R def form (normal_form named.label) taken.opener.bracket.start named.end before after found
+      → Refers R def form (normal_form named.label) taken.opener.bracket.start named.end before after (option_map target_link found)
       → expansion_left ≡ left_behind s.expansion_left found → label_close ≡ s.label_close → ((t : Target) → found ≡ Some t → (place t.end ≡ named.end) × (place t.resume ≡ named.resume))
       → Leads (refers reader leaf named taken closer s) s expansion_left label_close found before after
   refers-led named s form def expansion_left label_close found before after callback defs some shown refers left label ends =

@@ -1,17 +1,21 @@
 -- Footnote references: their labels, and the slot of a `!` before one.
-use Rattle.std.specs.Prelude.{Option, Some, None, is_some, option_map, drop, if◌then◌else◌, not, ◌&&◌, ◌||◌}
-use Rattle.std.proofs.Common.{◌≡◌, ℕ, ◌+◌, ◌≤◌, ◌<◌, ◌==◌, Bool, true, false, true≢false, List, [], ◌∷◌, refl, sym, ap, subst, ◌∙◌, arith}
+use Rattle.cmark_text_parts.specs.Shown.{text_bytes}
+use Rattle.cmark_text_parts.specs.declared.text.CowStr.{CowStr}
+use Rattle.cmark_inline.specs.Hiding.{WritesReference}
+use Rattle.cmark_inline.specs.declared.state.InlineState.{InlineState}
+use Rattle.std.specs.Prelude.{IfSome, Option, Some, None, is_some, option_map, drop, if◌then◌else◌, not, ◌&&◌, ◌||◌}
+use Rattle.std.proofs.Common.{◌≡◌, ℕ, ◌+◌, ◌≤◌, ◌<◌, ◌==◌, Bool, true, false, true≢false, List, [], ◌∷◌, ◌++◌, refl, sym, ap, subst, ◌∙◌, arith}
 use Rattle.cmark_grammar.specs.BracketDecisions as decisions
 use Rattle.cmark_grammar.specs.InlineHtml.{takes_lines}
 use Rattle.cmark_grammar.specs.Lines.{is_content}
 use Rattle.cmark_grammar.specs.LinkTails.{is_bracketed_label, link_tail_in, reference_label_in}
 use Rattle.cmark_grammar.specs.Options.{Options}
 use Rattle.cmark_grammar.specs.Tokens.{slice}
-use Rattle.cmark_grammar.specs.Labels.{fold}
+use Rattle.cmark_grammar.specs.Labels.{fold, normal_form}
 use Rattle.cmark_items.specs.Footnotes.{Counts}
 use Rattle.cmark_items.specs.declared.footnotes.FootnoteDefs.{FootnoteDefs}
 use Rattle.cmark_leaf_text.specs.Reads.{IsPart}
-use Rattle.cmark_inline.specs.Footnoted.{CountsOf, as_label, fits_footnote, footnote_behind, footnote_label, footnote_of, labels, no_leaf, reference_start, unless_footnote}
+use Rattle.cmark_inline.specs.Footnoted.{CountsOf, KeepsLabel, as_label, fits_footnote, footnote_behind, footnote_label, footnote_of, labels, no_leaf, reference_start, unless_footnote}
 use Rattle.cmark_slots.specs.Slots.{IsBracket, IsSlot}
 use Rattle.cmark_slots.specs.declared.bracket.Bracket.{Bracket}
 use Rattle.cmark_slots.specs.declared.slot.SlotKind.TheVariants as kind
@@ -52,13 +56,27 @@ none-off options is_cell closes_label text close (Some bracket) off = ap (option
     go false = label-off options (slice text bracket.inside close) off
 
 -- a use is counted of the footnote of the label that was found
-pub counts-found : (options : Options) (is_cell cell closes_label closes : Bool) (text : List ℕ) (close : ℕ) (taken : Option Bracket) (bracket : Bracket) (written label : List ℕ) (old new : FootnoteDefs)
-    → taken ≡ Some bracket → closes ≡ closes_label → Some written ≡ footnote_behind options closes (slice text bracket.inside close) (drop (close + 1) text) → cell ≡ is_cell → label ≡ as_label cell written → Counts (fold label) old new
-    → CountsOf (footnote_of options is_cell closes_label text close taken) old new
-counts-found options is_cell cell closes_label closes text close taken bracket written label old new took closing found celled is counts =
-    subst (λ t. CountsOf (footnote_of options is_cell closes_label text close t) old new) (sym took)
-    (subst (λ m. CountsOf (option_map (as_label is_cell) m) old new) (found ∙ ap (λ z. footnote_behind options z (slice text bracket.inside close) (drop (close + 1) text)) closing)
-    (subst (λ l. Counts (fold l) old new) (is ∙ ap (λ z. as_label z written) celled) counts))
+pub counts-found : (options : Options) (is_cell cell closes_label : Bool) (text : List ℕ) (close : ℕ) (bracket : Bracket) (written label : List ℕ) (old new : FootnoteDefs)
+    → Some written ≡ footnote_behind options closes_label (slice text bracket.inside close) (drop (close + 1) text) → cell ≡ is_cell → label ≡ as_label cell written → Counts (fold label) old new
+    → CountsOf (footnote_of options is_cell closes_label text close (Some bracket)) old new
+counts-found options is_cell cell closes_label text close bracket written label old new found celled is counts =
+    subst (λ m. CountsOf (option_map (as_label is_cell) m) old new) found
+    (subst (λ l. Counts (fold l) old new) (is ∙ ap (λ z. as_label z written) celled) counts)
+
+-- that of a bracket is that of the one that was taken
+pub label-of-taken : (options : Options) (is_cell closes there : Bool) (text : List ℕ) (close : ℕ) (taken : Option Bracket) (bracket : Bracket) → taken ≡ Some bracket → closes ≡ there
+    → footnote_of options is_cell closes text close (Some bracket) ≡ footnote_of options is_cell there text close taken
+label-of-taken options is_cell closes there text close taken bracket took closing = ap (footnote_of options is_cell closes text close) (sym took) ∙ ap (λ z. footnote_of options is_cell z text close taken) closing
+
+-- the name that stands for it is its normal form
+pub keeps-named : (label : Option (List ℕ)) (name : CowStr) (old new : List CowStr) → IfSome label (λ l. text_bytes name ≡ normal_form l) → new ≡ old ++ (name ∷ []) → IfSome label (λ l. KeepsLabel l old new)
+keeps-named None name old new named texts = tt
+keeps-named (Some label) name old new named texts = (name, named, texts)
+
+pub writes-named : (label : Option (List ℕ)) (name : CowStr) (bracket : Bracket) (end : ℕ) (old new : InlineState) → IfSome label (λ l. text_bytes name ≡ normal_form l) → WritesReference bracket (text_bytes name) end old new
+    → IfSome label (λ l. WritesReference bracket (normal_form l) end old new)
+writes-named None name bracket end old new named writes = tt
+writes-named (Some label) name bracket end old new named writes = subst (λ n. WritesReference bracket n end old new) named writes
 
 -- ## The slots of a reference, and of the `!` before one
 

@@ -11,10 +11,10 @@ use Rattle.cmark_leaf_text.specs.Reads.{place_of}
 use Rattle.cmark_inline.specs.MarkupInSource.{IsFound}
 use Rattle.cmark_slots.specs.MarkedSlots.{last_in}
 use Rattle.cmark_slots.specs.SlotViews.{link_named, text_named}
-use Rattle.cmark_slots.specs.Standing.{AreEnded, AreSound, IsTaken, StandsAlone, source_end, EndsIn}
+use Rattle.cmark_slots.specs.Standing.{AreEnded, AreSound, StandsAlone, source_end, EndsIn}
 use Rattle.cmark_inline.specs.Sound.{IsSound, IsTakenFrom, KeepsSound}
-use Rattle.cmark_slots.specs.Slots.{AreSlots, PushesText, byte_slots}
-use Rattle.cmark_inline.specs.Stands.{SameSpans}
+use Rattle.cmark_slots.specs.Slots.{AreSlots, HoldNoLink, PushesText, byte_slots}
+use Rattle.cmark_inline.specs.Stands.{SameSpans, Stands}
 use Rattle.cmark_inline.specs.Tokens.{AppendsQuote, Puts, PutsAutolink}
 use Rattle.cmark_slots.specs.declared.bracket.Bracket.{Bracket}
 use Rattle.cmark_slots.specs.declared.bracket.Brackets.{Brackets}
@@ -186,24 +186,34 @@ formula-alone false from to = ((refl, refl, refl), λ i. refl)
 
 -- ## A call that leaves slots and brackets as they are
 
-module _ (old new : InlineState) (same : SameSpans old new) (links : new.links ≡ old.links) (texts : new.texts ≡ old.texts) (quotes : new.quotes ≡ old.quotes) where
+module _ (old new : InlineState) (others : new ≡ record old { expansion_left = new.expansion_left; label_close = new.label_close }) where
+  pub spans-same : SameSpans old new
+  spans-same = record {
+    slots = ap (λ (s : InlineState). s.slots) others;
+    brackets = ap (λ (s : InlineState). s.brackets) others;
+    doubled = ap (λ (s : InlineState). s.doubled) others;
+    delimiters = ap (λ (s : InlineState). s.delimiters) others;
+  }
+
   pub spans-sound : IsSound old → IsSound new
-  spans-sound h =
-      subst (λ x. AreSound (length new.texts.items) (length new.links.items) x.items new.delimiters.placed.items new.quotes.placed.items new.brackets.standing.items new.doubled.standing.items) (sym same.slots)
-      (sound-same (length old.texts.items) (length new.texts.items) (length old.links.items) (length new.links.items) old.slots.items old.delimiters.placed.items new.delimiters.placed.items old.quotes.placed.items new.quotes.placed.items
-      old.brackets.standing.items new.brackets.standing.items old.doubled.standing.items new.doubled.standing.items
-      (ap (λ v. length v.items) texts) (ap (λ v. length v.items) links) (ap (λ (d : Delimiters). d.placed.items) same.delimiters) (ap (λ (q : Quotes). q.placed.items) quotes) (ap (λ (b : Brackets). b.standing.items) same.brackets) (ap (λ (b : Brackets). b.standing.items) same.doubled) h)
+  spans-sound h = subst IsSound (sym others) h
 
   pub spans-taken : (bracket : Bracket) → IsTakenFrom old bracket → IsTakenFrom new bracket
-  spans-taken bracket t =
-      subst (λ x. IsTaken x.items new.delimiters.placed.items new.quotes.placed.items new.brackets.standing.items new.doubled.standing.items bracket) (sym same.slots)
-      (subst (λ (x : Delimiters). IsTaken old.slots.items x.placed.items new.quotes.placed.items new.brackets.standing.items new.doubled.standing.items bracket) (sym same.delimiters)
-      (subst (λ (x : Quotes). IsTaken old.slots.items old.delimiters.placed.items x.placed.items new.brackets.standing.items new.doubled.standing.items bracket) (sym quotes)
-      (subst (λ (x : Brackets). IsTaken old.slots.items old.delimiters.placed.items old.quotes.placed.items x.standing.items new.doubled.standing.items bracket) (sym same.brackets)
-      (subst (λ (x : Brackets). IsTaken old.slots.items old.delimiters.placed.items old.quotes.placed.items old.brackets.standing.items x.standing.items bracket) (sym same.doubled) t))))
+  spans-taken bracket t = subst (λ s. IsTakenFrom s bracket) (sym others) t
 
   pub spans-ended : (leaf : LeafText) → AreEnded leaf old.slots.items → AreEnded leaf new.slots.items
-  spans-ended leaf e = subst (λ x. AreEnded leaf x.items) (sym same.slots) e
+  spans-ended leaf e = subst (λ (s : InlineState). AreEnded leaf s.slots.items) (sym others) e
+
+  pub spans-stand : (text : List ℕ) (place : ℕ) → Stands text place old → Stands text place new
+  spans-stand text place h = subst (Stands text place) (sym others) (record { slots = h.slots; brackets = h.brackets; few = h.few; free = h.free; doubled = h.doubled; doubled_free = h.doubled_free; runs = h.runs })
+
+  pub spans-free : (from : ℕ) → HoldNoLink old.slots.items from → HoldNoLink new.slots.items from
+  spans-free from h = subst (λ (s : InlineState). HoldNoLink s.slots.items from) (sym others) h
+
+-- two such calls, of which the first leaves the limit too, and the second the label
+pub spans-both : (old mid new : InlineState) → mid ≡ record old { label_close = mid.label_close } → new ≡ record mid { expansion_left = new.expansion_left } → new ≡ record old { expansion_left = new.expansion_left; label_close = new.label_close }
+spans-both old mid new label limit =
+    limit ∙ ap (λ (s : InlineState). record s { expansion_left = new.expansion_left }) label ∙ ap (λ l. record old { expansion_left = new.expansion_left; label_close = l }) (sym (ap (λ (s : InlineState). s.label_close) limit))
 
 -- ## Inline HTML
 

@@ -22,6 +22,7 @@ pub mod ComeMarkup
 pub mod ComeSteps
 pub mod ComeTexts
 pub mod CutSlots
+pub mod Deactivating
 pub mod DecisionSteps
 pub mod DisplayReads
 pub mod DisplaySteps
@@ -35,6 +36,7 @@ pub mod HidingReads
 pub mod ItemSlots
 pub mod Keeping
 pub mod LabelEnds
+pub mod LastCalls
 pub mod LeafPlaces
 pub mod LinkSteps
 pub mod MarkSteps

@@ -5,29 +5,28 @@ use Rattle.cmark_items.specs.declared.definitions.LinkDef.{LinkDef}
 use Rattle.cmark_text_parts.specs.Shown.{text_bytes}
 use Rattle.cmark_text_parts.specs.declared.kind.LinkType.{LinkType}
 use Rattle.cmark_text_parts.specs.declared.text.CowStr.{CowStr}
-use Rattle.cmark_inline.specs.Linked.{Answers, IsAnswered, Refers, said_by, said_in, shown_destination}
+use Rattle.cmark_inline.specs.Linked.{Answers, IsAnswered, IsLed, Refers, said_by, said_in, shown_destination}
 use Rattle.cmark_inline.specs.declared.callback.BrokenLink.{BrokenLink}
 use Rattle.cmark_inline.specs.declared.reference.Destination.{Destination}
-use Rattle.cmark_inline.specs.declared.link.Target.{Target}
+use Rattle.cmark_items.specs.declared.allocations.Link.{Link}
 
 module _ {F : Type 0} (R : F → BrokenLink → Option (CowStr × CowStr) → F → Type 0) where
-  pub by-definition : (def : Option LinkDef) (form : LinkType) (label : List ℕ) (start end : ℕ) (before after : F) (found : Destination) (target : Target)
-      → option_map shown_destination (Some found) ≡ option_map said_by def → after ≡ before
-      → target.link.link_type ≡ form → text_bytes target.link.id ≡ label → target.link.dest_url ≡ found.dest_url → target.link.title ≡ found.title
-      → Refers R def form label start end before after (Some target)
-  by-definition None form label start end before after found target e same kind id url title = absurd (none e)
+  pub by-definition : (def : Option LinkDef) (form : LinkType) (label : List ℕ) (start end : ℕ) (before after : F) (found : Destination) (parts : Link)
+      → option_map shown_destination (Some found) ≡ option_map said_by def → after ≡ before → IsLed form label found parts
+      → Refers R def form label start end before after (Some parts)
+  by-definition None form label start end before after found parts e same led = absurd (none e)
     where
       none : Some (shown_destination found) ≡ None → ⊥
       none q = let z : ⊥ = cc in z
-  by-definition (Some def) form label start end before after found target e same kind id url title = (same, (kind, id, said ∙ some e))
+  by-definition (Some def) form label start end before after found parts e same led = (same, (led.form, led.id, said ∙ some e))
     where
-      said : said_in target.link ≡ shown_destination found
-      said = ap (λ (c : CowStr). record { destination = text_bytes c; title = text_bytes target.link.title }) url ∙ ap (λ (c : CowStr). record { destination = text_bytes found.dest_url; title = text_bytes c }) title
+      said : said_in parts ≡ shown_destination found
+      said = ap (λ (c : CowStr). record { destination = text_bytes c; title = text_bytes parts.title }) led.dest_url ∙ ap (λ (c : CowStr). record { destination = text_bytes found.dest_url; title = text_bytes c }) led.title
 
       some : Some (shown_destination found) ≡ Some (said_by def) → shown_destination found ≡ said_by def
       some q = let z : shown_destination found ≡ said_by def = cc in z
 
-  pub by-answer : (def : Option LinkDef) (form : LinkType) (label : List ℕ) (start end : ℕ) (before after : F) (destination : Option Destination) (found : Option Target)
+  pub by-answer : (def : Option LinkDef) (form : LinkType) (label : List ℕ) (start end : ℕ) (before after : F) (destination : Option Destination) (found : Option Link)
       → option_map shown_destination None ≡ option_map said_by def
       → Answers R form label start end before after destination → IsAnswered form label destination found
       → Refers R def form label start end before after found

@@ -26,7 +26,7 @@ use Rattle.cmark_inline_model.specs.TextPlaces.{ArePlaces}
 use Rattle.cmark_inline.specs.Decided.{EndsTogether, ReadsSame, IsCloser, EndsWithin, Remembers, ComesTo, is_full, target_outcome, with_left, LeadsTo, TargetDecides}
 use Rattle.cmark_inline.specs.Footnoted.{as_label}
 use Rattle.cmark_inline.specs.Linked as linked
-use Rattle.cmark_inline.specs.Linked.{InlineLink, Refers, left_behind, reference_behind, shown_link_reference, shown_target}
+use Rattle.cmark_inline.specs.Linked.{InlineLink, Refers, left_behind, reference_behind, shown_link_reference, shown_target, target_link}
 use Rattle.cmark_slots.specs.declared.bracket.Bracket.{Bracket}
 use Rattle.cmark_inline.specs.declared.callback.BrokenLink.{BrokenLink}
 use Rattle.cmark_inline.specs.declared.reference.LinkReference.{LinkReference}
@@ -178,7 +178,7 @@ module _ {F : Type 0} (R : F → BrokenLink → Option (CowStr × CowStr) → F 
             )
 
         pub led-decides : (at after : F) (found : Option Target) → (old.expansion_left == 0) ≡ false
-            → Refers R (definition references (fold (as_label cell a.label.now))) a.link_type (normal_form (as_label cell a.label.now)) (place_of leaf bracket.start) (place_of leaf (a.end - 1) + 1) at after found
+            → Refers R (definition references (fold (as_label cell a.label.now))) a.link_type (normal_form (as_label cell a.label.now)) (place_of leaf bracket.start) (place_of leaf (a.end - 1) + 1) at after (option_map target_link found)
             → new.expansion_left ≡ left_behind old.expansion_left found → ((t : Target) → found ≡ Some t → (t.end ≡ a.end) × (t.resume ≡ a.resume))
             → TargetDecides R options lookup references leaf text bracket close old new found at after
         led-decides at after found some refers left ends = λ footnotes reader read place taken closer s r c p mem none.
@@ -189,7 +189,7 @@ module _ {F : Type 0} (R : F → BrokenLink → Option (CowStr × CowStr) → F 
               moved_on reader read place taken closer s found at after (decisions.refers reader read (named place cell a) taken closer (with_label (label_behind place a s.label_close) s)) (label_behind place a s.label_close) i.0
                   (refers-led R reader read place taken closer (named place cell a) (with_label (label_behind place a s.label_close) s) a.link_type def new.expansion_left (option_map place new.label_close) found at after
                   r.callback (r.definitions (fold this)) (ap (λ n. n == 0) mem.expansion_left ∙ some) refl
-                  (subst (λ n. Refers R def a.link_type (normal_form this) n (place a.end) at after found) i.1 (subst (λ n. Refers R def a.link_type (normal_form this) (place_of leaf bracket.start) n at after found) i.2 refers))
+                  (subst (λ n. Refers R def a.link_type (normal_form this) n (place a.end) at after (option_map target_link found)) i.1 (subst (λ n. Refers R def a.link_type (normal_form this) (place_of leaf bracket.start) n at after (option_map target_link found)) i.2 refers))
                   (left ∙ ap (λ n. left_behind n found) (sym mem.expansion_left)) label (λ t e. (ap place (ends t e).0, ap place (ends t e).1))),
               led_ends place i.2 found (λ t e. (ends t e).0),
             )

@@ -50,6 +50,11 @@ pub record Deactivates (old new : Brackets) : Type 0 where
   pub standing : new.standing ≡ old.standing
   pub inactive_below : new.inactive_below ≡ length old.standing.items
 
+-- behind a link all are inactive that open no image; an image changes nothing
+abbrev pub DeactivatesBehind : (is_image : Bool) → (old new : Brackets) → Type 0
+DeactivatesBehind true old new = new ≡ old
+DeactivatesBehind false old new = Deactivates old new
+
 -- none stands
 pub record IsNone (new : Brackets) : Type 0 where
   pub standing : new.standing.items ≡ []

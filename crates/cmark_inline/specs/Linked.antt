@@ -84,21 +84,31 @@ parted found = (found.dest_url, found.title)
 abbrev pub Answers : {F : Type 0} → (F → BrokenLink → Option (CowStr × CowStr) → F → Type 0) → LinkType → (label : List ℕ) → (start end : ℕ) → (before after : F) → Option Destination → Type 0
 Answers R form label start end before after found = (question : BrokenLink) × IsQuestion form label start end question × R before question (option_map parted found) after
 
+abbrev pub target_link : Target → Link
+target_link target = target.link
+
+-- the link of this form that leads to a destination; its id is a label's normal form
+pub record IsLed (kind : LinkType) (label : List ℕ) (found : Destination) (parts : Link) : Type 0 where
+  pub form : parts.link_type ≡ kind
+  pub id : text_bytes parts.id ≡ label
+  pub dest_url : parts.dest_url ≡ found.dest_url
+  pub title : parts.title ≡ found.title
+
 -- what a reference leads to by its definition: it keeps its form
-abbrev pub IsDefined : LinkType → (label : List ℕ) → LinkDef → Option Target → Type 0
+abbrev pub IsDefined : LinkType → (label : List ℕ) → LinkDef → Option Link → Type 0
 IsDefined form label def None = ⊥
-IsDefined form label def (Some target) = (target.link.link_type ≡ form) × (text_bytes target.link.id ≡ label) × (said_in target.link ≡ said_by def)
+IsDefined form label def (Some parts) = (parts.link_type ≡ form) × (text_bytes parts.id ≡ label) × (said_in parts ≡ said_by def)
 
 -- what it leads to by the callback's answer: its form is an unknown one then
-abbrev pub IsAnswered : LinkType → (label : List ℕ) → Option Destination → Option Target → Type 0
+abbrev pub IsAnswered : LinkType → (label : List ℕ) → Option Destination → Option Link → Type 0
 IsAnswered form label None None = Unit {0}
-IsAnswered form label None (Some target) = ⊥
+IsAnswered form label None (Some parts) = ⊥
 IsAnswered form label (Some found) None = ⊥
-IsAnswered form label (Some found) (Some target) = (shown_link_type target.link.link_type ≡ link.to_unknown (shown_link_type form)) × (text_bytes target.link.id ≡ label) × (target.link.dest_url ≡ found.dest_url) × (target.link.title ≡ found.title)
+IsAnswered form label (Some found) (Some parts) = (shown_link_type parts.link_type ≡ link.to_unknown (shown_link_type form)) × (text_bytes parts.id ≡ label) × (parts.dest_url ≡ found.dest_url) × (parts.title ≡ found.title)
 
 -- what a reference leads to: by the definition of its label, and where there is none, by what the callback answers, which is
 -- asked in that case alone; its id is the label's normal form
-abbrev pub Refers : {F : Type 0} → (F → BrokenLink → Option (CowStr × CowStr) → F → Type 0) → Option LinkDef → LinkType → (label : List ℕ) → (start end : ℕ) → (before after : F) → Option Target → Type 0
+abbrev pub Refers : {F : Type 0} → (F → BrokenLink → Option (CowStr × CowStr) → F → Type 0) → Option LinkDef → LinkType → (label : List ℕ) → (start end : ℕ) → (before after : F) → Option Link → Type 0
 Refers R (Some def) form label start end before after found = (after ≡ before) × IsDefined form label def found
 Refers R None form label start end before after found = (destination : Option Destination) × Answers R form label start end before after destination × IsAnswered form label destination found
 

@@ -35,8 +35,7 @@ impl<'a> InlineState<'a> {
     {
         if is_followed_by(text, here.at, b'[') {
             let inside = behind(text, behind(text, here.at));
-            let next = self.open_bracket(options, text, here, inside, true)?;
-            return Ok(next);
+            return self.open_bracket(options, text, here, inside, true);
         }
         Ok(pass(text, here))
     }

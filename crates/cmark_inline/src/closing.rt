@@ -4,11 +4,11 @@ ghost use Rattle.std.specs.Prelude.{◌≡◌, ◌<◌, length, IfOk, OnOk, fals
 ghost use Rattle.cmark_leaf_text.specs.Reads.{IsRead, text_of, IsPart};
 ghost use Rattle.cmark_text_parts.specs.Shown.{shown_options};
 ghost use Rattle.cmark_inline.specs.Asking.{AsksOnce};
-ghost use Rattle.cmark_inline.specs.Closers.{Closes, LinksTaken, LeavesElement};
+ghost use Rattle.cmark_inline.specs.Closers.{Closes, DeactivatesBehind, LinksTaken, LeavesElement};
 ghost use Rattle.cmark_inline.specs.Footnoted.{SameFootnotes};
 ghost use Rattle.cmark_slots.specs.Standing.{AreEnded, CanSettle, IsSettled};
 ghost use Rattle.cmark_inline.specs.Sound.{IsSound, IsTakenFrom};
-ghost use Rattle.cmark_inline.specs.Stands.{IsAtByte, Moves, Stands, Flushes, IsTarget, SameSpans};
+ghost use Rattle.cmark_inline.specs.Stands.{IsAtByte, Moves, Stands, Flushes, IsTarget};
 ghost use Rattle.cmark_slots.specs.Slots.{HoldNoLink, IsBracket, IsEnd, NoNewLink, AreSlots, bytes_of};
 ghost use Rattle.cmark_leaf_text.specs.declared.leaf_text.LeafText.{LeafText as LeafTexts};
 ghost use Rattle.cmark_grammar.specs.BracketStates.{Opener};
@@ -16,7 +16,6 @@ ghost use Rattle.cmark_grammar.specs.OpenBrackets.{nearest, used_up};
 ghost use Rattle.cmark_inline.specs.BracketViews.{StandFor, TakenAs};
 ghost use Rattle.cmark_slots.specs.declared.bracket.Bracket.{Bracket as Opening};
 ghost use Rattle.cmark_inline.specs.Decided.{EndsWithin, TargetDecides};
-ghost use Rattle.cmark_slots.specs.Doubled.{DropsBehind};
 ghost use Rattle.cmark_inline.specs.FormedSlots.{WritesElement, dressed_behind, end_slot};
 ghost use Rattle.cmark_grammar.specs.Spans.{Spans};
 ghost use Rattle.cmark_text_parts.specs.declared.text.CowStr.{CowStr as Texts};
@@ -32,10 +31,11 @@ use crate::read::Reader;
 use crate::reference::link_reference_at;
 use crate::state::InlineState;
 use crate::step::Cursor;
+use crate::wikilink::linked_element;
 use cmark_items::FootnoteDefs;
 use cmark_leaf_text::LeafText;
 use cmark_slots::bracket::Bracket;
-use cmark_slots::slot::{Element, Slot, SlotKind, begin, push_slot};
+use cmark_slots::slot::{Slot, SlotKind, begin, push_slot};
 use cmark_text::{EntityLookup, Options};
 use std::alloc::AllocError;
 
@@ -154,18 +154,13 @@ impl<'a> InlineState<'a> {
         bracket: Bracket,
         close: usize,
     ) -> Result<Option<Target<'a>>, AllocError>
-        requires stands { Stands text.now close self.old }
         requires bracket { IsBracket text.now close bracket }
         requires close { IsPart text.now close (close + 1) }
         requires read { IsRead leaf.now }
         requires same { text.now ≡ text_of leaf.now }
         ensures asks { AsksOnce F.answers callback.old callback.new }
         ensures spent { self.old.expansion_left ≡ 0 → (callback.new ≡ callback.old) × (self.new.expansion_left ≡ 0) }
-        ensures same { SameSpans self.old self.new }
-        ensures table { self.new.links ≡ self.old.links }
-        ensures texts { self.new.texts ≡ self.old.texts }
-        ensures quotes { self.new.quotes ≡ self.old.quotes }
-        ensures stands { Stands text.now close self.new }
+        ensures others { self.new ≡ record self.old { expansion_left = self.new.expansion_left; label_close = self.new.label_close } }
         ensures target { IfOk result (λ found. IfSome found (IsTarget text.now close)) }
         ensures decides { IfOk result (λ found. TargetDecides F.answers (shown_options reader.now.options) (E.replacement reader.now.entities.now) reader.now.references.now leaf.now text.now bracket close self.old self.new found callback.old callback.new) }
         ensures label { OnOk result (EndsWithin text.now self.old.label_close → EndsWithin text.now self.new.label_close) }
@@ -210,27 +205,31 @@ impl<'a> InlineState<'a> {
         ensures expansion_left { self.new.expansion_left ≡ self.old.expansion_left }
         ensures stands { OnOk result (Stands text.now target.entry.resume self.new) }
         ensures kept { OnOk result (self.new.links.items ≡ self.old.links.items ++ (target.entry.link ∷ [])) }
-        ensures doubled { OnOk result (DropsBehind bracket.start self.old.doubled.standing.items self.new.doubled.standing.items) }
-        ensures inactive { OnOk result (bracket.is_image ≡ false → self.new.doubled.inactive_below ≡ length self.new.doubled.standing.items) }
         ensures link { OnOk result (bracket.is_image ≡ false → HoldNoLink self.new.slots.items (bracket.slot + 1)) }
         ensures leaves { OnOk result (LeavesElement bracket.is_image bracket.start self.old self.new) }
         ensures label { self.new.label_close ≡ self.old.label_close }
         ensures writes { OnOk result (WritesElement (shown_options options) bracket target.entry self.old self.new) }
     {
         let Target { link, end, .. } = target;
-        let index = self.links.len();
+        let element = linked_element(bracket.is_image, self.links.len());
         self.links.push(link)?;
         self.doubled.drop_behind(bracket.start);
-        if bracket.is_image {
-            begin(&mut self.slots, bracket.slot, Element::Image(index), end);
-            self.finish(options, bracket, close, end)?;
-            return Ok(());
-        }
-        begin(&mut self.slots, bracket.slot, Element::Link(index), end);
+        begin(&mut self.slots, bracket.slot, element, end);
         self.finish(options, bracket, close, end)?;
-        self.brackets.deactivate_all();
-        self.doubled.deactivate_all();
+        self.deactivate_behind(bracket.is_image);
         Ok(())
+    }
+
+    // Behind a link no bracket before it forms another one; behind an image they do.
+    fn deactivate_behind(&mut self, is_image: bool)
+        ensures brackets { DeactivatesBehind is_image self.old.brackets self.new.brackets }
+        ensures doubled { DeactivatesBehind is_image self.old.doubled self.new.doubled }
+        ensures others { self.new ≡ record self.old { brackets = self.new.brackets; doubled = self.new.doubled } }
+    {
+        if !is_image {
+            self.brackets.deactivate_all();
+            self.doubled.deactivate_all();
+        }
     }
 
     // Ends the link or the image that a bracket began, and resolves the quotes and the delimiter runs in it.

@@ -1,6 +1,6 @@
 //! Footnote references (this profile's own).
 
-ghost use Rattle.std.specs.Prelude.{◌≡◌, false, ◌<◌, ◌≤◌, ◌+◌, ◌++◌, ◌∷◌, ℕ, List, [], drop, length, is_some, IfOk, OnOk, IfSome, None, option_copied, option_map};
+ghost use Rattle.std.specs.Prelude.{◌≡◌, false, ◌<◌, ◌≤◌, ◌+◌, ◌++◌, ◌∷◌, ℕ, List, [], drop, length, is_some, IfOk, OnOk, IfSome, None, Some, option_copied, option_map};
 ghost use Rattle.std.specs.Str.{IsCharBoundary};
 ghost use Rattle.cmark_finds.specs.Shown.{shown_label};
 ghost use Rattle.cmark_grammar.specs.BracketDecisions.{is_there};
@@ -116,6 +116,39 @@ fn name_of<'a>(alloc: Global, label: &str) -> Result<CowStr<'a>, AllocError>
     CowStr::Borrowed(label.as_str()).into_static(alloc)
 }
 
+/// The name of the footnote that a bracket refers to, if it refers to one; a use of it is counted.
+fn referred_footnote<'a>(
+    alloc: Global,
+    leaf: &LeafText<'a>,
+    options: Options,
+    footnotes: &mut FootnoteDefs,
+    text: &str,
+    bracket: Bracket,
+    close: usize,
+    closes_label: bool,
+) -> Result<Option<CowStr<'a>>, AllocError>
+    requires bracket { IsBracket text.now close bracket }
+    requires close { IsPart text.now close (close + 1) }
+    ensures forms { IfOk result (λ name. is_some name ≡ forms_footnote (shown_options options) footnotes.old (footnote_of (shown_options options) (is_cell_of leaf.now) closes_label text.now close (Some bracket))) }
+    ensures name { IfOk result (λ name. IfSome name (λ name. IfSome (footnote_of (shown_options options) (is_cell_of leaf.now) closes_label text.now close (Some bracket)) (λ label. text_bytes name ≡ normal_form label))) }
+    ensures off { (shown_options options).footnotes ≡ false → (footnotes.new ≡ footnotes.old) × IfOk result (λ name. name ≡ None) }
+    ensures counts { OnOk result (CountsOf (footnote_of (shown_options options) (is_cell_of leaf.now) closes_label text.now close (Some bracket)) footnotes.old footnotes.new) }
+    ensures same { SameFootnotes footnotes.old footnotes.new }
+{
+    if !options.contains(Options::ENABLE_FOOTNOTES) {
+        return Ok(None);
+    }
+    let Some(written) = footnote_at(options, text, bracket, close, closes_label) else {
+        return Ok(None);
+    };
+    let label = label_text(alloc, leaf.is_cell(), written)?;
+    if !count(options, footnotes, label.as_str())? {
+        return Ok(None);
+    }
+    let name = name_of(alloc, label.as_str())?;
+    Ok(Some(name))
+}
+
 /// The index of the slot of the reference that a bracket opens: that of the bracket's slot, or of an image's the one behind it.
 fn reference_slot(bracket: Bracket) -> usize
     requires { bracket.slot < 18446744073709551615 }
@@ -191,21 +224,23 @@ impl<'a> InlineState<'a> {
         ensures label { IfOk result (λ next. IfSome next (λ next. IfSome (footnote_of (shown_options options) (is_cell_of leaf.now) (is_there close self.old.label_close) text.now close taken) (λ label. KeepsLabel label self.old.texts.items self.new.texts.items))) }
         ensures writes { IfOk result (λ next. IfSome next (λ next. IfSome taken (λ bracket. IfSome (footnote_of (shown_options options) (is_cell_of leaf.now) (is_there close self.old.label_close) text.now close taken) (λ label. WritesReference bracket (normal_form label) (close + 1) self.old self.new)))) }
     {
-        if !options.contains(Options::ENABLE_FOOTNOTES) {
-            return Ok(None);
-        }
         let Some(bracket) = taken else {
             return Ok(None);
         };
         let closes_label = self.closes_label(close);
-        let Some(written) = footnote_at(options, text, bracket, close, closes_label) else {
+        let Some(name) = referred_footnote(
+            self.alloc,
+            leaf,
+            options,
+            footnotes,
+            text,
+            bracket,
+            close,
+            closes_label,
+        )?
+        else {
             return Ok(None);
         };
-        let label = label_text(self.alloc, leaf.is_cell(), written)?;
-        if !count(options, footnotes, label.as_str())? {
-            return Ok(None);
-        }
-        let name = name_of(self.alloc, label.as_str())?;
         self.form_footnote(text, bracket, close, name)?;
         Ok(Some(Cursor {
             pending: close + 1,

@@ -40,16 +40,14 @@ impl<'a> InlineState<'a> {
                 start: here.at,
                 end: formula.end,
             };
-            let next = self.put(text, here, here.at, slot)?;
-            return Ok(next);
+            return self.put(text, here, here.at, slot);
         }
         let slot = Slot {
             kind: SlotKind::Text,
             start: here.at,
             end: behind(text, here.at),
         };
-        let next = self.put(text, here, here.at, slot)?;
-        Ok(next)
+        self.put(text, here, here.at, slot)
     }
 }
 

@@ -5,12 +5,12 @@ ghost use Rattle.cmark_leaf_text.specs.Reads.{IsRead, IsPart, is_cell_of, place_
 ghost use Rattle.cmark_grammar.specs.Labels.{fold, normal_form};
 ghost use Rattle.cmark_items.specs.Definitions.{definition};
 ghost use Rattle.cmark_text_parts.specs.Labelled.{link_text, link_key};
-ghost use Rattle.cmark_inline.specs.Linked.{Answers, Refers, left_behind, reference_behind, shown_link_reference, by_own_label, said_by, shown_destination};
+ghost use Rattle.cmark_inline.specs.Linked.{Answers, IsLed, Refers, left_behind, reference_behind, shown_link_reference, by_own_label, said_by, shown_destination, target_link};
 ghost use Rattle.cmark_text_parts.specs.Shown.{shown_link_type, shown_options, text_bytes};
 ghost use Rattle.cmark_inline.specs.Asking.{AsksOnce};
 ghost use Rattle.cmark_inline.specs.Decided.{is_full};
 ghost use Rattle.cmark_inline.specs.Footnoted.{as_label};
-ghost use Rattle.cmark_inline.specs.Stands.{SameSpans, IsLinkReference};
+ghost use Rattle.cmark_inline.specs.Stands.{IsLinkReference};
 ghost use Rattle.cmark_slots.specs.Slots.{IsBracket};
 ghost use Rattle.cmark_grammar.specs.Tokens.{slice};
 
@@ -167,65 +167,100 @@ impl<'a> InlineState<'a> {
         requires same { text.now ≡ text_of leaf.now }
         ensures asks { AsksOnce F.answers callback.old callback.new }
         ensures refers { IfOk result (λ found. Refers F.answers (definition reader.now.references.now (fold (as_label (is_cell_of leaf.now) link_reference.entry.label.now))) link_reference.entry.link_type (normal_form (as_label (is_cell_of leaf.now) link_reference.entry.label.now))
-            (place_of leaf.now start) (place_of leaf.now (link_reference.entry.end - 1) + 1) callback.old callback.new found) }
+            (place_of leaf.now start) (place_of leaf.now (link_reference.entry.end - 1) + 1) callback.old callback.new (option_map target_link found)) }
         ensures expansion_left { IfOk result (λ found. self.new.expansion_left ≡ left_behind self.old.expansion_left found) }
-        ensures label { self.new.label_close ≡ self.old.label_close }
-        ensures table { self.new.links ≡ self.old.links }
-        ensures texts { self.new.texts ≡ self.old.texts }
-        ensures quotes { self.new.quotes ≡ self.old.quotes }
-        ensures same { SameSpans self.old self.new }
+        ensures others { self.new ≡ record self.old { expansion_left = self.new.expansion_left } }
         ensures target { IfOk result (λ found. IfSome found (λ target. (target.end ≡ link_reference.entry.end) × (target.resume ≡ link_reference.entry.resume))) }
     {
-        let written = label_text(self.alloc, leaf.is_cell(), link_reference.label)?;
-        let label = LinkLabel::new(self.alloc, written.as_str())?;
-        if let Some(found) = defined(self.alloc, reader.references, &label)? {
-            let id = CowStr::Borrowed(label.as_str()).into_static(self.alloc)?;
-            return Ok(Some(self.resolved(found, link_reference.link_type, id, link_reference)));
-        }
-        let Some(found) = ask(self.alloc, leaf, callback, start, link_reference, &label)? else {
+        let Some(link) = referred(
+            self.alloc,
+            leaf,
+            reader.references,
+            callback,
+            start,
+            link_reference,
+        )?
+        else {
             return Ok(None);
         };
-        let id = CowStr::Borrowed(label.as_str()).into_static(self.alloc)?;
-        Ok(Some(self.resolved(
-            found,
-            link_reference.link_type.to_unknown(),
-            id,
-            link_reference,
-        )))
+        Ok(Some(self.resolved(link, link_reference)))
     }
 
     // The target that a reference leads to; its destination and its title are taken off what is left of the reference expansion limit.
-    fn resolved(
-        &mut self,
-        found: Destination<'a>,
-        link_type: LinkType,
-        id: CowStr<'a>,
-        link_reference: LinkReference<'_>,
-    ) -> Target<'a>
-        ensures link { result.link ≡ record { link_type = link_type; dest_url = found.entry.dest_url; title = found.entry.title; id = id.entry } }
+    fn resolved(&mut self, link: Link<'a>, link_reference: LinkReference<'_>) -> Target<'a>
+        ensures link { result.link ≡ link.entry }
         ensures end { result.end ≡ link_reference.entry.end }
         ensures resume { result.resume ≡ link_reference.entry.resume }
         ensures expansion_left { self.new.expansion_left ≡ left_behind self.old.expansion_left (Some result) }
-        ensures label { self.new.label_close ≡ self.old.label_close }
-        ensures table { self.new.links ≡ self.old.links }
-        ensures texts { self.new.texts ≡ self.old.texts }
-        ensures quotes { self.new.quotes ≡ self.old.quotes }
-        ensures same { SameSpans self.old self.new }
+        ensures others { self.new ≡ record self.old { expansion_left = self.new.expansion_left } }
     {
-        let Destination { dest_url, title } = found;
-        self.expansion_left = self.expansion_left.saturating_sub(dest_url.as_str().len());
-        self.expansion_left = self.expansion_left.saturating_sub(title.as_str().len());
+        self.expansion_left = self
+            .expansion_left
+            .saturating_sub(link.dest_url.as_str().len());
+        self.expansion_left = self
+            .expansion_left
+            .saturating_sub(link.title.as_str().len());
         Target {
-            link: Link {
-                link_type,
-                dest_url,
-                title,
-                id,
-            },
+            link,
             end: link_reference.end,
             resume: link_reference.resume,
         }
     }
+}
+
+// The link that a reference is, by the definition of its label, or else by what the callback answers.
+fn referred<'a, F: BrokenLinkCallback<'a>>(
+    alloc: Global,
+    leaf: &LeafText<'a>,
+    references: &RefDefs<'a>,
+    callback: &mut F,
+    start: usize,
+    link_reference: LinkReference<'_>,
+) -> Result<Option<Link<'a>>, AllocError>
+    requires read { IsRead leaf.now }
+    requires part { IsPart (text_of leaf.now) start link_reference.end }
+    ensures asks { AsksOnce F.answers callback.old callback.new }
+    ensures refers { IfOk result (Refers F.answers (definition references.now (fold (as_label (is_cell_of leaf.now) link_reference.entry.label.now))) link_reference.entry.link_type (normal_form (as_label (is_cell_of leaf.now) link_reference.entry.label.now))
+        (place_of leaf.now start) (place_of leaf.now (link_reference.entry.end - 1) + 1) callback.old callback.new) }
+{
+    let label = label_of(alloc, leaf.is_cell(), link_reference.label)?;
+    if let Some(found) = defined(alloc, references, &label)? {
+        let link = linked(alloc, link_reference.link_type, found, &label)?;
+        return Ok(Some(link));
+    }
+    let Some(found) = ask(alloc, leaf, callback, start, link_reference, &label)? else {
+        return Ok(None);
+    };
+    let link = linked(alloc, link_reference.link_type.to_unknown(), found, &label)?;
+    Ok(Some(link))
+}
+
+// The label of a reference as it counts.
+fn label_of(alloc: Global, is_cell: bool, label: &str) -> Result<LinkLabel, AllocError>
+    ensures key { IfOk result (λ made. link_key made ≡ fold (as_label is_cell label.now)) }
+    ensures text { IfOk result (λ made. link_text made ≡ normal_form (as_label is_cell label.now)) }
+{
+    let written = label_text(alloc, is_cell, label)?;
+    LinkLabel::new(alloc, written.as_str())
+}
+
+// The link that leads to a destination, whose id is the normal form of the label.
+fn linked<'a>(
+    alloc: Global,
+    link_type: LinkType,
+    found: Destination<'a>,
+    label: &LinkLabel,
+) -> Result<Link<'a>, AllocError>
+    ensures { IfOk result (IsLed link_type (link_text label.now) found.entry) }
+{
+    let Destination { dest_url, title } = found;
+    let id = CowStr::Borrowed(label.as_str()).into_static(alloc)?;
+    Ok(Link {
+        link_type,
+        dest_url,
+        title,
+        id,
+    })
 }
 
 // Asks the callback where a reference leads whose label has no definition.

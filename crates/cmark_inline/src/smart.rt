@@ -31,8 +31,7 @@ impl<'a> InlineState<'a> {
             start: here.at,
             end: here.at + 3,
         };
-        let next = self.put(text, here, here.at, slot)?;
-        Ok(next)
+        self.put(text, here, here.at, slot)
     }
 
     // A run of hyphens: two and more are dashes.
@@ -53,8 +52,7 @@ impl<'a> InlineState<'a> {
         };
         let owned = CowStr::from_string(dash_text(self.alloc, size)?)?;
         self.texts.push(owned)?;
-        let next = self.put(text, here, here.at, slot)?;
-        Ok(next)
+        self.put(text, here, here.at, slot)
     }
 
     // A quote, whose character stands with those of its siblings.

@@ -15,7 +15,7 @@ ghost use Rattle.cmark_slots.specs.Standing.{AreEnded};
 ghost use Rattle.cmark_inline.specs.Sound.{IsSound};
 
 use crate::markup::Unclosed;
-use crate::place::{autolink_end, behind, is_followed_by, onto_words, pass, run_end, text_start};
+use crate::place::{autolink_end, behind, is_followed_by, pass, run_end, text_start};
 use crate::state::InlineState;
 use crate::step::Cursor;
 use cmark_finds::BacktickRuns;
@@ -46,8 +46,7 @@ impl<'a> InlineState<'a> {
                 start: here.at,
                 end: span.end,
             };
-            let next = self.put(text, here, here.at, slot)?;
-            return Ok(next);
+            return self.put(text, here, here.at, slot);
         }
         let start = text_start(text, here);
         let slot = Slot {
@@ -55,8 +54,7 @@ impl<'a> InlineState<'a> {
             start,
             end: run_end(text, here.at),
         };
-        let next = self.put(text, here, start, slot)?;
-        Ok(next)
+        self.put(text, here, start, slot)
     }
 
     // `<`: an autolink (CommonMark 6.5), inline HTML (CommonMark 6.6), or text. `unclosed` is what was sought in vain in this leaf.
@@ -83,8 +81,7 @@ impl<'a> InlineState<'a> {
             return Ok(pass(text, here));
         }
         if let Some(end) = autolink_end(text, here.at) {
-            let next = self.autolink(leaf, text, here, end)?;
-            return Ok(next);
+            return self.autolink(leaf, text, here, end);
         }
         if let Some(found) = unclosed.inline_html(leaf, text, here.at) {
             let slot = Slot {
@@ -92,16 +89,14 @@ impl<'a> InlineState<'a> {
                 start: here.at,
                 end: found.end,
             };
-            let next = self.put(text, here, here.at, slot)?;
-            return Ok(onto_words(text, next));
+            return self.put_onto_words(text, here, here.at, slot);
         }
         let slot = Slot {
             kind: SlotKind::Text,
             start: here.at,
             end: behind(text, here.at),
         };
-        let next = self.put(text, here, here.at, slot)?;
-        Ok(next)
+        self.put(text, here, here.at, slot)
     }
 
     // An autolink, whose text and destination is its URI.

@@ -18,7 +18,7 @@ ghost use Rattle.cmark_slots.specs.Standing.{AreEnded};
 ghost use Rattle.cmark_inline.specs.Sound.{IsSound};
 ghost use Rattle.cmark_slots.specs.SlotViews.{CanBeGiven};
 ghost use Rattle.cmark_inline.specs.SpecialReads.{ReadsSpecial};
-ghost use Rattle.cmark_inline.specs.Tokens.{Puts};
+ghost use Rattle.cmark_inline.specs.Tokens.{Puts, read_on};
 ghost use Rattle.cmark_grammar.specs.SpecialBytes.{is_special};
 ghost use Rattle.cmark_search.specs.Sets.{in_rows};
 ghost use Rattle.cmark_text_parts.specs.Shown.{shown_options};
@@ -26,7 +26,7 @@ ghost use Rattle.std.specs.List.{position_or_len};
 
 use crate::callback::BrokenLinkCallback;
 use crate::markup::Unclosed;
-use crate::place::behind;
+use crate::place::{behind, onto_words};
 use crate::read::Reader;
 use crate::state::InlineState;
 use cmark_finds::{BacktickRuns, Dollars};
@@ -192,8 +192,7 @@ impl<'a> InlineState<'a> {
             b'$' => self.dollar(&mut sought.dollars, text, here),
             b'[' => {
                 let inside = behind(text, here.at);
-                let next = self.open_bracket(reader.options, text, here, inside, false)?;
-                Ok(next)
+                self.open_bracket(reader.options, text, here, inside, false)
             }
             b'.' => self.dots(text, here),
             b'-' => self.hyphens(text, here),
@@ -215,8 +214,7 @@ impl<'a> InlineState<'a> {
         ensures slots { OnOk result (self.new.slots.items ≡ self.old.slots.items ++ (slot ∷ [])) }
         ensures others { self.new ≡ record self.old { slots = self.new.slots } }
     {
-        push_slot(&mut self.slots, slot.kind, slot.start, slot.end)?;
-        Ok(())
+        push_slot(&mut self.slots, slot.kind, slot.start, slot.end)
     }
 
     // Appends the text that is pending up to a place.
@@ -237,8 +235,7 @@ impl<'a> InlineState<'a> {
         ensures succeeds { text_end ≤ here.pending → IsOk result }
         ensures others { self.new ≡ record self.old { slots = self.new.slots } }
     {
-        push_text(&mut self.slots, here.pending, text_end)?;
-        Ok(())
+        push_text(&mut self.slots, here.pending, text_end)
     }
 
     // Appends the text that is pending up to a place, and then a slot; the text is read on behind that.
@@ -272,5 +269,31 @@ impl<'a> InlineState<'a> {
             pending: slot.end,
             at: slot.end,
         })
+    }
+
+    // The same; the text is read on behind the blanks in front of the line that begins there, if one does.
+    pub(crate) fn put_onto_words(
+        &mut self,
+        text: &str,
+        here: Cursor,
+        text_end: usize,
+        slot: Slot,
+    ) -> Result<Cursor, AllocError>
+        requires stands { Stands text.now here.pending self.old }
+        requires starts { IsCharBoundary text.now here.pending }
+        requires stops { IsCharBoundary text.now text_end }
+        requires behind { here.pending ≤ text_end }
+        requires ordered { text_end < slot.end }
+        requires slot { IsSlot text.now slot.end slot }
+        requires further { here.at < slot.end }
+        requires kind { begins_link slot.kind ≡ false }
+        ensures expansion_left { self.new.expansion_left ≡ self.old.expansion_left }
+        ensures moves { IfOk result (Moves text.now here.at self.new) }
+        ensures at { IfOk result (λ next. (next.pending ≡ next.at) × (next.at ≡ read_on text.now slot.end)) }
+        ensures slots { OnOk result (Puts here.pending text_end slot self.old.slots.items self.new.slots.items) }
+        ensures others { self.new ≡ record self.old { slots = self.new.slots } }
+    {
+        let next = self.put(text, here, text_end, slot)?;
+        Ok(onto_words(text, next))
     }
 }

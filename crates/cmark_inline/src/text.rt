@@ -10,8 +10,7 @@ ghost use Rattle.cmark_inline.specs.Tokens.{Appends, Escapes, EscapesPipe, Passe
 ghost use Rattle.cmark_slots.specs.declared.slot.SlotKind.TheVariants as slot_kind;
 
 use crate::place::{
-    before_blanks, behind, end_behind, is_escape, is_lone_backtick, is_pipe_escape, onto_words,
-    pass,
+    before_blanks, behind, end_behind, is_escape, is_lone_backtick, is_pipe_escape, pass,
 };
 use crate::state::InlineState;
 use crate::step::Cursor;
@@ -35,8 +34,7 @@ impl<'a> InlineState<'a> {
         };
         let is_hard = ends_with_two_spaces(&text.as_bytes()[text_end..here.at]);
         let slot = break_slot(is_hard, text_end, here.at, found.end);
-        let next = self.put(text, here, text_end, slot)?;
-        Ok(onto_words(text, next))
+        self.put_onto_words(text, here, text_end, slot)
     }
 
     // A backslash: a hard break before a line end (CommonMark 6.7), or an escape (CommonMark 2.4). In the cell of a table it escapes a
@@ -58,8 +56,7 @@ impl<'a> InlineState<'a> {
                 start: here.at,
                 end: found.end,
             };
-            let next = self.put(text, here, here.at, slot)?;
-            return Ok(onto_words(text, next));
+            return self.put_onto_words(text, here, here.at, slot);
         }
         if !is_escape(text, here.at) {
             return Ok(pass(text, here));
@@ -72,8 +69,7 @@ impl<'a> InlineState<'a> {
                 start: escaped,
                 end,
             };
-            let next = self.put(text, here, here.at, slot)?;
-            return Ok(next);
+            return self.put(text, here, here.at, slot);
         }
         self.flush(text, here, here.at)?;
         if is_cell && is_pipe_escape(text, escaped) {
@@ -112,8 +108,7 @@ impl<'a> InlineState<'a> {
         };
         let owned = entity.text.into_static(self.alloc)?;
         self.texts.push(owned)?;
-        let next = self.put(text, here, here.at, slot)?;
-        Ok(next)
+        self.put(text, here, here.at, slot)
     }
 }
 

@@ -88,7 +88,7 @@ fn wikilink_at<'a>(
 }
 
 // The link of an index, or the image.
-fn linked_element(is_image: bool, index: usize) -> Element
+pub(crate) fn linked_element(is_image: bool, index: usize) -> Element
     ensures value { result ≡ (if is_image then element.Image index else element.Link index) }
     ensures names { link_of result ≡ Some index }
 {

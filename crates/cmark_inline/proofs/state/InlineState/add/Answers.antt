@@ -2,13 +2,14 @@ use Rattle.std.proofs.Common.{ℕ, arith}
 use Rattle.cmark_slots.specs.Slots.{bytes_of}
 use Rattle.cmark_slots.specs.declared.bracket.Brackets.{Brackets}
 use Rattle.cmark_slots.proofs.Steps.{Keeps, keeps-push}
+use Rattle.std.proofs.lemmas.Result.{IfOk-weaker}
 use Rattle.cmark_inline.proofs.state.InlineState.add.Goals as goal
 
 pub returns-clause-stands : goal.returns-clause-stands
-returns-clause-stands c =
+returns-clause-stands c = IfOk-weaker c.push_slot.result _ _ (λ _ pushed.
     let h = c.requires.stands in
     let v : Brackets = c.args.self.now.brackets in
     let w : Brackets = c.args.self.now.doubled in
     let n : ℕ = bytes_of c.args.self.now.delimiters.placed.items in
-    let k : Keeps c.args.text.now c.args.place c.push_slot.new.slots.items v w n = keeps-push c.args.text.now c.args.place c.args.place c.args.self.now.slots.items c.push_slot.new.slots.items c.args.slot v w n (record { slots = h.slots; brackets = h.brackets; few = h.few; free = h.free; doubled = h.doubled; doubled_free = h.doubled_free; runs = h.runs }) (omega arith) c.requires.room c.requires.kind c.requires.slot c.in_ok-push_slot.ensures in
-    record { slots = k.slots; brackets = k.brackets; few = k.few; free = k.free; doubled = k.doubled; doubled_free = k.doubled_free; runs = k.runs }
+    let k : Keeps c.args.text.now c.args.place c.push_slot.new.slots.items v w n = keeps-push c.args.text.now c.args.place c.args.place c.args.self.now.slots.items c.push_slot.new.slots.items c.args.slot v w n (record { slots = h.slots; brackets = h.brackets; few = h.few; free = h.free; doubled = h.doubled; doubled_free = h.doubled_free; runs = h.runs }) (omega arith) c.requires.room c.requires.kind c.requires.slot pushed in
+    record { slots = k.slots; brackets = k.brackets; few = k.few; free = k.free; doubled = k.doubled; doubled_free = k.doubled_free; runs = k.runs }) c.push_slot.ensures

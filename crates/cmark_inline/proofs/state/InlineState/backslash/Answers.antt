@@ -7,16 +7,16 @@ use Rattle.cmark_grammar.specs.Letters.{starts}
 use Rattle.cmark_inline.specs.Stands.{Stands}
 use Rattle.cmark_inline.proofs.Appended.{at-byte, own-appends, pipe-makes, slash-appends, slash-makes}
 use Rattle.cmark_inline.proofs.TokenSteps.{line-at-slash, slash-lone, slash-stands}
-use Rattle.cmark_inline.specs.Tokens.{read_on}
 use Rattle.cmark_inline.proofs.Keeping.{keeps-pending, keeps-puts, keeps-same}
+use Rattle.std.proofs.lemmas.Result.{IfOk-weaker}
+use Rattle.cmark_inline.proofs.LastCalls.{ok-by-two, ok-by-three}
 use Rattle.cmark_inline.proofs.state.InlineState.backslash.Goals as goal
 use Rattle.cmark_inline.proofs.state.InlineState.backslash.Goals.{else-is_cell-via-then-is_cell+else-is_pipe_escape, else-is_cell-via-else-is_cell}
 
 pub returns-in-Some-clause-token : goal.returns-in-Some-clause-token
-returns-in-Some-clause-token c = λ o l is.
-    let next = c.in_ok-next.ensures in
-    inr (inl (slash-appends o l c.args.is_cell c.args.text.now c.args.here c.args.self.now c.put.new.self c.onto_words.result c.in-Some.found _
-    c.requires.byte.cursor.ordered c.requires.byte.within is c.in-Some.ensures.value c.in-Some.ensures.places refl (c.onto_words.ensures.at ∙ ap (read_on c.args.text.now) next.at) c.onto_words.ensures.pending next.slots next.others))
+returns-in-Some-clause-token c = λ o l is. ok-by-two c.put_onto_words.result _ _ _ c.put_onto_words.ensures.at c.put_onto_words.ensures.slots (λ next at slots.
+    inr (inl (slash-appends o l c.args.is_cell c.args.text.now c.args.here c.args.self.now c.put_onto_words.new.self next c.in-Some.found _
+    c.requires.byte.cursor.ordered c.requires.byte.within is c.in-Some.ensures.value c.in-Some.ensures.places refl at.1 at.0 slots c.put_onto_words.ensures.others)))
 
 pub returns-then-not-is_escape-clause-token : goal.returns-then-not-is_escape-clause-token
 returns-then-not-is_escape-clause-token c = λ o l is.
@@ -32,14 +32,14 @@ pub returns-then-is_lone_backtick-clause-token : goal.returns-then-is_lone_backt
 returns-then-is_lone_backtick-clause-token c = λ o l is.
     let text : List ℕ = c.args.text.now in
     let at : ℕ = c.args.here.at in
-    let next = c.in_ok-next-2.ensures in
     let e = c.behind-escaped.ensures.value in
     let f = c.behind-end.ensures.value in
     let lone : backticks (drop c.behind-escaped.result text) ≡ 1 = eqb-true (backticks (drop c.behind-escaped.result text)) 1 (sym c.if-is_lone_backtick.ensures) in
-    inr (inl (own-appends o l c.args.is_cell text c.args.here c.args.self.now c.put-then-is_lone_backtick.new.self c.in_ok-next-2.next c.behind-escaped.result c.behind-end.result c.requires.byte.cursor.ordered (at-byte text c.args.here 92 is refl refl refl)
+    ok-by-three c.put.result _ _ _ _ c.put.ensures.at c.put.ensures.end c.put.ensures.slots (λ next there over slots.
+    inr (inl (own-appends o l c.args.is_cell text c.args.here c.args.self.now c.put.new.self next c.behind-escaped.result c.behind-end.result c.requires.byte.cursor.ordered (at-byte text c.args.here 92 is refl refl refl)
     (slash-lone o l c.args.is_cell text at c.requires.byte.within is (sym (c.in_default.ensures.value ∙ line-at-slash text at c.requires.byte.within is)) (ap (λ (k : ℕ). backticks (drop k text)) (sym e) ∙ lone)
     ∙ ap (λ (s : ℕ). item_at Own s (at + 2)) (sym e) ∙ ap (item_at Own c.behind-escaped.result) (let q : at + 2 ≡ c.behind-end.result = omega (arith, e, f) in q))
-    next.at (next.end ∙ sym next.at) next.slots next.others))
+    there (over ∙ sym there) slots c.put.ensures.others)))
 
 pub returns-then-is_pipe_escape-clause-token : goal.returns-then-is_pipe_escape-clause-token
 returns-then-is_pipe_escape-clause-token c = λ o l is.
@@ -62,9 +62,9 @@ returns-clause-token c = λ o l is.
 
 pub returns-in-Some-clause-reads_on : goal.returns-in-Some-clause-reads_on
 returns-in-Some-clause-reads_on c = record {
-  expansion_left = c.in_ok-next.ensures.expansion_left;
-  keeps = keeps-puts c.args.self.now c.put.new.self c.in_ok-next.ensures.others c.args.here.pending c.args.here.at _ c.in_ok-next.ensures.slots ((refl, refl, refl), λ i. refl);
-  moves = c.onto_words.ensures.moves c.args.here.at c.put.new.self c.in_ok-next.ensures.moves;
+  expansion_left = c.put_onto_words.ensures.expansion_left;
+  keeps = IfOk-weaker c.put_onto_words.result _ _ (λ _ slots. keeps-puts c.args.self.now c.put_onto_words.new.self c.put_onto_words.ensures.others c.args.here.pending c.args.here.at _ slots ((refl, refl, refl), λ i. refl)) c.put_onto_words.ensures.slots;
+  moves = c.put_onto_words.ensures.moves;
 }
 
 pub returns-then-not-is_escape-clause-reads_on : goal.returns-then-not-is_escape-clause-reads_on
@@ -76,9 +76,9 @@ returns-then-not-is_escape-clause-reads_on c = record {
 
 pub returns-then-is_lone_backtick-clause-reads_on : goal.returns-then-is_lone_backtick-clause-reads_on
 returns-then-is_lone_backtick-clause-reads_on c = record {
-  expansion_left = c.in_ok-next-2.ensures.expansion_left;
-  keeps = keeps-puts c.args.self.now c.put-then-is_lone_backtick.new.self c.in_ok-next-2.ensures.others c.args.here.pending c.args.here.at _ c.in_ok-next-2.ensures.slots ((refl, refl, refl), λ i. refl);
-  moves = c.in_ok-next-2.ensures.moves;
+  expansion_left = c.put.ensures.expansion_left;
+  keeps = IfOk-weaker c.put.result _ _ (λ _ slots. keeps-puts c.args.self.now c.put.new.self c.put.ensures.others c.args.here.pending c.args.here.at _ slots ((refl, refl, refl), λ i. refl)) c.put.ensures.slots;
+  moves = c.put.ensures.moves;
 }
 
 pub returns-then-is_pipe_escape-clause-reads_on : goal.returns-then-is_pipe_escape-clause-reads_on

@@ -4,32 +4,32 @@ use Rattle.std.proofs.Common.{inl, refl, sym, ap, subst, ◌∙◌}
 use Rattle.cmark_finds.specs.Shown.{shown_code, IsCodeAt}
 use Rattle.cmark_inline.proofs.Appended.{code-appends, ticks-make}
 use Rattle.cmark_inline.proofs.Keeping.{keeps-puts}
+use Rattle.std.proofs.lemmas.Result.{IfOk-weaker}
+use Rattle.cmark_inline.proofs.LastCalls.{ok-by-three}
 use Rattle.cmark_inline.proofs.state.InlineState.backticks.Goals as goal
 
 pub returns-in-Some-clause-token : goal.returns-in-Some-clause-token
-returns-in-Some-clause-token c = λ o l cell is.
-    let next = c.in_ok-next.ensures in
-    inl (code-appends o l cell c.args.text.now c.args.here c.args.self.now c.put.new.self c.in_ok-next.next c.in-Some.span c.requires.byte.cursor.ordered c.requires.byte.within is
+returns-in-Some-clause-token c = λ o l cell is. ok-by-three c.put.result _ _ _ _ c.put.ensures.at c.put.ensures.end c.put.ensures.slots (λ next at end slots.
+    inl (code-appends o l cell c.args.text.now c.args.here c.args.self.now c.put.new.self next c.in-Some.span c.requires.byte.cursor.ordered c.requires.byte.within is
     (ap (option_map (shown_code c.args.text.now)) (sym c.in-Some.is) ∙ c.in_ok-span.ensures.value) (subst (λ r. IfSome r (IsCodeAt c.args.text.now c.args.here.at)) c.in-Some.is c.in_ok-span.ensures.places)
-    next.at (next.end ∙ sym next.at) next.slots next.others)
+    at (end ∙ sym at) slots c.put.ensures.others))
 
 pub returns-clause-token : goal.returns-clause-token
-returns-clause-token c = λ o l cell is.
-    let next = c.in_ok-next-2.ensures in
-    ticks-make o l cell c.args.text.now c.args.here c.args.self.now c.put-2.new.self c.in_ok-next-2.next c.text_start-start.result c.run_end.result c.requires.byte.cursor.ordered c.requires.byte.within is
+returns-clause-token c = λ o l cell is. ok-by-three c.put-2.result _ _ _ _ c.put-2.ensures.at c.put-2.ensures.end c.put-2.ensures.slots (λ next at end slots.
+    ticks-make o l cell c.args.text.now c.args.here c.args.self.now c.put-2.new.self next c.text_start-start.result c.run_end.result c.requires.byte.cursor.ordered c.requires.byte.within is
     (ap (option_map (shown_code c.args.text.now)) (sym c.in_default.is) ∙ c.in_ok-span.ensures.value) c.run_end.ensures.value c.text_start-start.ensures.value c.text_start-start.ensures.escaped
-    next.at (next.end ∙ sym next.at) next.slots next.others
+    at (end ∙ sym at) slots c.put-2.ensures.others)
 
 pub returns-in-Some-clause-reads_on : goal.returns-in-Some-clause-reads_on
 returns-in-Some-clause-reads_on c = record {
-  expansion_left = c.in_ok-next.ensures.expansion_left;
-  keeps = keeps-puts c.args.self.now c.put.new.self c.in_ok-next.ensures.others c.args.here.pending c.args.here.at _ c.in_ok-next.ensures.slots ((refl, refl, refl), λ i. refl);
-  moves = c.in_ok-next.ensures.moves;
+  expansion_left = c.put.ensures.expansion_left;
+  keeps = IfOk-weaker c.put.result _ _ (λ _ slots. keeps-puts c.args.self.now c.put.new.self c.put.ensures.others c.args.here.pending c.args.here.at _ slots ((refl, refl, refl), λ i. refl)) c.put.ensures.slots;
+  moves = c.put.ensures.moves;
 }
 
 pub returns-clause-reads_on : goal.returns-clause-reads_on
 returns-clause-reads_on c = record {
-  expansion_left = c.in_ok-next-2.ensures.expansion_left;
-  keeps = keeps-puts c.args.self.now c.put-2.new.self c.in_ok-next-2.ensures.others c.args.here.pending c.text_start-start.result _ c.in_ok-next-2.ensures.slots ((refl, refl, refl), λ i. refl);
-  moves = c.in_ok-next-2.ensures.moves;
+  expansion_left = c.put-2.ensures.expansion_left;
+  keeps = IfOk-weaker c.put-2.result _ _ (λ _ slots. keeps-puts c.args.self.now c.put-2.new.self c.put-2.ensures.others c.args.here.pending c.text_start-start.result _ slots ((refl, refl, refl), λ i. refl)) c.put-2.ensures.slots;
+  moves = c.put-2.ensures.moves;
 }

@@ -8,34 +8,34 @@ use Rattle.cmark_finds.specs.declared.dollars.Formula.{Formula}
 use Rattle.cmark_inline.proofs.FormulaSteps.{formula-appends, sign-appends}
 use Rattle.cmark_inline.proofs.Keeping.{formula-alone, keeps-puts}
 use Rattle.cmark_slots.specs.Standing.{StandsAlone}
+use Rattle.std.proofs.lemmas.Result.{IfOk-weaker}
+use Rattle.cmark_inline.proofs.LastCalls.{ok-by-three}
 use Rattle.cmark_inline.proofs.state.InlineState.dollar.Goals as goal
 
 pub returns-in-Some-clause-token : goal.returns-in-Some-clause-token
-returns-in-Some-clause-token c = λ o l cell math.
-    let next = c.in_ok-next.ensures in
-    formula-appends o l cell c.args.text.now c.args.here c.args.self.now c.put.new.self c.in_ok-next.next c.in-Some.formula c.kind_of.result c.requires.cursor.ordered c.requires.here c.requires.dollar math
+returns-in-Some-clause-token c = λ o l cell math. ok-by-three c.put.result _ _ _ _ c.put.ensures.at c.put.ensures.end c.put.ensures.slots (λ next at end slots.
+    formula-appends o l cell c.args.text.now c.args.here c.args.self.now c.put.new.self next c.in-Some.formula c.kind_of.result c.requires.cursor.ordered c.requires.here c.requires.dollar math
     (ap (option_map (shown_formula c.args.text.now)) (sym c.in-Some.is) ∙ c.in_ok-formula.ensures.value)
     (subst (λ r. IfSome r (λ (f : Formula). f.is_display ≡ first_is is_dollar (drop (c.args.here.at + 1) c.args.text.now))) c.in-Some.is c.in_ok-formula.ensures.kind)
     (subst (λ r. IfSome r (IsFormulaAt c.args.text.now c.args.here.at)) c.in-Some.is c.in_ok-formula.ensures.places)
-    c.kind_of.ensures.value next.at (next.end ∙ sym next.at) next.slots next.others
+    c.kind_of.ensures.value at (end ∙ sym at) slots c.put.ensures.others)
 
 pub returns-clause-token : goal.returns-clause-token
-returns-clause-token c = λ o l cell math.
-    let next = c.in_ok-next-2.ensures in
-    sign-appends o l cell c.args.text.now c.args.here c.args.self.now c.put-2.new.self c.in_ok-next-2.next c.behind.result c.requires.cursor.ordered c.requires.here c.requires.dollar math
+returns-clause-token c = λ o l cell math. ok-by-three c.put-2.result _ _ _ _ c.put-2.ensures.at c.put-2.ensures.end c.put-2.ensures.slots (λ next at end slots.
+    sign-appends o l cell c.args.text.now c.args.here c.args.self.now c.put-2.new.self next c.behind.result c.requires.cursor.ordered c.requires.here c.requires.dollar math
     (ap (option_map (shown_formula c.args.text.now)) (sym c.in_default.is) ∙ c.in_ok-formula.ensures.value) c.behind.ensures.value
-    next.at (next.end ∙ sym next.at) next.slots next.others
+    at (end ∙ sym at) slots c.put-2.ensures.others)
 
 pub returns-in-Some-clause-reads_on : goal.returns-in-Some-clause-reads_on
 returns-in-Some-clause-reads_on c = record {
-  expansion_left = c.in_ok-next.ensures.expansion_left;
-  keeps = keeps-puts c.args.self.now c.put.new.self c.in_ok-next.ensures.others c.args.here.pending c.args.here.at _ c.in_ok-next.ensures.slots (subst (λ k. StandsAlone k) (sym c.kind_of.ensures.value) (formula-alone c.in-Some.formula.is_display c.in-Some.formula.content_start c.in-Some.formula.content_end));
-  moves = c.in_ok-next.ensures.moves;
+  expansion_left = c.put.ensures.expansion_left;
+  keeps = IfOk-weaker c.put.result _ _ (λ _ slots. keeps-puts c.args.self.now c.put.new.self c.put.ensures.others c.args.here.pending c.args.here.at _ slots (subst (λ k. StandsAlone k) (sym c.kind_of.ensures.value) (formula-alone c.in-Some.formula.is_display c.in-Some.formula.content_start c.in-Some.formula.content_end))) c.put.ensures.slots;
+  moves = c.put.ensures.moves;
 }
 
 pub returns-clause-reads_on : goal.returns-clause-reads_on
 returns-clause-reads_on c = record {
-  expansion_left = c.in_ok-next-2.ensures.expansion_left;
-  keeps = keeps-puts c.args.self.now c.put-2.new.self c.in_ok-next-2.ensures.others c.args.here.pending c.args.here.at _ c.in_ok-next-2.ensures.slots ((refl, refl, refl), λ i. refl);
-  moves = c.in_ok-next-2.ensures.moves;
+  expansion_left = c.put-2.ensures.expansion_left;
+  keeps = IfOk-weaker c.put-2.result _ _ (λ _ slots. keeps-puts c.args.self.now c.put-2.new.self c.put-2.ensures.others c.args.here.pending c.args.here.at _ slots ((refl, refl, refl), λ i. refl)) c.put-2.ensures.slots;
+  moves = c.put-2.ensures.moves;
 }

@@ -5,6 +5,8 @@ use Rattle.cmark_inline.specs.Stands.{Stands}
 use Rattle.cmark_inline.proofs.Appended.{at-byte, character-appends}
 use Rattle.cmark_inline.proofs.MarkSteps.{ellipsis-begins, ellipsis-bytes, no-ellipsis}
 use Rattle.cmark_inline.proofs.Keeping.{keeps-puts, keeps-same}
+use Rattle.std.proofs.lemmas.Result.{IfOk-weaker}
+use Rattle.cmark_inline.proofs.LastCalls.{ok-by-three}
 use Rattle.cmark_inline.proofs.state.InlineState.dots.Goals as goal
 
 pub returns-then-not-starts_with-clause-token : goal.returns-then-not-starts_with-clause-token
@@ -17,11 +19,11 @@ returns-then-not-starts_with-clause-token c = λ o l cell smart is.
 
 pub returns-clause-token : goal.returns-clause-token
 returns-clause-token c = λ o l cell smart is.
-    let next = c.in_ok-next.ensures in
     let cases = c.if-not-starts_with.ensures.cases in
-    inr (character-appends o l cell c.args.text.now c.args.here c.args.self.now c.put.new.self c.in_ok-next.next _ _ _ c.requires.byte.cursor.ordered (at-byte c.args.text.now c.args.here 46 is refl refl refl)
+    ok-by-three c.put.result _ _ _ _ c.put.ensures.at c.put.ensures.end c.put.ensures.slots (λ next at end slots.
+    inr (character-appends o l cell c.args.text.now c.args.here c.args.self.now c.put.new.self next _ _ _ c.requires.byte.cursor.ordered (at-byte c.args.text.now c.args.here 46 is refl refl refl)
     (ellipsis-begins o l cell c.args.text.now c.args.here.at c.requires.byte.within smart (drop cases.0 c.range_from.result.now) is (sym c.range_from.ensures.value ∙ cases.1.1))
-    next.at (next.end ∙ sym next.at) next.slots next.others ellipsis-bytes)
+    at (end ∙ sym at) slots c.put.ensures.others ellipsis-bytes))
 
 pub returns-then-not-starts_with-clause-reads_on : goal.returns-then-not-starts_with-clause-reads_on
 returns-then-not-starts_with-clause-reads_on c = record {
@@ -32,7 +34,7 @@ returns-then-not-starts_with-clause-reads_on c = record {
 
 pub returns-clause-reads_on : goal.returns-clause-reads_on
 returns-clause-reads_on c = record {
-  expansion_left = c.in_ok-next.ensures.expansion_left;
-  keeps = keeps-puts c.args.self.now c.put.new.self c.in_ok-next.ensures.others c.args.here.pending c.args.here.at _ c.in_ok-next.ensures.slots ((refl, refl, refl), λ i. refl);
-  moves = c.in_ok-next.ensures.moves;
+  expansion_left = c.put.ensures.expansion_left;
+  keeps = IfOk-weaker c.put.result _ _ (λ _ slots. keeps-puts c.args.self.now c.put.new.self c.put.ensures.others c.args.here.pending c.args.here.at _ slots ((refl, refl, refl), λ i. refl)) c.put.ensures.slots;
+  moves = c.put.ensures.moves;
 }

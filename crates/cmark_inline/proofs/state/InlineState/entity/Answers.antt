@@ -8,6 +8,8 @@ use Rattle.cmark_inline.specs.declared.state.InlineState.{InlineState}
 use Rattle.cmark_inline.specs.Stands.{Stands}
 use Rattle.cmark_inline.proofs.Appended.{at-byte, kept, owned-appends, entity-is, entity-token, no-entity}
 use Rattle.cmark_inline.proofs.Keeping.{keeps-owned, keeps-same}
+use Rattle.std.proofs.lemmas.Result.{IfOk-weaker}
+use Rattle.cmark_inline.proofs.LastCalls.{ok-by-three}
 use Rattle.cmark_inline.proofs.state.InlineState.entity.Goals as goal
 
 pub returns-in_default-clause-token : goal.returns-in_default-clause-token
@@ -30,11 +32,11 @@ returns-in_default-end_behind-clause-token g c = λ o cell is.
 pub returns-clause-token : goal.returns-clause-token
 returns-clause-token g c = λ o cell is.
     let l : Lookup = g.E.EntityLookup.replacement c.args.entities.now in
-    let next = c.in_ok-next.ensures in
-    let found = entity-is o l cell c.args.text.now c.args.here c.args.self.now c.put.new.self c.in_ok-next.next c.as_bytes.result.now c.range_from.result.now (Some (shown_entity c.in-Some.entity)) c.requires.byte.within is c.as_bytes.ensures.value c.range_from.ensures.value c.in-Some.ensures.value in
-    inr (owned-appends o l cell c.args.text.now c.args.here c.args.self.now c.put.new.self c.in_ok-next.next (shown_entity c.in-Some.entity).bytes c.in-Some-end_behind.end c.len.result c.in_ok-owned.owned c.requires.byte.cursor.ordered (at-byte c.args.text.now c.args.here 38 is refl refl refl)
-    (entity-token o l cell c.args.text.now c.args.here c.args.self.now c.put.new.self c.in_ok-next.next (shown_entity c.in-Some.entity) c.in-Some-end_behind.end c.requires.byte.within is found c.in-Some-end_behind.ensures.value)
-    next.at (next.end ∙ sym next.at) next.slots (ap (λ (s : InlineState). s.texts.items) next.others ∙ c.in_ok-push.ensures.items) (let q : c.len.result ≡ length c.args.self.now.texts.items = search rules in q) c.in_ok-owned.ensures.value (kept c.args.self.now c.put.new.self _ next.others refl))
+    ok-by-three c.put.result _ _ _ _ c.put.ensures.at c.put.ensures.end c.put.ensures.slots (λ next at end slots.
+    let found = entity-is o l cell c.args.text.now c.args.here c.args.self.now c.put.new.self next c.as_bytes.result.now c.range_from.result.now (Some (shown_entity c.in-Some.entity)) c.requires.byte.within is c.as_bytes.ensures.value c.range_from.ensures.value c.in-Some.ensures.value in
+    inr (owned-appends o l cell c.args.text.now c.args.here c.args.self.now c.put.new.self next (shown_entity c.in-Some.entity).bytes c.in-Some-end_behind.end c.len.result c.in_ok-owned.owned c.requires.byte.cursor.ordered (at-byte c.args.text.now c.args.here 38 is refl refl refl)
+    (entity-token o l cell c.args.text.now c.args.here c.args.self.now c.put.new.self next (shown_entity c.in-Some.entity) c.in-Some-end_behind.end c.requires.byte.within is found c.in-Some-end_behind.ensures.value)
+    at (end ∙ sym at) slots (ap (λ (s : InlineState). s.texts.items) c.put.ensures.others ∙ c.in_ok-push.ensures.items) (let q : c.len.result ≡ length c.args.self.now.texts.items = search rules in q) c.in_ok-owned.ensures.value (kept c.args.self.now c.put.new.self _ c.put.ensures.others refl)))
 
 pub returns-in_default-clause-reads_on : goal.returns-in_default-clause-reads_on
 returns-in_default-clause-reads_on g c = record {
@@ -52,7 +54,7 @@ returns-in_default-end_behind-clause-reads_on g c = record {
 
 pub returns-clause-reads_on : goal.returns-clause-reads_on
 returns-clause-reads_on g c = record {
-  expansion_left = c.in_ok-next.ensures.expansion_left;
-  keeps = keeps-owned c.args.self.now (record c.args.self.now { texts = c.push.new.self }) c.put.new.self c.args.here.pending c.args.here.at _ c.in_ok-next.ensures.slots c.in_ok-owned.owned c.in_ok-push.ensures.items c.in_ok-next.ensures.others refl (ap Some (let q : c.len.result ≡ length c.args.self.now.texts.items = search rules in q)) refl refl (λ i. refl);
-  moves = c.in_ok-next.ensures.moves;
+  expansion_left = c.put.ensures.expansion_left;
+  keeps = IfOk-weaker c.put.result _ _ (λ _ slots. keeps-owned c.args.self.now (record c.args.self.now { texts = c.push.new.self }) c.put.new.self c.args.here.pending c.args.here.at _ slots c.in_ok-owned.owned c.in_ok-push.ensures.items c.put.ensures.others refl (ap Some (let q : c.len.result ≡ length c.args.self.now.texts.items = search rules in q)) refl refl (λ i. refl)) c.put.ensures.slots;
+  moves = c.put.ensures.moves;
 }

@@ -8,6 +8,7 @@ use Rattle.cmark_inline.specs.Tokens.{PutsBracket}
 use Rattle.cmark_inline.proofs.PlainChains.{before-or-behind}
 use Rattle.cmark_inline.proofs.SpecialSteps.{image-opens, mark-stands}
 use Rattle.cmark_inline.proofs.Keeping.{keeps-same}
+use Rattle.cmark_inline.proofs.LastCalls.{ok-by-three}
 use Rattle.cmark_inline.proofs.state.InlineState.exclamation.Goals as goal
 
 -- the two bytes end no line
@@ -30,17 +31,17 @@ pub returns-then-is_followed_by-clause-token : goal.returns-then-is_followed_by-
 returns-then-is_followed_by-clause-token c = λ l cell is.
     let a = c.behind.ensures.value in
     let b = c.behind-inside.ensures.value in
-    let next = c.in_ok-next.ensures in
-    let e : c.args.here.at + 2 ≡ c.in_ok-next.next.at = (let q : c.args.here.at + 2 ≡ c.behind-inside.result = omega (arith, a, b) in q) ∙ sym next.at.1 in
+    ok-by-three c.open_bracket.result _ _ _ _ c.open_bracket.ensures.at c.open_bracket.ensures.puts c.open_bracket.ensures.opens (λ next places puts opened.
+    let e : c.args.here.at + 2 ≡ next.at = (let q : c.args.here.at + 2 ≡ c.behind-inside.result = omega (arith, a, b) in q) ∙ sym places.1 in
     inr (record {
       is_image = true;
       token = image-opens (shown_options c.args.options) l cell c.args.text.now c.args.here.at c.requires.byte.within is (sym c.if-is_followed_by.ensures.value) ∙ ap (λ k. Opens (bracket true c.args.here.at k)) e;
       inside = sym e;
       bytes = λ k low high. two c.args.text.now c.args.here.at is (c.if-is_followed_by.ensures.byte refl) k low (omega (arith, high, e));
-      pending = next.at.0 ∙ sym next.at.1;
-      puts = subst (λ k. PutsBracket true c.args.here.pending c.args.here.at k c.args.self.now c.open_bracket.new.self) (sym next.at.1) next.puts;
-      opens = subst (λ k. OpensAs (shown_options c.args.options).wikilinks true c.args.text.now c.args.here.at k c.args.self.now c.open_bracket.new.self) (sym next.at.1) next.opens;
-    })
+      pending = places.0 ∙ sym places.1;
+      puts = subst (λ k. PutsBracket true c.args.here.pending c.args.here.at k c.args.self.now c.open_bracket.new.self) (sym places.1) puts;
+      opens = subst (λ k. OpensAs (shown_options c.args.options).wikilinks true c.args.text.now c.args.here.at k c.args.self.now c.open_bracket.new.self) (sym places.1) opened;
+    }))
 
 pub returns-clause-reads_on : goal.returns-clause-reads_on
 returns-clause-reads_on c = record {

@@ -1,28 +1,71 @@
-use Rattle.std.proofs.Common.{refl, sym, ap, subst, ◌∙◌}
+use Rattle.std.specs.Prelude.{IfSome, Option, Some, is_some}
+use Rattle.std.proofs.Common.{◌≡◌, ◌+◌, Bool, ℕ, List, refl, sym, ap, subst, ◌∙◌, arith}
 use Rattle.cmark_grammar.specs.BracketDecisions.{is_there}
+use Rattle.cmark_grammar.specs.Labels.{normal_form}
+use Rattle.cmark_grammar.specs.Options.{Options}
 use Rattle.cmark_leaf_text.specs.Reads.{is_cell_of}
-use Rattle.cmark_text_parts.specs.Shown.{shown_options}
-use Rattle.cmark_inline.specs.Footnoted.{CountsOf, forms_footnote}
-use Rattle.cmark_inline.proofs.FootnoteSteps.{counts-found, none-off}
+use Rattle.cmark_text_parts.specs.Shown.{shown_options, text_bytes}
+use Rattle.cmark_text_parts.specs.declared.text.CowStr.{CowStr}
+use Rattle.cmark_slots.specs.declared.bracket.Bracket.{Bracket}
+use Rattle.cmark_inline.specs.Closers.{LeavesFootnote}
+use Rattle.cmark_inline.specs.Footnoted.{CountsOf, KeepsLabel, footnote_of, forms_footnote}
+use Rattle.cmark_inline.specs.Hiding.{WritesReference}
+use Rattle.cmark_inline.proofs.FootnoteSteps.{keeps-named, label-of-taken, writes-named}
 use Rattle.cmark_inline.proofs.state.InlineState.footnote.Goals as goal
 
-pub returns-then-not-contains-clause-forms : goal.returns-then-not-contains-clause-forms
-returns-then-not-contains-clause-forms c =
-    sym (ap (forms_footnote (shown_options c.args.options) c.args.footnotes.now)
-    (none-off (shown_options c.args.options) (is_cell_of c.args.leaf.now) (is_there c.args.close c.args.self.now.label_close) c.args.text.now c.args.close c.args.taken (sym (c.contains.ensures tt) ∙ c.if-not-contains.true)))
+pub returns-in_default-2-clause-forms : goal.returns-in_default-2-clause-forms
+returns-in_default-2-clause-forms c =
+    let same = label-of-taken (shown_options c.args.options) (is_cell_of c.args.leaf.now) c.closes_label-closes_label.result (is_there c.args.close c.args.self.now.label_close) c.args.text.now c.args.close c.args.taken c.in-Some.bracket c.in-Some.is c.closes_label-closes_label.ensures in
+    ap is_some (sym c.in_default-2.is) ∙ c.in_ok-name.ensures.forms ∙ ap (forms_footnote (shown_options c.args.options) c.args.footnotes.now) same
 
-pub returns-then-not-contains-clause-counts : goal.returns-then-not-contains-clause-counts
-returns-then-not-contains-clause-counts c =
-    subst (λ label. CountsOf label c.args.footnotes.now c.args.footnotes.now)
-    (sym (none-off (shown_options c.args.options) (is_cell_of c.args.leaf.now) (is_there c.args.close c.args.self.now.label_close) c.args.text.now c.args.close c.args.taken (sym (c.contains.ensures tt) ∙ c.if-not-contains.true)))
-    (λ folded. refl)
+pub returns-in_default-2-clause-counts : goal.returns-in_default-2-clause-counts
+returns-in_default-2-clause-counts c =
+    let same = label-of-taken (shown_options c.args.options) (is_cell_of c.args.leaf.now) c.closes_label-closes_label.result (is_there c.args.close c.args.self.now.label_close) c.args.text.now c.args.close c.args.taken c.in-Some.bracket c.in-Some.is c.closes_label-closes_label.ensures in
+    subst (λ l. CountsOf l c.args.footnotes.now c.referred_footnote.new.footnotes) same c.in_ok-name.ensures.counts
 
-pub returns-then-not-branch-clause-counts : goal.returns-then-not-branch-clause-counts
-returns-then-not-branch-clause-counts c =
-    counts-found (shown_options c.args.options) (is_cell_of c.args.leaf.now) c.is_cell.result (is_there c.args.close c.args.self.now.label_close) c.closes_label-closes_label.result c.args.text.now c.args.close c.args.taken c.in-Some.bracket
-    c.in-Some-footnote_at.written.now c.as_str.result.now c.args.footnotes.now c.count.new.footnotes c.in-Some.is c.closes_label-closes_label.ensures c.in-Some-footnote_at.ensures.value c.is_cell.ensures (c.as_str.ensures ∙ c.in_ok-label.ensures) c.in_ok-count.ensures.counts
+pub returns-in_default-2-clause-off : goal.returns-in_default-2-clause-off
+returns-in_default-2-clause-off c = λ off. (refl, (c.in_ok-name.ensures.off off).0)
+
+pub returns-clause-forms : goal.returns-clause-forms
+returns-clause-forms c =
+    let same = label-of-taken (shown_options c.args.options) (is_cell_of c.args.leaf.now) c.closes_label-closes_label.result (is_there c.args.close c.args.self.now.label_close) c.args.text.now c.args.close c.args.taken c.in-Some.bracket c.in-Some.is c.closes_label-closes_label.ensures in
+    ap is_some (sym c.in-Some-2.is) ∙ c.in_ok-name.ensures.forms ∙ ap (forms_footnote (shown_options c.args.options) c.args.footnotes.now) same
 
 pub returns-clause-counts : goal.returns-clause-counts
 returns-clause-counts c =
-    counts-found (shown_options c.args.options) (is_cell_of c.args.leaf.now) c.is_cell.result (is_there c.args.close c.args.self.now.label_close) c.closes_label-closes_label.result c.args.text.now c.args.close c.args.taken c.in-Some.bracket
-    c.in-Some-footnote_at.written.now c.as_str.result.now c.args.footnotes.now c.count.new.footnotes c.in-Some.is c.closes_label-closes_label.ensures c.in-Some-footnote_at.ensures.value c.is_cell.ensures (c.as_str.ensures ∙ c.in_ok-label.ensures) c.in_ok-count.ensures.counts
+    let same = label-of-taken (shown_options c.args.options) (is_cell_of c.args.leaf.now) c.closes_label-closes_label.result (is_there c.args.close c.args.self.now.label_close) c.args.text.now c.args.close c.args.taken c.in-Some.bracket c.in-Some.is c.closes_label-closes_label.ensures in
+    subst (λ l. CountsOf l c.args.footnotes.now c.referred_footnote.new.footnotes) same c.in_ok-name.ensures.counts
+
+pub returns-clause-off : goal.returns-clause-off
+returns-clause-off c = λ off.
+    let none = (c.in_ok-name.ensures.off off).1 in
+    let some = c.in-Some-2.is in
+    absurd (let z : ⊥ = cc in z)
+
+pub returns-clause-moves : goal.returns-clause-moves
+returns-clause-moves c =
+    let edge = c.requires.close.ends in
+    record { stands = c.in_ok-form_footnote.ensures.stands; cursor = record { pending = edge; at = edge; ordered = omega arith }; further = omega arith }
+
+pub returns-clause-leaves : goal.returns-clause-leaves
+returns-clause-leaves c = subst (λ (t : Option Bracket). IfSome t (λ bracket. LeavesFootnote bracket.start c.args.self.now c.form_footnote.new.self)) (sym c.in-Some.is) c.in_ok-form_footnote.ensures.leaves
+
+pub returns-clause-label : goal.returns-clause-label
+returns-clause-label c =
+    let closes : Bool = c.closes_label-closes_label.result in
+    let label = footnote_of (shown_options c.args.options) (is_cell_of c.args.leaf.now) closes c.args.text.now c.args.close (Some c.in-Some.bracket) in
+    let same = label-of-taken (shown_options c.args.options) (is_cell_of c.args.leaf.now) closes (is_there c.args.close c.args.self.now.label_close) c.args.text.now c.args.close c.args.taken c.in-Some.bracket c.in-Some.is c.closes_label-closes_label.ensures in
+    let named = subst (λ (o : Option CowStr). IfSome o (λ name. IfSome label (λ l. text_bytes name ≡ normal_form l))) c.in-Some-2.is c.in_ok-name.ensures.name in
+    subst (λ o. IfSome o (λ l. KeepsLabel l c.args.self.now.texts.items c.form_footnote.new.self.texts.items)) same
+    (keeps-named label c.in-Some-2.name c.args.self.now.texts.items c.form_footnote.new.self.texts.items named c.in_ok-form_footnote.ensures.texts)
+
+pub returns-clause-writes : goal.returns-clause-writes
+returns-clause-writes c =
+    let closes : Bool = c.closes_label-closes_label.result in
+    let there : Bool = is_there c.args.close c.args.self.now.label_close in
+    let label = footnote_of (shown_options c.args.options) (is_cell_of c.args.leaf.now) closes c.args.text.now c.args.close (Some c.in-Some.bracket) in
+    let same = label-of-taken (shown_options c.args.options) (is_cell_of c.args.leaf.now) closes there c.args.text.now c.args.close c.args.taken c.in-Some.bracket c.in-Some.is c.closes_label-closes_label.ensures in
+    let named = subst (λ (o : Option CowStr). IfSome o (λ name. IfSome label (λ l. text_bytes name ≡ normal_form l))) c.in-Some-2.is c.in_ok-name.ensures.name in
+    subst (λ (t : Option Bracket). IfSome t (λ bracket. IfSome (footnote_of (shown_options c.args.options) (is_cell_of c.args.leaf.now) there c.args.text.now c.args.close c.args.taken) (λ l. WritesReference bracket (normal_form l) (c.args.close + 1) c.args.self.now c.form_footnote.new.self))) (sym c.in-Some.is)
+    (subst (λ o. IfSome o (λ l. WritesReference c.in-Some.bracket (normal_form l) (c.args.close + 1) c.args.self.now c.form_footnote.new.self)) same
+    (writes-named label c.in-Some-2.name c.in-Some.bracket (c.args.close + 1) c.args.self.now c.form_footnote.new.self named c.in_ok-form_footnote.ensures.writes))

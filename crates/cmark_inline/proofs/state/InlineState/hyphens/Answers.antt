@@ -6,6 +6,8 @@ use Rattle.cmark_inline.specs.Stands.{Stands}
 use Rattle.cmark_inline.proofs.Appended.{at-byte, kept, owned-appends}
 use Rattle.cmark_inline.proofs.MarkSteps.{many-hyphens, one-hyphen}
 use Rattle.cmark_inline.proofs.Keeping.{keeps-owned, keeps-same}
+use Rattle.std.proofs.lemmas.Result.{IfOk-weaker}
+use Rattle.cmark_inline.proofs.LastCalls.{ok-by-three}
 use Rattle.cmark_inline.proofs.state.InlineState.hyphens.Goals as goal
 
 pub returns-then-size-lt2-clause-token : goal.returns-then-size-lt2-clause-token
@@ -17,12 +19,11 @@ returns-then-size-lt2-clause-token c = λ o l cell smart is.
     })
 
 pub returns-clause-token : goal.returns-clause-token
-returns-clause-token c = λ o l cell smart is.
-    let next = c.in_ok-next.ensures in
-    inr (owned-appends o l cell c.args.text.now c.args.here c.args.self.now c.put.new.self c.in_ok-next.next _ c.run_end-end.result c.len.result c.in_ok-owned.owned c.requires.byte.cursor.ordered (at-byte c.args.text.now c.args.here 45 is refl refl refl)
+returns-clause-token c = λ o l cell smart is. ok-by-three c.put.result _ _ _ _ c.put.ensures.at c.put.ensures.end c.put.ensures.slots (λ next at end slots.
+    inr (owned-appends o l cell c.args.text.now c.args.here c.args.self.now c.put.new.self next _ c.run_end-end.result c.len.result c.in_ok-owned.owned c.requires.byte.cursor.ordered (at-byte c.args.text.now c.args.here 45 is refl refl refl)
     (many-hyphens o l cell c.args.text.now c.args.here.at c.requires.byte.within smart c.run_end-end.result _ is c.run_end-end.ensures.value refl c.if-size-lt2.false)
-    next.at (next.end ∙ sym next.at) next.slots (ap (λ (s : InlineState). s.texts.items) next.others ∙ c.in_ok-push.ensures.items) (let q : c.len.result ≡ length c.args.self.now.texts.items = search rules in q)
-    (c.in_ok-owned.ensures.value ∙ c.in_ok-dash_text.ensures) (kept c.args.self.now c.put.new.self _ next.others refl))
+    at (end ∙ sym at) slots (ap (λ (s : InlineState). s.texts.items) c.put.ensures.others ∙ c.in_ok-push.ensures.items) (let q : c.len.result ≡ length c.args.self.now.texts.items = search rules in q)
+    (c.in_ok-owned.ensures.value ∙ c.in_ok-dash_text.ensures) (kept c.args.self.now c.put.new.self _ c.put.ensures.others refl)))
 
 pub returns-then-size-lt2-clause-reads_on : goal.returns-then-size-lt2-clause-reads_on
 returns-then-size-lt2-clause-reads_on c = record {
@@ -33,7 +34,7 @@ returns-then-size-lt2-clause-reads_on c = record {
 
 pub returns-clause-reads_on : goal.returns-clause-reads_on
 returns-clause-reads_on c = record {
-  expansion_left = c.in_ok-next.ensures.expansion_left;
-  keeps = keeps-owned c.args.self.now (record c.args.self.now { texts = c.push.new.self }) c.put.new.self c.args.here.pending c.args.here.at _ c.in_ok-next.ensures.slots c.in_ok-owned.owned c.in_ok-push.ensures.items c.in_ok-next.ensures.others refl (ap Some (let q : c.len.result ≡ length c.args.self.now.texts.items = search rules in q)) refl refl (λ i. refl);
-  moves = c.in_ok-next.ensures.moves;
+  expansion_left = c.put.ensures.expansion_left;
+  keeps = IfOk-weaker c.put.result _ _ (λ _ slots. keeps-owned c.args.self.now (record c.args.self.now { texts = c.push.new.self }) c.put.new.self c.args.here.pending c.args.here.at _ slots c.in_ok-owned.owned c.in_ok-push.ensures.items c.put.ensures.others refl (ap Some (let q : c.len.result ≡ length c.args.self.now.texts.items = search rules in q)) refl refl (λ i. refl)) c.put.ensures.slots;
+  moves = c.put.ensures.moves;
 }

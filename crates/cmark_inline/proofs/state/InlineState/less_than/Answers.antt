@@ -1,60 +1,59 @@
-use Rattle.std.proofs.Common.{refl, sym, ap, ◌∙◌}
-use Rattle.cmark_inline.specs.Tokens.{read_on}
+use Rattle.std.proofs.Common.{ℕ, refl, sym, subst, ◌∙◌, arith}
+use Rattle.std.proofs.lemmas.Str.{IsCharBoundary-after_ascii}
+use Rattle.cmark_inline.specs.Stands.{Stands}
+use Rattle.std.proofs.lemmas.Result.{IfOk-weaker}
 use Rattle.cmark_inline.proofs.AngleMakes.{by-autolink, by-html, by-none}
 use Rattle.cmark_inline.proofs.Keeping.{found-alone, keeps-autolink, keeps-puts, keeps-source, ended-puts}
+use Rattle.cmark_inline.proofs.LastCalls.{ok-by-two, ok-by-three, ok-by-four}
 use Rattle.cmark_inline.proofs.SourceOrder.{found-ends}
 use Rattle.cmark_inline.proofs.state.InlineState.less_than.Goals as goal
 
 pub returns-in-Some-clause-token : goal.returns-in-Some-clause-token
-returns-in-Some-clause-token c = λ o l is.
-    let next = c.in_ok-next.ensures in
-    by-autolink o l c.args.leaf.now c.args.here c.args.self.now c.autolink.new.self c.in_ok-next.next c.args.text.now c.requires.same
-    (c.requires.byte.cursor.ordered, c.requires.byte.within, is, sym c.if-is_followed_by.ensures.value) c.in-Some.end c.in-Some.ensures.value c.in-Some.ensures.whole next.at next.slots next.link next.others
+returns-in-Some-clause-token c = λ o l is. ok-by-four c.autolink.result _ _ _ _ _ c.autolink.ensures.at c.autolink.ensures.slots c.autolink.ensures.link c.autolink.ensures.others (λ next at slots link others.
+    by-autolink o l c.args.leaf.now c.args.here c.args.self.now c.autolink.new.self next c.args.text.now c.requires.same
+    (c.requires.byte.cursor.ordered, c.requires.byte.within, is, sym c.if-is_followed_by.ensures.value) c.in-Some.end c.in-Some.ensures.value c.in-Some.ensures.whole at slots link others)
 
 pub returns-in-Some-inline_html-clause-token : goal.returns-in-Some-inline_html-clause-token
-returns-in-Some-inline_html-clause-token c = λ o l is.
-    let next = c.in_ok-next-2.ensures in
-    by-html o l c.args.leaf.now c.args.here c.args.self.now c.put.new.self c.onto_words.result c.args.text.now c.requires.same
-    (c.requires.byte.cursor.ordered, c.requires.byte.within, is, sym c.if-is_followed_by.ensures.value) c.in_default.ensures.value c.onto_words.ensures.pending next.others
-    c.in-Some-inline_html.found c.in-Some-inline_html.ensures.is c.in-Some-inline_html.ensures.part (c.onto_words.ensures.at ∙ ap (read_on c.args.text.now) next.at) next.slots
+returns-in-Some-inline_html-clause-token c = λ o l is. ok-by-two c.put_onto_words.result _ _ _ c.put_onto_words.ensures.at c.put_onto_words.ensures.slots (λ next at slots.
+    by-html o l c.args.leaf.now c.args.here c.args.self.now c.put_onto_words.new.self next c.args.text.now c.requires.same
+    (c.requires.byte.cursor.ordered, c.requires.byte.within, is, sym c.if-is_followed_by.ensures.value) c.in_default.ensures.value at.0 c.put_onto_words.ensures.others
+    c.in-Some-inline_html.found c.in-Some-inline_html.ensures.is c.in-Some-inline_html.ensures.part at.1 slots)
 
 pub returns-clause-token : goal.returns-clause-token
-returns-clause-token c = λ o l is.
-    let next = c.in_ok-next-3.ensures in
-    by-none o l c.args.leaf.now c.args.here c.args.self.now c.put-2.new.self c.in_ok-next-3.next c.args.text.now c.requires.same
-    (c.requires.byte.cursor.ordered, c.requires.byte.within, is, sym c.if-is_followed_by.ensures.value) c.in_default.ensures.value (next.end ∙ sym next.at) next.others
-    (c.in_default-inline_html.ensures.none refl) c.behind.result c.behind.ensures.value next.at next.slots
+returns-clause-token c = λ o l is. ok-by-three c.put.result _ _ _ _ c.put.ensures.end c.put.ensures.at c.put.ensures.slots (λ next end at slots.
+    by-none o l c.args.leaf.now c.args.here c.args.self.now c.put.new.self next c.args.text.now c.requires.same
+    (c.requires.byte.cursor.ordered, c.requires.byte.within, is, sym c.if-is_followed_by.ensures.value) c.in_default.ensures.value (end ∙ sym at) c.put.ensures.others
+    (c.in_default-inline_html.ensures.none refl) c.behind.result c.behind.ensures.value at slots)
 
 pub returns-in-Some-clause-sound : goal.returns-in-Some-clause-sound
-returns-in-Some-clause-sound c = λ h.
-    let next = c.in_ok-next.ensures in
-    (keeps-autolink c.args.self.now c.autolink.new.self c.args.here.pending c.args.here.at c.in-Some.end next.slots next.link.0 next.link.2 next.others).sound h
+returns-in-Some-clause-sound c = λ h. ok-by-three c.autolink.result _ _ _ _ c.autolink.ensures.slots c.autolink.ensures.link c.autolink.ensures.others (λ next slots link others.
+    (keeps-autolink c.args.self.now c.autolink.new.self c.args.here.pending c.args.here.at c.in-Some.end slots link.0 link.2 others).sound h)
 
 pub returns-in-Some-inline_html-clause-sound : goal.returns-in-Some-inline_html-clause-sound
 returns-in-Some-inline_html-clause-sound c = λ h.
-    let next = c.in_ok-next-2.ensures in
     let f = found-alone c.args.leaf.now c.args.here.at c.in-Some-inline_html.found c.in-Some-inline_html.ensures.is in
-    keeps-source c.args.self.now c.put.new.self next.others c.args.here.pending c.args.here.at _ next.slots f.0 f.1 f.2 h
+    IfOk-weaker c.put_onto_words.result _ _ (λ next slots. keeps-source c.args.self.now c.put_onto_words.new.self c.put_onto_words.ensures.others c.args.here.pending c.args.here.at _ slots f.0 f.1 f.2 h) c.put_onto_words.ensures.slots
 
 pub returns-clause-sound : goal.returns-clause-sound
-returns-clause-sound c = λ h.
-    let next = c.in_ok-next-3.ensures in
-    (keeps-puts c.args.self.now c.put-2.new.self next.others c.args.here.pending c.args.here.at _ next.slots ((refl, refl, refl), λ i. refl)).sound h
+returns-clause-sound c = λ h. IfOk-weaker c.put.result _ _ (λ next slots. (keeps-puts c.args.self.now c.put.new.self c.put.ensures.others c.args.here.pending c.args.here.at _ slots ((refl, refl, refl), λ i. refl)).sound h) c.put.ensures.slots
 
 pub returns-in-Some-clause-ends : goal.returns-in-Some-clause-ends
-returns-in-Some-clause-ends c = λ e.
-    let next = c.in_ok-next.ensures in
-    (keeps-autolink c.args.self.now c.autolink.new.self c.args.here.pending c.args.here.at c.in-Some.end next.slots next.link.0 next.link.2 next.others).ends c.args.leaf.now e
+returns-in-Some-clause-ends c = ok-by-three c.autolink.result _ _ _ _ c.autolink.ensures.slots c.autolink.ensures.link c.autolink.ensures.others (λ next slots link others.
+    (keeps-autolink c.args.self.now c.autolink.new.self c.args.here.pending c.args.here.at c.in-Some.end slots link.0 link.2 others).ends c.args.leaf.now)
 
 pub returns-in-Some-inline_html-clause-ends : goal.returns-in-Some-inline_html-clause-ends
-returns-in-Some-inline_html-clause-ends c = λ e.
+returns-in-Some-inline_html-clause-ends c =
     let found = c.in-Some-inline_html.ensures in
-    ended-puts c.args.leaf.now c.args.self.now.slots.items c.put.new.self.slots.items c.args.here.pending c.args.here.at _ c.in_ok-next-2.ensures.slots e (found-ends c.args.leaf.now c.args.here.at c.in-Some-inline_html.found found.is found.edge)
+    IfOk-weaker c.put_onto_words.result _ _ (λ next slots e. ended-puts c.args.leaf.now c.args.self.now.slots.items c.put_onto_words.new.self.slots.items c.args.here.pending c.args.here.at _ slots e (found-ends c.args.leaf.now c.args.here.at c.in-Some-inline_html.found found.is found.edge)) c.put_onto_words.ensures.slots
 
 pub returns-clause-ends : goal.returns-clause-ends
-returns-clause-ends c = λ e.
-    let next = c.in_ok-next-3.ensures in
-    (keeps-puts c.args.self.now c.put-2.new.self next.others c.args.here.pending c.args.here.at _ next.slots ((refl, refl, refl), λ i. refl)).ends c.args.leaf.now e
+returns-clause-ends c = IfOk-weaker c.put.result _ _ (λ next slots. (keeps-puts c.args.self.now c.put.new.self c.put.ensures.others c.args.here.pending c.args.here.at _ slots ((refl, refl, refl), λ i. refl)).ends c.args.leaf.now) c.put.ensures.slots
 
-pub returns-in-Some-inline_html-clause-moves : goal.returns-in-Some-inline_html-clause-moves
-returns-in-Some-inline_html-clause-moves c = c.onto_words.ensures.moves c.args.here.at c.put.new.self c.in_ok-next-2.ensures.moves
+pub returns-then-is_followed_by-clause-moves : goal.returns-then-is_followed_by-clause-moves
+returns-then-is_followed_by-clause-moves c = record { stands = subst (λ (p : ℕ). Stands c.args.text.now p c.args.self.now) (sym c.pass.ensures.pending) c.requires.byte.stands; cursor = c.pass.ensures.cursor; further = c.pass.ensures.further }
+
+pub inline_html-requires : goal.inline_html-requires
+inline_html-requires c =
+    let edge = IsCharBoundary-after_ascii c.args.text.now c.args.here.at c.utf8.text c.requires.byte.within c.requires.byte.ascii in
+    record { read = c.requires.read; same = c.requires.same; part = record { some = omega arith; within = edge.0; starts = c.requires.byte.cursor.at; ends = edge }; kept = c.requires.kept }
+

@@ -1,34 +1,48 @@
-use Rattle.std.proofs.Common.{refl, subst}
+use Rattle.std.proofs.Common.{ap, refl, subst}
 use Rattle.cmark_text_parts.specs.Shown.{shown_options}
 use Rattle.cmark_inline.proofs.CloserSteps.{links-none, links-some}
 use Rattle.cmark_inline.specs.Sound.{IsTakenFrom}
 use Rattle.std.specs.Prelude.{IfSome}
-use Rattle.cmark_inline.proofs.Keeping.{spans-ended, spans-sound, spans-taken}
+use Rattle.cmark_inline.proofs.Keeping.{spans-ended, spans-free, spans-same, spans-sound, spans-stand, spans-taken}
+use Rattle.cmark_inline.specs.declared.state.InlineState.{InlineState}
+use Rattle.cmark_slots.specs.declared.bracket.Bracket.{Bracket}
+use Rattle.cmark_slots.specs.Slots.{HoldNoLink}
+use Rattle.std.proofs.Common.{◌≡◌, false}
 use Rattle.cmark_inline.proofs.state.InlineState.link.Goals as goal
 
 pub returns-in_default-2-clause-links : goal.returns-in_default-2-clause-links
 returns-in_default-2-clause-links g c =
     links-none g.F.BrokenLinkCallback.answers (shown_options c.args.reader.now.options) (g.E.EntityLookup.replacement c.args.reader.now.entities.now) c.args.reader.now.references.now c.args.leaf.now c.args.text.now c.args.taken c.in-Some.bracket c.args.close c.args.self.now
-    c.target.new.self c.in_ok-target.field-0 c.args.callback.now c.target.new.callback c.in-Some.is c.in_ok-target.ensures.decides c.target.ensures.same c.in_ok-target.ensures.label c.target.ensures.table c.target.ensures.texts c.target.ensures.quotes c.in_default-2.is
+    c.target.new.self c.in_ok-target.field-0 c.args.callback.now c.target.new.callback c.in-Some.is c.in_ok-target.ensures.decides (spans-same c.args.self.now c.target.new.self c.target.ensures.others) c.in_ok-target.ensures.label (ap (λ (s : InlineState). s.links) c.target.ensures.others) (ap (λ (s : InlineState). s.texts) c.target.ensures.others) (ap (λ (s : InlineState). s.quotes) c.target.ensures.others) c.in_default-2.is
 
 pub returns-clause-links : goal.returns-clause-links
 returns-clause-links g c =
     links-some g.F.BrokenLinkCallback.answers (shown_options c.args.reader.now.options) (g.E.EntityLookup.replacement c.args.reader.now.entities.now) c.args.reader.now.references.now c.args.leaf.now c.args.text.now c.args.taken c.in-Some.bracket c.args.close c.args.self.now
-    c.target.new.self c.in_ok-target.field-0 c.args.callback.now c.target.new.callback c.in-Some.is c.in_ok-target.ensures.decides c.target.ensures.same c.in_ok-target.ensures.label c.target.ensures.table c.target.ensures.texts c.target.ensures.quotes
+    c.target.new.self c.in_ok-target.field-0 c.args.callback.now c.target.new.callback c.in-Some.is c.in_ok-target.ensures.decides (spans-same c.args.self.now c.target.new.self c.target.ensures.others) c.in_ok-target.ensures.label (ap (λ (s : InlineState). s.links) c.target.ensures.others) (ap (λ (s : InlineState). s.texts) c.target.ensures.others) (ap (λ (s : InlineState). s.quotes) c.target.ensures.others)
     c.in-Some-2.target c.form.new.self _ c.in-Some-2.is
     (record { pending = refl; at = refl; leaves = c.in_ok-form.ensures.leaves; links = c.in_ok-form.ensures.kept; expansion_left = c.form.ensures.expansion_left; label = c.form.ensures.label; writes = c.in_ok-form.ensures.writes })
 
 pub form-requires-clause-sound : goal.form-requires-clause-sound
-form-requires-clause-sound g c = spans-sound c.args.self.now c.target.new.self c.target.ensures.same c.target.ensures.table c.target.ensures.texts c.target.ensures.quotes c.requires.sound
+form-requires-clause-sound g c = spans-sound c.args.self.now c.target.new.self c.target.ensures.others c.requires.sound
 
 pub form-requires-clause-taken : goal.form-requires-clause-taken
-form-requires-clause-taken g c = spans-taken c.args.self.now c.target.new.self c.target.ensures.same c.target.ensures.table c.target.ensures.texts c.target.ensures.quotes c.in-Some.bracket (subst (λ o. IfSome o (IsTakenFrom c.args.self.now)) c.in-Some.is c.requires.taken)
+form-requires-clause-taken g c = spans-taken c.args.self.now c.target.new.self c.target.ensures.others c.in-Some.bracket (subst (λ o. IfSome o (IsTakenFrom c.args.self.now)) c.in-Some.is c.requires.taken)
 
 pub returns-in_default-2-clause-sound : goal.returns-in_default-2-clause-sound
-returns-in_default-2-clause-sound g c = spans-sound c.args.self.now c.target.new.self c.target.ensures.same c.target.ensures.table c.target.ensures.texts c.target.ensures.quotes c.requires.sound
+returns-in_default-2-clause-sound g c = spans-sound c.args.self.now c.target.new.self c.target.ensures.others c.requires.sound
 
 pub returns-in_default-2-clause-ends : goal.returns-in_default-2-clause-ends
-returns-in_default-2-clause-ends g c = spans-ended c.args.self.now c.target.new.self c.target.ensures.same c.target.ensures.table c.target.ensures.texts c.target.ensures.quotes
+returns-in_default-2-clause-ends g c = spans-ended c.args.self.now c.target.new.self c.target.ensures.others
 
 pub returns-clause-ends : goal.returns-clause-ends
-returns-clause-ends g c = λ leaf e. c.in_ok-form.ensures.ends leaf (spans-ended c.args.self.now c.target.new.self c.target.ensures.same c.target.ensures.table c.target.ensures.texts c.target.ensures.quotes leaf e)
+returns-clause-ends g c = λ leaf e. c.in_ok-form.ensures.ends leaf (spans-ended c.args.self.now c.target.new.self c.target.ensures.others leaf e)
+
+pub returns-in_default-2-clause-stands : goal.returns-in_default-2-clause-stands
+returns-in_default-2-clause-stands g c = λ none. spans-stand c.args.self.now c.target.new.self c.target.ensures.others c.args.text.now c.args.close c.requires.stands
+
+pub form-requires-clause-stands : goal.form-requires-clause-stands
+form-requires-clause-stands g c = spans-stand c.args.self.now c.target.new.self c.target.ensures.others c.args.text.now c.args.close c.requires.stands
+
+pub form-requires-clause-free : goal.form-requires-clause-free
+form-requires-clause-free g c = λ plain. spans-free c.args.self.now c.target.new.self c.target.ensures.others c.in-Some.bracket.slot
+    ((subst (λ o. IfSome o (λ (bracket : Bracket). bracket.is_image ≡ false → HoldNoLink c.args.self.now.slots.items bracket.slot)) c.in-Some.is c.requires.free) plain)

@@ -13,6 +13,7 @@ use Rattle.cmark_inline.specs.Tokens.{PutsBracket}
 use Rattle.cmark_inline.proofs.SpanReads.{appends, appends-quote, backslash-reads, backticks-read, opens, passes-or-appends, passes-or-opens, passes-over, run-reads}
 use Rattle.cmark_inline.proofs.SpecialSteps.{has_call, link-opens, other-special, smart-special, math-special}
 use Rattle.cmark_inline.proofs.Keeping.{keeps-quote}
+use Rattle.cmark_inline.proofs.LastCalls.{ok-by-three}
 use Rattle.cmark_inline.proofs.state.InlineState.span.Goals as goal
 
 pub returns-in-10-clause-token : goal.returns-in-10-clause-token
@@ -89,25 +90,25 @@ returns-in-34-clause-token g c = λ special other.
     IfOk-weaker c.quote.result _ _ (appends-quote o l c.args.leaf.now c.args.text.now c.requires.same c.args.here c.args.self.now c.quote.new.self)
     (c.quote.ensures.token o l (is_cell_of c.args.leaf.now) (smart-special o (get_or c.args.text.now c.args.here.at 0) (inr (inr is)) special) is)
 
-pub returns-in_ok-next-in-91-clause-token : goal.returns-in_ok-next-in-91-clause-token
-returns-in_ok-next-in-91-clause-token g c = λ special other.
+pub returns-in-91-clause-token : goal.returns-in-91-clause-token
+returns-in-91-clause-token g c = λ special other.
     let o : Options = shown_options c.args.reader.now.options in
     let l : Lookup = g.E.EntityLookup.replacement c.args.reader.now.entities.now in
     let text : List ℕ = c.args.text.now in
     let at : ℕ = c.args.here.at in
-    let next = c.in_ok-next-in-91.ensures in
     let is : get_or text at 0 ≡ 91 = subst (λ (bs : List ℕ). get_or bs at 0 ≡ 91) c.as_bytes.ensures.value c.in-91.is in
-    let e : at + 1 ≡ c.in_ok-next-in-91.next.at = sym c.behind-inside.ensures.value ∙ sym next.at.1 in
-    opens o l c.args.leaf.now text c.requires.same c.args.here c.args.self.now c.open_bracket.new.self c.in_ok-next-in-91.next
+    ok-by-three c.open_bracket.result _ _ _ _ c.open_bracket.ensures.at c.open_bracket.ensures.puts c.open_bracket.ensures.opens (λ next places puts opened.
+    let e : at + 1 ≡ next.at = sym c.behind-inside.ensures.value ∙ sym places.1 in
+    opens o l c.args.leaf.now text c.requires.same c.args.here c.args.self.now c.open_bracket.new.self next
     (record {
       is_image = false;
       token = link-opens o l (is_cell_of c.args.leaf.now) text at c.requires.byte.within is ∙ ap (λ k. Opens (bracket false at k)) e;
       inside = sym e;
       bytes = λ k low high. ap (λ n. is_content (get_or text n 0)) (let q : k ≡ at = omega (arith, low, high, e) in q) ∙ ap is_content is;
-      pending = next.at.0 ∙ sym next.at.1;
-      puts = subst (λ k. PutsBracket false c.args.here.pending at k c.args.self.now c.open_bracket.new.self) (sym next.at.1) next.puts;
-      opens = subst (λ k. OpensAs o.wikilinks false text at k c.args.self.now c.open_bracket.new.self) (sym next.at.1) next.opens;
-    })
+      pending = places.0 ∙ sym places.1;
+      puts = subst (λ k. PutsBracket false c.args.here.pending at k c.args.self.now c.open_bracket.new.self) (sym places.1) puts;
+      opens = subst (λ k. OpensAs o.wikilinks false text at k c.args.self.now c.open_bracket.new.self) (sym places.1) opened;
+    }))
 
 pub returns-in_default-clause-token : goal.returns-in_default-clause-token
 returns-in_default-clause-token g c = λ special other.
@@ -158,8 +159,8 @@ returns-in-34-clause-sound g c = λ h.
     let is = subst (λ (bs : List ℕ). (get_or bs c.args.here.at 0 ≡ 34) ⊎ (get_or bs c.args.here.at 0 ≡ 39)) c.as_bytes.ensures.value c.in-34.is in
     IfOk-weaker c.quote.result _ _ (λ next a. (keeps-quote o l false c.args.text.now c.args.here c.args.self.now c.quote.new.self next a).sound h) (c.quote.ensures.token o l false refl is)
 
-pub returns-in_ok-next-in-91-clause-sound : goal.returns-in_ok-next-in-91-clause-sound
-returns-in_ok-next-in-91-clause-sound g c = λ h. c.in_ok-next-in-91.ensures.reads_on.keeps.sound h
+pub returns-in-91-clause-sound : goal.returns-in-91-clause-sound
+returns-in-91-clause-sound g c = λ h. IfOk-weaker c.open_bracket.result _ _ (λ next k. k.sound h) c.open_bracket.ensures.reads_on.keeps
 
 pub returns-in-10-clause-ends : goal.returns-in-10-clause-ends
 returns-in-10-clause-ends g c = IfOk-weaker c.line_ending.result _ _ (λ next k. k.ends c.args.leaf.now) c.line_ending.ensures.reads_on.keeps
@@ -198,5 +199,5 @@ returns-in-34-clause-ends g c =
     let is = subst (λ (bs : List ℕ). (get_or bs c.args.here.at 0 ≡ 34) ⊎ (get_or bs c.args.here.at 0 ≡ 39)) c.as_bytes.ensures.value c.in-34.is in
     IfOk-weaker c.quote.result _ _ (λ next a. (keeps-quote o l false c.args.text.now c.args.here c.args.self.now c.quote.new.self next a).ends c.args.leaf.now) (c.quote.ensures.token o l false refl is)
 
-pub returns-in_ok-next-in-91-clause-ends : goal.returns-in_ok-next-in-91-clause-ends
-returns-in_ok-next-in-91-clause-ends g c = c.in_ok-next-in-91.ensures.reads_on.keeps.ends c.args.leaf.now
+pub returns-in-91-clause-ends : goal.returns-in-91-clause-ends
+returns-in-91-clause-ends g c = IfOk-weaker c.open_bracket.result _ _ (λ next k. k.ends c.args.leaf.now) c.open_bracket.ensures.reads_on.keeps

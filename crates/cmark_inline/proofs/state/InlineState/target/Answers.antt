@@ -8,6 +8,7 @@ use Rattle.cmark_inline.specs.Stands.{IsLinkReference, IsTarget}
 use Rattle.cmark_inline.specs.declared.reference.LinkReference.{LinkReference}
 use Rattle.cmark_inline.specs.declared.link.Target.{Target}
 use Rattle.cmark_inline.specs.declared.state.InlineState.{InlineState}
+use Rattle.cmark_inline.proofs.Keeping.{spans-both}
 use Rattle.cmark_inline.proofs.TargetMakes.{inline-decides, label-within, led-decides, none-decides, spent-decides}
 use Rattle.cmark_inline.proofs.state.InlineState.target.Goals as goal
 
@@ -47,7 +48,7 @@ returns-clause-decides g c =
     c.in-Some-link_reference_at.link_reference link_reference.ends.0 link_reference.resume.0
     (ap (option_map (shown_link_reference c.args.text.now)) (sym c.in-Some-link_reference_at.is) ∙ c.link_reference_at.ensures.value
     ∙ ap (λ z. reference_behind (shown_options c.args.reader.now.options) z (slice c.args.text.now c.args.bracket.inside c.args.close) (drop (c.args.close + 1) c.args.text.now)) c.closes_label-closes_label.ensures)
-    c.reference.new.self (c.reference.ensures.label ∙ c.remember_label.ensures.label) c.args.callback.now c.reference.new.callback c.in_ok-found.found
+    c.reference.new.self (ap (λ (s : InlineState). s.label_close) c.reference.ensures.others ∙ c.remember_label.ensures.label) c.args.callback.now c.reference.new.callback c.in_ok-found.found
     (ne_eqb c.args.self.now.expansion_left 0 (λ e. some (same ∙ e)))
     c.in_ok-found.ensures.refers
     (c.in_ok-found.ensures.expansion_left ∙ ap (λ n. left_behind n c.in_ok-found.found) same)
@@ -56,4 +57,7 @@ returns-clause-decides g c =
 pub returns-clause-label : goal.returns-clause-label
 returns-clause-label g c = λ w.
     let link_reference = subst (λ (o : Option LinkReference). IfSome o (IsLinkReference c.args.text.now c.args.close)) c.in-Some-link_reference_at.is c.link_reference_at.ensures.ends in
-    label-within c.args.text.now c.in-Some-link_reference_at.link_reference c.args.self.now.label_close c.reference.new.self.label_close link_reference.ends.0 (c.reference.ensures.label ∙ c.remember_label.ensures.label) w
+    label-within c.args.text.now c.in-Some-link_reference_at.link_reference c.args.self.now.label_close c.reference.new.self.label_close link_reference.ends.0 (ap (λ (s : InlineState). s.label_close) c.reference.ensures.others ∙ c.remember_label.ensures.label) w
+
+pub returns-clause-others : goal.returns-clause-others
+returns-clause-others g c = spans-both c.args.self.now c.remember_label.new.self c.reference.new.self c.remember_label.ensures.others c.reference.ensures.others
