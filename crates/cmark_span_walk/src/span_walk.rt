@@ -11,10 +11,7 @@ ghost use Rattle.cmark_grammar.specs.SpanDocuments.{Left, Segment};
 ghost use Rattle.cmark_inline.specs.Footnoted.{SameFootnotes};
 ghost use Rattle.cmark_items.specs.Links.{shown_link};
 ghost use Rattle.cmark_inline.specs.PlainStretches.{IsSetOf, StandUpTo};
-ghost use Rattle.cmark_leaf_events.specs.Events.{AreLeft, events_to_come};
-ghost use Rattle.cmark_slots.specs.SlotViews.{CanBeGiven, all_events};
 ghost use Rattle.cmark_leaf_text.specs.Stretches.{AreLines};
-ghost use Rattle.cmark_leaf_text.specs.declared.leaf_text.LeafText.{LeafText};
 ghost use Rattle.cmark_walk.specs.Walking.{Remains as BlocksRemain, definitions_of as block_definitions, text_of};
 ghost use Rattle.cmark_text.specs.Excerpt.{excerpt_bytes};
 ghost use Rattle.cmark_text.specs.Ranged.{IsRangedZeroCopy};
@@ -333,20 +330,10 @@ impl<'input, 'e, E: EntityLookup, F: BrokenLinkCallback<'input> + Drop> SpanWalk
         else {
             return Err(AllocError);
         };
-        take_over(&mut self.inline, &mut self.events);
+        let inline = &mut self.inline;
+        self.events
+            .begin_leaf(&mut inline.slots, &mut inline.texts, &mut inline.links);
         self.in_leaf = true;
         Ok(())
     }
-}
-
-// The events of the leaf that was read are to come.
-#[inline(always)]
-fn take_over<'a>(inline: &mut InlineState<'a>, events: &mut LeafEvents<'a>)
-    ensures slots { events.new.slots ≡ inline.old.slots }
-    ensures opened { events.new.walk.opened.items ≡ [] }
-    ensures events { (leaf : LeafText) → events_to_come leaf events.new ≡ all_events leaf inline.old.texts.items inline.old.links.items inline.old.slots.items }
-    ensures left { (leaf : LeafText) → CanBeGiven leaf inline.old.texts.items inline.old.links.items inline.old.slots.items → AreLeft leaf events.new }
-    ensures expansion_left { inline.new.expansion_left ≡ inline.old.expansion_left }
-{
-    events.begin_leaf(&mut inline.slots, &mut inline.texts, &mut inline.links);
 }

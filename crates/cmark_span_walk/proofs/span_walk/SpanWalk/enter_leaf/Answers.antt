@@ -1,7 +1,6 @@
 use Rattle.std.proofs.Common.{[], length, true≢false, refl, sym, ap, subst, ◌∙◌}
 use Rattle.cmark_inline.specs.Resolved.{ResolvesAs}
 use Rattle.cmark_inline_model.specs.TextPlaces.{place_in}
-use Rattle.cmark_leaf_events.specs.Events.{events_to_come}
 use Rattle.cmark_leaf_text.specs.Reads.{text_of}
 use Rattle.cmark_leaf_text.specs.Stretches.{leaf_bytes}
 use Rattle.cmark_slots.specs.Slots.{AreSlots}
@@ -14,8 +13,8 @@ use Rattle.cmark_span_walk.proofs.span_walk.SpanWalk.enter_leaf.Goals as goal
 pub returns-clause-enters : goal.returns-clause-enters
 returns-clause-enters g c =
     let leaf = c.read.new.self in
-    let begun = c.take_over.ensures in
-    enters c.args.self.now leaf _ c.take_over.new.events c.resolve.new.footnotes c.resolve.new.callback c.args.is_cell c.in-Ok.ensures.read c.in-Ok.ensures.source
+    let begun = c.begin_leaf.ensures in
+    enters c.args.self.now leaf _ c.begin_leaf.new.self c.resolve.new.footnotes c.resolve.new.callback c.args.is_cell c.in-Ok.ensures.read c.in-Ok.ensures.source
     (subst (λ slots. AreSlots (text_of leaf) (length (text_of leaf)) slots) (sym (ap (λ v. v.items) begun.slots)) c.in-Ok-resolve.ensures.slots) begun.opened (begun.left leaf c.in-Ok-resolve.ensures.left)
 
 pub returns-clause-reads : goal.returns-clause-reads
@@ -29,12 +28,11 @@ returns-clause-reads g c = λ reader leaf others before placed same.
     let places = read-places reader leaf placed.placed read placed.pipes text (sym before.cell ∙ sym e.cell) stand in
     record {
       resolves =
-          subst (λ left. ResolvesAs g.F.BrokenLinkCallback.answers reader leaf walk.inline.expansion_left (events_to_come read c.take_over.new.events) left walk.callback c.resolve.new.callback) (sym c.take_over.ensures.expansion_left)
-          (subst (λ events. ResolvesAs g.F.BrokenLinkCallback.answers reader leaf c.args.self.now.inline.expansion_left events c.resolve.new.self.expansion_left c.args.self.now.callback c.resolve.new.callback) (sym (c.take_over.ensures.events read))
+          subst (λ events. ResolvesAs g.F.BrokenLinkCallback.answers reader leaf c.args.self.now.inline.expansion_left events c.resolve.new.self.expansion_left c.args.self.now.callback c.resolve.new.callback) (sym (c.begin_leaf.ensures.events read))
           (c.in-Ok-resolve.ensures.reads before.blocks.special reader leaf (place_in reader leaf)
           (leaf-same (shown_options walk.options) (g.E.EntityLookup.replacement walk.entities.now) c.definitions.result.now _ walk.footnotes reader leaf read source same.options_are same.lookup_is same.definitions c.definitions.ensures same.footnotes_are
           same.callback places)
-          places));
+          places);
       same = record {
         source = source;
         options_are = same.options_are;
