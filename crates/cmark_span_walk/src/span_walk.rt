@@ -314,7 +314,9 @@ impl<'input, 'e, E: EntityLookup, F: BrokenLinkCallback<'input> + Drop> SpanWalk
         ensures definitions { definitions_of self.new ≡ definitions_of self.old }
         ensures footnotes { SameFootnotes (footnotes_of self.old) (footnotes_of self.new) }
     {
-        self.leaf.read(self.lines.as_slice(), is_cell)?;
+        let Ok(()) = self.leaf.read(self.lines.as_slice(), is_cell) else {
+            return Err(AllocError);
+        };
         let reader = Reader {
             entities: self.entities,
             references: self.walk.definitions(),
@@ -322,8 +324,12 @@ impl<'input, 'e, E: EntityLookup, F: BrokenLinkCallback<'input> + Drop> SpanWalk
             special: &self.special,
         };
         let footnotes = &mut self.footnotes;
-        self.inline
-            .resolve(&self.leaf, &reader, footnotes, &mut self.callback)?;
+        let Ok(()) = self
+            .inline
+            .resolve(&self.leaf, &reader, footnotes, &mut self.callback)
+        else {
+            return Err(AllocError);
+        };
         let inline = &mut self.inline;
         self.events
             .begin_leaf(&mut inline.slots, &mut inline.texts, &mut inline.links);

@@ -5,7 +5,6 @@ use Rattle.cmark_leaf_text.specs.Reads.{text_of}
 use Rattle.cmark_leaf_text.specs.Stretches.{leaf_bytes}
 use Rattle.cmark_slots.specs.Slots.{AreSlots}
 use Rattle.cmark_text_parts.specs.Shown.{shown_options}
-use Rattle.cmark_walk.proofs.WalkSteps.{on-err}
 use Rattle.cmark_span_walk.proofs.LeafReads.{leaf-same, place-same, read-places, text-same}
 use Rattle.cmark_span_walk.proofs.Readings.{asked-up-to}
 use Rattle.cmark_span_walk.proofs.Walks.{enters}
@@ -15,14 +14,14 @@ pub returns-clause-enters : goal.returns-clause-enters
 returns-clause-enters g c =
     let leaf = c.read.new.self in
     let begun = c.begin_leaf.ensures in
-    enters c.args.self.now leaf _ c.begin_leaf.new.self c.resolve.new.footnotes c.resolve.new.callback c.args.is_cell c.in_ok-read.ensures.read c.in_ok-read.ensures.source
-    (subst (λ slots. AreSlots (text_of leaf) (length (text_of leaf)) slots) (sym (ap (λ v. v.items) begun.slots)) c.in_ok-resolve.ensures.slots) begun.opened (begun.left leaf c.in_ok-resolve.ensures.left)
+    enters c.args.self.now leaf _ c.begin_leaf.new.self c.resolve.new.footnotes c.resolve.new.callback c.args.is_cell c.in-Ok.ensures.read c.in-Ok.ensures.source
+    (subst (λ slots. AreSlots (text_of leaf) (length (text_of leaf)) slots) (sym (ap (λ v. v.items) begun.slots)) c.in-Ok-resolve.ensures.slots) begun.opened (begun.left leaf c.in-Ok-resolve.ensures.left)
 
 pub returns-clause-reads : goal.returns-clause-reads
 returns-clause-reads g c = λ reader leaf others before placed same.
     let walk = c.args.self.now in
     let read = c.read.new.self in
-    let e = c.in_ok-read.ensures in
+    let e = c.in-Ok.ensures in
     let source = same.source ∙ sym e.source in
     let text = text-same reader leaf placed.placed read walk.lines.items (sym source) before.lines.are (e.text ∙ ap (leaf_bytes walk.leaf.source.now) c.as_slice.ensures.value ∙ ap (λ s. leaf_bytes s walk.lines.items) (sym e.source)) in
     let stand = place-same reader leaf placed.placed read c.as_slice.result.now (c.as_slice.ensures.value ∙ before.lines.are) text e.places in
@@ -30,7 +29,7 @@ returns-clause-reads g c = λ reader leaf others before placed same.
     record {
       resolves =
           subst (λ events. ResolvesAs g.F.BrokenLinkCallback.answers reader leaf c.args.self.now.inline.expansion_left events c.resolve.new.self.expansion_left c.args.self.now.callback c.resolve.new.callback) (sym (c.begin_leaf.ensures.events read))
-          (c.in_ok-resolve.ensures.reads before.blocks.special reader leaf (place_in reader leaf)
+          (c.in-Ok-resolve.ensures.reads before.blocks.special reader leaf (place_in reader leaf)
           (leaf-same (shown_options walk.options) (g.E.EntityLookup.replacement walk.entities.now) c.definitions.result.now _ walk.footnotes reader leaf read source same.options_are same.lookup_is same.definitions c.definitions.ensures same.footnotes_are
           same.callback places)
           places);
@@ -44,18 +43,18 @@ returns-clause-reads g c = λ reader leaf others before placed same.
       };
     }
 
-pub returns-in_err-read-clause-lines : goal.returns-in_err-read-clause-lines
-returns-in_err-read-clause-lines g c = on-err c.from_residual.result _ (λ none. true≢false (sym (c.in_err-read.ensures.none (c.as_slice.ensures.value ∙ none))))
+pub returns-in_default-clause-lines : goal.returns-in_default-clause-lines
+returns-in_default-clause-lines g c = (λ none. true≢false (sym (c.in_default.ensures.none (c.as_slice.ensures.value ∙ none))))
 
-pub returns-in_err-resolve-clause-lines : goal.returns-in_err-resolve-clause-lines
-returns-in_err-resolve-clause-lines g c = on-err c.from_residual-in_err-resolve.result _ (λ none.
-    true≢false (sym (c.in_err-resolve.ensures.succeeds (c.in_ok-read.ensures.text ∙ ap (leaf_bytes c.args.self.now.leaf.source.now) (c.as_slice.ensures.value ∙ none)))))
+pub returns-in_default-resolve-clause-lines : goal.returns-in_default-resolve-clause-lines
+returns-in_default-resolve-clause-lines g c = (λ none.
+    true≢false (sym (c.in_default-resolve.ensures.succeeds (c.in-Ok.ensures.text ∙ ap (leaf_bytes c.args.self.now.leaf.source.now) (c.as_slice.ensures.value ∙ none)))))
 
-pub returns-in_err-read-clause-asked : goal.returns-in_err-read-clause-asked
-returns-in_err-read-clause-asked g c = ([], refl)
+pub returns-in_default-clause-asked : goal.returns-in_default-clause-asked
+returns-in_default-clause-asked g c = ([], refl)
 
-pub returns-in_err-resolve-clause-asked : goal.returns-in_err-resolve-clause-asked
-returns-in_err-resolve-clause-asked g c = asked-up-to g.F.BrokenLinkCallback.answers _ c.args.self.now.callback c.resolve.new.callback c.in_err-resolve.ensures.asks
+pub returns-in_default-resolve-clause-asked : goal.returns-in_default-resolve-clause-asked
+returns-in_default-resolve-clause-asked g c = asked-up-to g.F.BrokenLinkCallback.answers _ c.args.self.now.callback c.resolve.new.callback c.in_default-resolve.ensures.asks
 
 pub returns-clause-asked : goal.returns-clause-asked
-returns-clause-asked g c = asked-up-to g.F.BrokenLinkCallback.answers _ c.args.self.now.callback c.resolve.new.callback c.in_ok-resolve.ensures.asks
+returns-clause-asked g c = asked-up-to g.F.BrokenLinkCallback.answers _ c.args.self.now.callback c.resolve.new.callback c.in-Ok-resolve.ensures.asks
