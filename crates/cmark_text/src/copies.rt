@@ -5,10 +5,12 @@ ghost use Rattle.cmark_grammar.specs.Tag as tag;
 ghost use Rattle.cmark_text.specs.InPlace.{TagCopiesInPlace, EventCopiesInPlace, TagStaysInPlace, EventStaysInPlace};
 ghost use Rattle.cmark_text_parts.specs.InPlace.{CopiesInPlace, StaysInPlace};
 ghost use Rattle.cmark_text.specs.Kinds.{shown_link_tag, shown_text};
+ghost use Rattle.cmark_text.specs.Short.{MayOwn, shown_plain};
 ghost use Rattle.cmark_text.specs.Shown.{shown, shown_tag};
 ghost use Rattle.cmark_text_parts.specs.Shown.{level_number, shown_attribute, shown_attributes, shown_linked, text_bytes};
 
 use crate::event::{Event, Tag};
+use crate::short::PlainTag;
 use cmark_text_parts::{CowStr, HeadingLevel, LinkType};
 use std::alloc::{AllocError, Global};
 
@@ -18,9 +20,6 @@ impl<'a> Tag<'a> {
         ensures value { IfOk result (λ copy. shown_tag copy ≡ shown_tag self.now) }
         ensures succeeds { TagCopiesInPlace self.now → IsOk result }
     {
-        if let Some(plain) = self.plain() {
-            return Ok(plain.tag(alloc));
-        }
         match self {
             Tag::Heading {
                 level,
@@ -46,7 +45,7 @@ impl<'a> Tag<'a> {
                 title,
                 id,
             } => clone_linked(alloc, LinkKind::Image, *link_type, dest_url, title, id),
-            _ => unreachable!(),
+            _ => Ok(self.textless().tag(alloc)),
         }
     }
 
@@ -55,11 +54,6 @@ impl<'a> Tag<'a> {
         ensures value { IfOk result (λ made. shown_tag made ≡ shown_tag self.entry) }
         ensures succeeds { TagStaysInPlace self.entry → IsOk result }
     {
-        if let Some(plain) = self.plain() {
-            // A call drops it: a drop that the compiler adds is written out here, which is dear to prove.
-            drop(self);
-            return Ok(plain.tag(alloc));
-        }
         match self {
             Tag::Heading {
                 level,
@@ -82,7 +76,23 @@ impl<'a> Tag<'a> {
                 title,
                 id,
             } => static_linked(alloc, LinkKind::Image, link_type, dest_url, title, id),
-            _ => unreachable!(),
+            _ => {
+                let plain = self.textless();
+                // A call drops it: a drop that the compiler adds is written out here, which is dear to prove.
+                drop(self);
+                Ok(plain.tag(alloc))
+            }
+        }
+    }
+
+    /// The tag as one of an element that has no text of its own, which it is.
+    fn textless(&self) -> PlainTag
+        requires { MayOwn self.now → ⊥ }
+        ensures { shown_plain result ≡ shown_tag self.now }
+    {
+        match self.plain() {
+            Some(plain) => plain,
+            None => unreachable!(),
         }
     }
 }
