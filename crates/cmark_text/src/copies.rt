@@ -103,20 +103,24 @@ impl<'a> Event<'a> {
         ensures value { IfOk result (λ copy. shown copy ≡ shown self.now) }
         ensures succeeds { EventCopiesInPlace self.now → IsOk result }
     {
-        match self {
-            Event::Start(tag) => tag.clone(alloc).map(Event::Start),
-            Event::End(end) => Ok(Event::End(*end)),
-            Event::Text(text) => clone_held(alloc, TextKind::Text, text),
-            Event::Code(text) => clone_held(alloc, TextKind::Code, text),
-            Event::InlineMath(text) => clone_held(alloc, TextKind::InlineMath, text),
-            Event::DisplayMath(text) => clone_held(alloc, TextKind::DisplayMath, text),
-            Event::Html(text) => clone_held(alloc, TextKind::Html, text),
-            Event::InlineHtml(text) => clone_held(alloc, TextKind::InlineHtml, text),
-            Event::FootnoteReference(text) => clone_held(alloc, TextKind::FootnoteReference, text),
-            Event::SoftBreak => Ok(Event::SoftBreak),
-            Event::HardBreak => Ok(Event::HardBreak),
-            Event::Rule => Ok(Event::Rule),
-            Event::TaskListMarker(is_checked) => Ok(Event::TaskListMarker(*is_checked)),
+        let (kind, text) = match self {
+            Event::Text(text) => (TextKind::Text, text),
+            Event::Code(text) => (TextKind::Code, text),
+            Event::InlineMath(text) => (TextKind::InlineMath, text),
+            Event::DisplayMath(text) => (TextKind::DisplayMath, text),
+            Event::Html(text) => (TextKind::Html, text),
+            Event::InlineHtml(text) => (TextKind::InlineHtml, text),
+            Event::FootnoteReference(text) => (TextKind::FootnoteReference, text),
+            Event::Start(tag) => return tag.clone(alloc).map(Event::Start),
+            Event::End(end) => return Ok(Event::End(*end)),
+            Event::SoftBreak => return Ok(Event::SoftBreak),
+            Event::HardBreak => return Ok(Event::HardBreak),
+            Event::Rule => return Ok(Event::Rule),
+            Event::TaskListMarker(is_checked) => return Ok(Event::TaskListMarker(*is_checked)),
+        };
+        match text.clone(alloc) {
+            Ok(copy) => Ok(kind.event(copy)),
+            Err(error) => Err(error),
         }
     }
 
@@ -125,20 +129,24 @@ impl<'a> Event<'a> {
         ensures value { IfOk result (λ made. shown made ≡ shown self.entry) }
         ensures succeeds { EventStaysInPlace self.entry → IsOk result }
     {
-        match self {
-            Event::Start(tag) => tag.into_static(alloc).map(Event::Start),
-            Event::End(end) => Ok(Event::End(end)),
-            Event::Text(text) => static_held(alloc, TextKind::Text, text),
-            Event::Code(text) => static_held(alloc, TextKind::Code, text),
-            Event::InlineMath(text) => static_held(alloc, TextKind::InlineMath, text),
-            Event::DisplayMath(text) => static_held(alloc, TextKind::DisplayMath, text),
-            Event::Html(text) => static_held(alloc, TextKind::Html, text),
-            Event::InlineHtml(text) => static_held(alloc, TextKind::InlineHtml, text),
-            Event::FootnoteReference(text) => static_held(alloc, TextKind::FootnoteReference, text),
-            Event::SoftBreak => Ok(Event::SoftBreak),
-            Event::HardBreak => Ok(Event::HardBreak),
-            Event::Rule => Ok(Event::Rule),
-            Event::TaskListMarker(is_checked) => Ok(Event::TaskListMarker(is_checked)),
+        let (kind, text) = match self {
+            Event::Text(text) => (TextKind::Text, text),
+            Event::Code(text) => (TextKind::Code, text),
+            Event::InlineMath(text) => (TextKind::InlineMath, text),
+            Event::DisplayMath(text) => (TextKind::DisplayMath, text),
+            Event::Html(text) => (TextKind::Html, text),
+            Event::InlineHtml(text) => (TextKind::InlineHtml, text),
+            Event::FootnoteReference(text) => (TextKind::FootnoteReference, text),
+            Event::Start(tag) => return tag.into_static(alloc).map(Event::Start),
+            Event::End(end) => return Ok(Event::End(end)),
+            Event::SoftBreak => return Ok(Event::SoftBreak),
+            Event::HardBreak => return Ok(Event::HardBreak),
+            Event::Rule => return Ok(Event::Rule),
+            Event::TaskListMarker(is_checked) => return Ok(Event::TaskListMarker(is_checked)),
+        };
+        match text.into_static(alloc) {
+            Ok(made) => Ok(kind.event(made)),
+            Err(error) => Err(error),
         }
     }
 }
@@ -169,36 +177,6 @@ impl TextKind {
             TextKind::InlineHtml => Event::InlineHtml(text),
             TextKind::FootnoteReference => Event::FootnoteReference(text),
         }
-    }
-}
-
-/// The event that holds a copy of this text.
-fn clone_held<'a>(
-    alloc: Global,
-    kind: TextKind,
-    text: &CowStr<'a>,
-) -> Result<Event<'a>, AllocError>
-    ensures value { IfOk result (λ copy. shown copy ≡ shown_text kind (text_bytes text.now)) }
-    ensures succeeds { CopiesInPlace text.now → IsOk result }
-{
-    match text.clone(alloc) {
-        Ok(copy) => Ok(kind.event(copy)),
-        Err(error) => Err(error),
-    }
-}
-
-/// The event that holds this text, in a value that borrows nothing.
-fn static_held(
-    alloc: Global,
-    kind: TextKind,
-    text: CowStr<'_>,
-) -> Result<Event<'static>, AllocError>
-    ensures value { IfOk result (λ made. shown made ≡ shown_text kind (text_bytes text.entry)) }
-    ensures succeeds { StaysInPlace text.entry → IsOk result }
-{
-    match text.into_static(alloc) {
-        Ok(made) => Ok(kind.event(made)),
-        Err(error) => Err(error),
     }
 }
 
