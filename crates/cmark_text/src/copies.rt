@@ -5,10 +5,12 @@ ghost use Rattle.cmark_grammar.specs.Tag as tag;
 ghost use Rattle.cmark_text.specs.InPlace.{TagCopiesInPlace, EventCopiesInPlace, TagStaysInPlace, EventStaysInPlace};
 ghost use Rattle.cmark_text_parts.specs.InPlace.{CopiesInPlace, StaysInPlace};
 ghost use Rattle.cmark_text.specs.Kinds.{shown_link_tag, shown_text};
+ghost use Rattle.cmark_text.specs.Short.{MayOwn, shown_plain};
 ghost use Rattle.cmark_text.specs.Shown.{shown, shown_tag};
 ghost use Rattle.cmark_text_parts.specs.Shown.{level_number, shown_attribute, shown_attributes, shown_linked, text_bytes};
 
 use crate::event::{Event, Tag};
+use crate::short::PlainTag;
 use cmark_text_parts::{CowStr, HeadingLevel, LinkType};
 use std::alloc::{AllocError, Global};
 
@@ -18,9 +20,6 @@ impl<'a> Tag<'a> {
         ensures value { IfOk result (λ copy. shown_tag copy ≡ shown_tag self.now) }
         ensures succeeds { TagCopiesInPlace self.now → IsOk result }
     {
-        if let Some(plain) = self.plain() {
-            return Ok(plain.tag(alloc));
-        }
         match self {
             Tag::Heading {
                 level,
@@ -46,7 +45,7 @@ impl<'a> Tag<'a> {
                 title,
                 id,
             } => clone_linked(alloc, LinkKind::Image, *link_type, dest_url, title, id),
-            _ => unreachable!(),
+            _ => Ok(self.textless().tag(alloc)),
         }
     }
 
@@ -55,11 +54,6 @@ impl<'a> Tag<'a> {
         ensures value { IfOk result (λ made. shown_tag made ≡ shown_tag self.entry) }
         ensures succeeds { TagStaysInPlace self.entry → IsOk result }
     {
-        if let Some(plain) = self.plain() {
-            // A call drops it: a drop that the compiler adds is written out here, which is dear to prove.
-            drop(self);
-            return Ok(plain.tag(alloc));
-        }
         match self {
             Tag::Heading {
                 level,
@@ -82,7 +76,23 @@ impl<'a> Tag<'a> {
                 title,
                 id,
             } => static_linked(alloc, LinkKind::Image, link_type, dest_url, title, id),
-            _ => unreachable!(),
+            _ => {
+                let plain = self.textless();
+                // A call drops it: a drop that the compiler adds is written out here, which is dear to prove.
+                drop(self);
+                Ok(plain.tag(alloc))
+            }
+        }
+    }
+
+    /// The tag as one of an element that has no text of its own, which it is.
+    fn textless(&self) -> PlainTag
+        requires { MayOwn self.now → ⊥ }
+        ensures { shown_plain result ≡ shown_tag self.now }
+    {
+        match self.plain() {
+            Some(plain) => plain,
+            None => unreachable!(),
         }
     }
 }
@@ -93,20 +103,24 @@ impl<'a> Event<'a> {
         ensures value { IfOk result (λ copy. shown copy ≡ shown self.now) }
         ensures succeeds { EventCopiesInPlace self.now → IsOk result }
     {
-        match self {
-            Event::Start(tag) => tag.clone(alloc).map(Event::Start),
-            Event::End(end) => Ok(Event::End(*end)),
-            Event::Text(text) => clone_held(alloc, TextKind::Text, text),
-            Event::Code(text) => clone_held(alloc, TextKind::Code, text),
-            Event::InlineMath(text) => clone_held(alloc, TextKind::InlineMath, text),
-            Event::DisplayMath(text) => clone_held(alloc, TextKind::DisplayMath, text),
-            Event::Html(text) => clone_held(alloc, TextKind::Html, text),
-            Event::InlineHtml(text) => clone_held(alloc, TextKind::InlineHtml, text),
-            Event::FootnoteReference(text) => clone_held(alloc, TextKind::FootnoteReference, text),
-            Event::SoftBreak => Ok(Event::SoftBreak),
-            Event::HardBreak => Ok(Event::HardBreak),
-            Event::Rule => Ok(Event::Rule),
-            Event::TaskListMarker(is_checked) => Ok(Event::TaskListMarker(*is_checked)),
+        let (kind, text) = match self {
+            Event::Text(text) => (TextKind::Text, text),
+            Event::Code(text) => (TextKind::Code, text),
+            Event::InlineMath(text) => (TextKind::InlineMath, text),
+            Event::DisplayMath(text) => (TextKind::DisplayMath, text),
+            Event::Html(text) => (TextKind::Html, text),
+            Event::InlineHtml(text) => (TextKind::InlineHtml, text),
+            Event::FootnoteReference(text) => (TextKind::FootnoteReference, text),
+            Event::Start(tag) => return tag.clone(alloc).map(Event::Start),
+            Event::End(end) => return Ok(Event::End(*end)),
+            Event::SoftBreak => return Ok(Event::SoftBreak),
+            Event::HardBreak => return Ok(Event::HardBreak),
+            Event::Rule => return Ok(Event::Rule),
+            Event::TaskListMarker(is_checked) => return Ok(Event::TaskListMarker(*is_checked)),
+        };
+        match text.clone(alloc) {
+            Ok(copy) => Ok(kind.event(copy)),
+            Err(error) => Err(error),
         }
     }
 
@@ -115,20 +129,24 @@ impl<'a> Event<'a> {
         ensures value { IfOk result (λ made. shown made ≡ shown self.entry) }
         ensures succeeds { EventStaysInPlace self.entry → IsOk result }
     {
-        match self {
-            Event::Start(tag) => tag.into_static(alloc).map(Event::Start),
-            Event::End(end) => Ok(Event::End(end)),
-            Event::Text(text) => static_held(alloc, TextKind::Text, text),
-            Event::Code(text) => static_held(alloc, TextKind::Code, text),
-            Event::InlineMath(text) => static_held(alloc, TextKind::InlineMath, text),
-            Event::DisplayMath(text) => static_held(alloc, TextKind::DisplayMath, text),
-            Event::Html(text) => static_held(alloc, TextKind::Html, text),
-            Event::InlineHtml(text) => static_held(alloc, TextKind::InlineHtml, text),
-            Event::FootnoteReference(text) => static_held(alloc, TextKind::FootnoteReference, text),
-            Event::SoftBreak => Ok(Event::SoftBreak),
-            Event::HardBreak => Ok(Event::HardBreak),
-            Event::Rule => Ok(Event::Rule),
-            Event::TaskListMarker(is_checked) => Ok(Event::TaskListMarker(is_checked)),
+        let (kind, text) = match self {
+            Event::Text(text) => (TextKind::Text, text),
+            Event::Code(text) => (TextKind::Code, text),
+            Event::InlineMath(text) => (TextKind::InlineMath, text),
+            Event::DisplayMath(text) => (TextKind::DisplayMath, text),
+            Event::Html(text) => (TextKind::Html, text),
+            Event::InlineHtml(text) => (TextKind::InlineHtml, text),
+            Event::FootnoteReference(text) => (TextKind::FootnoteReference, text),
+            Event::Start(tag) => return tag.into_static(alloc).map(Event::Start),
+            Event::End(end) => return Ok(Event::End(end)),
+            Event::SoftBreak => return Ok(Event::SoftBreak),
+            Event::HardBreak => return Ok(Event::HardBreak),
+            Event::Rule => return Ok(Event::Rule),
+            Event::TaskListMarker(is_checked) => return Ok(Event::TaskListMarker(is_checked)),
+        };
+        match text.into_static(alloc) {
+            Ok(made) => Ok(kind.event(made)),
+            Err(error) => Err(error),
         }
     }
 }
@@ -159,36 +177,6 @@ impl TextKind {
             TextKind::InlineHtml => Event::InlineHtml(text),
             TextKind::FootnoteReference => Event::FootnoteReference(text),
         }
-    }
-}
-
-/// The event that holds a copy of this text.
-fn clone_held<'a>(
-    alloc: Global,
-    kind: TextKind,
-    text: &CowStr<'a>,
-) -> Result<Event<'a>, AllocError>
-    ensures value { IfOk result (λ copy. shown copy ≡ shown_text kind (text_bytes text.now)) }
-    ensures succeeds { CopiesInPlace text.now → IsOk result }
-{
-    match text.clone(alloc) {
-        Ok(copy) => Ok(kind.event(copy)),
-        Err(error) => Err(error),
-    }
-}
-
-/// The event that holds this text, in a value that borrows nothing.
-fn static_held(
-    alloc: Global,
-    kind: TextKind,
-    text: CowStr<'_>,
-) -> Result<Event<'static>, AllocError>
-    ensures value { IfOk result (λ made. shown made ≡ shown_text kind (text_bytes text.entry)) }
-    ensures succeeds { StaysInPlace text.entry → IsOk result }
-{
-    match text.into_static(alloc) {
-        Ok(made) => Ok(kind.event(made)),
-        Err(error) => Err(error),
     }
 }
 
