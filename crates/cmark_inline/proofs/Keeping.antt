@@ -210,7 +210,11 @@ module _ (old new : InlineState) (others : new ≡ record old { expansion_left =
   pub spans-free : (from : ℕ) → HoldNoLink old.slots.items from → HoldNoLink new.slots.items from
   spans-free from h = subst (λ (s : InlineState). HoldNoLink s.slots.items from) (sym others) h
 
--- two such calls, of which the first leaves the limit too, and the second the label
+-- one that changes the label alone
+pub spans-label : (old new : InlineState) → new ≡ record old { label_close = new.label_close } → new ≡ record old { expansion_left = new.expansion_left; label_close = new.label_close }
+spans-label old new label = label ∙ ap (λ n. record old { expansion_left = n; label_close = new.label_close }) (sym (ap (λ (s : InlineState). s.expansion_left) label))
+
+-- two such calls, of which the first changes the label alone, and the second the limit
 pub spans-both : (old mid new : InlineState) → mid ≡ record old { label_close = mid.label_close } → new ≡ record mid { expansion_left = new.expansion_left } → new ≡ record old { expansion_left = new.expansion_left; label_close = new.label_close }
 spans-both old mid new label limit =
     limit ∙ ap (λ (s : InlineState). record s { expansion_left = new.expansion_left }) label ∙ ap (λ l. record old { expansion_left = new.expansion_left; label_close = l }) (sym (ap (λ (s : InlineState). s.label_close) limit))
