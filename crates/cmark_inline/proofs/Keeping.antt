@@ -17,12 +17,9 @@ use Rattle.cmark_slots.specs.Slots.{AreSlots, HoldNoLink, PushesText, byte_slots
 use Rattle.cmark_inline.specs.Stands.{SameSpans, Stands}
 use Rattle.cmark_inline.specs.Tokens.{AppendsQuote, Puts, PutsAutolink}
 use Rattle.cmark_slots.specs.declared.bracket.Bracket.{Bracket}
-use Rattle.cmark_slots.specs.declared.bracket.Brackets.{Brackets}
-use Rattle.cmark_slots.specs.declared.delimiter.Delimiters.{Delimiters}
 use Rattle.cmark_slots.specs.declared.delimiter.PlacedRun.{PlacedRun}
 use Rattle.cmark_items.specs.declared.allocations.Link.{Link}
 use Rattle.cmark_slots.specs.declared.quote.PlacedQuote.{PlacedQuote}
-use Rattle.cmark_slots.specs.declared.quote.Quotes.{Quotes}
 use Rattle.cmark_slots.specs.declared.slot.Element.TheVariants as element
 use Rattle.cmark_inline.specs.declared.markup.FoundHtml.{FoundHtml}
 use Rattle.cmark_slots.specs.declared.slot.Slot.{Slot}
@@ -32,7 +29,6 @@ use Rattle.cmark_inline.specs.declared.state.InlineState.{InlineState}
 use Rattle.cmark_inline.specs.declared.step.Cursor.{Cursor}
 use Rattle.cmark_slots.proofs.Naming.{adds-push, ended-on, no-more-push, one-ended}
 use Rattle.cmark_slots.proofs.Soundness.{sound-link, sound-pending, sound-plain, sound-quote, sound-run, sound-text}
-use Rattle.cmark_inline.proofs.Forming.{sound-same}
 
 pub keeps-same : (state : InlineState) → KeepsSound state state
 keeps-same state = record { sound = λ h. h; ends = λ leaf e. e }
