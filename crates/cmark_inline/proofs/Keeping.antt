@@ -17,12 +17,9 @@ use Rattle.cmark_slots.specs.Slots.{AreSlots, HoldNoLink, PushesText, byte_slots
 use Rattle.cmark_inline.specs.Stands.{SameSpans, Stands}
 use Rattle.cmark_inline.specs.Tokens.{AppendsQuote, Puts, PutsAutolink}
 use Rattle.cmark_slots.specs.declared.bracket.Bracket.{Bracket}
-use Rattle.cmark_slots.specs.declared.bracket.Brackets.{Brackets}
-use Rattle.cmark_slots.specs.declared.delimiter.Delimiters.{Delimiters}
 use Rattle.cmark_slots.specs.declared.delimiter.PlacedRun.{PlacedRun}
 use Rattle.cmark_items.specs.declared.allocations.Link.{Link}
 use Rattle.cmark_slots.specs.declared.quote.PlacedQuote.{PlacedQuote}
-use Rattle.cmark_slots.specs.declared.quote.Quotes.{Quotes}
 use Rattle.cmark_slots.specs.declared.slot.Element.TheVariants as element
 use Rattle.cmark_inline.specs.declared.markup.FoundHtml.{FoundHtml}
 use Rattle.cmark_slots.specs.declared.slot.Slot.{Slot}
@@ -32,7 +29,6 @@ use Rattle.cmark_inline.specs.declared.state.InlineState.{InlineState}
 use Rattle.cmark_inline.specs.declared.step.Cursor.{Cursor}
 use Rattle.cmark_slots.proofs.Naming.{adds-push, ended-on, no-more-push, one-ended}
 use Rattle.cmark_slots.proofs.Soundness.{sound-link, sound-pending, sound-plain, sound-quote, sound-run, sound-text}
-use Rattle.cmark_inline.proofs.Forming.{sound-same}
 
 pub keeps-same : (state : InlineState) → KeepsSound state state
 keeps-same state = record { sound = λ h. h; ends = λ leaf e. e }
@@ -210,7 +206,11 @@ module _ (old new : InlineState) (others : new ≡ record old { expansion_left =
   pub spans-free : (from : ℕ) → HoldNoLink old.slots.items from → HoldNoLink new.slots.items from
   spans-free from h = subst (λ (s : InlineState). HoldNoLink s.slots.items from) (sym others) h
 
--- two such calls, of which the first leaves the limit too, and the second the label
+-- one that changes the label alone
+pub spans-label : (old new : InlineState) → new ≡ record old { label_close = new.label_close } → new ≡ record old { expansion_left = new.expansion_left; label_close = new.label_close }
+spans-label old new label = label ∙ ap (λ n. record old { expansion_left = n; label_close = new.label_close }) (sym (ap (λ (s : InlineState). s.expansion_left) label))
+
+-- two such calls, of which the first changes the label alone, and the second the limit
 pub spans-both : (old mid new : InlineState) → mid ≡ record old { label_close = mid.label_close } → new ≡ record mid { expansion_left = new.expansion_left } → new ≡ record old { expansion_left = new.expansion_left; label_close = new.label_close }
 spans-both old mid new label limit =
     limit ∙ ap (λ (s : InlineState). record s { expansion_left = new.expansion_left }) label ∙ ap (λ l. record old { expansion_left = new.expansion_left; label_close = l }) (sym (ap (λ (s : InlineState). s.label_close) limit))

@@ -60,6 +60,7 @@ pub mod SourceOrder
 pub mod SourcePlaces
 pub mod SpanReads
 pub mod SpecialSteps
+pub mod StillUnclosed
 pub mod TailEnds
 pub mod TargetMakes
 pub mod TargetSteps

@@ -1,5 +1,7 @@
 -- The target that a closing bracket forms is the one that the grammar says.
-use Rattle.std.specs.Prelude.{if◌then◌else◌, drop, Option, Some, None, option_map}
+use Rattle.std.specs.Str.{IsCharBoundary}
+use Rattle.cmark_inline.specs.Stands.{IsLinkReference, IsTarget}
+use Rattle.std.specs.Prelude.{IfSome, if◌then◌else◌, drop, Option, Some, None, option_map}
 use Rattle.std.proofs.Common.{◌≡◌, ℕ, suc, ◌+◌, ◌-◌, ◌<◌, ◌≤◌, ◌==◌, Bool, true, false, List, length, get_or, refl, sym, ap, subst, ◌∙◌, arith}
 use Rattle.cmark_grammar.specs.Answers.{Lookup}
 use Rattle.cmark_grammar.specs.BracketDecisions as decisions
@@ -50,6 +52,15 @@ label-within text a old new le f w = subst (EndsWithin text) (sym f) (go (is_ful
     go : (z : Bool) → EndsWithin text (if z then Some (a.end - 1) else old)
     go true = let q : a.end - 1 ≤ length text = omega (arith, le) in q
     go false = w
+
+-- what a reference leads to ends where it does
+pub led-target : (text : List ℕ) (close : ℕ) (a : LinkReference) (found : Option Target) → IsLinkReference text close a → IfSome found (λ (t : Target). (t.end ≡ a.end) × (t.resume ≡ a.resume)) → IfSome found (IsTarget text close)
+led-target text close a None i e = tt
+led-target text close a (Some t) i e =
+    let ordered = i.ordered in
+    let end = e.0 in
+    let resume = e.1 in
+    record { behind = subst (λ n. close < n) (sym end) i.behind; ordered = omega (arith, ordered, end, resume); ends = subst (IsCharBoundary text) (sym end) i.ends; resume = subst (IsCharBoundary text) (sym resume) i.resume }
 
 no_tail : (lookup : Lookup) (is_cell : Bool) (tail : Option LinkTail) → None ≡ option_map (linked.inline_link lookup is_cell) tail → tail ≡ None
 no_tail lookup is_cell None e = refl

@@ -84,8 +84,7 @@ impl<'a> InlineState<'a> {
             pending: here.at,
             at: here.at,
         };
-        let next = self.put(text, flushed, here.at, slot)?;
-        Ok(next)
+        self.put(text, flushed, here.at, slot)
     }
 
     // The link or the image that the bracket forms which was taken, if one was; `None` where it forms none.

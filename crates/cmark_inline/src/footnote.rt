@@ -11,7 +11,6 @@ ghost use Rattle.cmark_items.specs.Footnotes.{Counts};
 ghost use Rattle.cmark_leaf_text.specs.Reads.{IsPart, is_cell_of};
 ghost use Rattle.cmark_text_parts.specs.Shown.{shown_options, text_bytes};
 ghost use Rattle.cmark_inline.specs.Closers.{LeavesFootnote};
-ghost use Rattle.cmark_slots.specs.Doubled.{DropsBehind};
 ghost use Rattle.cmark_inline.specs.Footnoted.{CountsOf, KeepsLabel, PutsReference, SameFootnotes, fits_footnote, footnote_behind, footnote_label, footnote_of, forms_footnote, is_accepted, is_footnote_label, reference_as, reference_slot, reference_start, unless_footnote, with_mark};
 ghost use Rattle.cmark_inline.specs.Hiding.{WritesReference};
 ghost use Rattle.cmark_slots.specs.Standing.{AreEnded};
@@ -280,10 +279,6 @@ impl<'a> InlineState<'a> {
         ensures stands { OnOk result (Stands text.now (close + 1) self.new) }
         ensures texts { OnOk result (self.new.texts.items ≡ self.old.texts.items ++ (name.entry ∷ [])) }
         ensures slots { OnOk result (PutsReference bracket (reference_as bracket (length self.old.texts.items) (close + 1)) self.old.slots.items self.new.slots.items) }
-        ensures brackets { OnOk result (self.new.brackets.standing.items ≡ []) }
-        ensures doubled { OnOk result (DropsBehind bracket.start self.old.doubled.standing.items self.new.doubled.standing.items) }
-        ensures runs { OnOk result (length self.new.delimiters.placed.items ≤ bracket.runs) }
-        ensures quotes { OnOk result (length self.new.quotes.placed.items ≤ bracket.quotes) }
         ensures writes { OnOk result (WritesReference bracket (text_bytes name.entry) (close + 1) self.old self.new) }
     {
         let kind = SlotKind::FootnoteReference(self.texts.len());

@@ -7,7 +7,7 @@ ghost use Rattle.cmark_leaf_text.specs.Reads.{IsRead, IsPart, text_of};
 ghost use Rattle.cmark_text_parts.specs.Shown.{shown_options};
 ghost use Rattle.cmark_grammar.specs.Letters.{first_is};
 ghost use Rattle.cmark_inline.specs.Closers.{LeavesWikilink, TriesDoubled};
-ghost use Rattle.cmark_slots.specs.Doubled.{DropsBehind, nearest};
+ghost use Rattle.cmark_slots.specs.Doubled.{nearest};
 ghost use Rattle.cmark_slots.specs.MarkedSlots.{SameBefore};
 ghost use Rattle.cmark_slots.specs.SlotViews.{link_of};
 ghost use Rattle.cmark_slots.specs.declared.slot.Element.TheVariants as element;
@@ -186,11 +186,6 @@ impl<'a> InlineState<'a> {
         ensures stands { OnOk result (Stands text.now (close + 2) self.new) }
         ensures parts { OnOk result ((parts : Links) × IsNamed wikilink.entry parts × (self.new.links.items ≡ self.old.links.items ++ (parts ∷ []))) }
         ensures link { OnOk result (doubled.is_image ≡ false → HoldNoLink self.new.slots.items (doubled.slot + 1)) }
-        ensures runs { OnOk result (length self.new.delimiters.placed.items ≤ doubled.runs) }
-        ensures quotes { OnOk result (length self.new.quotes.placed.items ≤ doubled.quotes) }
-        ensures brackets { OnOk result (DropsBehind doubled.start self.old.brackets.standing.items self.new.brackets.standing.items) }
-        ensures inactive { OnOk result (self.new.brackets.inactive_below ≡ length self.new.brackets.standing.items) }
-        ensures tried { OnOk result (self.new.doubled.standing.items ≡ []) }
         ensures leaves { OnOk result (LeavesWikilink doubled.start self.old self.new) }
         ensures label_close { self.new.label_close ≡ self.old.label_close }
         ensures writes { OnOk result (WritesShown (shown_options options) text.now doubled close wikilink.entry self.old self.new) }

@@ -1,5 +1,5 @@
 use Rattle.std.specs.Prelude.{option_map}
-use Rattle.std.proofs.Common.{◌≡◌, ◌+◌, ◌-◌, List, ℕ, None, Some, refl, sym, ap, subst, ◌∙◌}
+use Rattle.std.proofs.Common.{◌+◌, ◌-◌, List, ℕ, None, Some, refl, sym, ap, subst, ◌∙◌}
 use Rattle.cmark_grammar.specs.Labels.{fold, normal_form}
 use Rattle.cmark_items.specs.Definitions.{definition}
 use Rattle.cmark_leaf_text.specs.Reads.{is_cell_of, place_of}

@@ -1,5 +1,5 @@
 use Rattle.std.specs.Prelude.{false, Option, IfSome, is_some}
-use Rattle.std.proofs.Common.{rules, ◌≡◌, ◌+◌, ◌++◌, ◌∷◌, [], refl, sym, ap, subst, ◌∙◌}
+use Rattle.std.proofs.Common.{arith, ◌≡◌, ◌+◌, ◌++◌, ◌∷◌, [], refl, sym, ap, subst, ◌∙◌}
 use Rattle.cmark_grammar.specs.BracketDecisions.{is_there}
 use Rattle.cmark_leaf_text.specs.Reads.{IsPart, is_cell_of}
 use Rattle.cmark_text_parts.specs.Shown.{shown_options}
@@ -19,6 +19,8 @@ use Rattle.cmark_inline.proofs.CloserMakes.{footnote-closes, inside-up, linked-c
 use Rattle.cmark_inline.specs.Sound.{IsTakenFrom}
 use Rattle.cmark_inline.proofs.Keeping.{keeps-pending, keeps-puts, some-taken}
 use Rattle.cmark_slots.specs.Standing.{AreEnded}
+use Rattle.std.proofs.lemmas.Result.{IfOk-weaker}
+use Rattle.cmark_inline.proofs.LastCalls.{ok-by-three}
 use Rattle.cmark_inline.proofs.state.InlineState.close_bracket.Goals as goal
 
 pub returns-in-Some-clause-closes : goal.returns-in-Some-clause-closes
@@ -85,7 +87,7 @@ returns-in-Some-3-clause-closes g c = λ reader read place closer s bs r at show
     (subst (λ (x : InlineState). IfSome c.take_bracket-taken.result (IsTakenFrom x)) (sym same) (some-taken c.take_bracket-taken.result took st (c.in_ok-next.ensures.taken c.in_default.is) c.take_bracket-taken.ensures.taken))
 
 pub returns-clause-closes : goal.returns-clause-closes
-returns-clause-closes g c = λ reader read place closer s bs r at shows.
+returns-clause-closes g c = ok-by-three c.put.result _ _ _ _ c.put.ensures.at c.put.ensures.end c.put.ensures.slots (λ next reached ended slots. λ reader read place closer s bs r at shows.
     let o = shown_options c.args.reader.now.options in
     let l = g.E.EntityLookup.replacement c.args.reader.now.entities.now in
     let refs = c.args.reader.now.references.now in
@@ -96,20 +98,20 @@ returns-clause-closes g c = λ reader read place closer s bs r at shows.
     let j = tried-stage o l refs notes c.args.leaf.now c.args.text.now c.requires.same reader read place closer s bs c.args.here.at r at c.args.self.now shows took st c.take_bracket-taken.result i (c.in_ok-next.ensures.others c.in_default.is) (c.in_ok-next.ensures.tries c.in_default.is) (ap is_some (sym c.in_default.is) ∙ c.in_ok-next.ensures.forms) in
     let same : c.footnote.new.self ≡ st = c.in_ok-next-2.ensures.others c.in_default-2.is in
     let k = subst (λ (x : InlineState). IsTriedStage o l refs notes c.args.leaf.now c.args.text.now c.requires.same reader read place closer s bs c.args.here.at r at c.args.self.now shows x c.take_bracket-taken.result) (sym same) j in
-    let put = c.in_ok-next-4.ensures.others in
+    let put = c.put.ensures.others in
     text-closes o l refs notes c.args.leaf.now c.args.text.now c.requires.same reader read place closer s bs c.args.here.at r at c.args.self.now shows
-    g.F.BrokenLinkCallback.answers c.in_ok-next-4.next c.put.new.self c.args.callback.now c.link.new.callback c.args.here.pending c.footnote.new.self c.link.new.self c.take_bracket-taken.result k.ready k.taken_as k.remembers
+    g.F.BrokenLinkCallback.answers next c.put.new.self c.args.callback.now c.link.new.callback c.args.here.pending c.footnote.new.self c.link.new.self c.take_bracket-taken.result k.ready k.taken_as k.remembers
     (subst (λ (x : InlineState). false ≡ forms_footnote o notes (footnote_of o (is_cell_of c.args.leaf.now) (is_there c.args.here.at x.label_close) c.args.text.now c.args.here.at c.take_bracket-taken.result)) (sym same) (ap is_some (sym c.in_default-2.is) ∙ c.in_ok-next-2.ensures.forms))
     (subst (λ (x : Option Cursor). LinksTaken g.F.BrokenLinkCallback.answers o l refs c.args.leaf.now c.args.text.now c.take_bracket-taken.result c.args.here.at c.footnote.new.self c.link.new.self x c.args.callback.now c.link.new.callback) c.in_default-3.is c.in_ok-next-3.ensures.links)
     (ap (λ (x : InlineState). x.brackets) put) (ap (λ (x : InlineState). x.doubled) put) (ap (λ (x : InlineState). x.expansion_left) put) (ap (λ (x : InlineState). x.label_close) put)
-    (c.in_ok-next-4.ensures.at ∙ c.behind-behind_it.ensures.value) (c.in_ok-next-4.ensures.end ∙ sym c.in_ok-next-4.ensures.at) (ap (λ (x : InlineState). x.links) put) k.table
+    (reached ∙ c.behind-behind_it.ensures.value) (ended ∙ sym reached) (ap (λ (x : InlineState). x.links) put) k.table
     (λ after comes.
     let links = subst (λ (x : Option Cursor). LinksTaken g.F.BrokenLinkCallback.answers o l refs c.args.leaf.now c.args.text.now c.take_bracket-taken.result c.args.here.at c.footnote.new.self c.link.new.self x c.args.callback.now c.link.new.callback) c.in_default-3.is c.in_ok-next-3.ensures.links in
     let rows : SameRows c.flush.new.self c.link.new.self = rows-on c.flush.new.self took c.link.new.self (rows-brackets c.flush.new.self took c.take_bracket-taken.ensures.others) (rows-on took st c.link.new.self (rows-doubled took st (c.in_ok-next.ensures.others c.in_default.is)) (rows-on st c.footnote.new.self c.link.new.self (rows-same st c.footnote.new.self same)
     (rows-unlinked g.F.BrokenLinkCallback.answers o l refs c.args.leaf.now c.args.text.now c.take_bracket-taken.result c.args.here.at c.footnote.new.self c.link.new.self c.args.callback.now c.link.new.callback links))) in
     text-reads c.args.leaf.now reader read place closer s bs c.args.here.pending c.args.here.at c.args.self.now c.flush.new.self c.link.new.self c.put.new.self (record { pushes = c.in_ok-flush.ensures.slots; others = c.in_ok-flush.ensures.others }) rows
-    c.args.text.now c.requires.same at (puts-one c.args.here.at _ c.link.new.self.slots.items c.put.new.self.slots.items c.in_ok-next-4.ensures.slots ∙ ap (λ n. c.link.new.self.slots.items ++ (record { kind = kind.Text; start = c.args.here.at; end = n } ∷ [])) c.behind-behind_it.ensures.value)
-    (ap (λ (x : InlineState). x.texts.items) put) (ap (λ (x : InlineState). x.links.items) put) (ap (λ (x : InlineState). x.delimiters.placed.items) put) (ap (λ (x : InlineState). x.quotes.placed.items) put) after comes)
+    c.args.text.now c.requires.same at (puts-one c.args.here.at _ c.link.new.self.slots.items c.put.new.self.slots.items slots ∙ ap (λ n. c.link.new.self.slots.items ++ (record { kind = kind.Text; start = c.args.here.at; end = n } ∷ [])) c.behind-behind_it.ensures.value)
+    (ap (λ (x : InlineState). x.texts.items) put) (ap (λ (x : InlineState). x.links.items) put) (ap (λ (x : InlineState). x.delimiters.placed.items) put) (ap (λ (x : InlineState). x.quotes.placed.items) put) after comes))
 
 pub take_bracket-taken-requires-clause-sound : goal.take_bracket-taken-requires-clause-sound
 take_bracket-taken-requires-clause-sound g c = (keeps-pending c.args.self.now c.flush.new.self c.in_ok-flush.ensures.others c.args.here.pending c.args.here.at c.in_ok-flush.ensures.slots).sound c.requires.sound
@@ -124,11 +126,11 @@ link-requires g c =
     (some-taken c.take_bracket-taken.result c.take_bracket-taken.new.self c.wikilink.new.self (c.in_ok-next.ensures.taken c.in_default.is) c.take_bracket-taken.ensures.taken) in
     let stands : Stands c.args.text.now c.args.here.at c.footnote.new.self = subst (λ (s : InlineState). Stands c.args.text.now c.args.here.at s) (sym same) (c.in_ok-next.ensures.stands c.in_default.is) in
     let free = subst (λ (s : InlineState). IfSome c.take_bracket-taken.result (λ (bracket : Bracket). bracket.is_image ≡ false → HoldNoLink s.slots.items bracket.slot)) (sym (same ∙ c.in_ok-next.ensures.others c.in_default.is)) c.take_bracket-taken.ensures.link in
-    let close : IsPart c.args.text.now c.args.here.at (c.args.here.at + 1) = search rules in
+    let close = subst (IsPart c.args.text.now c.args.here.at) c.behind-behind_it.ensures.value c.behind-behind_it.ensures.part in
     λ k. ((refl, tt), (stands, (c.take_bracket-taken.ensures.bracket, (free, (close, (c.requires.read, (c.requires.same, (c.in_ok-next-2.ensures.sound, taken))))))))
 
 pub returns-clause-sound : goal.returns-clause-sound
-returns-clause-sound g c = (keeps-puts c.link.new.self c.put.new.self c.in_ok-next-4.ensures.others c.args.here.at c.args.here.at _ c.in_ok-next-4.ensures.slots ((refl, refl, refl), λ i. refl)).sound c.in_ok-next-3.ensures.sound
+returns-clause-sound g c = IfOk-weaker c.put.result _ _ (λ _ slots. (keeps-puts c.link.new.self c.put.new.self c.put.ensures.others c.args.here.at c.args.here.at _ slots ((refl, refl, refl), λ i. refl)).sound c.in_ok-next-3.ensures.sound) c.put.ensures.slots
 
 pub returns-in-Some-clause-ends : goal.returns-in-Some-clause-ends
 returns-in-Some-clause-ends g c = λ e.
@@ -155,12 +157,12 @@ returns-in-Some-3-clause-ends g c = λ e.
     c.in_ok-next-3.ensures.ends leaf (c.in_ok-next-2.ensures.ends leaf tried)
 
 pub returns-clause-ends : goal.returns-clause-ends
-returns-clause-ends g c = λ e.
+returns-clause-ends g c = IfOk-weaker c.put.result _ _ (λ _ slots e.
     let leaf = c.args.leaf.now in
     let flushed = (keeps-pending c.args.self.now c.flush.new.self c.in_ok-flush.ensures.others c.args.here.pending c.args.here.at c.in_ok-flush.ensures.slots).ends leaf e in
     let took : AreEnded leaf c.take_bracket-taken.new.self.slots.items = subst (λ (s : InlineState). AreEnded leaf s.slots.items) (sym c.take_bracket-taken.ensures.others) flushed in
     let tried = c.in_ok-next.ensures.ends took in
-    (keeps-puts c.link.new.self c.put.new.self c.in_ok-next-4.ensures.others c.args.here.at c.args.here.at _ c.in_ok-next-4.ensures.slots ((refl, refl, refl), λ i. refl)).ends leaf (c.in_ok-next-3.ensures.ends leaf (c.in_ok-next-2.ensures.ends leaf tried))
+    (keeps-puts c.link.new.self c.put.new.self c.put.ensures.others c.args.here.at c.args.here.at _ slots ((refl, refl, refl), λ i. refl)).ends leaf (c.in_ok-next-3.ensures.ends leaf (c.in_ok-next-2.ensures.ends leaf tried))) c.put.ensures.slots
 
 pub returns-in-Some-clause-flushes : goal.returns-in-Some-clause-flushes
 returns-in-Some-clause-flushes g c = record { flushed = c.flush.new.self; pushes = c.in_ok-flush.ensures.slots; others = c.in_ok-flush.ensures.others }
@@ -172,4 +174,49 @@ pub returns-in-Some-3-clause-flushes : goal.returns-in-Some-3-clause-flushes
 returns-in-Some-3-clause-flushes g c = record { flushed = c.flush.new.self; pushes = c.in_ok-flush.ensures.slots; others = c.in_ok-flush.ensures.others }
 
 pub returns-clause-flushes : goal.returns-clause-flushes
-returns-clause-flushes g c = record { flushed = c.flush.new.self; pushes = c.in_ok-flush.ensures.slots; others = c.in_ok-flush.ensures.others }
+returns-clause-flushes g c = IfOk-weaker c.put.result _ _ (λ _ _. record { flushed = c.flush.new.self; pushes = c.in_ok-flush.ensures.slots; others = c.in_ok-flush.ensures.others }) c.put.ensures.slots
+
+pub wikilink-requires-clause-close : goal.wikilink-requires-clause-close
+wikilink-requires-clause-close g c = subst (IsPart c.args.text.now c.args.here.at) c.behind-behind_it.ensures.value c.behind-behind_it.ensures.part
+
+pub footnote-requires-clause-close : goal.footnote-requires-clause-close
+footnote-requires-clause-close g c = subst (IsPart c.args.text.now c.args.here.at) c.behind-behind_it.ensures.value c.behind-behind_it.ensures.part
+
+pub footnote-requires-clause-stands : goal.footnote-requires-clause-stands
+footnote-requires-clause-stands g c = c.in_ok-next.ensures.stands c.in_default.is
+
+pub put-requires : goal.put-requires
+put-requires g c = 
+    let part = c.behind-behind_it.ensures.part in
+    let edge = c.requires.byte.cursor.at in
+    record { stands = c.in_ok-next-3.ensures.stands c.in_default-3.is; starts = edge; stops = edge; behind = omega arith; ordered = part.some; slot = record { part = part; before = omega arith; content = tt }; further = part.some; kind = refl }
+
+pub returns-in_err-next-clause-spent : goal.returns-in_err-next-clause-spent
+returns-in_err-next-clause-spent g c = λ none. (refl, c.wikilink.ensures.expansion_left ∙ c.take_bracket-taken.ensures.expansion_left ∙ c.flush.ensures.expansion_left ∙ none)
+
+pub returns-in-Some-clause-spent : goal.returns-in-Some-clause-spent
+returns-in-Some-clause-spent g c = λ none. (refl, c.wikilink.ensures.expansion_left ∙ c.take_bracket-taken.ensures.expansion_left ∙ c.flush.ensures.expansion_left ∙ none)
+
+pub returns-in_err-next-2-clause-spent : goal.returns-in_err-next-2-clause-spent
+returns-in_err-next-2-clause-spent g c = λ none. (refl, c.footnote.ensures.expansion_left ∙ c.wikilink.ensures.expansion_left ∙ c.take_bracket-taken.ensures.expansion_left ∙ c.flush.ensures.expansion_left ∙ none)
+
+pub returns-in-Some-2-clause-spent : goal.returns-in-Some-2-clause-spent
+returns-in-Some-2-clause-spent g c = λ none. (refl, c.footnote.ensures.expansion_left ∙ c.wikilink.ensures.expansion_left ∙ c.take_bracket-taken.ensures.expansion_left ∙ c.flush.ensures.expansion_left ∙ none)
+
+pub returns-in_err-next-3-clause-spent : goal.returns-in_err-next-3-clause-spent
+returns-in_err-next-3-clause-spent g c = λ none. c.link.ensures.spent (c.footnote.ensures.expansion_left ∙ c.wikilink.ensures.expansion_left ∙ c.take_bracket-taken.ensures.expansion_left ∙ c.flush.ensures.expansion_left ∙ none)
+
+pub returns-in-Some-3-clause-spent : goal.returns-in-Some-3-clause-spent
+returns-in-Some-3-clause-spent g c = λ none. c.link.ensures.spent (c.footnote.ensures.expansion_left ∙ c.wikilink.ensures.expansion_left ∙ c.take_bracket-taken.ensures.expansion_left ∙ c.flush.ensures.expansion_left ∙ none)
+
+pub returns-clause-spent : goal.returns-clause-spent
+returns-clause-spent g c = λ none. let same = c.link.ensures.spent (c.footnote.ensures.expansion_left ∙ c.wikilink.ensures.expansion_left ∙ c.take_bracket-taken.ensures.expansion_left ∙ c.flush.ensures.expansion_left ∙ none) in (same.0, c.put.ensures.expansion_left ∙ same.1)
+
+pub returns-in-Some-clause-moves : goal.returns-in-Some-clause-moves
+returns-in-Some-clause-moves g c = subst (λ (x : Option Cursor). IfSome x (Moves c.args.text.now c.args.here.at c.wikilink.new.self)) c.in-Some.is c.in_ok-next.ensures.moves
+
+pub returns-in-Some-2-clause-moves : goal.returns-in-Some-2-clause-moves
+returns-in-Some-2-clause-moves g c = subst (λ (x : Option Cursor). IfSome x (Moves c.args.text.now c.args.here.at c.footnote.new.self)) c.in-Some-2.is c.in_ok-next-2.ensures.moves
+
+pub returns-in-Some-3-clause-moves : goal.returns-in-Some-3-clause-moves
+returns-in-Some-3-clause-moves g c = subst (λ (x : Option Cursor). IfSome x (Moves c.args.text.now c.args.here.at c.link.new.self)) c.in-Some-3.is c.in_ok-next-3.ensures.moves

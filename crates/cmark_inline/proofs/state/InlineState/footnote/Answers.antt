@@ -1,8 +1,7 @@
 use Rattle.std.specs.Prelude.{IfSome, Option, Some, is_some}
-use Rattle.std.proofs.Common.{◌≡◌, ◌+◌, Bool, ℕ, List, refl, sym, ap, subst, ◌∙◌, arith}
+use Rattle.std.proofs.Common.{◌≡◌, ◌+◌, Bool, refl, sym, ap, subst, ◌∙◌, arith}
 use Rattle.cmark_grammar.specs.BracketDecisions.{is_there}
 use Rattle.cmark_grammar.specs.Labels.{normal_form}
-use Rattle.cmark_grammar.specs.Options.{Options}
 use Rattle.cmark_leaf_text.specs.Reads.{is_cell_of}
 use Rattle.cmark_text_parts.specs.Shown.{shown_options, text_bytes}
 use Rattle.cmark_text_parts.specs.declared.text.CowStr.{CowStr}

@@ -12,6 +12,7 @@ use Rattle.cmark_inline.proofs.FootnoteSteps.{reference-part}
 use Rattle.cmark_inline.proofs.HiddenSlots.{writes-reference}
 use Rattle.cmark_inline.proofs.Forming.{reference-ended, reference-formed, sound-same}
 use Rattle.cmark_slots.proofs.Steps.{brackets-on, free-on, slots-on}
+use Rattle.cmark_inline.specs.Closers.{Drops}
 use Rattle.cmark_inline.proofs.state.InlineState.form_footnote.Goals as goal
 
 pub returns-clause-stands : goal.returns-clause-stands
@@ -82,3 +83,20 @@ returns-clause-writes c =
     writes-reference b c.args.name (c.args.close + 1) old _ c.requires.taken.placed.there c.requires.sound.named puts
     (ap (λ (s : InlineState). s.texts.items) o ∙ c.in_ok-push.ensures.items) (ap (λ (s : InlineState). s.links.items) o)
     (c.truncate-2.ensures.placed ∙ ap (λ (s : InlineState). take b.runs s.delimiters.placed.items) o) (c.truncate.ensures ∙ ap (λ (s : InlineState). take b.quotes s.quotes.placed.items) o)
+
+pub returns-clause-leaves : goal.returns-clause-leaves
+returns-clause-leaves c = 
+    let same = ap (λ (s : InlineState). s.doubled) c.put_reference.ensures.others in
+    record {
+      none = record { standing = c.clear.ensures.standing; inactive_below = c.clear.ensures.inactive_below };
+      drops = subst (λ (v : Brackets). Drops c.args.bracket.start v c.drop_behind.new.self) same (record { drops = c.drop_behind.ensures.drops; inactive_below = c.drop_behind.ensures.inactive_below });
+    }
+
+pub returns-clause-expansion_left : goal.returns-clause-expansion_left
+returns-clause-expansion_left c = ap (λ (s : InlineState). s.expansion_left) c.put_reference.ensures.others
+
+pub returns-clause-label_close : goal.returns-clause-label_close
+returns-clause-label_close c = ap (λ (s : InlineState). s.label_close) c.put_reference.ensures.others
+
+pub returns-clause-texts : goal.returns-clause-texts
+returns-clause-texts c = ap (λ (s : InlineState). s.texts.items) c.put_reference.ensures.others ∙ c.in_ok-push.ensures.items

@@ -176,3 +176,41 @@ returns-clause-writes c =
     f.dressed leaf new.texts.items new.links.items pairs spans (subst (λ (x : InlineState). IsEmphasis (siblings_from 0 (drop inside.runs x.delimiters.placed.items)) pairs spans) (sym o) emphasis)
     ∙ ap (λ (x : InlineState). dressed_behind options inside pairs x.delimiters.placed.items x.quotes.placed.items (shown_slots leaf new.texts.items new.links.items (c.begin.new.slots.items ++ (end_slot close (close + 2) ∷ [])))) o
     ∙ ap (λ l. dressed_behind options inside pairs old.delimiters.placed.items old.quotes.placed.items (shown_slots leaf new.texts.items new.links.items (l ++ (end_slot close (close + 2) ∷ [])))) begun)
+
+pub returns-clause-expansion_left : goal.returns-clause-expansion_left
+returns-clause-expansion_left c = c.finish.ensures.expansion_left ∙ ap (λ (s : InlineState). s.expansion_left) c.show.ensures.others
+
+pub returns-clause-label_close : goal.returns-clause-label_close
+returns-clause-label_close c = c.finish.ensures.label ∙ ap (λ (s : InlineState). s.label_close) c.show.ensures.others
+
+pub returns-clause-leaves : goal.returns-clause-leaves
+returns-clause-leaves c = 
+    let start : ℕ = c.args.doubled.start in
+    let same = c.finish.ensures.brackets ∙ ap (λ (s : InlineState). s.brackets) c.show.ensures.others in
+    let drops = subst (λ (v : Brackets). DropsBehind start v.standing.items c.drop_behind.new.self.standing.items) same c.drop_behind.ensures.drops in
+    let standing = ap (λ v. v.items) c.deactivate_all.ensures.standing in
+    record {
+      drops = subst (DropsBehind start c.args.self.now.brackets.standing.items) (sym standing) drops;
+      inactive_below = c.deactivate_all.ensures.inactive_below ∙ ap length (sym standing);
+      none = record { standing = c.clear.ensures.standing; inactive_below = c.clear.ensures.inactive_below };
+    }
+
+pub finish-requires-clause-runs : goal.finish-requires-clause-runs
+finish-requires-clause-runs c = 
+    let longer = c.in_ok-inside.ensures.longer in
+    let begun = c.begin.ensures.length in
+    let runs = c.requires.stands.runs in
+    let kept = ap (λ (s : InlineState). bytes_of s.delimiters.placed.items) c.show.ensures.others in
+    omega (arith, longer, begun, runs, kept)
+
+pub finish-requires-clause-runs_there : goal.finish-requires-clause-runs_there
+finish-requires-clause-runs_there c = 
+    let there = c.in_ok-inside.ensures.runs_there in
+    let kept = ap (λ (s : InlineState). length s.delimiters.placed.items) c.show.ensures.others in
+    omega (arith, there, kept)
+
+pub finish-requires-clause-quotes_there : goal.finish-requires-clause-quotes_there
+finish-requires-clause-quotes_there c = 
+    let there = c.in_ok-inside.ensures.quotes_there in
+    let kept = ap (λ (s : InlineState). length s.quotes.placed.items) c.show.ensures.others in
+    omega (arith, there, kept)

@@ -201,3 +201,9 @@ returns-in-34-clause-ends g c =
 
 pub returns-in-91-clause-ends : goal.returns-in-91-clause-ends
 returns-in-91-clause-ends g c = IfOk-weaker c.open_bracket.result _ _ (λ next k. k.ends c.args.leaf.now) c.open_bracket.ensures.reads_on.keeps
+
+pub dollar-requires-clause-dollar : goal.dollar-requires-clause-dollar
+dollar-requires-clause-dollar g c = subst (λ (bs : List ℕ). get_or bs c.args.here.at 0 ≡ 36) c.as_bytes.ensures.value c.in-36.is
+
+pub open_bracket-requires-clause-part : goal.open_bracket-requires-clause-part
+open_bracket-requires-clause-part g c = c.behind-inside.ensures.part

@@ -1,4 +1,4 @@
-use Rattle.std.proofs.Common.{◌≡◌, ◌==◌, ◌<◌, ℕ, false, List, length, get_or, ap, sym, subst, ◌∙◌, eqb-true}
+use Rattle.std.proofs.Common.{◌≡◌, ◌==◌, ◌<◌, ◌≤◌, ℕ, IfOk, true, false, true≢false, List, length, get_or, inl, inr, refl, ap, sym, subst, ◌∙◌, arith, eqb-true}
 use Rattle.std.proofs.lemmas.Bool.{false_from_ne_true}
 use Rattle.cmark_grammar.specs.Answers.{Lookup}
 use Rattle.cmark_grammar.specs.Options.{Options}
@@ -10,6 +10,9 @@ use Rattle.cmark_inline.specs.Stands.{Flushes, Moves}
 use Rattle.cmark_inline.specs.declared.state.InlineState.{InlineState}
 use Rattle.cmark_inline.specs.declared.step.Cursor.{Cursor}
 use Rattle.cmark_inline.proofs.ComeCalls.{IsNextAt, both-ok, close-comes, rest-comes, span-comes, special-there}
+use Rattle.std.proofs.lemmas.Result.{IfOk-weaker}
+use Rattle.cmark_grammar.specs.SpecialBytes.{is_special}
+use Rattle.cmark_inline.proofs.StillUnclosed.{still-unclosed}
 use Rattle.cmark_inline.proofs.state.InlineState.step.Goals as goal
 
 pub returns-then-at-bytes-clause-come : goal.returns-then-at-bytes-clause-come
@@ -72,3 +75,117 @@ returns-clause-come g c = λ set.
     (λ (next : Cursor). ComesOn answers o l references notes leaf cursor next old new callback callback)
     (λ next m k. span-comes answers o l references notes leaf rows c.args.text.now c.requires.same cursor old at set there callback new next lt c.requires.sound m k) c.span.ensures.moves
     (c.span.ensures.token (special-there o rows c.args.text.now cursor.at at set there lt) other)
+
+pub returns-then-at-bytes-clause-kept : goal.returns-then-at-bytes-clause-kept
+returns-then-at-bytes-clause-kept g c = 
+    let size = ap length c.as_bytes-bytes.ensures.value in
+    let more = c.requires.more in
+    still-unclosed c.args.leaf.now c.args.cursor.at (length c.as_bytes-bytes.result.now) c.args.sought.now.unclosed (omega (arith, size, more)) c.requires.kept
+
+pub returns-then-bytes-at-eq93-clause-kept : goal.returns-then-bytes-at-eq93-clause-kept
+returns-then-bytes-at-eq93-clause-kept g c = 
+    let behind = c.next-at.ensures.behind in
+    IfOk-weaker c.close_bracket.result _ _ (λ next m. let further = m.further in still-unclosed c.args.leaf.now c.args.cursor.at next.at c.args.sought.now.unclosed (omega (arith, behind, further)) c.requires.kept) c.close_bracket.ensures.moves
+
+pub returns-clause-kept : goal.returns-clause-kept
+returns-clause-kept g c = 
+    IfOk-weaker c.span.result _ _ (λ next m. let further = m.further in still-unclosed c.args.leaf.now c.next-at.result next.at c.span.new.sought.unclosed (omega (arith, further)) c.span.ensures.kept) c.span.ensures.moves
+
+pub returns-then-bytes-at-eq93-clause-moves : goal.returns-then-bytes-at-eq93-clause-moves
+returns-then-bytes-at-eq93-clause-moves g c = 
+    let behind = c.next-at.ensures.behind in
+    IfOk-weaker c.close_bracket.result _ _ (λ next m. let further = m.further in record { stands = m.stands; cursor = m.cursor; further = omega (arith, behind, further) }) c.close_bracket.ensures.moves
+
+pub returns-clause-moves : goal.returns-clause-moves
+returns-clause-moves g c = 
+    let behind = c.next-at.ensures.behind in
+    IfOk-weaker c.span.result _ _ (λ next m. let further = m.further in record { stands = m.stands; cursor = m.cursor; further = omega (arith, behind, further) }) c.span.ensures.moves
+
+pub returns-then-at-bytes-clause-asks : goal.returns-then-at-bytes-clause-asks
+returns-then-at-bytes-clause-asks g c = inl refl
+
+pub returns-then-at-bytes-clause-asks_here : goal.returns-then-at-bytes-clause-asks_here
+returns-then-at-bytes-clause-asks_here g c = inl refl
+
+pub returns-clause-asks : goal.returns-clause-asks
+returns-clause-asks g c = inl refl
+
+pub returns-clause-asks_here : goal.returns-clause-asks_here
+returns-clause-asks_here g c = IfOk-weaker c.span.result _ _ (λ _ _. inl refl) c.span.ensures.moves
+
+pub returns-then-bytes-at-eq93-clause-asks : goal.returns-then-bytes-at-eq93-clause-asks
+returns-then-bytes-at-eq93-clause-asks g c = 
+    let text : List ℕ = c.args.text.now in
+    let at : ℕ = c.next-at.result in
+    let is = c.as_bytes-bytes.ensures.value in
+    let behind = c.next-at.ensures.behind in
+    let lt : at < length text = subst (λ (t : List ℕ). at < length t) is c.if-at-bytes.false in
+    let byte : get_or text at 0 ≡ 93 = ap (λ (t : List ℕ). get_or t at 0) (sym is) ∙ c.if-bytes-at-eq93.true in
+    inr (c.close_bracket.ensures.asks, (at, behind, lt, lt, byte))
+
+pub returns-then-bytes-at-eq93-clause-asks_here : goal.returns-then-bytes-at-eq93-clause-asks_here
+returns-then-bytes-at-eq93-clause-asks_here g c = 
+    let text : List ℕ = c.args.text.now in
+    let at : ℕ = c.next-at.result in
+    let is = c.as_bytes-bytes.ensures.value in
+    let behind = c.next-at.ensures.behind in
+    let lt : at < length text = subst (λ (t : List ℕ). at < length t) is c.if-at-bytes.false in
+    let byte : get_or text at 0 ≡ 93 = ap (λ (t : List ℕ). get_or t at 0) (sym is) ∙ c.if-bytes-at-eq93.true in
+    IfOk-weaker c.close_bracket.result _ _ (λ next m. inr (c.close_bracket.ensures.asks, (at, behind, m.further, lt, byte))) c.close_bracket.ensures.moves
+
+pub returns-then-bytes-at-eq93-clause-rest : goal.returns-then-bytes-at-eq93-clause-rest
+returns-then-bytes-at-eq93-clause-rest g c = λ whole.
+    let text : List ℕ = c.args.text.now in
+    let at : ℕ = c.next-at.result in
+    let is = c.as_bytes-bytes.ensures.value in
+    let n = c.next-at.ensures in
+    let there : IsNextAt c.args.reader.now.special.now text c.args.cursor.at at = subst (λ (t : List ℕ). IsNextAt c.args.reader.now.special.now t c.args.cursor.at at) is (record { value = n.value; plain = n.plain; order = n.behind; within = n.within; ascii = n.ascii }) in
+    let value = there.value in
+    let lt : at < length text = subst (λ (t : List ℕ). at < length t) is c.if-at-bytes.false in
+    absurd (omega (arith, value, whole, lt))
+
+pub returns-clause-rest : goal.returns-clause-rest
+returns-clause-rest g c = λ whole.
+    let text : List ℕ = c.args.text.now in
+    let at : ℕ = c.next-at.result in
+    let is = c.as_bytes-bytes.ensures.value in
+    let n = c.next-at.ensures in
+    let there : IsNextAt c.args.reader.now.special.now text c.args.cursor.at at = subst (λ (t : List ℕ). IsNextAt c.args.reader.now.special.now t c.args.cursor.at at) is (record { value = n.value; plain = n.plain; order = n.behind; within = n.within; ascii = n.ascii }) in
+    let value = there.value in
+    let lt : at < length text = subst (λ (t : List ℕ). at < length t) is c.if-at-bytes.false in
+    absurd (omega (arith, value, whole, lt))
+
+pub returns-then-bytes-at-eq93-clause-token : goal.returns-then-bytes-at-eq93-clause-token
+returns-then-bytes-at-eq93-clause-token g c = λ k e low special other.
+    let text : List ℕ = c.args.text.now in
+    let at : ℕ = c.next-at.result in
+    let is = c.as_bytes-bytes.ensures.value in
+    let n = c.next-at.ensures in
+    let there : IsNextAt c.args.reader.now.special.now text c.args.cursor.at at = subst (λ (t : List ℕ). IsNextAt c.args.reader.now.special.now t c.args.cursor.at at) is (record { value = n.value; plain = n.plain; order = n.behind; within = n.within; ascii = n.ascii }) in
+    let value = there.value in
+    let lt : at < length text = subst (λ (t : List ℕ). at < length t) is c.if-at-bytes.false in
+    let byte : get_or text at 0 ≡ 93 = ap (λ (t : List ℕ). get_or t at 0) (sym is) ∙ c.if-bytes-at-eq93.true in
+    absurd (true≢false (sym (ap (λ b. b == 93) (ap (λ i. get_or text i 0) (e ∙ sym value) ∙ byte)) ∙ other))
+
+pub returns-then-at-bytes-clause-token : goal.returns-then-at-bytes-clause-token
+returns-then-at-bytes-clause-token g c = λ k e low special other.
+    let text : List ℕ = c.args.text.now in
+    let at : ℕ = c.next-at.result in
+    let is = c.as_bytes-bytes.ensures.value in
+    let n = c.next-at.ensures in
+    let there : IsNextAt c.args.reader.now.special.now text c.args.cursor.at at = subst (λ (t : List ℕ). IsNextAt c.args.reader.now.special.now t c.args.cursor.at at) is (record { value = n.value; plain = n.plain; order = n.behind; within = n.within; ascii = n.ascii }) in
+    let value = there.value in
+    let over : length text ≤ at = subst (λ (t : List ℕ). length t ≤ at) is c.if-at-bytes.true in
+    absurd (omega (arith, value, e, low, over))
+
+pub returns-clause-token : goal.returns-clause-token
+returns-clause-token g c = λ k e low special other.
+    let text : List ℕ = c.args.text.now in
+    let at : ℕ = c.next-at.result in
+    let is = c.as_bytes-bytes.ensures.value in
+    let n = c.next-at.ensures in
+    let there : IsNextAt c.args.reader.now.special.now text c.args.cursor.at at = subst (λ (t : List ℕ). IsNextAt c.args.reader.now.special.now t c.args.cursor.at at) is (record { value = n.value; plain = n.plain; order = n.behind; within = n.within; ascii = n.ascii }) in
+    let value = there.value in
+    let o : Options = shown_options c.args.reader.now.options in
+    let l : Lookup = g.E.EntityLookup.replacement c.args.reader.now.entities.now in
+    subst (λ (i : ℕ). is_special o (get_or text i 0) ≡ true → (get_or text i 0 == 93) ≡ false → IfOk c.span.result (ReadsSpecial o l c.args.leaf.now (record { pending = c.args.cursor.pending; at = i }) c.args.self.now c.span.new.self)) (value ∙ sym e) c.span.ensures.token special other

@@ -1,15 +1,16 @@
 use Rattle.std.specs.Prelude.{Option, IfSome, option_map}
-use Rattle.std.proofs.Common.{◌≡◌, ◌+◌, drop, sym, ap, subst, ◌∙◌}
+use Rattle.std.proofs.Common.{◌≡◌, ◌+◌, drop, refl, sym, ap, subst, ◌∙◌, arith}
 use Rattle.std.proofs.lemmas.Bool.{ne_eqb}
 use Rattle.cmark_grammar.specs.Tokens.{slice}
+use Rattle.cmark_leaf_text.specs.Reads.{IsPart}
 use Rattle.cmark_text_parts.specs.Shown.{shown_options}
 use Rattle.cmark_inline.specs.Linked.{left_behind, reference_behind, shown_link_reference, shown_target}
 use Rattle.cmark_inline.specs.Stands.{IsLinkReference, IsTarget}
 use Rattle.cmark_inline.specs.declared.reference.LinkReference.{LinkReference}
 use Rattle.cmark_inline.specs.declared.link.Target.{Target}
 use Rattle.cmark_inline.specs.declared.state.InlineState.{InlineState}
-use Rattle.cmark_inline.proofs.Keeping.{spans-both}
-use Rattle.cmark_inline.proofs.TargetMakes.{inline-decides, label-within, led-decides, none-decides, spent-decides}
+use Rattle.cmark_inline.proofs.Keeping.{spans-both, spans-label}
+use Rattle.cmark_inline.proofs.TargetMakes.{inline-decides, label-within, led-decides, led-target, none-decides, spent-decides}
 use Rattle.cmark_inline.proofs.state.InlineState.target.Goals as goal
 
 pub returns-in-Some-clause-decides : goal.returns-in-Some-clause-decides
@@ -61,3 +62,43 @@ returns-clause-label g c = λ w.
 
 pub returns-clause-others : goal.returns-clause-others
 returns-clause-others g c = spans-both c.args.self.now c.remember_label.new.self c.reference.new.self c.remember_label.ensures.others c.reference.ensures.others
+
+pub reference-requires : goal.reference-requires
+reference-requires g c = 
+    let link_reference = subst (λ (o : Option LinkReference). IfSome o (IsLinkReference c.args.text.now c.args.close)) c.in-Some-link_reference_at.is c.link_reference_at.ensures.ends in
+    let opens = c.requires.bracket.part.some in
+    let before = c.requires.bracket.before in
+    let behind = link_reference.behind in
+    let part : IsPart c.args.text.now c.args.bracket.start c.in-Some-link_reference_at.link_reference.end = record { some = omega (arith, opens, before, behind); within = link_reference.ends.0; starts = c.requires.bracket.part.starts; ends = link_reference.ends } in
+    λ k. ((refl, tt), (part, (c.requires.read, c.requires.same)))
+
+pub returns-in-Some-clause-target : goal.returns-in-Some-clause-target
+returns-in-Some-clause-target g c = 
+    let target = subst (λ (o : Option Target). IfSome o (IsTarget c.args.text.now (c.args.close + 1))) c.in-Some.is c.in_ok-target.ensures.target in
+    let behind = target.behind in
+    record { behind = omega (arith, behind); ordered = target.ordered; ends = target.ends; resume = target.resume }
+
+pub returns-clause-target : goal.returns-clause-target
+returns-clause-target g c = 
+    let link_reference = subst (λ (o : Option LinkReference). IfSome o (IsLinkReference c.args.text.now c.args.close)) c.in-Some-link_reference_at.is c.link_reference_at.ensures.ends in
+    led-target c.args.text.now c.args.close c.in-Some-link_reference_at.link_reference c.in_ok-found.found link_reference c.in_ok-found.ensures.target
+
+pub returns-in_err-found-clause-spent : goal.returns-in_err-found-clause-spent
+returns-in_err-found-clause-spent g c = λ none. absurd (c.if-self-eq0.false (ap (λ (s : InlineState). s.expansion_left) c.remember_label.ensures.others ∙ none))
+
+pub returns-clause-spent : goal.returns-clause-spent
+returns-clause-spent g c = λ none. absurd (c.if-self-eq0.false (ap (λ (s : InlineState). s.expansion_left) c.remember_label.ensures.others ∙ none))
+
+pub returns-then-self-eq0-clause-spent : goal.returns-then-self-eq0-clause-spent
+returns-then-self-eq0-clause-spent g c = λ none. (refl, ap (λ (s : InlineState). s.expansion_left) c.remember_label.ensures.others ∙ none)
+
+pub returns-then-self-eq0-clause-label : goal.returns-then-self-eq0-clause-label
+returns-then-self-eq0-clause-label g c = λ w.
+    let link_reference = subst (λ (o : Option LinkReference). IfSome o (IsLinkReference c.args.text.now c.args.close)) c.in-Some-link_reference_at.is c.link_reference_at.ensures.ends in
+    label-within c.args.text.now c.in-Some-link_reference_at.link_reference c.args.self.now.label_close c.remember_label.new.self.label_close link_reference.ends.0 c.remember_label.ensures.label w
+
+pub returns-then-self-eq0-clause-others : goal.returns-then-self-eq0-clause-others
+returns-then-self-eq0-clause-others g c = spans-label c.args.self.now c.remember_label.new.self c.remember_label.ensures.others
+
+pub returns-in_err-found-clause-others : goal.returns-in_err-found-clause-others
+returns-in_err-found-clause-others g c = spans-both c.args.self.now c.remember_label.new.self c.reference.new.self c.remember_label.ensures.others c.reference.ensures.others

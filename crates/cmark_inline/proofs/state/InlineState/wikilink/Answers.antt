@@ -1,4 +1,4 @@
-use Rattle.std.proofs.Common.{◌-◌, length, sym, ◌∙◌, arith, ◌+◌, ℕ, List, subst}
+use Rattle.std.proofs.Common.{◌-◌, length, ap, sym, ◌∙◌, arith, ◌+◌, ℕ, List, subst}
 use Rattle.cmark_text_parts.specs.Shown.{shown_options}
 use Rattle.cmark_inline.specs.Hiding.{WritesWikilink}
 use Rattle.cmark_slots.specs.declared.bracket.Bracket.{Bracket}
@@ -6,8 +6,13 @@ use Rattle.cmark_inline.specs.declared.state.InlineState.{InlineState}
 use Rattle.cmark_slots.proofs.Opening.{is-pair, last-nearest, sound-pair-taken, taken-fewer}
 use Rattle.cmark_inline.proofs.WikiSlots.{writes-taken}
 use Rattle.cmark_inline.proofs.WikiSteps.{two-brackets}
-use Rattle.std.specs.Prelude.{Some, IfSome, Option, Bool}
-use Rattle.cmark_leaf_text.specs.Reads.{IsPart}
+use Rattle.std.specs.Prelude.{Some, IfSome, Option, Bool, ◌&&◌, ◌==◌, drop, nat_lt}
+use Rattle.cmark_grammar.specs.BracketDecisions.{name_in}
+use Rattle.cmark_grammar.specs.Letters.{first_is}
+use Rattle.cmark_inline.specs.Closers.{LeavesWikilink, TriesDoubled}
+use Rattle.cmark_inline.specs.Wikilinks.{is_wikilink, wiki_text}
+use Rattle.cmark_slots.specs.Doubled.{nearest}
+use Rattle.cmark_leaf_text.specs.Reads.{IsPart, text_of}
 use Rattle.cmark_slots.specs.Standing.{EndsIn}
 use Rattle.cmark_inline.proofs.SourceOrder.{ends-at-byte}
 use Rattle.cmark_inline.proofs.state.InlineState.wikilink.Goals as goal
@@ -114,3 +119,50 @@ pub returns-in_default-clause-taken : goal.returns-in_default-clause-taken
 returns-in_default-clause-taken c =
     let old : InlineState = c.args.self.now in
     λ none. λ bracket t. taken-fewer old.slots.items old.delimiters.placed.items old.quotes.placed.items old.brackets.standing.items old.doubled.standing.items c.take.new.self.standing.items bracket (length old.doubled.standing.items - 1) c.take.ensures.others t
+
+pub returns-in_default-clause-tries : goal.returns-in_default-clause-tries
+returns-in_default-clause-tries c = λ none.
+    let follows = sym c.is_followed_by.ensures.value ∙ c.if-not-is_followed_by.false in
+    let on = sym (c.contains.ensures tt) ∙ c.if-not-contains.false in
+    let read = ap (λ x. x && first_is (λ b. b == 93) (drop (c.args.close + 1) c.args.text.now)) on ∙ follows in
+    subst (λ z. TriesDoubled z c.args.self.now.doubled c.take.new.self) (sym read) (record { others = c.take.ensures.others; inactive_below = c.take.ensures.inactive_below })
+
+pub returns-then-not-forms-clause-tries : goal.returns-then-not-forms-clause-tries
+returns-then-not-forms-clause-tries c = λ none.
+    let follows = sym c.is_followed_by.ensures.value ∙ c.if-not-is_followed_by.false in
+    let on = sym (c.contains.ensures tt) ∙ c.if-not-contains.false in
+    let read = ap (λ x. x && first_is (λ b. b == 93) (drop (c.args.close + 1) c.args.text.now)) on ∙ follows in
+    subst (λ z. TriesDoubled z c.args.self.now.doubled c.take.new.self) (sym read) (record { others = c.take.ensures.others; inactive_below = c.take.ensures.inactive_below })
+
+pub returns-in_default-wikilink_at-clause-tries : goal.returns-in_default-wikilink_at-clause-tries
+returns-in_default-wikilink_at-clause-tries c = λ none.
+    let follows = sym c.is_followed_by.ensures.value ∙ c.if-not-is_followed_by.false in
+    let on = sym (c.contains.ensures tt) ∙ c.if-not-contains.false in
+    let read = ap (λ x. x && first_is (λ b. b == 93) (drop (c.args.close + 1) c.args.text.now)) on ∙ follows in
+    subst (λ z. TriesDoubled z c.args.self.now.doubled c.take.new.self) (sym read) (record { others = c.take.ensures.others; inactive_below = c.take.ensures.inactive_below })
+
+pub returns-in_default-clause-forms : goal.returns-in_default-clause-forms
+returns-in_default-clause-forms c = 
+    let follows = sym c.is_followed_by.ensures.value ∙ c.if-not-is_followed_by.false in
+    let on = sym (c.contains.ensures tt) ∙ c.if-not-contains.false in
+    let leaf = c.args.leaf.now in
+    let close : ℕ = c.args.close in
+    let there = sym (ap (λ t. first_is (λ b. b == 93) (drop (close + 1) t)) c.requires.same) ∙ follows in
+    let tried = is_wikilink leaf close (nearest c.args.self.now.doubled) in
+    sym (ap (λ x. x && (first_is (λ b. b == 93) (drop (close + 1) (text_of leaf)) && tried)) on ∙ ap (λ x. x && tried) there ∙ ap (is_wikilink leaf close) (sym c.take.ensures.value ∙ c.in_default.is))
+
+pub returns-then-not-forms-clause-forms : goal.returns-then-not-forms-clause-forms
+returns-then-not-forms-clause-forms c = 
+    let follows = sym c.is_followed_by.ensures.value ∙ c.if-not-is_followed_by.false in
+    let on = sym (c.contains.ensures tt) ∙ c.if-not-contains.false in
+    let leaf = c.args.leaf.now in
+    let close : ℕ = c.args.close in
+    let there = sym (ap (λ t. first_is (λ b. b == 93) (drop (close + 1) t)) c.requires.same) ∙ follows in
+    let tried = is_wikilink leaf close (nearest c.args.self.now.doubled) in
+    let rest = nat_lt c.in-Some.doubled.inside close && nat_lt 0 (length (name_in (wiki_text leaf c.in-Some.doubled close))) in
+    sym (ap (λ x. x && (first_is (λ b. b == 93) (drop (close + 1) (text_of leaf)) && tried)) on ∙ ap (λ x. x && tried) there ∙ ap (is_wikilink leaf close) (sym c.take.ensures.value ∙ c.in-Some.is) ∙ ap (λ x. x && rest) c.if-not-forms.true)
+
+pub returns-clause-leaves : goal.returns-clause-leaves
+returns-clause-leaves c = 
+    let left = c.in_ok-form_wikilink.ensures.leaves in
+    subst (λ (o : Option (Bracket × Bool)). IfSome o (λ tried. LeavesWikilink tried.0.start c.args.self.now c.form_wikilink.new.self)) (sym c.in-Some.is ∙ c.take.ensures.value) (record { drops = left.drops; inactive_below = left.inactive_below; none = left.none })
