@@ -1,8 +1,10 @@
-use Rattle.std.proofs.Common.{ap, refl, subst}
+use Rattle.std.proofs.Common.{◌∙◌, ap, arith, refl, subst}
 use Rattle.cmark_text_parts.specs.Shown.{shown_options}
 use Rattle.cmark_inline.proofs.CloserSteps.{links-none, links-some}
 use Rattle.cmark_inline.specs.Sound.{IsTakenFrom}
-use Rattle.std.specs.Prelude.{IfSome}
+use Rattle.std.specs.Prelude.{IfSome, Option}
+use Rattle.cmark_inline.specs.Stands.{IsTarget}
+use Rattle.cmark_inline.specs.declared.link.Target.{Target}
 use Rattle.cmark_inline.proofs.Keeping.{spans-ended, spans-free, spans-same, spans-sound, spans-stand, spans-taken}
 use Rattle.cmark_inline.specs.declared.state.InlineState.{InlineState}
 use Rattle.cmark_slots.specs.declared.bracket.Bracket.{Bracket}
@@ -46,3 +48,19 @@ form-requires-clause-stands g c = spans-stand c.args.self.now c.target.new.self 
 pub form-requires-clause-free : goal.form-requires-clause-free
 form-requires-clause-free g c = λ plain. spans-free c.args.self.now c.target.new.self c.target.ensures.others c.in-Some.bracket.slot
     ((subst (λ o. IfSome o (λ (bracket : Bracket). bracket.is_image ≡ false → HoldNoLink c.args.self.now.slots.items bracket.slot)) c.in-Some.is c.requires.free) plain)
+
+pub form-requires-clause-target : goal.form-requires-clause-target
+form-requires-clause-target g c = subst (λ (o : Option Target). IfSome o (IsTarget c.args.text.now c.args.close)) c.in-Some-2.is c.in_ok-target.ensures.target
+
+pub returns-clause-moves : goal.returns-clause-moves
+returns-clause-moves g c = 
+    let target = subst (λ (o : Option Target). IfSome o (IsTarget c.args.text.now c.args.close)) c.in-Some-2.is c.in_ok-target.ensures.target in
+    let behind = target.behind in
+    let ordered = target.ordered in
+    record { stands = c.in_ok-form.ensures.stands; cursor = record { pending = target.resume; at = target.resume; ordered = omega arith }; further = omega (arith, behind, ordered) }
+
+pub returns-clause-spent : goal.returns-clause-spent
+returns-clause-spent g c = λ none. let same = c.target.ensures.spent none in (same.0, c.form.ensures.expansion_left ∙ same.1)
+
+pub returns-in_err-form-clause-spent : goal.returns-in_err-form-clause-spent
+returns-in_err-form-clause-spent g c = λ none. let same = c.target.ensures.spent none in (same.0, c.form.ensures.expansion_left ∙ same.1)
