@@ -93,7 +93,8 @@ impl<'a, E: EntityLookup> Pass<'a, E> {
         }
         let opening = what_opens(rest, self.options);
         if let Opening::Nests(start) = opening {
-            return self.begin_container(start, rest);
+            let entered = self.begin_container(start, rest)?;
+            return Ok(entered);
         }
         self.begin_leaf(opening, rest, bare)?;
         Ok(None)
