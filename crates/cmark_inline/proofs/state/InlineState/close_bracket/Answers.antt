@@ -1,5 +1,5 @@
 use Rattle.std.specs.Prelude.{false, Option, IfSome, is_some}
-use Rattle.std.proofs.Common.{arith, ◌≡◌, ◌+◌, ◌++◌, ◌∷◌, [], refl, sym, ap, subst, ◌∙◌}
+use Rattle.std.proofs.Common.{arith, ◌≡◌, ◌+◌, ◌++◌, ◌∷◌, [], refl, sym, ap, subst, ◌∙◌, inl}
 use Rattle.cmark_grammar.specs.BracketDecisions.{is_there}
 use Rattle.cmark_leaf_text.specs.Reads.{IsPart, is_cell_of}
 use Rattle.cmark_text_parts.specs.Shown.{shown_options}
@@ -220,3 +220,66 @@ returns-in-Some-2-clause-moves g c = subst (λ (x : Option Cursor). IfSome x (Mo
 
 pub returns-in-Some-3-clause-moves : goal.returns-in-Some-3-clause-moves
 returns-in-Some-3-clause-moves g c = subst (λ (x : Option Cursor). IfSome x (Moves c.args.text.now c.args.here.at c.link.new.self)) c.in-Some-3.is c.in_ok-next-3.ensures.moves
+
+pub returns-in_err-flush-clause-asks : goal.returns-in_err-flush-clause-asks
+returns-in_err-flush-clause-asks g c = inl refl
+
+pub returns-in_err-next-clause-asks : goal.returns-in_err-next-clause-asks
+returns-in_err-next-clause-asks g c = inl refl
+
+pub returns-in_err-next-2-clause-asks : goal.returns-in_err-next-2-clause-asks
+returns-in_err-next-2-clause-asks g c = inl refl
+
+pub returns-in-Some-clause-asks : goal.returns-in-Some-clause-asks
+returns-in-Some-clause-asks g c = inl refl
+
+pub returns-in-Some-2-clause-asks : goal.returns-in-Some-2-clause-asks
+returns-in-Some-2-clause-asks g c = inl refl
+
+pub returns-in_err-next-3-clause-asks : goal.returns-in_err-next-3-clause-asks
+returns-in_err-next-3-clause-asks g c = c.link.ensures.asks
+
+pub returns-in-Some-3-clause-asks : goal.returns-in-Some-3-clause-asks
+returns-in-Some-3-clause-asks g c = c.link.ensures.asks
+
+pub returns-clause-asks : goal.returns-clause-asks
+returns-clause-asks g c = c.link.ensures.asks
+
+pub returns-in_err-next-2-clause-footnotes : goal.returns-in_err-next-2-clause-footnotes
+returns-in_err-next-2-clause-footnotes g c = c.footnote.ensures.same
+
+pub returns-in-Some-2-clause-footnotes : goal.returns-in-Some-2-clause-footnotes
+returns-in-Some-2-clause-footnotes g c = c.footnote.ensures.same
+
+pub returns-in_err-next-3-clause-footnotes : goal.returns-in_err-next-3-clause-footnotes
+returns-in_err-next-3-clause-footnotes g c = c.footnote.ensures.same
+
+pub returns-in-Some-3-clause-footnotes : goal.returns-in-Some-3-clause-footnotes
+returns-in-Some-3-clause-footnotes g c = c.footnote.ensures.same
+
+pub returns-clause-footnotes : goal.returns-clause-footnotes
+returns-clause-footnotes g c = c.footnote.ensures.same
+
+pub returns-in-Some-clause-sound : goal.returns-in-Some-clause-sound
+returns-in-Some-clause-sound g c = c.in_ok-next.ensures.sound
+
+pub returns-in-Some-2-clause-sound : goal.returns-in-Some-2-clause-sound
+returns-in-Some-2-clause-sound g c = c.in_ok-next-2.ensures.sound
+
+pub returns-in-Some-3-clause-sound : goal.returns-in-Some-3-clause-sound
+returns-in-Some-3-clause-sound g c = c.in_ok-next-3.ensures.sound
+
+pub take_bracket-taken-requires-clause-stands : goal.take_bracket-taken-requires-clause-stands
+take_bracket-taken-requires-clause-stands g c = c.in_ok-flush.ensures.stands
+
+pub wikilink-requires-clause-stands : goal.wikilink-requires-clause-stands
+wikilink-requires-clause-stands g c = c.take_bracket-taken.ensures.stands
+
+pub wikilink-requires-clause-sound : goal.wikilink-requires-clause-sound
+wikilink-requires-clause-sound g c = c.take_bracket-taken.ensures.sound
+
+pub footnote-requires-clause-sound : goal.footnote-requires-clause-sound
+footnote-requires-clause-sound g c = c.in_ok-next.ensures.sound
+
+pub footnote-requires-clause-bracket : goal.footnote-requires-clause-bracket
+footnote-requires-clause-bracket g c = c.take_bracket-taken.ensures.bracket

@@ -1,6 +1,6 @@
 use Rattle.std.specs.Option.{IfSome}
 use Rattle.std.specs.Prelude.{option_map}
-use Rattle.std.proofs.Common.{◌≡◌, ◌+◌, refl, sym, ap, subst, ◌∙◌, drop}
+use Rattle.std.proofs.Common.{◌≡◌, ◌+◌, refl, sym, ap, subst, ◌∙◌, drop, arith}
 use Rattle.cmark_grammar.specs.Formulas.{is_dollar}
 use Rattle.cmark_grammar.specs.Letters.{first_is}
 use Rattle.cmark_finds.specs.Dollars.{IsFormulaAt, shown_formula}
@@ -39,3 +39,6 @@ returns-clause-reads_on c = record {
   keeps = IfOk-weaker c.put-2.result _ _ (λ _ slots. keeps-puts c.args.self.now c.put-2.new.self c.put-2.ensures.others c.args.here.pending c.args.here.at _ slots ((refl, refl, refl), λ i. refl)) c.put-2.ensures.slots;
   moves = c.put-2.ensures.moves;
 }
+
+pub put-requires-2-clause-slot : goal.put-requires-2-clause-slot
+put-requires-2-clause-slot c = record { part = c.behind.ensures.part; before = omega arith; content = tt }

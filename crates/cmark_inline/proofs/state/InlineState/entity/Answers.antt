@@ -1,5 +1,5 @@
 use Rattle.std.specs.Prelude.{Some, None}
-use Rattle.std.proofs.Common.{◌≡◌, inl, inr, ℕ, List, drop, refl, sym, ap, subst, ◌∙◌, length, rules}
+use Rattle.std.proofs.Common.{◌≡◌, inl, inr, ℕ, List, drop, refl, sym, ap, subst, ◌∙◌, length, rules, arith}
 use Rattle.std.specs.Str.{IsCharBoundary}
 use Rattle.std.proofs.lemmas.Str.{IsCharBoundary-from_rest}
 use Rattle.cmark_grammar.specs.Answers.{Lookup}
@@ -58,3 +58,6 @@ returns-clause-reads_on g c = record {
   keeps = IfOk-weaker c.put.result _ _ (λ _ slots. keeps-owned c.args.self.now (record c.args.self.now { texts = c.push.new.self }) c.put.new.self c.args.here.pending c.args.here.at _ slots c.in_ok-owned.owned c.in_ok-push.ensures.items c.put.ensures.others refl (ap Some (let q : c.len.result ≡ length c.args.self.now.texts.items = search rules in q)) refl refl (λ i. refl)) c.put.ensures.slots;
   moves = c.put.ensures.moves;
 }
+
+pub put-requires-clause-slot : goal.put-requires-clause-slot
+put-requires-clause-slot g c = record { part = c.in-Some-end_behind.ensures.part; before = omega arith; content = tt }

@@ -1,4 +1,4 @@
-use Rattle.std.proofs.Common.{◌≡◌, inl, inr, Some, refl, sym, ap, ◌∙◌, subst, ℕ, length, rules}
+use Rattle.std.proofs.Common.{◌≡◌, inl, inr, Some, refl, sym, ap, ◌∙◌, subst, ℕ, length, rules, arith}
 use Rattle.cmark_grammar.specs.InlineTokens.{item_at}
 use Rattle.cmark_grammar.specs.Items.{Plain}
 use Rattle.cmark_inline.specs.declared.state.InlineState.{InlineState}
@@ -38,3 +38,8 @@ returns-clause-reads_on c = record {
   keeps = IfOk-weaker c.put.result _ _ (λ _ slots. keeps-owned c.args.self.now (record c.args.self.now { texts = c.push.new.self }) c.put.new.self c.args.here.pending c.args.here.at _ slots c.in_ok-owned.owned c.in_ok-push.ensures.items c.put.ensures.others refl (ap Some (let q : c.len.result ≡ length c.args.self.now.texts.items = search rules in q)) refl refl (λ i. refl)) c.put.ensures.slots;
   moves = c.put.ensures.moves;
 }
+
+pub put-requires-clause-slot : goal.put-requires-clause-slot
+put-requires-clause-slot c = 
+    let edge = c.run_end-end.ensures.boundary in
+    record { part = record { some = c.run_end-end.ensures.further; within = edge.0; starts = c.requires.byte.cursor.at; ends = edge }; before = omega arith; content = tt }

@@ -1,4 +1,4 @@
-use Rattle.std.proofs.Common.{◌≡◌, ◌+◌, ◌==◌, ◌++◌, ◌∷◌, [], ℕ, List, length, get_or, drop, refl, sym, ap, ◌∙◌, rules}
+use Rattle.std.proofs.Common.{◌≡◌, ◌+◌, ◌==◌, ◌++◌, ◌∷◌, [], ℕ, List, length, get_or, drop, refl, sym, ap, ◌∙◌, rules, arith}
 use Rattle.std.specs.Prelude.{chars}
 use Rattle.cmark_grammar.specs.InlineTokens.{first_of, item_at}
 use Rattle.cmark_grammar.specs.Items.{Quoted}
@@ -34,3 +34,6 @@ returns-clause-token c = λ o l cell smart is.
           ∙ ap (λ (n : ℕ). c.args.self.now.quotes.placed.items ++ (record { slot = n; quote = c.quote_of-quote.result } ∷ [])) (sym same);
       others = made c.args.self.now c.add.new.self _ c.in_ok-add.ensures.others (ap (λ (s : InlineState). record s { slots = c.add.new.self.slots; quotes = c.push.new.self }) c.in_ok-flush.ensures.others);
     }
+
+pub add-requires-clause-slot : goal.add-requires-clause-slot
+add-requires-clause-slot c = record { part = c.behind-end.ensures.part; before = omega arith; content = tt }
