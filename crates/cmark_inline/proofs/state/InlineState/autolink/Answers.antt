@@ -46,7 +46,7 @@ pub returns-clause-moves : goal.returns-clause-moves
 returns-clause-moves c = record { stands = subst (λ (p : ℕ). Stands c.args.text.now p c.add-2.new.self) (sym c.in_ok-next.ensures.end) c.in_ok-add-2.ensures.stands; cursor = c.in_ok-next.ensures.moves.cursor; further = c.in_ok-next.ensures.moves.further }
 
 pub add-requires-clause-slot : goal.add-requires-clause-slot
-add-requires-clause-slot c = 
+add-requires-clause-slot c =
     let inside = c.requires.inside in
     record { part = inside; before = omega arith; content = tt }
 
@@ -54,6 +54,6 @@ pub put-requires-clause-slot : goal.put-requires-clause-slot
 put-requires-clause-slot c = record { part = c.requires.whole; before = omega arith; content = tt }
 
 pub add-requires-2-clause-slot : goal.add-requires-2-clause-slot
-add-requires-2-clause-slot c = 
+add-requires-2-clause-slot c =
     let some = c.requires.inside.some in
     record { part = record { some = omega (arith, some); within = c.requires.whole.within; starts = c.requires.inside.ends; ends = c.requires.whole.ends }; before = omega arith; content = tt }

@@ -186,7 +186,7 @@ pub footnote-requires-clause-stands : goal.footnote-requires-clause-stands
 footnote-requires-clause-stands g c = c.in_ok-next.ensures.stands c.in_default.is
 
 pub put-requires : goal.put-requires
-put-requires g c = 
+put-requires g c =
     let part = c.behind-behind_it.ensures.part in
     let edge = c.requires.byte.cursor.at in
     record { stands = c.in_ok-next-3.ensures.stands c.in_default-3.is; starts = edge; stops = edge; behind = omega arith; ordered = part.some; slot = record { part = part; before = omega arith; content = tt }; further = part.some; kind = refl }

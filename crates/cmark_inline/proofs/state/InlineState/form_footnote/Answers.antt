@@ -85,7 +85,7 @@ returns-clause-writes c =
     (c.truncate-2.ensures.placed ∙ ap (λ (s : InlineState). take b.runs s.delimiters.placed.items) o) (c.truncate.ensures ∙ ap (λ (s : InlineState). take b.quotes s.quotes.placed.items) o)
 
 pub returns-clause-leaves : goal.returns-clause-leaves
-returns-clause-leaves c = 
+returns-clause-leaves c =
     let same = ap (λ (s : InlineState). s.doubled) c.put_reference.ensures.others in
     record {
       none = record { standing = c.clear.ensures.standing; inactive_below = c.clear.ensures.inactive_below };

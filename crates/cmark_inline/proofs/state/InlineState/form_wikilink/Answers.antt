@@ -184,7 +184,7 @@ pub returns-clause-label_close : goal.returns-clause-label_close
 returns-clause-label_close c = c.finish.ensures.label ∙ ap (λ (s : InlineState). s.label_close) c.show.ensures.others
 
 pub returns-clause-leaves : goal.returns-clause-leaves
-returns-clause-leaves c = 
+returns-clause-leaves c =
     let start : ℕ = c.args.doubled.start in
     let same = c.finish.ensures.brackets ∙ ap (λ (s : InlineState). s.brackets) c.show.ensures.others in
     let drops = subst (λ (v : Brackets). DropsBehind start v.standing.items c.drop_behind.new.self.standing.items) same c.drop_behind.ensures.drops in
@@ -196,7 +196,7 @@ returns-clause-leaves c =
     }
 
 pub finish-requires-clause-runs : goal.finish-requires-clause-runs
-finish-requires-clause-runs c = 
+finish-requires-clause-runs c =
     let longer = c.in_ok-inside.ensures.longer in
     let begun = c.begin.ensures.length in
     let runs = c.requires.stands.runs in
@@ -204,13 +204,13 @@ finish-requires-clause-runs c =
     omega (arith, longer, begun, runs, kept)
 
 pub finish-requires-clause-runs_there : goal.finish-requires-clause-runs_there
-finish-requires-clause-runs_there c = 
+finish-requires-clause-runs_there c =
     let there = c.in_ok-inside.ensures.runs_there in
     let kept = ap (λ (s : InlineState). length s.delimiters.placed.items) c.show.ensures.others in
     omega (arith, there, kept)
 
 pub finish-requires-clause-quotes_there : goal.finish-requires-clause-quotes_there
-finish-requires-clause-quotes_there c = 
+finish-requires-clause-quotes_there c =
     let there = c.in_ok-inside.ensures.quotes_there in
     let kept = ap (λ (s : InlineState). length s.quotes.placed.items) c.show.ensures.others in
     omega (arith, there, kept)

@@ -40,6 +40,6 @@ returns-clause-reads_on c = record {
 }
 
 pub put-requires-clause-slot : goal.put-requires-clause-slot
-put-requires-clause-slot c = 
+put-requires-clause-slot c =
     let edge = c.run_end-end.ensures.boundary in
     record { part = record { some = c.run_end-end.ensures.further; within = edge.0; starts = c.requires.byte.cursor.at; ends = edge }; before = omega arith; content = tt }

@@ -56,4 +56,3 @@ pub inline_html-requires : goal.inline_html-requires
 inline_html-requires c =
     let edge = IsCharBoundary-after_ascii c.args.text.now c.args.here.at c.utf8.text c.requires.byte.within c.requires.byte.ascii in
     record { read = c.requires.read; same = c.requires.same; part = record { some = omega arith; within = edge.0; starts = c.requires.byte.cursor.at; ends = edge }; kept = c.requires.kept }
-

@@ -53,7 +53,7 @@ pub form-requires-clause-target : goal.form-requires-clause-target
 form-requires-clause-target g c = subst (λ (o : Option Target). IfSome o (IsTarget c.args.text.now c.args.close)) c.in-Some-2.is c.in_ok-target.ensures.target
 
 pub returns-clause-moves : goal.returns-clause-moves
-returns-clause-moves g c = 
+returns-clause-moves g c =
     let target = subst (λ (o : Option Target). IfSome o (IsTarget c.args.text.now c.args.close)) c.in-Some-2.is c.in_ok-target.ensures.target in
     let behind = target.behind in
     let ordered = target.ordered in

@@ -4,7 +4,7 @@ use Rattle.cmark_inline.specs.declared.state.InlineState.{InlineState}
 use Rattle.cmark_inline.proofs.state.InlineState.put.Goals as goal
 
 pub add-requires-clause-stands : goal.add-requires-clause-stands
-add-requires-clause-stands c = 
+add-requires-clause-stands c =
     let text : List ℕ = c.args.text.now in
     let end : ℕ = c.args.slot.end in
     let flushed : InlineState = c.flush.new.self in
@@ -23,7 +23,7 @@ add-requires-clause-stands c =
     }
 
 pub returns-clause-moves : goal.returns-clause-moves
-returns-clause-moves c = 
+returns-clause-moves c =
     let edge = c.requires.slot.part.ends in
     record { stands = c.in_ok-add.ensures.stands; cursor = record { pending = edge; at = edge; ordered = omega arith }; further = c.requires.further }
 

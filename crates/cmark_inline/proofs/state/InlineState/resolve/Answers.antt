@@ -186,7 +186,7 @@ returns-in_err-resolve-2-clause-succeeds g c = λ none.
     absurd (true≢false (sym (c.in_err-resolve-2.ensures.succeeds (omega (arith, size)))))
 
 pub returns-clause-asks : goal.returns-clause-asks
-returns-clause-asks g c = 
+returns-clause-asks g c =
     let answers = g.F.BrokenLinkCallback.answers in
     subst (λ (t : List ℕ). AsksUpTo answers (closing_brackets t) c.args.callback.now c.loop-cursor.callback) c.as_str-text.ensures
     (asks-all answers c.as_str-text.result.now c.loop-cursor.cursor.at c.args.callback.now c.loop-cursor.callback c.loop-cursor.invariant.2)
@@ -195,7 +195,7 @@ pub returns-clause-spent : goal.returns-clause-spent
 returns-clause-spent g c = λ none. (c.loop-cursor.invariant.3 (c.clear.ensures.expansion_left ∙ none)).0
 
 pub returns-in_err-flush-clause-asks : goal.returns-in_err-flush-clause-asks
-returns-in_err-flush-clause-asks g c = 
+returns-in_err-flush-clause-asks g c =
     let answers = g.F.BrokenLinkCallback.answers in
     subst (λ (t : List ℕ). AsksUpTo answers (closing_brackets t) c.args.callback.now c.loop-cursor.callback) c.as_str-text.ensures
     (asks-all answers c.as_str-text.result.now c.loop-cursor.cursor.at c.args.callback.now c.loop-cursor.callback c.loop-cursor.invariant.2)
@@ -204,7 +204,7 @@ pub returns-in_err-flush-clause-spent : goal.returns-in_err-flush-clause-spent
 returns-in_err-flush-clause-spent g c = λ none. (c.loop-cursor.invariant.3 (c.clear.ensures.expansion_left ∙ none)).0
 
 pub returns-in_err-resolve-clause-asks : goal.returns-in_err-resolve-clause-asks
-returns-in_err-resolve-clause-asks g c = 
+returns-in_err-resolve-clause-asks g c =
     let answers = g.F.BrokenLinkCallback.answers in
     subst (λ (t : List ℕ). AsksUpTo answers (closing_brackets t) c.args.callback.now c.loop-cursor.callback) c.as_str-text.ensures
     (asks-all answers c.as_str-text.result.now c.loop-cursor.cursor.at c.args.callback.now c.loop-cursor.callback c.loop-cursor.invariant.2)
@@ -213,7 +213,7 @@ pub returns-in_err-resolve-clause-spent : goal.returns-in_err-resolve-clause-spe
 returns-in_err-resolve-clause-spent g c = λ none. (c.loop-cursor.invariant.3 (c.clear.ensures.expansion_left ∙ none)).0
 
 pub returns-in_err-resolve-2-clause-asks : goal.returns-in_err-resolve-2-clause-asks
-returns-in_err-resolve-2-clause-asks g c = 
+returns-in_err-resolve-2-clause-asks g c =
     let answers = g.F.BrokenLinkCallback.answers in
     subst (λ (t : List ℕ). AsksUpTo answers (closing_brackets t) c.args.callback.now c.loop-cursor.callback) c.as_str-text.ensures
     (asks-all answers c.as_str-text.result.now c.loop-cursor.cursor.at c.args.callback.now c.loop-cursor.callback c.loop-cursor.invariant.2)

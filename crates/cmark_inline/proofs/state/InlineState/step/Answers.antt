@@ -77,27 +77,27 @@ returns-clause-come g c = λ set.
     (c.span.ensures.token (special-there o rows c.args.text.now cursor.at at set there lt) other)
 
 pub returns-then-at-bytes-clause-kept : goal.returns-then-at-bytes-clause-kept
-returns-then-at-bytes-clause-kept g c = 
+returns-then-at-bytes-clause-kept g c =
     let size = ap length c.as_bytes-bytes.ensures.value in
     let more = c.requires.more in
     still-unclosed c.args.leaf.now c.args.cursor.at (length c.as_bytes-bytes.result.now) c.args.sought.now.unclosed (omega (arith, size, more)) c.requires.kept
 
 pub returns-then-bytes-at-eq93-clause-kept : goal.returns-then-bytes-at-eq93-clause-kept
-returns-then-bytes-at-eq93-clause-kept g c = 
+returns-then-bytes-at-eq93-clause-kept g c =
     let behind = c.next-at.ensures.behind in
     IfOk-weaker c.close_bracket.result _ _ (λ next m. let further = m.further in still-unclosed c.args.leaf.now c.args.cursor.at next.at c.args.sought.now.unclosed (omega (arith, behind, further)) c.requires.kept) c.close_bracket.ensures.moves
 
 pub returns-clause-kept : goal.returns-clause-kept
-returns-clause-kept g c = 
+returns-clause-kept g c =
     IfOk-weaker c.span.result _ _ (λ next m. let further = m.further in still-unclosed c.args.leaf.now c.next-at.result next.at c.span.new.sought.unclosed (omega (arith, further)) c.span.ensures.kept) c.span.ensures.moves
 
 pub returns-then-bytes-at-eq93-clause-moves : goal.returns-then-bytes-at-eq93-clause-moves
-returns-then-bytes-at-eq93-clause-moves g c = 
+returns-then-bytes-at-eq93-clause-moves g c =
     let behind = c.next-at.ensures.behind in
     IfOk-weaker c.close_bracket.result _ _ (λ next m. let further = m.further in record { stands = m.stands; cursor = m.cursor; further = omega (arith, behind, further) }) c.close_bracket.ensures.moves
 
 pub returns-clause-moves : goal.returns-clause-moves
-returns-clause-moves g c = 
+returns-clause-moves g c =
     let behind = c.next-at.ensures.behind in
     IfOk-weaker c.span.result _ _ (λ next m. let further = m.further in record { stands = m.stands; cursor = m.cursor; further = omega (arith, behind, further) }) c.span.ensures.moves
 
@@ -114,7 +114,7 @@ pub returns-clause-asks_here : goal.returns-clause-asks_here
 returns-clause-asks_here g c = IfOk-weaker c.span.result _ _ (λ _ _. inl refl) c.span.ensures.moves
 
 pub returns-then-bytes-at-eq93-clause-asks : goal.returns-then-bytes-at-eq93-clause-asks
-returns-then-bytes-at-eq93-clause-asks g c = 
+returns-then-bytes-at-eq93-clause-asks g c =
     let text : List ℕ = c.args.text.now in
     let at : ℕ = c.next-at.result in
     let is = c.as_bytes-bytes.ensures.value in
@@ -124,7 +124,7 @@ returns-then-bytes-at-eq93-clause-asks g c =
     inr (c.close_bracket.ensures.asks, (at, behind, lt, lt, byte))
 
 pub returns-then-bytes-at-eq93-clause-asks_here : goal.returns-then-bytes-at-eq93-clause-asks_here
-returns-then-bytes-at-eq93-clause-asks_here g c = 
+returns-then-bytes-at-eq93-clause-asks_here g c =
     let text : List ℕ = c.args.text.now in
     let at : ℕ = c.next-at.result in
     let is = c.as_bytes-bytes.ensures.value in

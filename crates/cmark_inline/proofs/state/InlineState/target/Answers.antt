@@ -64,7 +64,7 @@ pub returns-clause-others : goal.returns-clause-others
 returns-clause-others g c = spans-both c.args.self.now c.remember_label.new.self c.reference.new.self c.remember_label.ensures.others c.reference.ensures.others
 
 pub reference-requires : goal.reference-requires
-reference-requires g c = 
+reference-requires g c =
     let link_reference = subst (λ (o : Option LinkReference). IfSome o (IsLinkReference c.args.text.now c.args.close)) c.in-Some-link_reference_at.is c.link_reference_at.ensures.ends in
     let opens = c.requires.bracket.part.some in
     let before = c.requires.bracket.before in
@@ -73,13 +73,13 @@ reference-requires g c =
     λ k. ((refl, tt), (part, (c.requires.read, c.requires.same)))
 
 pub returns-in-Some-clause-target : goal.returns-in-Some-clause-target
-returns-in-Some-clause-target g c = 
+returns-in-Some-clause-target g c =
     let target = subst (λ (o : Option Target). IfSome o (IsTarget c.args.text.now (c.args.close + 1))) c.in-Some.is c.in_ok-target.ensures.target in
     let behind = target.behind in
     record { behind = omega (arith, behind); ordered = target.ordered; ends = target.ends; resume = target.resume }
 
 pub returns-clause-target : goal.returns-clause-target
-returns-clause-target g c = 
+returns-clause-target g c =
     let link_reference = subst (λ (o : Option LinkReference). IfSome o (IsLinkReference c.args.text.now c.args.close)) c.in-Some-link_reference_at.is c.link_reference_at.ensures.ends in
     led-target c.args.text.now c.args.close c.in-Some-link_reference_at.link_reference c.in_ok-found.found link_reference c.in_ok-found.ensures.target
 

@@ -142,7 +142,7 @@ returns-in_default-wikilink_at-clause-tries c = λ none.
     subst (λ z. TriesDoubled z c.args.self.now.doubled c.take.new.self) (sym read) (record { others = c.take.ensures.others; inactive_below = c.take.ensures.inactive_below })
 
 pub returns-in_default-clause-forms : goal.returns-in_default-clause-forms
-returns-in_default-clause-forms c = 
+returns-in_default-clause-forms c =
     let follows = sym c.is_followed_by.ensures.value ∙ c.if-not-is_followed_by.false in
     let on = sym (c.contains.ensures tt) ∙ c.if-not-contains.false in
     let leaf = c.args.leaf.now in
@@ -152,7 +152,7 @@ returns-in_default-clause-forms c =
     sym (ap (λ x. x && (first_is (λ b. b == 93) (drop (close + 1) (text_of leaf)) && tried)) on ∙ ap (λ x. x && tried) there ∙ ap (is_wikilink leaf close) (sym c.take.ensures.value ∙ c.in_default.is))
 
 pub returns-then-not-forms-clause-forms : goal.returns-then-not-forms-clause-forms
-returns-then-not-forms-clause-forms c = 
+returns-then-not-forms-clause-forms c =
     let follows = sym c.is_followed_by.ensures.value ∙ c.if-not-is_followed_by.false in
     let on = sym (c.contains.ensures tt) ∙ c.if-not-contains.false in
     let leaf = c.args.leaf.now in
@@ -163,6 +163,6 @@ returns-then-not-forms-clause-forms c =
     sym (ap (λ x. x && (first_is (λ b. b == 93) (drop (close + 1) (text_of leaf)) && tried)) on ∙ ap (λ x. x && tried) there ∙ ap (is_wikilink leaf close) (sym c.take.ensures.value ∙ c.in-Some.is) ∙ ap (λ x. x && rest) c.if-not-forms.true)
 
 pub returns-clause-leaves : goal.returns-clause-leaves
-returns-clause-leaves c = 
+returns-clause-leaves c =
     let left = c.in_ok-form_wikilink.ensures.leaves in
     subst (λ (o : Option (Bracket × Bool)). IfSome o (λ tried. LeavesWikilink tried.0.start c.args.self.now c.form_wikilink.new.self)) (sym c.in-Some.is ∙ c.take.ensures.value) (record { drops = left.drops; inactive_below = left.inactive_below; none = left.none })
