@@ -135,7 +135,11 @@ impl<'a> LeafEvents<'a> {
 
     // The event of a slot that has the range of its bytes, as `give` answers it.
     #[inline(always)]
-    fn over_slot(&mut self, leaf: &LeafText<'a>, slot: Slot) -> Result<Option<Ranged<'a>>, AllocError>
+    fn over_slot(
+        &mut self,
+        leaf: &LeafText<'a>,
+        slot: Slot,
+    ) -> Result<Option<Ranged<'a>>, AllocError>
         requires read { IsRead leaf.now }
         requires slot { IsSlot (text_of leaf.now) (length (text_of leaf.now)) slot }
         requires text { IsThere (length self.old.texts.items) (text_named slot.kind) }
@@ -249,9 +253,7 @@ impl<'a> LeafEvents<'a> {
             SlotKind::Character(character) => {
                 written(self.alloc, leaf, slot, CowStr::from(character))
             }
-            SlotKind::Whole(_) => Ok(CowStr::Borrowed(
-                leaf.source_between(slot.start, slot.end),
-            )),
+            SlotKind::Whole(_) => Ok(CowStr::Borrowed(leaf.source_between(slot.start, slot.end))),
             SlotKind::FootnoteReference(index) => Ok(self.take_text(index)),
             SlotKind::Code(from, to) => Content { leaf, from, to }.code(self.alloc),
             SlotKind::InlineMath(from, to) | SlotKind::DisplayMath(from, to) => {
