@@ -272,6 +272,7 @@ impl<'a> InlineState<'a> {
     }
 
     // The same; the text is read on behind the blanks in front of the line that begins there, if one does.
+    #[inline(always)]
     pub(crate) fn put_onto_words(
         &mut self,
         text: &str,
