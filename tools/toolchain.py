@@ -30,6 +30,16 @@ def is_current(rt, crate, keeps=False):
     return all(os.path.getmtime(it) < made for it in sources) and all(os.path.isdir(it.rlib) and os.path.getmtime(it.rlib) < made for it in below)
 
 
+def with_libraries(rt, root, name):
+    """A crate whose libraries below are built, to be checked over their statements alone, as the gate does; else the command ends."""
+    crate = next((it for it in rt.rtlib.crates_below(str(root)) if it.name == name), None) or sys.exit(f"no crate {name}")
+    lacking = [it.name for it in crate.below() if not is_current(rt, it)]
+    if lacking:
+        sys.exit(f"the library {lacking[0]} is not built: run make")
+    rt.rtlib.Crate.cuts_libraries = True
+    return crate
+
+
 @contextlib.contextmanager
 def alone_in(rt, crate):
     """Holds the lock of a crate's folder, for which every other command that works there waits."""
