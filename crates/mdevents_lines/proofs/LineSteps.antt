@@ -11,10 +11,10 @@ use Rattle.cmark_text_parts.specs.declared.text.CowStr.{CowStr}
 use Rattle.cmark_inline.specs.declared.callback.BrokenLink.{BrokenLink}
 use Rattle.cmark_json.specs.Lines.{line, lines}
 use Rattle.mdevents_lines.specs.Renders.{AreLinesOf}
-use Rattle.pulldown_cmark.specs.declared.parse.OffsetIter.{OffsetIter}
-use Rattle.pulldown_cmark.specs.declared.parse.Parser.{Parser}
-use Rattle.pulldown_cmark.specs.Parsing.{GivesRanged, Reads, callback_of, shown_item, walk_of}
-use Rattle.pulldown_cmark.proofs.WalkSteps.{drained_silent}
+use Rattle.cmark_parser.specs.declared.parse.OffsetIter.{OffsetIter}
+use Rattle.cmark_parser.specs.declared.parse.Parser.{Parser}
+use Rattle.cmark_parser.specs.Parsing.{GivesRanged, Reads, callback_of, shown_item, walk_of}
+use Rattle.cmark_parser.proofs.WalkSteps.{drained_silent}
 
 lines-more : (rs : List Ranged) (r : Ranged) → lines (rs ++ r ∷ []) ≡ lines rs ++ line r
 lines-more [] r = append-nil (line r)

@@ -11,9 +11,9 @@ use Rattle.cmark_inline.specs.declared.callback.DefaultBrokenLinkCallback.{Defau
 use Rattle.cmark_json.specs.Lines.{lines}
 use Rattle.cmark_text.specs.declared.event.Event.{Event}
 use Rattle.cmark_text_parts.specs.declared.text.CowStr.{CowStr}
-use Rattle.pulldown_cmark.specs.declared.parse.OffsetIter.{OffsetIter}
-use Rattle.pulldown_cmark.specs.Parsing.{GivesRanged, shown_item}
-use Rattle.pulldown_cmark.specs.Walking.{profile}
+use Rattle.cmark_parser.specs.declared.parse.OffsetIter.{OffsetIter}
+use Rattle.cmark_parser.specs.Parsing.{GivesRanged, shown_item}
+use Rattle.cmark_parser.specs.Walking.{profile}
 
 -- the output is a line for each event of the reading of the text, without a callback
 pub record AreLinesOf (text : List ℕ) (options : Options) (lookup : Lookup) (output : List ℕ) : Type 0 where

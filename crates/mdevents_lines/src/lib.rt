@@ -3,11 +3,12 @@
 
 ghost use Rattle.std.specs.Prelude.{IfOk, string_bytes};
 ghost use Rattle.cmark_text_parts.specs.Shown.{shown_options};
-ghost use Rattle.pulldown_cmark.specs.Parsing.{CanGoRanged};
+ghost use Rattle.cmark_parser.specs.Parsing.{CanGoRanged};
 ghost use Rattle.mdevents_lines.specs.Renders.{AreLinesOf, AreLinesOfRest};
 
 use cmark_json::append_given;
-use pulldown_cmark::{EntityLookup, OffsetIter, Options, Parser};
+use cmark_parser::{OffsetIter, Parser};
+use cmark_text_parts::{EntityLookup, Options};
 use std::alloc::{AllocError, Global};
 
 /// A line of JSON for each event of a text, with its range, read with these options. `entities` says what the entity names stand

@@ -6,9 +6,9 @@ ghost use Rattle.mdevents_lines.specs.Renders.{AreLinesOf};
 ghost use Rattle.mdhtml_parts.specs.Ends.{watched_end, watched_notes};
 ghost use Rattle.mdhtml_parts.specs.Runs.{Runs};
 
+use cmark_text_parts::{EntityLookup, Options};
 use mdevents_lines::to_json_lines;
 use mdhtml_parts::{Render, RunFault, Watched};
-use pulldown_cmark::{EntityLookup, Options};
 use std::alloc::{AllocError, Global};
 use std::io::{Read, Write};
 

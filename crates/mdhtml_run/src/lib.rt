@@ -4,11 +4,11 @@
 ghost use Rattle.cmark_text_parts.specs.Shown.{shown_options};
 ghost use Rattle.mdhtml_parts.specs.Ends.{watched_end, watched_notes};
 ghost use Rattle.mdhtml_parts.specs.Runs.{Runs};
-ghost use Rattle.pulldown_cmark.specs.Rendering.{IsHtmlOf};
+ghost use Rattle.cmark_parser.specs.Rendering.{IsHtmlOf};
 
+use cmark_parser::to_html;
+use cmark_text_parts::{EntityLookup, Options};
 use mdhtml_parts::{Render, RunFault, Watched};
-use pulldown_cmark::html::to_html;
-use pulldown_cmark::{EntityLookup, Options};
 use std::alloc::{AllocError, Global};
 use std::io::{Read, Write};
 

@@ -2,16 +2,15 @@
 #![tactic(auto)]
 
 pub mod html;
-mod parse;
 
 pub use cmark_inline::{
     BrokenLink, BrokenLinkCallback, DefaultBrokenLinkCallback, OwnedLinkCallback,
 };
 pub use cmark_items::{LinkDef, RefDefs, RefDefsIter};
 pub use cmark_merge::{TextMergeStream, TextMergeWithOffset};
+pub use cmark_parser::{OffsetIter, Parser};
 pub use cmark_text::{
     Alignment, BasicEntities, BlockQuoteKind, CodeBlockKind, CowStr, EntityLookup, Event,
     HeadingLevel, InlineStr, InvalidHeadingLevel, LinkType, MetadataBlockKind, Options,
     StringTooLongError, Tag, TagEnd,
 };
-pub use parse::{OffsetIter, Parser};

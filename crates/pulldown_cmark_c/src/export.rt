@@ -4,14 +4,14 @@ ghost use Rattle.std.specs.Prelude.{◌≡◌};
 ghost use Rattle.cmark_grammar.specs.Entities.{basic_entity};
 ghost use Rattle.cmark_room.specs.Statuses.{Answers};
 ghost use Rattle.mdevents_lines.specs.Renders.{AreLinesOf};
-ghost use Rattle.pulldown_cmark.specs.Rendering.{IsHtmlOf};
+ghost use Rattle.cmark_parser.specs.Rendering.{IsHtmlOf};
 ghost use Rattle.pulldown_cmark_c.specs.Calls.{options_of, version_number};
 
 use bitflags::Flags;
 use cmark_room::answer;
+use cmark_text_parts::{BasicEntities, Options};
 use mdevents_run::EventLines;
 use mdhtml_run::Html;
-use pulldown_cmark::{BasicEntities, Options};
 use std::alloc::Global;
 
 /// Writes the HTML of a text, read with the options of these bits, at the beginning of `room`, and into `size` how many bytes

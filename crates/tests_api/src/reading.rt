@@ -1,7 +1,7 @@
 //! Definitions and ranges at each point of a reading.
 
 ghost use Rattle.cmark_grammar.specs.Entities.{basic_entity};
-ghost use Rattle.pulldown_cmark.specs.Parsing.{CanGo, CanGoRanged};
+ghost use Rattle.cmark_parser.specs.Parsing.{CanGo, CanGoRanged};
 
 use pulldown_cmark::{BasicEntities, OffsetIter, Parser, RefDefs};
 use std::alloc::AllocError;

@@ -2,7 +2,7 @@ use Rattle.std.proofs.Common.{ℕ, [], ◌∷◌, ◌++◌, subst}
 use Rattle.std.specs.Iterator.{Yields}
 use Rattle.std.specs.declared.ops.Range.{Range}
 use Rattle.cmark_text.specs.declared.event.Event.{Event}
-use Rattle.pulldown_cmark.specs.Parsing.{GivesRanged}
+use Rattle.cmark_parser.specs.Parsing.{GivesRanged}
 use Rattle.mdevents_lines.specs.Renders.{says-nothing}
 use Rattle.mdevents_lines.proofs.LineSteps.{given_more, written_more}
 use Rattle.mdevents_lines.proofs.lines_of.Goals as goal

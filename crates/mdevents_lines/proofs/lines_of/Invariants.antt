@@ -2,7 +2,7 @@ use Rattle.std.proofs.Common.{◌≡◌, ℕ, List, string_bytes, map, Ok}
 use Rattle.std.specs.declared.ops.Range.{Range}
 use Rattle.cmark_text.specs.declared.event.Event.{Event}
 use Rattle.cmark_json.specs.Lines.{lines}
-use Rattle.pulldown_cmark.specs.Parsing.{CanGo, shown_item}
+use Rattle.cmark_parser.specs.Parsing.{CanGo, shown_item}
 use Rattle.mdevents_lines.proofs.lines_of.Given as goal
 
 abbrev pub invariant-loop-item : goal.invariant-loop-item

@@ -3,10 +3,10 @@ use Rattle.std.proofs.lemmas.Result.{on_ok_weaker}
 use Rattle.cmark_grammar.specs.Html.{Writing, at_line_start}
 use Rattle.cmark_html.specs.Writer.{writing}
 use Rattle.cmark_span_walk.specs.Walking.{as_next}
-use Rattle.pulldown_cmark.specs.Parsing.{GivesAs}
-use Rattle.pulldown_cmark.specs.Rendering.{WritesLong, WritesSome, written}
-use Rattle.pulldown_cmark.proofs.RenderSteps.{all-written, joined, long-kept, none-open, none-written, short-written}
-use Rattle.pulldown_cmark.proofs.html.write_all.Goals as goal
+use Rattle.cmark_parser.specs.Parsing.{GivesAs}
+use Rattle.cmark_parser.specs.Rendering.{WritesLong, WritesSome, written}
+use Rattle.cmark_parser.proofs.RenderSteps.{all-written, joined, long-kept, none-open, none-written, short-written}
+use Rattle.cmark_parser.proofs.html.write_all.Goals as goal
 
 pub loop-short-init : goal.loop-short-init
 loop-short-init g c =

@@ -1,7 +1,7 @@
 use Rattle.std.proofs.Common.{string_bytes}
 use Rattle.std.proofs.lemmas.Result.{IfOk-weaker}
-use Rattle.pulldown_cmark.proofs.RenderSteps.{rendered}
-use Rattle.pulldown_cmark.proofs.html.to_html.Goals as goal
+use Rattle.cmark_parser.proofs.RenderSteps.{rendered}
+use Rattle.cmark_parser.proofs.html.to_html.Goals as goal
 
 pub returns : goal.returns
 returns g c = IfOk-weaker c.html_of.result _ _ (λ output all. rendered _ _ c.in_ok-parser.parser c.html_of.new.parser c.args.text.now _ _ (string_bytes output) c.in_ok-parser.ensures.reads c.in_ok-parser.ensures.callback all) c.html_of.ensures

@@ -2,9 +2,9 @@ use Rattle.std.proofs.Common.{◌<◌, OnSome, refl, subst}
 use Rattle.std.specs.Prelude.{IfSome}
 use Rattle.cmark_span_walk.specs.Walking.{Gives, events_left, source_of}
 use Rattle.cmark_text.specs.Ranged.{IsRangedZeroCopy}
-use Rattle.pulldown_cmark.specs.Parsing.{reader_for}
-use Rattle.pulldown_cmark.proofs.ParseSteps.{SaysIfAny, gives-error, gives-none, gives-nothing, gives-some, going, read-by}
-use Rattle.pulldown_cmark.proofs.parse.Parser.advance.Goals as goal
+use Rattle.cmark_parser.specs.Parsing.{reader_for}
+use Rattle.cmark_parser.proofs.ParseSteps.{SaysIfAny, gives-error, gives-none, gives-nothing, gives-some, going, read-by}
+use Rattle.cmark_parser.proofs.parse.Parser.advance.Goals as goal
 
 pub next-requires : goal.next-requires
 next-requires g c κs = ((refl, tt), going g.E.EntityLookup.replacement c.args.self.now c.if-self.false c.requires)

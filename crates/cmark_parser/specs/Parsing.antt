@@ -39,9 +39,9 @@ use Rattle.cmark_text.specs.ZeroCopy.{IsZeroCopy}
 use Rattle.cmark_text_parts.specs.declared.text.CowStr.{CowStr}
 use Rattle.cmark_text.specs.declared.ranged.Ranged.{Ranged as Given}
 use Rattle.cmark_text.specs.Ranged.{shown_ranged}
-use Rattle.pulldown_cmark.specs.declared.parse.Parser.{Parser}
-use Rattle.pulldown_cmark.specs.declared.parse.OffsetIter.{OffsetIter}
-use Rattle.pulldown_cmark.specs.Walking.{GoesOn, GivesNext, ReadsFrom, reader_by}
+use Rattle.cmark_parser.specs.declared.parse.Parser.{Parser}
+use Rattle.cmark_parser.specs.declared.parse.OffsetIter.{OffsetIter}
+use Rattle.cmark_parser.specs.Walking.{GoesOn, GivesNext, ReadsFrom, reader_by}
 
 -- an item is the event, or the event with its range, which cuts no character, and its text is borrowed as the zero-copy law says
 pub record Shows (text : List ℕ) (event : Event) (r : Ranged) : Type 0 where

@@ -1,8 +1,8 @@
 use Rattle.std.proofs.Common.{string_bytes, sym, subst, arith}
 use Rattle.cmark_html.specs.Writer.{writing}
-use Rattle.pulldown_cmark.specs.Rendering.{WritesNext, WritesSome, written}
-use Rattle.pulldown_cmark.proofs.RenderSteps.{joined, more-written, none-shown}
-use Rattle.pulldown_cmark.proofs.html.write_any.Goals as goal
+use Rattle.cmark_parser.specs.Rendering.{WritesNext, WritesSome, written}
+use Rattle.cmark_parser.proofs.RenderSteps.{joined, more-written, none-shown}
+use Rattle.cmark_parser.proofs.html.write_any.Goals as goal
 
 pub returns-then-not-is_given : goal.returns-then-not-is_given
 returns-then-not-is_given g c =

@@ -1,9 +1,9 @@
 use Rattle.std.specs.Prelude.{◌≡◌, None, string_bytes}
 use Rattle.cmark_grammar.specs.Html.{at_line_start}
 use Rattle.cmark_html.specs.Writer.{writing}
-use Rattle.pulldown_cmark.specs.Parsing.{events_left}
-use Rattle.pulldown_cmark.specs.Rendering.{WritesSome, written}
-use Rattle.pulldown_cmark.proofs.html.write_all.Given as goal
+use Rattle.cmark_parser.specs.Parsing.{events_left}
+use Rattle.cmark_parser.specs.Rendering.{WritesSome, written}
+use Rattle.cmark_parser.proofs.html.write_all.Given as goal
 
 abbrev pub invariant-loop-short : goal.invariant-loop-short
 invariant-loop-short g l =

@@ -1,7 +1,7 @@
 use Rattle.std.proofs.Common.{refl, sym, ◌∙◌}
-use Rattle.pulldown_cmark.specs.Parsing.{reader_for}
-use Rattle.pulldown_cmark.proofs.ParseSteps.{gives-or-err, gives-over, going, read-by}
-use Rattle.pulldown_cmark.proofs.parse.Parser.next_short.Goals as goal
+use Rattle.cmark_parser.specs.Parsing.{reader_for}
+use Rattle.cmark_parser.proofs.ParseSteps.{gives-or-err, gives-over, going, read-by}
+use Rattle.cmark_parser.proofs.parse.Parser.next_short.Goals as goal
 
 pub next_short-given-requires : goal.next_short-given-requires
 next_short-given-requires g c κs = ((refl, tt), going g.E.EntityLookup.replacement c.args.self.now c.if-not-self.true c.requires)

@@ -1,7 +1,7 @@
 use Rattle.std.proofs.Common.{refl}
-use Rattle.pulldown_cmark.specs.Parsing.{reader_for}
-use Rattle.pulldown_cmark.proofs.ParseSteps.{gives-error, gives-next-start, going, link-going, link-walked, read-by}
-use Rattle.pulldown_cmark.proofs.parse.Parser.pass_link.Goals as goal
+use Rattle.cmark_parser.specs.Parsing.{reader_for}
+use Rattle.cmark_parser.proofs.ParseSteps.{gives-error, gives-next-start, going, link-going, link-walked, read-by}
+use Rattle.cmark_parser.proofs.parse.Parser.pass_link.Goals as goal
 
 pub pass_link-requires : goal.pass_link-requires
 pass_link-requires g c κs =

@@ -49,11 +49,11 @@ use Rattle.cmark_text.specs.declared.short.Short.{Short}
 use Rattle.cmark_text_parts.specs.declared.text.CowStr.{CowStr}
 use Rattle.cmark_text.specs.declared.ranged.Ranged.{Ranged as Item}
 use Rattle.cmark_text.specs.Ranged.{IsRangedZeroCopy, shown_ranged}
-use Rattle.pulldown_cmark.specs.declared.parse.Parser.{Parser}
-use Rattle.pulldown_cmark.specs.Walking.{GoesOn, SomeLeft, reader_by}
+use Rattle.cmark_parser.specs.declared.parse.Parser.{Parser}
+use Rattle.cmark_parser.specs.Walking.{GoesOn, SomeLeft, reader_by}
 use Rattle.cmark_span_walk.specs.declared.coming.Coming.{Coming}
 use Rattle.cmark_span_walk.specs.declared.coming.Coming.TheVariants as coming
-use Rattle.pulldown_cmark.specs.Parsing.{CanGo, IsOver, GivesAs, GivesOrErr, GivesStart, GivesStep, Left, Passes, Reads, Remains, definitions, footnotes, events_left, is_last, link_to_come, link_unless, lookup_of, options_of, reader_for, text_of}
+use Rattle.cmark_parser.specs.Parsing.{CanGo, IsOver, GivesAs, GivesOrErr, GivesStart, GivesStep, Left, Passes, Reads, Remains, definitions, footnotes, events_left, is_last, link_to_come, link_unless, lookup_of, options_of, reader_for, text_of}
 
 -- ## Questions
 

@@ -1,8 +1,8 @@
 use Rattle.std.specs.Prelude.{◌≤◌, string_bytes}
 use Rattle.cmark_html.specs.Writer.{writing}
-use Rattle.pulldown_cmark.specs.Parsing.{events_left}
-use Rattle.pulldown_cmark.specs.Rendering.{WritesSome, written}
-use Rattle.pulldown_cmark.proofs.html.write_any.Given as goal
+use Rattle.cmark_parser.specs.Parsing.{events_left}
+use Rattle.cmark_parser.specs.Rendering.{WritesSome, written}
+use Rattle.cmark_parser.proofs.html.write_any.Given as goal
 
 abbrev pub invariant-loop-is_given : goal.invariant-loop-is_given
 invariant-loop-is_given g l =

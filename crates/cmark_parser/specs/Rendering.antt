@@ -10,9 +10,9 @@ use Rattle.cmark_inline.specs.declared.callback.BrokenLink.{BrokenLink}
 use Rattle.cmark_text.specs.Shown.{shown}
 use Rattle.cmark_text_parts.specs.declared.text.CowStr.{CowStr}
 use Rattle.cmark_text.specs.declared.ranged.Ranged.{Ranged as Given}
-use Rattle.pulldown_cmark.specs.declared.parse.Parser.{Parser}
-use Rattle.pulldown_cmark.specs.Parsing.{Asks, CanGo, GivesStep, Passes, Remains, events_left}
-use Rattle.pulldown_cmark.specs.Walking.{profile}
+use Rattle.cmark_parser.specs.declared.parse.Parser.{Parser}
+use Rattle.cmark_parser.specs.Parsing.{Asks, CanGo, GivesStep, Passes, Remains, events_left}
+use Rattle.cmark_parser.specs.Walking.{profile}
 
 -- the events without their ranges
 abbrev pub events_of : List Ranged → List Event

@@ -4,7 +4,7 @@ ghost use Rattle.std.specs.Prelude.{◌≡◌, true, None, IfOk, is_some, option
 ghost use Rattle.std.specs.Iterator.{at_most};
 ghost use Rattle.cmark_grammar.specs.Options.{no_options};
 ghost use Rattle.cmark_text_parts.specs.Shown.{shown_options};
-ghost use Rattle.pulldown_cmark.specs.Parsing.{is_last};
+ghost use Rattle.cmark_parser.specs.Parsing.{is_last};
 
 use bitflags::Flags;
 use cmark_blocks::{FirstPass, run_first_pass};
@@ -39,7 +39,7 @@ pub struct Parser<'input, E, F = DefaultBrokenLinkCallback> {
 const EVENTS_A_BYTE: u128 = 786_444;
 
 impl<'input, E: EntityLookup> Parser<'input, E> {
-    ghost use Rattle.pulldown_cmark.specs.Parsing.{Reads, Defines, DefinesFootnotes, CanGo, callback_of, text_of};
+    ghost use Rattle.cmark_parser.specs.Parsing.{Reads, Defines, DefinesFootnotes, CanGo, callback_of, text_of};
 
     /// A parser of `text`, with no extension. `entities` says what the entity names stand for. Where memory is refused
     /// there is no parser.
@@ -78,7 +78,7 @@ impl<'input, E: EntityLookup> Parser<'input, E> {
 }
 
 impl<'input, E: EntityLookup, F: BrokenLinkCallback<'input> + Drop> Parser<'input, E, F> {
-    ghost use Rattle.pulldown_cmark.specs.Parsing.{Reads, Defines, DefinesFootnotes, CanGo, CanGoRanged, GivesOrErr, GivesStartOrErr, GivesStep, callback_of, definitions, link_to_come, text_of, walk_of};
+    ghost use Rattle.cmark_parser.specs.Parsing.{Reads, Defines, DefinesFootnotes, CanGo, CanGoRanged, GivesOrErr, GivesStartOrErr, GivesStep, callback_of, definitions, link_to_come, text_of, walk_of};
 
     /// A parser of `text` with these options, which asks the callback, if there is one, for each reference without a
     /// definition. The callback is asked while the events are given.
@@ -210,7 +210,7 @@ fn is_last(given: &Result<Coming<'_>, AllocError>) -> bool
 
 impl<'input, E: EntityLookup, F: BrokenLinkCallback<'input> + Drop> Iterator
     for Parser<'input, E, F> {
-    ghost use Rattle.pulldown_cmark.specs.Parsing.{CanGo, Gives, events_left};
+    ghost use Rattle.cmark_parser.specs.Parsing.{CanGo, Gives, events_left};
 
     type Item = Result<Event<'input>, AllocError>;
 
@@ -242,7 +242,7 @@ pub struct OffsetIter<'input, E, F = DefaultBrokenLinkCallback> {
 }
 
 impl<'input, E: EntityLookup, F: BrokenLinkCallback<'input> + Drop> OffsetIter<'input, E, F> {
-    ghost use Rattle.pulldown_cmark.specs.Parsing.{ranged_definitions};
+    ghost use Rattle.cmark_parser.specs.Parsing.{ranged_definitions};
 
     /// The link reference definitions of the text, as those of the parser.
     pub fn reference_definitions(&self) -> &RefDefs<'input>
@@ -254,7 +254,7 @@ impl<'input, E: EntityLookup, F: BrokenLinkCallback<'input> + Drop> OffsetIter<'
 
 impl<'input, E: EntityLookup, F: BrokenLinkCallback<'input> + Drop> Iterator
     for OffsetIter<'input, E, F> {
-    ghost use Rattle.pulldown_cmark.specs.Parsing.{CanGoRanged, GivesRanged, ranged_left};
+    ghost use Rattle.cmark_parser.specs.Parsing.{CanGoRanged, GivesRanged, ranged_left};
 
     type Item = Result<(Event<'input>, Range<usize>), AllocError>;
 

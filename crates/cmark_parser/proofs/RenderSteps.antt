@@ -29,11 +29,11 @@ use Rattle.cmark_text.specs.Short.{shown_plain, shown_short}
 use Rattle.cmark_text.specs.Shown.{shown}
 use Rattle.cmark_text_parts.specs.Shown.{shown_link_type, text_bytes}
 use Rattle.cmark_text.specs.declared.ranged.Ranged.{Ranged as Item}
-use Rattle.pulldown_cmark.specs.declared.parse.Parser.{Parser}
-use Rattle.pulldown_cmark.specs.Parsing.{Asks, CanGo, GivesAs, GivesStart, GivesStep, Passes, Reads, Remains, callback_of}
-use Rattle.pulldown_cmark.specs.Rendering.{IsHtmlOf, IsHtmlOfRest, WritesSome, WritesWhole, Written, events_of, written}
-use Rattle.pulldown_cmark.specs.Walking.{profile}
-use Rattle.pulldown_cmark.proofs.ParseSteps.{none-answered}
+use Rattle.cmark_parser.specs.declared.parse.Parser.{Parser}
+use Rattle.cmark_parser.specs.Parsing.{Asks, CanGo, GivesAs, GivesStart, GivesStep, Passes, Reads, Remains, callback_of}
+use Rattle.cmark_parser.specs.Rendering.{IsHtmlOf, IsHtmlOfRest, WritesSome, WritesWhole, Written, events_of, written}
+use Rattle.cmark_parser.specs.Walking.{profile}
+use Rattle.cmark_parser.proofs.ParseSteps.{none-answered}
 
 -- an image that is not there
 pub none-shown : (image : Option OpenImage) → is_some image ≡ false → option_map shown_image image ≡ None

@@ -18,10 +18,10 @@ use Rattle.cmark_items.specs.Footnotes.{footnote}
 use Rattle.cmark_items.specs.ItemNodes.{shown_forest}
 use Rattle.cmark_items.specs.Tables.{Tables}
 use Rattle.cmark_walk.specs.Walking.{Remains}
-use Rattle.pulldown_cmark.specs.Walking.{reader_by}
-use Rattle.pulldown_cmark.specs.declared.parse.Parser.{Parser}
-use Rattle.pulldown_cmark.proofs.ParseSteps.{begin-few, begin-placed, begin-reader, begin-same, can-begin, reads-from}
-use Rattle.pulldown_cmark.proofs.parse.Parser.new_with_broken_link_callback.Goals as goal
+use Rattle.cmark_parser.specs.Walking.{reader_by}
+use Rattle.cmark_parser.specs.declared.parse.Parser.{Parser}
+use Rattle.cmark_parser.proofs.ParseSteps.{begin-few, begin-placed, begin-reader, begin-same, can-begin, reads-from}
+use Rattle.cmark_parser.proofs.parse.Parser.new_with_broken_link_callback.Goals as goal
 
 -- each document that the text derives is the model's
 pub returns-clause-definitions : goal.returns-clause-definitions

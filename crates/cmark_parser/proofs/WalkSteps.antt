@@ -17,12 +17,12 @@ use Rattle.cmark_text.specs.declared.event.Event.{Event}
 use Rattle.cmark_text_parts.specs.declared.text.CowStr.{CowStr}
 use Rattle.cmark_text.specs.Shown.{shown}
 use Rattle.cmark_text.specs.ZeroCopy.{IsZeroCopy}
-use Rattle.pulldown_cmark.specs.declared.parse.Parser.{Parser}
-use Rattle.pulldown_cmark.specs.declared.parse.OffsetIter.{OffsetIter}
-use Rattle.pulldown_cmark.specs.Parsing.{AreZeroCopy, Asks, AsksRanged, CutNone, Remains, IsOver, Gives, Reads, Shows, RemainsRanged, IsRangedOver, GivesRanged, ShowsRanged, callback_of, ranged_text, shown_item, text_of, walk_of}
-use Rattle.pulldown_cmark.specs.Walking.{GivesNext, profile}
-use Rattle.pulldown_cmark.proofs.ParseSteps.{none-answered}
-use Rattle.pulldown_cmark.proofs.RenderSteps.{asks-on}
+use Rattle.cmark_parser.specs.declared.parse.Parser.{Parser}
+use Rattle.cmark_parser.specs.declared.parse.OffsetIter.{OffsetIter}
+use Rattle.cmark_parser.specs.Parsing.{AreZeroCopy, Asks, AsksRanged, CutNone, Remains, IsOver, Gives, Reads, Shows, RemainsRanged, IsRangedOver, GivesRanged, ShowsRanged, callback_of, ranged_text, shown_item, text_of, walk_of}
+use Rattle.cmark_parser.specs.Walking.{GivesNext, profile}
+use Rattle.cmark_parser.proofs.ParseSteps.{none-answered}
+use Rattle.cmark_parser.proofs.RenderSteps.{asks-on}
 
 module _ {T : Type 0} (Shows : T → Ranged → Type 0) where
   -- each item shows the event in its place
