@@ -10,7 +10,7 @@ use cmark_text_parts::{BlockQuoteKind, CodeBlockKind, CowStr, HeadingLevel, Meta
 use std::alloc::Global;
 
 /// The tag of an element that has no text of its own.
-#[derive(Clone, Copy, Debug, PartialEq, Eq)]
+#[derive(Clone, Copy)]
 pub enum PlainTag {
     /// A paragraph (CommonMark 4.8).
     Paragraph,

@@ -1,4 +1,5 @@
 use Rattle.std.proofs.Common.{◌≡◌, sym, ◌∙◌, subst, arith, ◌<◌, ◌+◌, length}
+use Rattle.std.proofs.lemmas.Grind.{elements}
 use Rattle.cmark_grammar.specs.Emphasis as grammar
 use Rattle.cmark_emphasis.specs.Shown.{shown_run, open_runs}
 use Rattle.cmark_emphasis.specs.Bottoms.{AreBottoms, active_runs}
@@ -49,3 +50,9 @@ returns-clause-value c =
     ∙ course_end (shown_run c.loop-found.closer) (active_runs c.loop-found.bottoms.inactive_below c.loop-found.stack.items) (active_runs c.note.new.self.inactive_below c.loop-found.stack.items) c.loop-found.pairs.items
     (subst (λ l. NoneAgree (shown_run c.loop-found.closer) (open_runs (active_runs c.loop-found.bottoms.inactive_below l))) c.deref.ensures.value c.in_default.ensures)
     (subst (λ l. open_runs (active_runs c.note.new.self.inactive_below l) ≡ still_open (shown_run c.loop-found.closer) (open_runs (active_runs c.loop-found.bottoms.inactive_below l))) c.deref-2.ensures.value c.note.ensures.opens)
+
+pub pair_up-requires : goal.pair_up-requires
+pair_up-requires c = grind (arith, elements)
+
+pub rest_of_opener-requires : goal.rest_of_opener-requires
+rest_of_opener-requires c = grind (arith, elements)

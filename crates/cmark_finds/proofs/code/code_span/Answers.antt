@@ -1,4 +1,5 @@
-use Rattle.std.proofs.Common.{drop, ap, ◌∙◌}
+use Rattle.std.proofs.Common.{drop, ap, ◌∙◌, arith}
+use Rattle.std.proofs.lemmas.Grind.{common_steps}
 use Rattle.cmark_scan_parts.proofs.Lists.{rest_of}
 use Rattle.cmark_finds.proofs.CodeSteps.{code_places}
 use Rattle.cmark_finds.proofs.FirstRun.{closes_first}
@@ -15,3 +16,9 @@ returns-clause-first c =
     let rest = rest_of c.as_bytes.result.now c.args.at ∙ ap (drop c.args.at) c.as_bytes.ensures.value in
     closes_first c.args.text.now _ _ c.args.at c.backticks-size.result c.in_ok-content.content rest c.backticks-size.ensures.value c.if-size-eq0.false (rest_of _ c.backticks-size.result) c.in_ok-content.ensures.within
     c.in_ok-content.ensures.value
+
+pub returns-clause-value : goal.returns-clause-value
+returns-clause-value c = grind (arith, common_steps)
+
+pub returns-in_err-content-clause-value : goal.returns-in_err-content-clause-value
+returns-in_err-content-clause-value c = grind (arith, common_steps)

@@ -1,6 +1,13 @@
-use Rattle.std.proofs.Common.{sym, ◌∙◌}
+use Rattle.std.proofs.Common.{sym, ◌∙◌, arith}
+use Rattle.std.proofs.lemmas.Grind.{elements, pieces}
 use Rattle.cmark_finds.proofs.PaddingSteps.{behind_first}
 use Rattle.cmark_finds.proofs.code.without_padding.Goals as goal
 
 pub range-requires-clause-start_boundary : goal.range-requires-clause-start_boundary
 range-requires-clause-start_boundary c = λ some. behind_first c.as_bytes.result.now c.args.text.now c.as_bytes.ensures.value c.utf8.text (sym c.is_padded.ensures ∙ c.if-is_padded.true)
+
+pub returns-then-is_padded-clause-part : goal.returns-then-is_padded-clause-part
+returns-then-is_padded-clause-part c = search (pieces, arith) depth 5 fits 300
+
+pub returns-else-is_padded-clause-part : goal.returns-else-is_padded-clause-part
+returns-else-is_padded-clause-part c = grind (arith, elements)

@@ -1,4 +1,5 @@
-use Rattle.std.proofs.Common.{Some, ◌<◌, ◌-◌, length, drop, ap, sym, subst, ◌∙◌}
+use Rattle.std.proofs.Common.{Some, ◌<◌, ◌-◌, length, drop, ap, sym, subst, ◌∙◌, arith}
+use Rattle.std.proofs.lemmas.Grind.{common_steps}
 use Rattle.std.specs.Str.{IsCharBoundary}
 use Rattle.cmark_scan_parts.proofs.Lists.{rest_of}
 use Rattle.cmark_scan_parts.specs.Shown.{shown_find}
@@ -32,3 +33,6 @@ returns-clause-ends c =
     let rest = rest_of c.as_bytes-bytes.result.now c.args.at ∙ ap (drop c.args.at) c.as_bytes-bytes.ensures.value in
     subst (λ n. IsCharBoundary c.args.text.now (n - length c.in_ok-behind.behind.now)) (sym (ap length c.as_bytes-bytes.ensures.value))
     (tag_ends c.args.text.now c.args.at _ c.in_ok-behind.behind.now rest c.in_ok-behind.ensures.value c.utf8.text)
+
+pub returns-in_err-behind-clause-value : goal.returns-in_err-behind-clause-value
+returns-in_err-behind-clause-value c = grind (arith, common_steps)

@@ -1,4 +1,5 @@
-use Rattle.std.proofs.Common.{sym, ◌∙◌}
+use Rattle.std.proofs.Common.{sym, ◌∙◌, arith}
+use Rattle.std.proofs.lemmas.Grind.{common_steps}
 use Rattle.cmark_scan_parts.proofs.Lists.{rest_of}
 use Rattle.cmark_scan.proofs.LeafSteps.{backticks-found}
 use Rattle.cmark_scan.proofs.leaf.backtick_fence.Goals as goal
@@ -9,3 +10,6 @@ returns-clause-fence c indent =
     let fence = c.in_ok-fence.fence in
     c.in_ok-fence.ensures.fence indent
     ∙ backticks-found indent line fence.run_length _ c.memchr.result c.in_ok-fence.ensures.run_length (rest_of line fence.run_length) c.memchr.ensures (sym c.is_some.ensures ∙ c.if-is_some.false)
+
+pub returns-then-is_some-clause-fence : goal.returns-then-is_some-clause-fence
+returns-then-is_some-clause-fence c = grind (arith, common_steps)

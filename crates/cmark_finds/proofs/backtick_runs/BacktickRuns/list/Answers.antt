@@ -1,4 +1,5 @@
 use Rattle.std.proofs.Common.{◌∙◌, ◌+◌, ap, subst, length, length-drop, arith}
+use Rattle.std.proofs.lemmas.Grind.{common_steps}
 use Rattle.cmark_scan_parts.proofs.Lists.{rest_of}
 use Rattle.cmark_finds.specs.Backticks.{AreListed}
 use Rattle.cmark_finds.proofs.Listed.{listed_next, listed_end}
@@ -20,3 +21,6 @@ pub returns : goal.returns
 returns c =
     subst (λ text. AreListed text c.loop-found.self.last.items c.args.from (length text)) c.as_bytes-bytes.ensures.value
     (listed_end c.as_bytes-bytes.result.now c.loop-found.self.last.items _ c.args.from c.loop-found.at (rest_of c.as_bytes-bytes.result.now c.loop-found.at) c.in_default.ensures c.loop-found.invariant.listed)
+
+pub loop-found-smaller : goal.loop-found-smaller
+loop-found-smaller c = grind (arith, common_steps)

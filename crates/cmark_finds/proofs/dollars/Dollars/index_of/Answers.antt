@@ -1,4 +1,5 @@
 use Rattle.std.proofs.Common.{◌≡◌, ◌+◌, ◌<◌, sym, subst, length, ℕ, List, false, arith}
+use Rattle.std.proofs.lemmas.Grind.{common_steps}
 use Rattle.std.specs.List.{prefix_len}
 use Rattle.cmark_grammar.specs.Formulas.{no_braces}
 use Rattle.cmark_finds.specs.declared.dollars.Dollar.{Dollar}
@@ -12,3 +13,6 @@ returns-after-loop-index-clause-within c =
     let listed = (listed-at 0 false no_braces c.args.text.now place place d (let q : place ≡ 0 + place = omega arith in q) c.requires.within c.requires.dollar).within in
     let within : prefix_len (stands_before place) c.args.self.now.listed.items < length c.args.self.now.listed.items = subst (λ (l : List Dollar). prefix_len (stands_before place) l < length l) (sym c.requires.listed) listed in
     omega (arith, within, c.loop-index.invariant.before)
+
+pub loop-index-preserved : goal.loop-index-preserved
+loop-index-preserved c = grind (arith, common_steps)

@@ -1,4 +1,5 @@
-use Rattle.std.proofs.Common.{◌≡◌, ◌==◌, ◌&&◌, ◌||◌, Bool, true, false, drop, refl, sym, ap, ◌∙◌, get_or, true≢false}
+use Rattle.std.proofs.Common.{◌≡◌, ◌==◌, ◌&&◌, ◌||◌, Bool, true, false, drop, refl, sym, ap, ◌∙◌, get_or, true≢false, arith}
+use Rattle.std.proofs.lemmas.Grind.{common_steps}
 use Rattle.cmark_grammar.specs.Columns.{is_blank_byte}
 use Rattle.cmark_grammar.specs.Leaves.{all_pass, is_break_of}
 use Rattle.cmark_scan.specs.LeafLines.{is_break_character, stops_break}
@@ -74,3 +75,9 @@ returns-clause-learns c character e marks stops =
     let same = character-here line.bytes.now line.taken c.in-Some.character character c.in-Some.ensures.1 e in
     let found = stop-found c.in-Some.character rest size (c.in-Some-break_stop.ensures ∙ ap (position (stops_break c.in-Some.character)) (rest_of line.bytes.now line.taken)) in
     stop-learned line.bytes.now line.taken size character found.0 (ap (λ m. get_or rest size 0 == m) (sym same) ∙ found.2)
+
+pub returns-clause-pending : goal.returns-clause-pending
+returns-clause-pending c = grind (arith, common_steps)
+
+pub returns-in_default-clause-found : goal.returns-in_default-clause-found
+returns-in_default-clause-found c = grind (arith, common_steps)

@@ -1,4 +1,5 @@
 use Rattle.std.proofs.Common.{refl, ◌∙◌, arith}
+use Rattle.std.proofs.lemmas.Grind.{elements}
 use Rattle.cmark_scan.proofs.LineStartSteps.{pending-blank, pending-within, more-blank, all-blank}
 use Rattle.cmark_scan.proofs.line_start.LineStart.scan_space_upto.Goals as goal
 
@@ -33,3 +34,6 @@ pub returns-then-width-eq0-clause-count : goal.returns-then-width-eq0-clause-cou
 returns-then-width-eq0-clause-count c at =
     let inv = c.loop-count.invariant in
     all-blank at c.args.n c.loop-count.count c.args.self.now c.loop-count.self inv.line inv.taken inv.within (inv.blank at) (c.take_blank-width.ensures.none at c.if-width-eq0.true)
+
+pub returns-then-width-eq0-clause-rest : goal.returns-then-width-eq0-clause-rest
+returns-then-width-eq0-clause-rest c = grind (arith, elements)

@@ -1,4 +1,5 @@
 use Rattle.std.proofs.Common.{◌≡◌, ◌+◌, arith}
+use Rattle.std.proofs.lemmas.Grind.{common_steps}
 use Rattle.cmark_grammar.specs.Footnotes.{columns_over}
 use Rattle.cmark_scan.specs.LineStart.{columns_from}
 use Rattle.cmark_scan.proofs.LineStartSteps.{row-further}
@@ -13,3 +14,6 @@ returns-clause-rest c at line_end =
     let further : c.loop-self.self.taken ≡ line.taken + n = let w = inv.within in let t = c.loop-self-test.false in omega (arith, w, t) in
     row-further at line_end (columns_over n (columns_from at line)) line c.loop-self.self inv.line inv.held
     (marker-taken at n line c.loop-self.self c.requires.whole inv.whole inv.line further c.requires.some c.requires.within c.requires.last)
+
+pub take_byte-requires-clause-within : goal.take_byte-requires-clause-within
+take_byte-requires-clause-within c = grind (arith, common_steps)
