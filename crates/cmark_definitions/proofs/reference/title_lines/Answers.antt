@@ -1,4 +1,5 @@
 use Rattle.std.proofs.Common.{◌≡◌, take, arith}
+use Rattle.std.proofs.lemmas.Grind.{common_steps}
 use Rattle.cmark_definitions.proofs.TitleSteps.{line_pushed, last_pushed}
 use Rattle.cmark_definitions.proofs.reference.title_lines.Goals as goal
 
@@ -13,3 +14,9 @@ loop-at-preserved c =
 
 pub returns : goal.returns
 returns c = last_pushed _ _ c.as_bytes.result.now c.loop-at.rest.now _ c.as_bytes.ensures.value c.in_default.ensures c.in_ok-push_str-3.ensures.bytes c.loop-at.invariant.pushed
+
+pub loop-at-smaller : goal.loop-at-smaller
+loop-at-smaller c = grind (arith, common_steps)
+
+pub returns-in_err-push_str-3 : goal.returns-in_err-push_str-3
+returns-in_err-push_str-3 c = grind (arith, common_steps)
