@@ -1,4 +1,5 @@
-use Rattle.std.proofs.Common.{sym}
+use Rattle.std.proofs.Common.{sym, arith}
+use Rattle.std.proofs.lemmas.Grind.{common_steps, elements}
 use Rattle.cmark_scan_parts.proofs.EntitySteps.{closes_behind, named_behind}
 use Rattle.cmark_scan_parts.proofs.Lists.{rest_of}
 use Rattle.cmark_scan_parts.proofs.Boundaries.{entity_boundary}
@@ -16,3 +17,9 @@ returns-in-35-clause-boundary g c =
 pub returns-in_default-clause-boundary : goal.returns-in_default-clause-boundary
 returns-in_default-clause-boundary g c =
     entity_boundary c.named_in.result c.args.bytes.now (named_behind c.named_in.result c.args.bytes.now c.in_ok-rest.rest.now c.named_in.ensures.closed (sym c.in_ok-rest.ensures.value))
+
+pub returns-in_default-clause-closed : goal.returns-in_default-clause-closed
+returns-in_default-clause-closed g c = grind (arith, elements)
+
+pub returns-in-35-clause-value : goal.returns-in-35-clause-value
+returns-in-35-clause-value g c = grind (arith, common_steps)

@@ -1,4 +1,5 @@
-use Rattle.std.proofs.Common.{List, None, subst}
+use Rattle.std.proofs.Common.{List, None, subst, arith}
+use Rattle.std.proofs.lemmas.Grind.{common_steps}
 use Rattle.memchr.specs.Find.{IsFirstByte, is_byte2}
 use Rattle.cmark_scan_parts.specs.Shown.{shown_entity}
 use Rattle.cmark_scan_parts.proofs.Unescaping.{behind_mark, found_in, past_mark, passed_all}
@@ -21,3 +22,6 @@ loop-at-preserved g c = record {
 
 pub returns : goal.returns
 returns g c = passed_all _ c.args.text.now c.loop-at.rest.now (subst (λ (l : List _). IsFirstByte (is_byte2 38 92) l None) c.as_bytes.ensures.value c.in_default.ensures) c.loop-at.invariant.passed
+
+pub overflow_sub-start : goal.overflow_sub-start
+overflow_sub-start g c = grind (arith, common_steps)

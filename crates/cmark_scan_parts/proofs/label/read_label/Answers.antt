@@ -1,4 +1,5 @@
 use Rattle.std.proofs.Common.{◌≡◌, ◌+◌, ◌-◌, ◌<◌, ◌||◌, ◌++◌, ◌∷◌, [], true, false, not, List, ℕ, Some, length, take, drop, get_or, string_bytes, sym, ap, subst, ◌∙◌, arith, length-append}
+use Rattle.std.proofs.lemmas.Grind.{common_steps}
 use Rattle.std.specs.Char.{is_ascii_whitespace}
 use Rattle.std.specs.Prelude.{option_map}
 use Rattle.std.proofs.Math.ListN.{drop_of_length-le}
@@ -193,3 +194,15 @@ returns-clause-value g c = λ prefix answers.
     let end : drop at text ≡ [] = drop_of_length-le text (let l = c.loop-at-test.false in let e = ap length c.as_bytes-bytes.ensures.value in omega (arith, l, e)) in
     no_rest prefix text
     (label_fails _ _ (so_far (string_bytes c.loop-at.copied) text c.loop-at.mark at) (c.loop-at.invariant.reads prefix answers) (ap (up_to_bracket prefix c.loop-at.escaped 0) end))
+
+pub returns-clause-borrowed : goal.returns-clause-borrowed
+returns-clause-borrowed g c = grind (arith, common_steps)
+
+pub returns-clause-short : goal.returns-clause-short
+returns-clause-short g c = grind (arith, common_steps)
+
+pub returns-in_default-clause-boundary : goal.returns-in_default-clause-boundary
+returns-in_default-clause-boundary g c = grind (arith, common_steps)
+
+pub returns-then-count-gt999-clause-short : goal.returns-then-count-gt999-clause-short
+returns-then-count-gt999-clause-short g c = grind (arith, common_steps)

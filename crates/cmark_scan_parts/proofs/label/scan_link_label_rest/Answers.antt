@@ -1,4 +1,5 @@
 use Rattle.std.proofs.Common.{◌≡◌, length, sym, ap, subst, arith}
+use Rattle.std.proofs.lemmas.Grind.{common_steps}
 use Rattle.cmark_grammar.specs.LabelsOverLines.{with_literal_pipes}
 use Rattle.cmark_text_parts.specs.Shown.{text_bytes}
 use Rattle.cmark_scan_parts.specs.Shown.{IsBorrowed}
@@ -15,3 +16,6 @@ returns-clause-borrowed g c whole =
     let none : with_literal_pipes (text_bytes label.text) ≡ text_bytes label.text = none_left_out (text_bytes label.text) (omega (arith, short, left, whole)) in
     let is = ok_same _ _ (c.in_ok-with_literal_pipes.ensures.kept none) in
     subst IsBorrowed (sym is) (borrowed (let same = ap length none in omega (arith, left, whole, same)))
+
+pub returns-clause-boundary : goal.returns-clause-boundary
+returns-clause-boundary g c = grind (arith, common_steps)

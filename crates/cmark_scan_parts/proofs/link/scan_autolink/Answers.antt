@@ -1,4 +1,5 @@
 use Rattle.std.proofs.Common.{◌≡◌, ◌-◌, ◌<◌, ℕ, suc, List, Some, length, take, drop, ap, subst, ◌∙◌, arith}
+use Rattle.std.proofs.lemmas.Grind.{common_steps}
 use Rattle.cmark_grammar.specs.Autolinks.{autolink_in}
 use Rattle.cmark_grammar.specs.LinkDefinitions.{Parsed}
 use Rattle.cmark_scan_parts.specs.Shown.{cut_at}
@@ -24,3 +25,9 @@ pub returns-clause-boundary : goal.returns-clause-boundary
 returns-clause-boundary c =
     let rest = rest_of c.as_bytes.result.now c.args.start_ix ∙ ap (drop c.args.start_ix) c.as_bytes.ensures.value in
     boundary_behind c.args.text.now _ c.args.start_ix c.in_ok-size.size 62 c.utf8.text rest c.in_ok-size.ensures.within c.in_ok-size.ensures.closed (omega arith)
+
+pub range-requires-clause-end_boundary : goal.range-requires-clause-end_boundary
+range-requires-clause-end_boundary c = grind (arith, common_steps)
+
+pub returns-in_err-size-clause-value : goal.returns-in_err-size-clause-value
+returns-in_err-size-clause-value c = grind (arith, common_steps)

@@ -1,4 +1,5 @@
 use Rattle.std.proofs.Common.{◌≡◌, ◌+◌, ◌-◌, ℕ, suc, List, Option, None, Some, take, drop, refl, sym, ap, subst, ◌∙◌, arith, eqb-true}
+use Rattle.std.proofs.lemmas.Grind.{elements}
 use Rattle.std.proofs.lemmas.List.{length-take, get_or-take}
 use Rattle.std.specs.Prelude.{option_map}
 use Rattle.memchr.specs.Find.{IsFirstByte, is_byte}
@@ -40,3 +41,6 @@ returns-clause-boundary c =
     let lt = first.0.high in
     let shorter = length-take c.args.len (drop start text) in
     boundary_behind text (drop start text) start size 124 c.utf8.text refl (omega arith) (sym (get_or-take c.args.len (drop start text) size 0 (omega arith)) ∙ eqb-true _ 124 first.1) (omega arith)
+
+pub range-requires-clause-end_boundary : goal.range-requires-clause-end_boundary
+range-requires-clause-end_boundary c = grind (arith, elements)
