@@ -1,4 +1,5 @@
 use Rattle.std.proofs.Common.{◌≡◌, ◌≤◌, [], sym, ap, ◌∙◌, arith}
+use Rattle.std.proofs.lemmas.Grind.{common_steps}
 use Rattle.cmark_text_parts.specs.Shown.{shown_options}
 use Rattle.cmark_grammar.specs.Rows.{indent_of}
 use Rattle.cmark_grammar.specs.Openings.{Nests, or_else, nests_if, metadata_begun, leaf_of, opens}
@@ -67,3 +68,6 @@ returns-clause-opens c ahead =
 
 pub returns-clause-placed : goal.returns-clause-placed
 returns-clause-placed c text placed = c.leaf_opening.ensures.placed text
+
+pub returns-clause-info_placed : goal.returns-clause-info_placed
+returns-clause-info_placed c = grind (arith, common_steps)
