@@ -1,4 +1,4 @@
-use Rattle.std.proofs.Common.{◌∙◌, map, sym, ap, subst}
+use Rattle.std.proofs.Common.{◌∙◌, map, sym, ap, subst, rules}
 use Rattle.clap.specs.Words.{App, HasKind, fault_of, is_simple_and_free, kind_of, takes}
 use Rattle.mdhtml_settings.specs.Line.{bits_given, file_given, flags, line_command}
 use Rattle.mdhtml_settings.proofs.LineSteps.{is_memory, may_fail, rows_are, simple_and_free}
@@ -27,3 +27,6 @@ pub returns-in-Err-clause-passes : goal.returns-in-Err-clause-passes
 returns-in-Err-clause-passes g c taken =
     is_memory (kind_of c.in-Err.error) c.line_fault.result
     (c.in-Err.ensures.passes (ap (λ (a : App). takes a (map g.S.AsStr.text c.args.words.now)) c.in_ok-command.ensures ∙ taken)) c.line_fault.ensures
+
+pub drop-matches-requires-in-Ok : goal.drop-matches-requires-in-Ok
+drop-matches-requires-in-Ok g c κs = search (rules, c.requires)
