@@ -21,7 +21,7 @@ use Rattle.cmark_builder.proofs.DrawnSteps.{draws-open, draws-text}
 use Rattle.cmark_grammar.specs.Columns.{indent, without_indent}
 use Rattle.cmark_grammar.specs.Rows.{words_of, start_of}
 use Rattle.cmark_grammar.specs.Tokens.{slice}
-use Rattle.cmark_scan.specs.declared.leaf.CodeFence.{CodeFence}
+use Rattle.cmark_scan_blocks.specs.declared.leaf.CodeFence.{CodeFence}
 use Rattle.cmark_lines.specs.Opened.{InfoStands}
 use Rattle.cmark_lines.specs.Rests.{row_of}
 use Rattle.cmark_lines.specs.declared.line_rest.LineRest.{LineRest}

@@ -12,8 +12,8 @@ use Rattle.cmark_tree.specs.Tree.{Holds, entry_at, HasNode, spine_of}
 use Rattle.cmark_tree.proofs.StandsLemmas.{Stands-inner, Stands-right}
 use Rattle.cmark_tree.proofs.Entries.{node_at-within}
 use Rattle.cmark_items.specs.declared.item.Item.{Item}
-use Rattle.cmark_scan.specs.LineStart.{row_from}
-use Rattle.cmark_scan.specs.declared.line_start.LineStart.{LineStart}
+use Rattle.cmark_scan_blocks.specs.LineStart.{row_from}
+use Rattle.cmark_scan_blocks.specs.declared.line_start.LineStart.{LineStart}
 use Rattle.cmark_blocks.specs.Prefixes.{container_in, in_front, containers_of, LineKeepers, one_more, kept_if, kept}
 use Rattle.cmark_grammar.specs.Options.{Options}
 

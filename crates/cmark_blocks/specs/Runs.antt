@@ -12,7 +12,7 @@ use Rattle.cmark_builder.specs.Drawn.{Draws}
 use Rattle.cmark_lines.specs.Rests.{row_of}
 use Rattle.cmark_lines.specs.declared.line_rest.LineRest.{LineRest}
 use Rattle.cmark_text_parts.specs.Shown.{shown_metadata_block_kind, shown_options}
-use Rattle.cmark_scan.specs.HtmlLines.{kind_number}
+use Rattle.cmark_scan_blocks.specs.HtmlLines.{kind_number}
 use Rattle.cmark_grammar.specs.Leaves.{Fence}
 use Rattle.cmark_leaves.specs.Stretches.{shown_waits}
 use Rattle.cmark_leaves.specs.declared.stretch.Stretch.{Stretch}

@@ -12,7 +12,7 @@ ghost use Rattle.cmark_grammar.specs.Rows.{words_of};
 ghost use Rattle.cmark_grammar.specs.Tokens.{resolved};
 ghost use Rattle.cmark_lines.specs.Opened.{InfoStands};
 ghost use Rattle.cmark_text_parts.specs.Shown.{text_bytes};
-ghost use Rattle.cmark_scan.specs.LeafLines.{shown_fence};
+ghost use Rattle.cmark_scan_blocks.specs.LeafLines.{shown_fence};
 ghost use Rattle.cmark_block_model.specs.BlockPass.{is_some};
 
 use crate::state::{OpenLeaf, Pass};

@@ -2,7 +2,7 @@
 
 ghost use Rattle.std.specs.Prelude.{◌≡◌, ℕ, OnOk, false};
 ghost use Rattle.cmark_grammar.specs.Openings.{HtmlBlock};
-ghost use Rattle.cmark_scan.specs.HtmlLines.{kind_number};
+ghost use Rattle.cmark_scan_blocks.specs.HtmlLines.{kind_number};
 
 use crate::state::{OpenLeaf, Pass};
 use cmark_items::ItemBody;

@@ -6,13 +6,13 @@ ghost use Rattle.cmark_grammar.specs.Rows.{begin_of};
 ghost use Rattle.cmark_text_parts.specs.Shown.{shown_options};
 ghost use Rattle.cmark_tree.specs.Zip.{Zip};
 ghost use Rattle.cmark_tree.specs.Tree.{Holds, IsTree};
-ghost use Rattle.cmark_scan.specs.LineStart.{row_from, line_of};
+ghost use Rattle.cmark_scan_blocks.specs.LineStart.{row_from, line_of};
 ghost use Rattle.cmark_blocks.specs.Prefixes.{shown_container, container_in, containers_of, kept};
 
 use bitflags::Flags;
 use cmark_items::{Item, ItemBody};
 use cmark_lines::Container;
-use cmark_scan::LineStart;
+use cmark_scan_blocks::LineStart;
 use cmark_text_parts::Options;
 use cmark_tree::Tree;
 

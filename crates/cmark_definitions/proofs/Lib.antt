@@ -1,4 +1,1 @@
-pub mod DestinationSteps
-pub mod RestSteps
 pub mod SettledSteps
-pub mod TitleSteps

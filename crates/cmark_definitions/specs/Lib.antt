@@ -1,3 +1,2 @@
-pub mod Rests
 pub mod Settled
 pub mod Shown

@@ -8,10 +8,6 @@ use Rattle.cmark_text_parts.specs.declared.label.LinkLabel.{LinkLabel}
 use Rattle.cmark_items.specs.declared.definitions.LinkDef.{LinkDef}
 use Rattle.cmark_definitions.specs.declared.definition.Definition.{Definition}
 use Rattle.cmark_definitions.specs.declared.definition.Read.{Read}
-use Rattle.cmark_definitions.specs.declared.part.Part.{Part}
-
-abbrev pub shown_part : Part → definitions.Parsed
-shown_part part = record { bytes = part.part.now; behind = part.behind.now }
 
 abbrev pub shown_read : Read → definitions.Defined
 shown_read read = definitions.defined read.label.now read.destination.now (option_copied read.title) read.behind.now

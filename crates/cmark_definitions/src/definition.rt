@@ -3,12 +3,11 @@
 ghost use Rattle.std.specs.Prelude.{◌≡◌, IfSome, option_map};
 ghost use Rattle.std.specs.Str.{IsCharBoundary};
 ghost use Rattle.cmark_grammar.specs.LinkDefinitions.{behind_separator, destination_in, title_in, untitled, titled, with_destination, definition_in};
-ghost use Rattle.cmark_definitions.specs.Rests.{IsRest};
-ghost use Rattle.cmark_definitions.specs.Shown.{shown_part, shown_read, shown_definition};
+ghost use Rattle.cmark_definitions.specs.Shown.{shown_read, shown_definition};
+ghost use Rattle.cmark_links.specs.Rests.{IsRest};
+ghost use Rattle.cmark_links.specs.Shown.{shown_part};
 
-use crate::blank::{behind_byte, behind_separator, is_line_done};
-use crate::label::label_in;
-use crate::part::{Part, destination_in, title_in};
+use cmark_links::{Part, behind_byte, behind_separator, destination_in, is_line_done, label_in, title_in};
 
 /// A link reference definition as it is written (CommonMark 4.7).
 #[derive(Clone, Copy)]

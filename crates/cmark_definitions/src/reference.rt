@@ -1,37 +1,20 @@
 //! Link reference definitions as a table keeps them.
 
-ghost use Rattle.std.specs.Prelude.{◌≡◌, ◌<◌, false, length, string_bytes, IfOk, option_map, option_copied};
+ghost use Rattle.std.specs.Prelude.{◌≡◌, IfOk, option_map, option_copied};
 ghost use Rattle.cmark_grammar.specs.Derivation.{title_of, reference_of};
 ghost use Rattle.cmark_grammar.specs.Labels.{fold};
-ghost use Rattle.cmark_grammar.specs.Tokens.{resolved, title_lines};
+ghost use Rattle.cmark_grammar.specs.Tokens.{resolved};
 ghost use Rattle.cmark_text_parts.specs.Labelled.{link_key};
 ghost use Rattle.cmark_text_parts.specs.Shown.{text_bytes};
 ghost use Rattle.cmark_definitions.specs.Shown.{written, shown_reference};
 
-use crate::blank::behind_separator;
 use crate::definition::Definition;
 use cmark_items::LinkDef;
+use cmark_links::title_lines;
 use cmark_scan_parts::unescape;
 use cmark_text_parts::{CowStr, EntityLookup, LinkLabel};
-use memchr::memchr2;
 use std::alloc::{AllocError, Global};
 use std::ops::Range;
-
-/// The lines of a title: each line ending and the blanks behind it are one line feed (this profile's own). Fails only where memory is
-/// refused.
-pub fn title_lines(alloc: Global, title: &str) -> Result<String, AllocError>
-    ensures { IfOk result (λ lines. string_bytes lines ≡ title_lines false title.now) }
-{
-    let mut lines = String::new(alloc);
-    let mut rest = title;
-    while let Some(at) = memchr2(b'\n', b'\r', rest.as_bytes()) {
-        lines.push_str(&rest[..at])?;
-        lines.push_str("\n")?;
-        rest = behind_separator(&rest[at..]);
-    }
-    lines.push_str(rest)?;
-    Ok(lines)
-}
 
 /// A text without its escapes and entities, in a value that borrows nothing.
 fn owned_text<E: EntityLookup>(

@@ -5,12 +5,11 @@ ghost use Rattle.cmark_grammar.specs.Leaves.{is_empty};
 ghost use Rattle.cmark_grammar.specs.Letters.{first_is};
 ghost use Rattle.cmark_grammar.specs.LinkDefinitions.{behind_blanks, definition_in};
 ghost use Rattle.cmark_definitions.specs.Settled.{ends_in, title_ends, end_settles, lacks_colon, label_settles, settles, IsSettled};
-ghost use Rattle.cmark_definitions.specs.Shown.{shown_definition, shown_part};
+ghost use Rattle.cmark_definitions.specs.Shown.{shown_definition};
+ghost use Rattle.cmark_links.specs.Shown.{shown_part};
 
-use crate::blank::{behind_blanks, behind_byte, behind_separator};
 use crate::definition::scan_definition;
-use crate::label::label_in;
-use crate::part::Part;
+use cmark_links::{Part, behind_blanks, behind_byte, behind_separator, label_in};
 use cmark_scan_parts::bytes::escapes_next;
 
 /// Whether a closer or a refused byte stands in these bytes that no backslash escapes.

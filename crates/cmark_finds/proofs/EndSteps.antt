@@ -7,8 +7,6 @@ use Rattle.memchr.specs.Find.{IsFirstByte, is_byte2}
 use Rattle.cmark_grammar.specs.CodeSpans.{with_line_ends}
 use Rattle.cmark_grammar.specs.InlineHtml.{takes_lines}
 use Rattle.cmark_grammar.specs.Lines.{begins_with_line_feed, ending_len}
-use Rattle.cmark_grammar.specs.Tokens.{title_lines}
-use Rattle.cmark_definitions.proofs.TitleSteps.{plain_byte as plain_title_byte}
 use Rattle.cmark_scan_parts.proofs.Boundaries.{boundary_behind}
 use Rattle.cmark_scan_parts.proofs.Lists.{or_false}
 use Rattle.cmark_finds.specs.Ends.{HasNoEnd, EndsLine}
@@ -63,11 +61,6 @@ module _ (mark : List ℕ) where
       (λ t. subst (λ (c : ℕ). with_line_ends mark (c ∷ bs) ≡ mark ++ with_line_ends mark (drop (ending_len (c ∷ bs)) (c ∷ bs))) (sym (eqb-true b 10 t)) (feed_ends bs))
       (λ t. subst (λ (c : ℕ). with_line_ends mark (c ∷ bs) ≡ mark ++ with_line_ends mark (drop (ending_len (c ∷ bs)) (c ∷ bs))) (sym (eqb-true b 13 t)) (return_ends bs))
       (or_cases (b == 10) (b == 13) e)
-
--- a title of one line stands as it is
-pub one_line : (bs : List ℕ) → takes_lines bs ≡ false → title_lines false bs ≡ bs
-one_line [] e = refl
-one_line (b ∷ bs) e = let h = or_false (is_byte2 10 13 b) (takes_lines bs) e in plain_title_byte b bs h.0 ∙ ap (λ l. b ∷ l) (one_line bs h.1)
 
 -- the last byte of a line ending
 record EndsWithin (bs : List ℕ) : Type 0 where

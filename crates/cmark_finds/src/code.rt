@@ -4,9 +4,8 @@ ghost use Rattle.std.specs.Prelude.{◌≡◌, ◌≤◌, not, count_by, None, f
 ghost use Rattle.std.specs.Str.{IsCharBoundary};
 ghost use Rattle.cmark_grammar.specs.CodeSpans.{backticks, up_to_run, code_in, is_space, is_padded, without_padding, code_text};
 ghost use Rattle.cmark_grammar.specs.InlineHtml.{takes_lines};
-ghost use Rattle.cmark_scan_parts.specs.Shown.{IsBorrowed};
 ghost use Rattle.cmark_text_parts.specs.Shown.{text_bytes};
-ghost use Rattle.cmark_text_parts.specs.Lending.{IsPartIfBorrowed, IsPartOf};
+ghost use Rattle.cmark_text_parts.specs.Lending.{IsBorrowed, IsPartIfBorrowed, IsPartOf};
 ghost use Rattle.cmark_finds.specs.Shown.{shown_code, IsCodeAt, ClosesFirst};
 
 use crate::line_end::{has_line_ending, with_line_ends};

@@ -18,9 +18,10 @@ use Rattle.cmark_grammar.specs.Options.{Options}
 use Rattle.cmark_grammar.specs.Tokens.{slice, Entity, entity_in, is_punctuation}
 use Rattle.cmark_text_parts.specs.Shown.{text_bytes}
 use Rattle.cmark_text_parts.specs.declared.text.CowStr.{CowStr}
-use Rattle.cmark_finds.specs.Shown.{shown_break, shown_code, IsBreakAt, IsCodeAt}
-use Rattle.cmark_finds.specs.declared.breaks.LineBreak as find
+use Rattle.cmark_finds.specs.Shown.{shown_code, IsCodeAt}
 use Rattle.cmark_finds.specs.declared.code.CodeSpan.{CodeSpan}
+use Rattle.cmark_links.specs.Shown.{shown_break, IsBreakAt}
+use Rattle.cmark_links.specs.declared.breaks.LineBreak as find
 use Rattle.cmark_inline.specs.Tokens.{whole, reading, begins_at, read_on, Says, IsItem, Puts, BeginsThere, Appends, Escapes, EscapesPipe, TakesEscaped}
 use Rattle.cmark_slots.specs.Slots.{byte_slots, PushesText}
 use Rattle.cmark_slots.specs.declared.slot.Slot.{Slot}

@@ -21,8 +21,8 @@ use Rattle.cmark_grammar.specs.Readers.{Reader}
 use Rattle.cmark_grammar.specs.Tags.{behind_ending}
 use Rattle.cmark_grammar.specs.Tokens.{entity_in, is_punctuation, slice}
 use Rattle.cmark_scan_parts.proofs.Lists.{rest_of}
-use Rattle.cmark_finds.specs.Shown.{shown_break}
-use Rattle.cmark_finds.specs.declared.breaks.LineBreak as find
+use Rattle.cmark_links.specs.Shown.{shown_break}
+use Rattle.cmark_links.specs.declared.breaks.LineBreak as find
 use Rattle.cmark_inline.specs.Tokens.{whole, reading, begins_at, read_on}
 use Rattle.cmark_inline.proofs.Bytes.{blanks-are, behind-are}
 

@@ -2,7 +2,7 @@
 
 ghost use Rattle.std.specs.Prelude.{◌≡◌, false, ◌<◌, ◌≤◌, ◌+◌, ◌++◌, ◌∷◌, ℕ, List, [], drop, length, is_some, IfOk, OnOk, IfSome, None, Some, option_copied, option_map};
 ghost use Rattle.std.specs.Str.{IsCharBoundary};
-ghost use Rattle.cmark_finds.specs.Shown.{shown_label};
+ghost use Rattle.cmark_links.specs.Shown.{shown_label};
 ghost use Rattle.cmark_grammar.specs.BracketDecisions.{is_there};
 ghost use Rattle.cmark_grammar.specs.Labels.{fold, normal_form};
 ghost use Rattle.cmark_grammar.specs.LinkTails.{reference_label_in};
@@ -23,8 +23,8 @@ use crate::reference::label_text;
 use crate::state::InlineState;
 use crate::step::Cursor;
 use bitflags::Flags;
-use cmark_definitions::behind_byte;
-use cmark_finds::{Label, has_line_ending, is_bracketed_label, link_tail, reference_label};
+use cmark_finds::has_line_ending;
+use cmark_links::{Label, behind_byte, is_bracketed_label, link_tail, reference_label};
 use cmark_items::FootnoteDefs;
 use cmark_leaf_text::LeafText;
 use cmark_slots::bracket::Bracket;

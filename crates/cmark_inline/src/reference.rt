@@ -19,7 +19,7 @@ use crate::footnote::{full_label, is_footnote_label};
 use crate::link::Target;
 use crate::read::Reader;
 use crate::state::InlineState;
-use cmark_finds::{collapsed_end, is_bracketed_label};
+use cmark_links::{collapsed_end, is_bracketed_label};
 use cmark_items::{Link, RefDefs};
 use cmark_leaf_text::LeafText;
 use cmark_scan_parts::with_literal_pipes;

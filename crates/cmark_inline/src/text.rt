@@ -14,7 +14,7 @@ use crate::place::{
 };
 use crate::state::InlineState;
 use crate::step::Cursor;
-use cmark_finds::line_break;
+use cmark_links::line_break;
 use cmark_scan_parts::scan_entity;
 use cmark_slots::slot::{Slot, SlotKind};
 use cmark_text::EntityLookup;

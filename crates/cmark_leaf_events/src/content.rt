@@ -5,9 +5,8 @@ ghost use Rattle.cmark_grammar.specs.CodeSpans.{code_text};
 ghost use Rattle.cmark_grammar.specs.InlineHtml.{takes_lines};
 ghost use Rattle.cmark_grammar.specs.InlineTokens.{without_pipe_escapes};
 ghost use Rattle.cmark_leaf_text.specs.Reads.{IsPart, IsRead, source_of, text_of};
-ghost use Rattle.cmark_scan_parts.specs.Shown.{IsBorrowed};
 ghost use Rattle.cmark_text_parts.specs.Shown.{IsBoxed, IsInlined, text_bytes};
-ghost use Rattle.cmark_text_parts.specs.Lending.{IsPartIfBorrowed};
+ghost use Rattle.cmark_text_parts.specs.Lending.{IsBorrowed, IsPartIfBorrowed};
 ghost use Rattle.cmark_leaf_events.specs.Contents.{IsInLeaf, IsUnbroken, read_as, written};
 
 use cmark_finds::code_text;

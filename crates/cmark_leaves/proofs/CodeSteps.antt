@@ -13,7 +13,7 @@ use Rattle.cmark_builder.specs.declared.builder.Builder.{Builder}
 use Rattle.cmark_builder.specs.Drawn.{Draws}
 use Rattle.cmark_builder.specs.Ended.{item_at}
 use Rattle.cmark_builder.proofs.DrawnSteps.{draws-add}
-use Rattle.cmark_scan.specs.LineStart.{columns_taken, cut_columns}
+use Rattle.cmark_scan_blocks.specs.LineStart.{columns_taken, cut_columns}
 use Rattle.cmark_lines.specs.Rests.{row_of}
 use Rattle.cmark_lines.specs.declared.line_rest.LineRest.{LineRest}
 use Rattle.cmark_leaves.specs.declared.stretch.Stretch.{Stretch}

@@ -5,7 +5,7 @@ use Rattle.cmark_grammar.specs.Columns.{Column, tab, expand, tab_columns, to_tab
 use Rattle.cmark_grammar.specs.Rows.{begin_of, start_of}
 use Rattle.cmark_grammar.specs.Tokens.{slice, line_columns, end_place}
 use Rattle.cmark_grammar.proofs.RowPlaces.{Runs, Runs-le, drop-Runs}
-use Rattle.cmark_scan.specs.LineStart.{columns_taken}
+use Rattle.cmark_scan_blocks.specs.LineStart.{columns_taken}
 use Rattle.cmark_lines.proofs.RestSteps.{rest-runs}
 use Rattle.cmark_lines.specs.Rests.{row_of}
 use Rattle.cmark_lines.specs.declared.line_rest.LineRest.{LineRest}

@@ -5,7 +5,7 @@ use Rattle.cmark_grammar.specs.TableRows.{cells_of, cells_start}
 use Rattle.cmark_grammar.specs.Tables.{without_first_pipe}
 use Rattle.cmark_grammar.specs.TableTokens.{cell_tokens, cells_then, row_cells}
 use Rattle.cmark_grammar.specs.Rows.{Row, start_of, words_of}
-use Rattle.cmark_scan.specs.TableCells.{cells_behind}
+use Rattle.cmark_scan_blocks.specs.TableCells.{cells_behind}
 use Rattle.cmark_lines.specs.Rests.{row_of}
 use Rattle.cmark_lines.specs.declared.line_rest.LineRest.{LineRest}
 use Rattle.cmark_block_model.specs.Drawing.{Drawing, drawn}

@@ -10,13 +10,13 @@ ghost use Rattle.cmark_grammar.specs.TableTokens.{cell_tokens, cells_then, row_c
 ghost use Rattle.cmark_block_model.specs.Drawing.{Drawing, drawn};
 ghost use Rattle.cmark_builder.specs.Drawn.{Draws};
 ghost use Rattle.cmark_lines.specs.Rests.{row_of};
-ghost use Rattle.cmark_scan.specs.TableCells.{cells_behind};
+ghost use Rattle.cmark_scan_blocks.specs.TableCells.{cells_behind};
 
 use crate::words::draw_words;
 use cmark_builder::Builder;
 use cmark_items::ItemBody;
 use cmark_lines::LineRest;
-use cmark_scan::{cells_in_row, next_cell};
+use cmark_scan_blocks::{cells_in_row, next_cell};
 use cmark_scan_parts::bytes::{count_blanks, without_trailing_blanks};
 use std::alloc::AllocError;
 

@@ -5,8 +5,8 @@ use Rattle.cmark_grammar.specs.Options.{Options}
 use Rattle.cmark_grammar.specs.Rows.{Row, without, words_of}
 use Rattle.cmark_grammar.specs.TaskItems.{task_in}
 use Rattle.cmark_grammar.specs.TaskMarkers.{task_of}
-use Rattle.cmark_scan.specs.LineMarkers as scanned
-use Rattle.cmark_scan.specs.LineMarkers.{is_flush, behind_task}
+use Rattle.cmark_scan_blocks.specs.LineMarkers as scanned
+use Rattle.cmark_scan_blocks.specs.LineMarkers.{is_flush, behind_task}
 
 -- the marker that was scanned counts where task markers are asked for
 pub scanned-task : (options : Options) (r : Row) → options.tasklists ≡ true → scanned.task_in r ≡ task_in options r

@@ -14,8 +14,8 @@ use Rattle.cmark_lines.specs.declared.line_rest.LineRest.{LineRest}
 use Rattle.cmark_lines.proofs.RestSteps.{in-moved}
 use Rattle.cmark_grammar.specs.DefinitionLists.{definition_width, definition_marker}
 use Rattle.cmark_grammar.specs.Rows.{Row, without, indent_of, words_of}
-use Rattle.cmark_scan.specs.LineMarkers.{is_flush, definition_in, behind_definition, sum_up_to_most}
-use Rattle.cmark_scan.proofs.PrefixSteps.{shallow, taken-all, flat, same-words, deep, width-widened}
+use Rattle.cmark_scan_blocks.specs.LineMarkers.{is_flush, definition_in, behind_definition, sum_up_to_most}
+use Rattle.cmark_scan_blocks.proofs.PrefixSteps.{shallow, taken-all, flat, same-words, deep, width-widened}
 use Rattle.cmark_lines.specs.Definitions.{definition_behind, width_of, EntersDefinition}
 use Rattle.cmark_lines.proofs.PrefixRows.{shallow-is, padding-few}
 

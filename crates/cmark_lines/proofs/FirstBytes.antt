@@ -12,7 +12,7 @@ use Rattle.cmark_grammar.specs.Leaves.{all_pass, is_parted, run, is_break_of, is
 use Rattle.cmark_grammar.specs.Letters.{first_is, is_letter}
 use Rattle.cmark_grammar.specs.Openings.{leaf_of, text_of}
 use Rattle.cmark_grammar.specs.Rows.{Row, indent_of, words_of}
-use Rattle.cmark_scan.specs.LeafLines.{atx_level}
+use Rattle.cmark_scan_blocks.specs.LeafLines.{atx_level}
 use Rattle.cmark_lines.specs.Starts.{begun_container, begun_footnote, is_letter_or_pipe}
 use Rattle.cmark_lines.proofs.FootnoteStarts.{begun-other}
 use Rattle.cmark_lines.proofs.OpeningRows.{leaf-text}

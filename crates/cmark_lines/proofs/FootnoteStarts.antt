@@ -10,9 +10,9 @@ use Rattle.cmark_grammar.specs.LinkDefinitions.{Parsed}
 use Rattle.cmark_grammar.specs.Options.{Options}
 use Rattle.cmark_grammar.specs.Rows.{Row, without, indent_of, words_of}
 use Rattle.cmark_scan_parts.specs.Footnotes.{marked, IsClosed}
-use Rattle.cmark_scan.specs.LineMarkers.{footnote_at, behind_footnote}
-use Rattle.cmark_scan.proofs.FootnoteRows.{flush-of}
-use Rattle.cmark_scan.proofs.PrefixSteps.{shallow, taken-all, flat, same-words, deep}
+use Rattle.cmark_scan_blocks.specs.LineMarkers.{footnote_at, behind_footnote}
+use Rattle.cmark_scan_blocks.proofs.FootnoteRows.{flush-of}
+use Rattle.cmark_scan_blocks.proofs.PrefixSteps.{shallow, taken-all, flat, same-words, deep}
 use Rattle.cmark_lines.specs.Starts.{shown_footnote, begun_footnote, begun_marked, begun_label, begun_container}
 
 -- behind up to three columns the marker is the one that the grammar sees on the whole line

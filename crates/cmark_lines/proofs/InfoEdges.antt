@@ -11,8 +11,8 @@ use Rattle.cmark_grammar.specs.Rows.{Row, words_of, begin_of, start_of}
 use Rattle.cmark_grammar.specs.Leaves.{run, trimmed, fence_with, fence_of}
 use Rattle.cmark_grammar.proofs.RowPlaces.{Runs, drop-Runs}
 use Rattle.cmark_grammar.proofs.RowEdges.{AreGood, Front, front-add, prefix-front, IsAsciiByte, run-front, blank-ascii, drop-good, start-E}
-use Rattle.cmark_scan.specs.LeafLines.{shown_fence, HasPlace}
-use Rattle.cmark_scan.specs.declared.leaf.CodeFence.{CodeFence}
+use Rattle.cmark_scan_blocks.specs.LeafLines.{shown_fence, HasPlace}
+use Rattle.cmark_scan_blocks.specs.declared.leaf.CodeFence.{CodeFence}
 use Rattle.cmark_lines.specs.Rests.{CutsNoCharacter}
 use Rattle.cmark_lines.specs.Opened.{InfoStands}
 use Rattle.cmark_lines.proofs.RestSteps.{runs-bytes}

@@ -13,8 +13,8 @@ use Rattle.cmark_grammar.proofs.RowPlaces.{Runs, first_place-Runs, expand-Runs}
 use Rattle.cmark_grammar.proofs.RowEdges.{AreGood, GoodRow, GoodRows}
 use Rattle.cmark_grammar.proofs.BoundaryLaws.{text-good}
 use Rattle.cmark_grammar.proofs.ColumnSteps.{bytes_of-expand}
-use Rattle.cmark_scan.specs.LineStart.{columns_from, row_from, line_of}
-use Rattle.cmark_scan.specs.declared.line_start.LineStart.{LineStart}
+use Rattle.cmark_scan_blocks.specs.LineStart.{columns_from, row_from, line_of}
+use Rattle.cmark_scan_blocks.specs.declared.line_start.LineStart.{LineStart}
 use Rattle.cmark_scan_parts.proofs.Lists.{rest_of}
 use Rattle.cmark_lines.specs.Rests.{no_row}
 

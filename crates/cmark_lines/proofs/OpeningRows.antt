@@ -18,7 +18,7 @@ use Rattle.cmark_grammar.specs.TableRows.{table_head}
 use Rattle.cmark_grammar.specs.MetadataBlockKind.{MetadataBlockKind}
 use Rattle.cmark_grammar.proofs.BlockLaws.{marker_len}
 use Rattle.cmark_grammar.proofs.RowEdges.{marker-good}
-use Rattle.cmark_scan.specs.LeafLines.{atx_level}
+use Rattle.cmark_scan_blocks.specs.LeafLines.{atx_level}
 use Rattle.cmark_lines.specs.Rests.{row_of, IsIn}
 use Rattle.cmark_lines.specs.Opened.{bracket_of}
 use Rattle.cmark_lines.specs.Starts.{begun_item, begun_container, begun_marked, block_quote_entered}

@@ -16,7 +16,7 @@ use Rattle.cmark_grammar.specs.Alerts.{alert_in}
 use Rattle.cmark_grammar.specs.Footnotes.{Footnotes, footnotes_in, do_interrupt, footnote_in, behind_caret, is_label_found}
 use Rattle.cmark_grammar.specs.Openings.{footnote_interrupts, item_interrupts, is_some_fence, html_interrupts, interrupts, table_if, leaf_of}
 use Rattle.cmark_grammar.specs.TableRows.{begins_with_pipe, is_some_head, table_head, table_interrupts}
-use Rattle.cmark_scan.specs.LeafLines.{atx_level}
+use Rattle.cmark_scan_blocks.specs.LeafLines.{atx_level}
 use Rattle.cmark_lines.specs.Starts.{begun_item, begun_marked, is_letter_or_pipe}
 use Rattle.cmark_lines.proofs.OpeningRows.{leaf-plain, no-bracket}
 

@@ -6,8 +6,8 @@ use Rattle.cmark_grammar.specs.Columns.{Column, indent, without_indent}
 use Rattle.cmark_grammar.specs.Rows.{Row, without, indent_of, words_of, is_bare}
 use Rattle.cmark_grammar.specs.Leaves.{is_parted, is_thematic_break}
 use Rattle.cmark_grammar.specs.Containers.{Container, BlockQuote, Item, Footnote, ListDefinition, Marker, is_bullet, is_delimiter, digits, number_of, delimited, marker_of, behind_marker, padding, width_with, item_with, item_of, block_quote_width, enter, keeps}
-use Rattle.cmark_scan.specs.LineMarkers.{begins_block_quote, behind_block_quote, item_in, item_numbers, entered}
-use Rattle.cmark_scan.proofs.PrefixSteps.{shallow, block_quote-seen, block_quote-entered, item-seen, item-entered, item-unseen, item-kept}
+use Rattle.cmark_scan_blocks.specs.LineMarkers.{begins_block_quote, behind_block_quote, item_in, item_numbers, entered}
+use Rattle.cmark_scan_blocks.proofs.PrefixSteps.{shallow, block_quote-seen, block_quote-entered, item-seen, item-entered, item-unseen, item-kept}
 use Rattle.cmark_lines.specs.Starts.{block_quote_entered, begun_item}
 
 -- what is left behind up to three columns, where so many were taken

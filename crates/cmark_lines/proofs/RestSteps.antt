@@ -6,7 +6,7 @@ use Rattle.cmark_grammar.specs.Columns.{Column, expand, indent, without_indent, 
 use Rattle.cmark_grammar.specs.Rows.{Row, without, indent_of, begin_of, start_of}
 use Rattle.cmark_grammar.proofs.RowPlaces.{Runs, Runs-le, drop-Runs, expand-Runs, Lies}
 use Rattle.cmark_grammar.proofs.RowEdges.{GoodRow, IsAsciiColumn, front-less, indent-front, without-good, start-E}
-use Rattle.cmark_scan.specs.LineStart.{columns_taken}
+use Rattle.cmark_scan_blocks.specs.LineStart.{columns_taken}
 use Rattle.cmark_lines.specs.Rests.{row_of, IsIn}
 use Rattle.cmark_lines.specs.declared.line_rest.LineRest.{LineRest}
 

@@ -3,8 +3,8 @@ use Rattle.std.specs.Prelude.{ℕ, ◌&&◌, nat_le, if◌then◌else◌, List}
 use Rattle.cmark_grammar.specs.Rows.{Row, indent_of, words_of}
 use Rattle.cmark_grammar.specs.Leaves as grammar
 use Rattle.cmark_grammar.specs.BlocksByLine as grammar_lines
-use Rattle.cmark_scan.specs.HtmlLines.{kind_number}
-use Rattle.cmark_scan.specs.LeafLines.{closes_with}
+use Rattle.cmark_scan_blocks.specs.HtmlLines.{kind_number}
+use Rattle.cmark_scan_blocks.specs.LeafLines.{closes_with}
 use Rattle.cmark_lines.specs.declared.continuation.CodeOrHtml.{CodeOrHtml}
 use Rattle.cmark_lines.specs.declared.continuation.CodeOrHtml.TheVariants.{Indented, Fenced, Html}
 use Rattle.cmark_lines.specs.declared.continuation.Continuation.{Continuation}

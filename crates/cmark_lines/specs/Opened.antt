@@ -11,9 +11,9 @@ use Rattle.cmark_grammar.specs.Openings as grammar
 use Rattle.cmark_grammar.specs.Openings.{table_if, text_lines, defined_if, or_else, fenced_if, is_some_fence, html_interrupts}
 use Rattle.cmark_grammar.specs.TableRows.{table_head}
 use Rattle.cmark_text_parts.specs.Shown.{level_number}
-use Rattle.cmark_scan.specs.HtmlLines.{kind_number}
-use Rattle.cmark_scan.specs.LeafLines.{shown_fence, HasPlace}
-use Rattle.cmark_scan.specs.declared.leaf.CodeFence.{CodeFence}
+use Rattle.cmark_scan_blocks.specs.HtmlLines.{kind_number}
+use Rattle.cmark_scan_blocks.specs.LeafLines.{shown_fence, HasPlace}
+use Rattle.cmark_scan_blocks.specs.declared.leaf.CodeFence.{CodeFence}
 use Rattle.cmark_lines.specs.Rests.{row_of, IsIn}
 use Rattle.cmark_lines.specs.Starts.{shown_start, inside_of, Enters, HasMarker}
 use Rattle.cmark_lines.specs.declared.opening.Opening.{Opening}

@@ -3,7 +3,7 @@ use Rattle.std.specs.Prelude.{ℕ, ◌≤◌, false, List, [], length}
 use Rattle.std.specs.Str.{IsCharBoundary}
 use Rattle.cmark_grammar.specs.Rows.{Row}
 use Rattle.cmark_grammar.proofs.RowEdges.{GoodRow}
-use Rattle.cmark_scan.specs.LineStart.{row_from}
+use Rattle.cmark_scan_blocks.specs.LineStart.{row_from}
 use Rattle.cmark_lines.specs.declared.line_rest.LineRest.{LineRest}
 
 unfoldable pub row_of : LineRest → Row

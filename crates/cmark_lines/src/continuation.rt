@@ -5,12 +5,12 @@ ghost use Rattle.cmark_grammar.specs.Rows.{words_of};
 ghost use Rattle.cmark_grammar.specs.HtmlBlocks.{html_continuation, holds_end};
 ghost use Rattle.cmark_grammar.specs.Leaves.{code_continuation};
 ghost use Rattle.cmark_grammar.specs.BlocksByLine.{continuation_in};
-ghost use Rattle.cmark_scan.specs.HtmlLines.{kind_number};
+ghost use Rattle.cmark_scan_blocks.specs.HtmlLines.{kind_number};
 ghost use Rattle.cmark_lines.specs.Rests.{row_of};
 ghost use Rattle.cmark_lines.specs.Continuations.{shown_code_or_html, shown_continuation, fenced_continuation};
 
 use crate::line_rest::LineRest;
-use cmark_scan::{HtmlKind, holds_end, scan_closing_code_fence};
+use cmark_scan_blocks::{HtmlKind, holds_end, scan_closing_code_fence};
 
 /// An open leaf block whose lines are taken as they are.
 #[derive(Clone, Copy)]

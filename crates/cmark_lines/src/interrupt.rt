@@ -17,7 +17,7 @@ use crate::container::{begins_with_quote_mark, may_begin_item};
 use crate::footnotes::reads_gfm_footnotes;
 use crate::line_rest::LineRest;
 use crate::opening::{fence_in, heading_in, html_in, is_break};
-use cmark_scan::{HtmlKind, scan_setext_heading};
+use cmark_scan_blocks::{HtmlKind, scan_setext_heading};
 use cmark_text_parts::{HeadingLevel, Options};
 
 /// Whether the line interrupts a paragraph, which stands in the same container (`same`), or further in, so that the line

@@ -12,7 +12,7 @@ mod metadata;
 mod opening;
 mod table;
 
-pub use cmark_scan::{CodeFence, HtmlKind};
+pub use cmark_scan_blocks::{CodeFence, HtmlKind};
 pub use container::{Container, ContainerStart, FootnoteStart, ItemStart};
 pub use continuation::{CodeOrHtml, Continuation, ends_at_once};
 pub use definition::{begins_definition, definition_start, reads_definition_lists};

@@ -2,12 +2,12 @@
 #![tactic(auto, unfolding(crate::specs::Rests::row_of))]
 
 ghost use Rattle.std.specs.Prelude.{◌≡◌, ◌≤◌, drop, length};
-ghost use Rattle.cmark_scan.specs.LineStart.{row_from};
+ghost use Rattle.cmark_scan_blocks.specs.LineStart.{row_from};
 
 mod prefixes;
 
 use crate::interrupt::begins_with_letter;
-use cmark_scan::LineStart;
+use cmark_scan_blocks::LineStart;
 use cmark_scan_parts::bytes::ending_len;
 
 /// What is left of a line behind the prefixes of the containers around it. Places are byte offsets of the text; columns are
@@ -30,7 +30,7 @@ impl<'a> LineRest<'a> {
     ghost use Rattle.cmark_grammar.specs.Letters.{is_letter, first_is};
     ghost use Rattle.cmark_grammar.specs.Lines.{lines};
     ghost use Rattle.cmark_grammar.specs.Rows.{row_at, rows_from, without, is_blank_line, is_whole_line, indent_of, words_of, begin_of, start_of};
-    ghost use Rattle.cmark_scan.specs.LineStart.{cut_columns};
+    ghost use Rattle.cmark_scan_blocks.specs.LineStart.{cut_columns};
     ghost use Rattle.cmark_lines.specs.Rests.{row_of, no_row, IsIn};
 
     /// The whole line of the text that begins at `start`. At the text's end it is an empty one, which has no ending.

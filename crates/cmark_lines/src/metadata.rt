@@ -8,7 +8,7 @@ ghost use Rattle.cmark_lines.specs.Rests.{row_of};
 
 use crate::line_rest::LineRest;
 use bitflags::Flags;
-use cmark_scan::{scan_closing_metadata_fence, scan_metadata_fence};
+use cmark_scan_blocks::{scan_closing_metadata_fence, scan_metadata_fence};
 use cmark_text_parts::{MetadataBlockKind, Options};
 
 /// The kind of the metadata block that the line begins, if the lines behind it are those of one: the option for it must be on, and

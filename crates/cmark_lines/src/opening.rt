@@ -11,15 +11,15 @@ ghost use Rattle.cmark_lines.specs.Rests.{row_of, CutsNoCharacter, IsIn};
 ghost use Rattle.cmark_text_parts.specs.Shown.{shown_options, level_number};
 ghost use Rattle.cmark_grammar.specs.HtmlBlocks.{html_kind};
 ghost use Rattle.cmark_grammar.specs.Leaves.{is_thematic_break, fence_of};
-ghost use Rattle.cmark_scan.specs.HtmlLines.{kind_number};
-ghost use Rattle.cmark_scan.specs.LeafLines.{atx_level, shown_fence, HasPlace};
+ghost use Rattle.cmark_scan_blocks.specs.HtmlLines.{kind_number};
+ghost use Rattle.cmark_scan_blocks.specs.LeafLines.{atx_level, shown_fence, HasPlace};
 ghost use Rattle.cmark_lines.specs.Opened.{opened, HasInside, IsMarked, InsideIsShorter, HasInfo, HasBracket, InsideIsIn, InfoIsIn};
 
 use crate::container::{ContainerStart, container_start};
 use crate::footnotes::reads_footnotes;
 use crate::interrupt::begins_with_letter;
 use crate::line_rest::LineRest;
-use cmark_scan::{CodeFence, HtmlKind, html_kind, scan_atx_heading, scan_code_fence, scan_hrule};
+use cmark_scan_blocks::{CodeFence, HtmlKind, html_kind, scan_atx_heading, scan_code_fence, scan_hrule};
 use cmark_text_parts::{HeadingLevel, Options};
 
 /// What a line begins that lacks no prefix of the containers around it, metadata aside.

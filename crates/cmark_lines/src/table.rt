@@ -7,7 +7,7 @@ ghost use Rattle.cmark_grammar.specs.TableRows.{holds_pipe, count_cells, is_some
 ghost use Rattle.cmark_lines.specs.Rests.{row_of};
 
 use crate::line_rest::LineRest;
-use cmark_scan::{count_cells, count_delimiter_cells, holds_pipe};
+use cmark_scan_blocks::{count_cells, count_delimiter_cells, holds_pipe};
 
 /// How many cells the line has, where it may be a table's head: a pipe parts them.
 pub fn head_cells(rest: LineRest<'_>) -> Option<usize>

@@ -3,14 +3,11 @@ pub mod Closers
 pub mod Endings
 pub mod EntitySteps
 pub mod FootnoteSteps
-pub mod LabelSteps
 pub mod Links
 pub mod Lists
-pub mod OwnedSteps
 pub mod PartSteps
 pub mod PipeEscapes
 pub mod PipeSteps
 pub mod TagSteps
-pub mod TagTexts
 pub mod TrailingSteps
 pub mod Unescaping

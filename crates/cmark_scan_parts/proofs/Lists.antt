@@ -1,6 +1,6 @@
 -- Facts about lists of bytes, and where bytes stand in them.
-use Rattle.std.proofs.Common.{◌≡◌, ℕ, zero, suc, ◌+◌, ◌-◌, ◌<◌, ◌≤◌, Bool, true, false, ◌||◌, ◌&&◌, not, cond, List, [], ◌∷◌, length, take, drop, get_or, Option, None, Some, is_some, refl, sym, ap, ◌∙◌, arith, true≢false, length-drop, take_all}
-use Rattle.std.specs.List.{prefix_len, list_any}
+use Rattle.std.proofs.Common.{◌≡◌, ℕ, zero, suc, ◌+◌, ◌-◌, ◌<◌, ◌≤◌, Bool, true, false, ◌||◌, ◌&&◌, not, cond, List, [], ◌∷◌, length, take, drop, get_or, None, Some, refl, sym, ap, ◌∙◌, arith, true≢false, length-drop, take_all}
+use Rattle.std.specs.List.{prefix_len}
 use Rattle.std.proofs.lemmas.Bool.{false_from_ne_true}
 use Rattle.memchr.specs.Find.{IsFirstByte}
 use Rattle.cmark_grammar.specs.Letters.{behind_all}
@@ -41,21 +41,3 @@ first_none test bs h = first_at test bs (length bs) (omega arith) (λ k lt. fals
 
 pub from_first : (test : ℕ → Bool) (bs : List ℕ) (n : ℕ) → prefix_len (λ b. not (test b)) bs ≡ n → take (length bs - n) (drop n bs) ≡ behind_all (λ b. not (test b)) bs
 from_first test bs n e = rest_of bs n ∙ ap (λ k. drop k bs) (sym e)
-
--- whether one passes
-any_at : (test : ℕ → Bool) (bs : List ℕ) (n : ℕ) → n < length bs → test (get_or bs n 0) ≡ true → list_any test bs ≡ true
-any_at test [] n lt here = absurd (omega arith)
-any_at test (b ∷ bs) zero lt here = ap (λ t. t || list_any test bs) here
-any_at test (b ∷ bs) (suc n) lt here = ap (λ t. test b || t) (any_at test bs n (omega arith) here) ∙ or_true (test b)
-  where
-    or_true : (t : Bool) → (t || true) ≡ true
-    or_true true = refl
-    or_true false = refl
-
-any_none : (test : ℕ → Bool) (bs : List ℕ) → ((k : ℕ) → k < length bs → test (get_or bs k 0) ≡ false) → list_any test bs ≡ false
-any_none test [] fails = refl
-any_none test (b ∷ bs) fails = ap (λ t. t || list_any test bs) (fails 0 (omega arith)) ∙ any_none test bs (λ k lt. fails (suc k) (omega arith))
-
-pub any_first : (test : ℕ → Bool) (bs : List ℕ) (r : Option ℕ) → IsFirstByte test bs r → is_some r ≡ list_any test bs
-any_first test bs None h = sym (any_none test bs (λ k lt. false_from_ne_true _ (h k (omega arith) lt)))
-any_first test bs (Some n) h = sym (any_at test bs n h.0.high h.1)

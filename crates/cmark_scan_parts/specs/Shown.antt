@@ -1,19 +1,12 @@
 -- What the values of structs mean.
-use Rattle.cmark_grammar.specs.InlineHtml.{OwnedTag, Find}
-use Rattle.cmark_scan_parts.specs.declared.owned.HtmlTag.{HtmlTag}
+use Rattle.cmark_grammar.specs.InlineHtml.{Find}
 use Rattle.std.specs.Prelude.{ℕ, List, ◌+◌, ◌-◌, ◌<◌, ◌≤◌, ◌≡◌, slice_index, suc, length, Option, option_map}
 use Rattle.cmark_grammar.specs.LinkDefinitions.{Parsed}
 use Rattle.cmark_scan_parts.specs.declared.link.Cut.{Cut}
-use Rattle.cmark_text_parts.specs.declared.text.CowStr.{CowStr}
-use Rattle.cmark_text_parts.specs.declared.text.CowStr.TheVariants.{Boxed, Borrowed, Inlined}
 use Rattle.cmark_text_parts.specs.Shown.{text_bytes}
 use Rattle.cmark_grammar.specs.Tokens as tokens
 use Rattle.cmark_scan_parts.specs.declared.entity.Entity.{Entity}
-use Rattle.cmark_scan_parts.specs.declared.label.LinkLabelRest.{LinkLabelRest}
 use Rattle.cmark_scan_parts.specs.declared.inline_html.HtmlFind.{HtmlFind}
-
-abbrev pub shown_tag : HtmlTag → OwnedTag
-shown_tag tag = record { end = tag.end; buffer = tag.buffer.items }
 
 abbrev pub shown_find : HtmlFind → Find
 shown_find find = record { end = find.end; passed = find.passed }
@@ -42,16 +35,3 @@ pub record Closes (bs : List ℕ) (front size : ℕ) : Type 0 where
   pub low : front < size
   pub high : size ≤ front + length bs
   pub semicolon : slice_index bs (size - front - 1) ≡ 59
-
-abbrev pub shown_label : LinkLabelRest → Part
-shown_label label = record { end = label.end; bytes = text_bytes label.text }
-
--- no memory is taken for the text
-abbrev pub IsBorrowed : CowStr → Type 0
-IsBorrowed (Boxed text) = ⊥
-IsBorrowed (Borrowed text) = Unit {0}
-IsBorrowed (Inlined text) = ⊥
-
--- a label of as many bytes as stand up to its closing bracket, so that none is left out
-abbrev pub IsWhole : LinkLabelRest → Type 0
-IsWhole label = suc (length (text_bytes label.text)) ≡ label.end

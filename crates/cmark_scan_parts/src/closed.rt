@@ -8,7 +8,7 @@ use crate::bytes::escapes_next;
 
 /// What a byte does to the part that is read.
 #[derive(Clone, Copy)]
-pub(crate) enum Step {
+pub enum Step {
     /// The part ends there.
     Ends,
     /// There is no such part.
@@ -27,7 +27,7 @@ fn refuses(escaped: bool, refused: u8, over_lines: bool, byte: u8) -> bool
 /// What a byte does to a part up to its closer: the closer ends it and the refused byte refuses it, unless a backslash escapes them,
 /// and a line ending refuses it where the part may not take several lines.
 #[inline]
-pub(crate) fn closed_step(
+pub fn closed_step(
     escaped: bool,
     closer: u8,
     refused: u8,

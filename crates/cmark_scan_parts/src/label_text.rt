@@ -6,7 +6,7 @@ ghost use Rattle.cmark_grammar.specs.LinkDefinitions.{characters, is_label};
 
 /// Whether a character begins with this byte.
 #[inline]
-pub(crate) fn begins_character(byte: u8) -> bool
+pub fn begins_character(byte: u8) -> bool
     ensures { result ≡ (nat_lt byte 128 || nat_le 192 byte) }
 {
     byte < 128 || 192 <= byte

@@ -3,8 +3,7 @@
 ghost use Rattle.std.specs.Prelude.{◌≡◌, ◌⊎◌, ◌+◌, ◌-◌, IfOk};
 ghost use Rattle.cmark_grammar.specs.Tokens.{slice};
 ghost use Rattle.cmark_leaf_text.specs.Reads.{IsPart, IsRead, place_of, source_of, text_of};
-ghost use Rattle.cmark_scan_parts.specs.Shown.{IsBorrowed};
-ghost use Rattle.cmark_text_parts.specs.Lending.{IsLentBy};
+ghost use Rattle.cmark_text_parts.specs.Lending.{IsBorrowed, IsLentBy};
 ghost use Rattle.cmark_text_parts.specs.Shown.{IsBoxed, IsInlined, text_bytes};
 
 use cmark_leaf_text::LeafText;

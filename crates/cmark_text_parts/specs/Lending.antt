@@ -26,3 +26,9 @@ abbrev pub IsPartIfBorrowed : (source : List ℕ) → CowStr → Type 0
 IsPartIfBorrowed source (Borrowed text) = IsPartOf source text.now
 IsPartIfBorrowed source (Boxed text) = Unit {0}
 IsPartIfBorrowed source (Inlined text) = Unit {0}
+
+-- no memory is taken for the text
+abbrev pub IsBorrowed : CowStr → Type 0
+IsBorrowed (Boxed text) = ⊥
+IsBorrowed (Borrowed text) = Unit {0}
+IsBorrowed (Inlined text) = ⊥

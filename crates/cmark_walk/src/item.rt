@@ -20,7 +20,7 @@ ghost use Rattle.cmark_grammar.specs.Tables.{delimiter_row};
 use crate::walk::Walk;
 use bitflags::Flags;
 use cmark_items::{HeadingAttributes, Item, ItemBody};
-use cmark_scan::scan_table_head;
+use cmark_scan_blocks::scan_table_head;
 use cmark_text::{CodeBlockKind, CowStr, Event, HeadingLevel, Short, Tag, TagEnd};
 use std::alloc::{AllocError, Global};
 

@@ -2,9 +2,12 @@
 
 use bitflags::Flags;
 use cmark_finds::{
-    CodeSpan, LineBreak, LinkTail, LoopInstruction, code_span, code_text, collapsed_end,
-    inline_html, is_bracketed_label, iterate_special_bytes, line_break, link_tail, next_special,
-    reference_label, special_bytes, title_text,
+    CodeSpan, LoopInstruction, code_span, code_text, inline_html, iterate_special_bytes,
+    next_special, special_bytes,
+};
+use cmark_links::{
+    LineBreak, LinkTail, collapsed_end, is_bracketed_label, line_break, link_tail, reference_label,
+    title_text,
 };
 use cmark_text::{BasicEntities, CowStr, Options};
 use std::test::Fail;

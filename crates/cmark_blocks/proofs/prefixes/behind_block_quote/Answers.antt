@@ -1,6 +1,6 @@
 use Rattle.std.proofs.Common.{None, refl, ap, ◌∙◌}
-use Rattle.cmark_scan.specs.LineMarkers.{begins_block_quote, behind_block_quote}
-use Rattle.cmark_scan.specs.LineStart.{row_from}
+use Rattle.cmark_scan_blocks.specs.LineMarkers.{begins_block_quote, behind_block_quote}
+use Rattle.cmark_scan_blocks.specs.LineStart.{row_from}
 use Rattle.cmark_lines.proofs.ContainerRows.{block_quote-keeps}
 use Rattle.cmark_lines.proofs.PrefixRows.{shallow-is, block_quote-none, block_quote-some}
 use Rattle.cmark_blocks.proofs.prefixes.behind_block_quote.Goals as goal

@@ -1,7 +1,7 @@
 use Rattle.std.proofs.Common.{refl, [], false, ap, ◌∙◌, sym, Some, None}
 use Rattle.cmark_grammar.specs.Rows.{is_bare}
 use Rattle.cmark_grammar.specs.Containers.{keeps, Footnote}
-use Rattle.cmark_scan.specs.LineStart.{row_from}
+use Rattle.cmark_scan_blocks.specs.LineStart.{row_from}
 use Rattle.cmark_lines.proofs.ContainerRows.{footnote-keeps, old-blank, old-keeps}
 use Rattle.cmark_blocks.proofs.prefixes.behind_footnote.Goals as goal
 

@@ -1,6 +1,6 @@
 use Rattle.std.proofs.Common.{None, false, sym, ap, ◌∙◌}
 use Rattle.cmark_grammar.specs.Containers.{keeps}
-use Rattle.cmark_scan.specs.LineStart.{row_from}
+use Rattle.cmark_scan_blocks.specs.LineStart.{row_from}
 use Rattle.cmark_lines.proofs.ContainerRows.{definition-keeps}
 use Rattle.cmark_blocks.specs.Prefixes.{shown_container}
 use Rattle.cmark_blocks.proofs.prefixes.behind_prefix.Goals as goal

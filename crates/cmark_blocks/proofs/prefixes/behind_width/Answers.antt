@@ -1,7 +1,7 @@
 use Rattle.std.proofs.Common.{◌≡◌, true, false, ap, ◌∙◌, sym, refl}
 use Rattle.std.specs.Prelude.{◌||◌, nat_le}
 use Rattle.cmark_grammar.specs.Rows.{is_bare, indent_of}
-use Rattle.cmark_scan.specs.LineStart.{row_from}
+use Rattle.cmark_scan_blocks.specs.LineStart.{row_from}
 use Rattle.cmark_lines.proofs.PrefixRows.{width-kept, width-lacked}
 use Rattle.cmark_blocks.proofs.prefixes.behind_width.Goals.{else-not-scan_space-via-then-not-scan_space+else-not-is_at_eol, else-not-scan_space-via-else-not-scan_space}
 use Rattle.cmark_blocks.proofs.prefixes.behind_width.Goals as goal

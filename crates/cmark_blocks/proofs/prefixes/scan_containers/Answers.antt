@@ -1,6 +1,6 @@
 use Rattle.std.proofs.Common.{◌+◌, length, option_map, ◌∙◌, sym, ap, subst, arith}
 use Rattle.std.specs.Slice.Iter.{iter_rest}
-use Rattle.cmark_scan.specs.LineStart.{row_from}
+use Rattle.cmark_scan_blocks.specs.LineStart.{row_from}
 use Rattle.cmark_blocks.specs.Prefixes.{shown_container}
 use Rattle.cmark_text_parts.specs.Shown.{shown_options}
 use Rattle.cmark_blocks.proofs.PrefixSteps.{Continuation, further-first, next-node, passed, taken, lacked, over}

@@ -1,8 +1,8 @@
 use Rattle.std.proofs.Common.{◌≡◌, ◌-◌, List, ℕ, Some, length, drop, sym, ap, subst, ◌∙◌}
 use Rattle.cmark_grammar.specs.LinkDefinitions.{Defined}
-use Rattle.cmark_definitions.specs.Rests.{IsRest}
+use Rattle.cmark_links.specs.Rests.{IsRest}
 use Rattle.cmark_definitions.specs.Shown.{shown_read}
-use Rattle.cmark_definitions.proofs.RestSteps.{rest_at, rest_starts}
+use Rattle.cmark_links.proofs.RestSteps.{rest_at, rest_starts}
 use Rattle.cmark_definitions.proofs.definition.scan_definition.Goals as goal
 
 pub returns-clause-ends : goal.returns-clause-ends

@@ -1,5 +1,5 @@
 use Rattle.std.proofs.Common.{◌≡◌, ◌≤◌, sym, ◌∙◌, arith}
-use Rattle.cmark_scan.specs.LineStart.{cut_columns}
+use Rattle.cmark_scan_blocks.specs.LineStart.{cut_columns}
 use Rattle.cmark_lines.specs.Rests.{row_of}
 use Rattle.cmark_leaves.proofs.CodeSteps.{goes-none, spaces-none, goes-spaces, left-cut, rest-cut}
 use Rattle.cmark_leaves.proofs.code.add_left_columns.Goals as goal

@@ -1,6 +1,6 @@
 use Rattle.std.proofs.Common.{◌≡◌, ◌≤◌, sym, ◌∙◌, arith}
 use Rattle.std.proofs.lemmas.Result.{on_ok_weaker}
-use Rattle.cmark_scan.specs.LineStart.{cut_columns}
+use Rattle.cmark_scan_blocks.specs.LineStart.{cut_columns}
 use Rattle.cmark_lines.specs.Rests.{row_of}
 use Rattle.cmark_leaves.proofs.CodeSteps.{spaces-none, draws-html-none, draws-html-spaces, left-cut, rest-cut}
 use Rattle.cmark_leaves.proofs.html.draw_left_columns.Goals as goal

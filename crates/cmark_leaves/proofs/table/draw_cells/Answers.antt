@@ -1,6 +1,6 @@
 use Rattle.std.proofs.Common.{◌≡◌, suc, ◌-◌, length, sym, ap, ◌∙◌, subst, arith, refl}
 use Rattle.cmark_grammar.specs.TableTokens.{cells_then}
-use Rattle.cmark_scan.specs.TableCells.{cells_behind}
+use Rattle.cmark_scan_blocks.specs.TableCells.{cells_behind}
 use Rattle.cmark_block_model.specs.Drawing.{drawn}
 use Rattle.cmark_builder.specs.Drawn.{Draws}
 use Rattle.cmark_grammar.specs.TableRows.{cells_of}

@@ -3,7 +3,7 @@ use Rattle.cmark_tree.specs.Building.{IsPlaced}
 use Rattle.cmark_items.specs.Tables.{defined}
 use Rattle.cmark_grammar.specs.TableRows.{count_missing}
 use Rattle.cmark_grammar.specs.TableTokens.{cells_then, row_cells}
-use Rattle.cmark_scan.specs.TableCells.{cells_behind}
+use Rattle.cmark_scan_blocks.specs.TableCells.{cells_behind}
 use Rattle.cmark_block_model.specs.Drawing.{Drawing, drawn}
 use Rattle.cmark_builder.specs.Drawn.{Draws}
 use Rattle.cmark_lines.specs.Rests.{row_of}

@@ -6,7 +6,7 @@ use Rattle.cmark_grammar.specs.Containers.{begins_with}
 use Rattle.cmark_grammar.specs.Footnotes.{footnotes_in}
 use Rattle.cmark_grammar.specs.Openings.{begins_no_link}
 use Rattle.cmark_text_parts.specs.Shown.{level_number, shown_options}
-use Rattle.cmark_scan.specs.LeafLines.{atx_level}
+use Rattle.cmark_scan_blocks.specs.LeafLines.{atx_level}
 use Rattle.cmark_lines.proofs.FirstBytes.{bracket-leaf}
 use Rattle.cmark_lines.proofs.InfoEdges.{info-stands}
 use Rattle.cmark_lines.proofs.OpeningRows.{leaf-heading, leaf-plain, no-link, link-read}

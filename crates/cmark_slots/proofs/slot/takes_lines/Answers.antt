@@ -1,7 +1,7 @@
 use Rattle.std.proofs.Common.{ap, ◌∙◌}
 use Rattle.memchr.specs.Find.{is_byte2}
 use Rattle.cmark_grammar.specs.InlineHtml.{takes_lines}
-use Rattle.cmark_scan_parts.proofs.Lists.{any_first}
+use Rattle.cmark_search.proofs.First.{any_first}
 use Rattle.cmark_slots.proofs.slot.takes_lines.Goals as goal
 
 pub returns-then-from-end : goal.returns-then-from-end

@@ -4,7 +4,7 @@ use Rattle.cmark_grammar.specs.Rows.{start_of, words_of}
 use Rattle.cmark_grammar.specs.Tokens.{resolved}
 use Rattle.cmark_items.specs.Tables.{defined}
 use Rattle.cmark_lines.specs.Rests.{row_of}
-use Rattle.cmark_scan.specs.LeafLines.{shown_fence}
+use Rattle.cmark_scan_blocks.specs.LeafLines.{shown_fence}
 use Rattle.cmark_block_model.specs.BlockPass.{block_begun}
 use Rattle.cmark_block_model.specs.Drawing.{Drawing, opened}
 use Rattle.cmark_block_model.specs.OpenBlocks as model

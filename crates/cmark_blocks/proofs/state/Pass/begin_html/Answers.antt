@@ -3,7 +3,7 @@ use Rattle.cmark_grammar.specs.BlockDocument.{HtmlBlock, Nil}
 use Rattle.cmark_grammar.specs.Rows.{begin_of}
 use Rattle.cmark_grammar.specs.Tokens.{html_then, verbatim_line}
 use Rattle.cmark_lines.specs.Rests.{row_of}
-use Rattle.cmark_scan.specs.HtmlLines.{kind_number}
+use Rattle.cmark_scan_blocks.specs.HtmlLines.{kind_number}
 use Rattle.cmark_block_model.specs.BlockPass.{block_begun, html_begun, html_line, node_opened}
 use Rattle.cmark_block_model.specs.Drawing.{Drawing, drawn, opened, closed_at}
 use Rattle.cmark_block_model.specs.OpenBlocks as model

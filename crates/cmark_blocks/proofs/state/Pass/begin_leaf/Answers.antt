@@ -6,8 +6,8 @@ use Rattle.cmark_grammar.specs.Leaves.{fence_continuation}
 use Rattle.cmark_grammar.specs.Rows.{words_of}
 use Rattle.cmark_text_parts.specs.Shown.{shown_options}
 use Rattle.cmark_lines.specs.Rests.{row_of}
-use Rattle.cmark_scan.specs.HtmlLines.{kind_number}
-use Rattle.cmark_scan.specs.LeafLines.{shown_fence}
+use Rattle.cmark_scan_blocks.specs.HtmlLines.{kind_number}
+use Rattle.cmark_scan_blocks.specs.LeafLines.{shown_fence}
 use Rattle.cmark_block_model.specs.BlockPass.{ahead_in}
 use Rattle.cmark_blocks.specs.Ahead.{lines_at}
 use Rattle.cmark_blocks.specs.Entered.{BeginsAs}

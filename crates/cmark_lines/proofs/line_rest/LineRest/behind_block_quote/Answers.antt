@@ -2,8 +2,8 @@ use Rattle.std.proofs.Common.{◌≡◌, Bool, true, false, ap, ◌∙◌, refl}
 use Rattle.std.specs.Prelude.{if◌then◌else◌}
 use Rattle.cmark_grammar.specs.Rows.{Row, without}
 use Rattle.cmark_grammar.specs.Containers.{block_quote_width}
-use Rattle.cmark_scan.specs.LineMarkers.{begins_block_quote, behind_block_quote}
-use Rattle.cmark_scan.specs.LineStart.{row_from}
+use Rattle.cmark_scan_blocks.specs.LineMarkers.{begins_block_quote, behind_block_quote}
+use Rattle.cmark_scan_blocks.specs.LineStart.{row_from}
 use Rattle.cmark_lines.specs.Rests.{row_of}
 use Rattle.cmark_lines.proofs.PrefixRows.{shallow-is, block_quote-none, block_quote-some}
 use Rattle.cmark_lines.proofs.line_rest.LineRest.behind_block_quote.Goals as goal

@@ -1,7 +1,7 @@
 use Rattle.std.proofs.Common.{ap, ◌∙◌}
 use Rattle.std.specs.Prelude.{option_map}
-use Rattle.cmark_scan.specs.LineMarkers.{item_in, entered}
-use Rattle.cmark_scan.specs.LineStart.{row_from}
+use Rattle.cmark_scan_blocks.specs.LineMarkers.{item_in, entered}
+use Rattle.cmark_scan_blocks.specs.LineStart.{row_from}
 use Rattle.cmark_lines.specs.Rests.{row_of}
 use Rattle.cmark_lines.specs.Starts.{shown_begun}
 use Rattle.cmark_lines.proofs.PrefixRows.{shallow-is, numbers-is, content_end_entered, item-none, item-some, item-inside}

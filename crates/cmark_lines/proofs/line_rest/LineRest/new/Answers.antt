@@ -6,7 +6,7 @@ use Rattle.cmark_grammar.specs.Lines.{content, ending_len}
 use Rattle.cmark_grammar.specs.Rows.{rows_from}
 use Rattle.cmark_grammar.specs.Lines.{lines}
 use Rattle.cmark_grammar.proofs.RowEdges.{GoodRow}
-use Rattle.cmark_scan.specs.LineStart.{row_from, line_of}
+use Rattle.cmark_scan_blocks.specs.LineStart.{row_from, line_of}
 use Rattle.cmark_scan_parts.proofs.Lists.{rest_of}
 use Rattle.cmark_lines.proofs.LineRows.{whole-line, line-len, content-len, rows-further, row-none, row-line, line-good, none-good}
 use Rattle.cmark_lines.proofs.line_rest.LineRest.new.Goals as goal

@@ -1,0 +1,4 @@
+pub mod DestinationSteps
+pub mod LinkSteps
+pub mod RestSteps
+pub mod TitleSteps

@@ -1,0 +1,113 @@
+//! The breaks between the lines of a leaf (CommonMark 6.7 and 6.8).
+
+ghost use Rattle.std.specs.Prelude.{◌≡◌, ◌<◌, ◌+◌, drop, take_while, length, IfSome, option_map, option_copied};
+ghost use Rattle.std.specs.Str.{IsCharBoundary};
+ghost use Rattle.cmark_grammar.specs.Columns.{is_blank_byte};
+ghost use Rattle.cmark_grammar.specs.LinkDefinitions.{behind_blanks};
+ghost use Rattle.cmark_grammar.specs.LineBreaks.{ends_with_two_spaces, backslash_break_in, blank_break_in, line_break_in};
+ghost use Rattle.cmark_links.specs.Rests.{IsRest};
+ghost use Rattle.cmark_links.specs.Shown.{shown_parting, shown_break, IsBreakAt};
+
+use crate::blank::{behind_blanks, behind_byte, behind_ending};
+use crate::place::place_of;
+
+/// A break between two lines. The next line begins at its end.
+#[derive(Clone, Copy)]
+pub struct LineBreak {
+    /// Whether it is hard.
+    pub is_hard: bool,
+    /// Where it begins: a hard break with its blanks or its backslash, a soft one with its line ending.
+    pub start: usize,
+    /// The place behind its line ending.
+    pub end: usize,
+}
+
+/// A break in front of a text.
+#[derive(Clone, Copy)]
+struct Parting<'t> {
+    is_hard: bool,
+    /// How many bytes in front lie before the break.
+    before: usize,
+    /// The text behind its line ending.
+    behind: &'t str,
+}
+
+/// The break that begins with a backslash in front.
+fn backslash_break_in(text: &str) -> Option<Parting<'_>>
+    ensures value { option_map shown_parting result ≡ backslash_break_in text.entry.now }
+    ensures rest { IfSome result (λ parting. IsRest text.entry.now parting.behind.now) }
+    ensures ordered { IfSome result (λ parting. parting.before + length parting.behind.now < length text.entry.now) }
+    ensures starts { IfSome result (λ parting. IsCharBoundary text.entry.now parting.before) }
+{
+    let behind = behind_ending(behind_byte(b'\\', text)?)?;
+    Some(Parting {
+        is_hard: true,
+        before: 0,
+        behind,
+    })
+}
+
+/// Whether the last two bytes are two spaces.
+fn ends_with_two_spaces(bytes: &[u8]) -> bool
+    ensures { result ≡ ends_with_two_spaces bytes.now }
+{
+    bytes.ends_with(b"  ")
+}
+
+/// The blanks in front of a rest that stands behind them.
+fn blanks_before<'t>(text: &'t str, here: &str) -> &'t [u8]
+    requires { here.now ≡ behind_blanks text.now }
+    ensures { result.now ≡ take_while is_blank_byte text.entry.now }
+{
+    &text.as_bytes()[..text.len() - here.len()]
+}
+
+/// The break behind the blanks in front, if there are any.
+fn blank_break_in(text: &str) -> Option<Parting<'_>>
+    ensures value { option_map shown_parting result ≡ blank_break_in text.entry.now }
+    ensures rest { IfSome result (λ parting. IsRest text.entry.now parting.behind.now) }
+    ensures ordered { IfSome result (λ parting. parting.before + length parting.behind.now < length text.entry.now) }
+    ensures starts { IfSome result (λ parting. IsCharBoundary text.entry.now parting.before) }
+{
+    let here = behind_blanks(text);
+    let blanks = blanks_before(text, here);
+    let behind = behind_ending(here)?;
+    let is_hard = ends_with_two_spaces(blanks);
+    Some(Parting {
+        is_hard,
+        before: if is_hard { 0 } else { blanks.len() },
+        behind,
+    })
+}
+
+/// The break in front, if a line ends there.
+#[inline(always)]
+fn parting_in(text: &str) -> Option<Parting<'_>>
+    ensures value { option_map shown_parting result ≡ line_break_in text.entry.now }
+    ensures rest { IfSome result (λ parting. IsRest text.entry.now parting.behind.now) }
+    ensures ordered { IfSome result (λ parting. parting.before + length parting.behind.now < length text.entry.now) }
+    ensures starts { IfSome result (λ parting. IsCharBoundary text.entry.now parting.before) }
+{
+    if let Some(parting) = backslash_break_in(text) {
+        return Some(parting);
+    }
+    blank_break_in(text)
+}
+
+/// The break of the line that ends at this place of the text (CommonMark 6.7 and 6.8): from the first blank at the end of the
+/// line on, or from a backslash on that stands directly before the line ending and that no backslash escapes. A break is hard
+/// where it begins with such a backslash, and where two spaces stand directly before the line ending. `None` where no line
+/// ends there, as at the end of the text.
+#[inline(always)]
+pub fn line_break(text: &str, at: usize) -> Option<LineBreak>
+    requires { IsCharBoundary text.now at }
+    ensures value { option_map (shown_break text.now at) result ≡ line_break_in (drop at text.now) }
+    ensures places { IfSome result (IsBreakAt text.now at) }
+{
+    let parting = parting_in(&text[at..])?;
+    Some(LineBreak {
+        is_hard: parting.is_hard,
+        start: at + parting.before,
+        end: place_of(text, parting.behind),
+    })
+}

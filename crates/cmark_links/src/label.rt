@@ -1,0 +1,96 @@
+//! Labels (CommonMark 4.7 and 6.3).
+
+ghost use Rattle.std.specs.Prelude.{◌≡◌, ◌<◌, ◌==◌, ◌&&◌, ◌||◌, not, false, drop, IfSome, option_map};
+ghost use Rattle.std.specs.Str.{IsCharBoundary};
+ghost use Rattle.cmark_grammar.specs.LinkDefinitions.{label_in};
+ghost use Rattle.cmark_grammar.specs.LinkTails.{reference_label_in, behind_collapsed, has_bracket, is_bracketed_label};
+ghost use Rattle.cmark_links.specs.Rests.{IsRest};
+ghost use Rattle.cmark_links.specs.Shown.{shown_label, shown_part};
+
+use crate::blank::behind_byte;
+use crate::part::{Part, closed_part};
+use crate::place::place_of;
+use cmark_scan_parts::bytes::escapes_next;
+use cmark_scan_parts::is_label;
+
+/// The label behind its opening bracket, up to the next bracket, which no backslash escapes and which closes it.
+pub fn label_in(text: &str) -> Option<Part<'_>>
+    ensures value { option_map shown_part result ≡ label_in text.entry.now }
+    ensures rest { IfSome result (λ label. IsRest text.entry.now label.behind.now) }
+{
+    let label = closed_part(text, b']', b'[')?;
+    if is_label(label.part.as_bytes()) {
+        Some(label)
+    } else {
+        None
+    }
+}
+
+/// The label of a full reference.
+#[derive(Clone, Copy)]
+pub struct Label<'t> {
+    /// What is written between its brackets.
+    pub label: &'t str,
+    /// The place in the text behind its closing bracket.
+    pub end: usize,
+}
+
+/// The label in brackets at this place of the text, which stands right behind a closing bracket: that of a full reference
+/// (CommonMark 6.3). A label has 1 to 999 characters, at least one of them no white space, and no bracket but escaped ones.
+pub fn reference_label(text: &str, at: usize) -> Option<Label<'_>>
+    requires { IsCharBoundary text.now at }
+    ensures value { option_map (shown_label text.entry.now) result ≡ reference_label_in (drop at text.entry.now) }
+    ensures further { IfSome result (λ label. at < label.end) }
+    ensures ends { IfSome result (λ label. IsCharBoundary text.entry.now label.end) }
+{
+    let label = label_in(behind_byte(b'[', &text[at..])?)?;
+    Some(Label {
+        label: label.part,
+        end: place_of(text, label.behind),
+    })
+}
+
+/// The place behind `[]` at this place of the text, which stands right behind a closing bracket: the end of a collapsed
+/// reference (CommonMark 6.3).
+pub fn collapsed_end(text: &str, at: usize) -> Option<usize>
+    requires { IsCharBoundary text.now at }
+    ensures value { option_map (λ end. drop end text.now) result ≡ behind_collapsed (drop at text.now) }
+    ensures further { IfSome result (λ end. at < end) }
+    ensures ends { IfSome result (λ end. IsCharBoundary text.now end) }
+{
+    match &text.as_bytes()[at..] {
+        [b'[', b']', ..] => Some(at + 2),
+        _ => None,
+    }
+}
+
+/// Whether a byte is a bracket that no backslash escapes.
+fn is_bracket(escaped: bool, byte: u8) -> bool
+    ensures { result ≡ (not escaped && ((byte == 91) || (byte == 93))) }
+{
+    !escaped && (byte == b'[' || byte == b']')
+}
+
+/// Whether a bracket stands in these bytes that no backslash escapes.
+fn has_bracket(bytes: &[u8]) -> bool
+    ensures { result ≡ has_bracket false bytes.now }
+{
+    let mut escaped = false;
+    let mut rest = bytes;
+    while let Some((first, others)) = rest.split_first() {
+        if is_bracket(escaped, *first) {
+            return true;
+        }
+        escaped = escapes_next(escaped, *first);
+        rest = others;
+    }
+    false
+}
+
+/// Whether the text between two brackets is a label, by which a collapsed or a shortcut reference asks (CommonMark 6.3): it
+/// has 1 to 999 characters, at least one of them no white space, and no bracket but escaped ones.
+pub fn is_bracketed_label(text: &str) -> bool
+    ensures { result ≡ is_bracketed_label text.now }
+{
+    !has_bracket(text.as_bytes()) && is_label(text.as_bytes())
+}

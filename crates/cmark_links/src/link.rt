@@ -1,0 +1,99 @@
+//! Inline links (CommonMark 6.3).
+
+ghost use Rattle.std.specs.Prelude.{◌≡◌, ◌<◌, Some, drop, IfSome, option_map, option_copied};
+ghost use Rattle.std.specs.Str.{IsCharBoundary};
+ghost use Rattle.cmark_grammar.specs.Destinations.{link_destination_in};
+ghost use Rattle.cmark_grammar.specs.LinkDefinitions.{behind_separator, title_in};
+ghost use Rattle.cmark_grammar.specs.LinkTails.{closed_tail, with_title, tail_inside, link_tail_in};
+ghost use Rattle.cmark_links.specs.Rests.{IsRest};
+ghost use Rattle.cmark_links.specs.Shown.{shown_inside, shown_part, shown_tail};
+
+use crate::blank::{behind_byte, behind_separator};
+use crate::part::{Part, title_in};
+use crate::place::place_of;
+use cmark_scan_parts::scan_link_dest;
+
+/// What stands in the parentheses of an inline link, as it is written.
+#[derive(Clone, Copy)]
+pub struct LinkTail<'t> {
+    /// The destination, without pointed brackets; it may be empty.
+    pub destination: &'t str,
+    /// The title without what encloses it, if there is one.
+    pub title: Option<&'t str>,
+    /// The place in the text behind the closing parenthesis.
+    pub end: usize,
+}
+
+/// The same, with the text behind it.
+#[derive(Clone, Copy)]
+struct Inside<'t> {
+    destination: &'t str,
+    title: Option<&'t str>,
+    behind: &'t str,
+}
+
+/// The destination in front, which may be empty.
+fn destination_in(text: &str) -> Option<Part<'_>>
+    ensures value { option_map shown_part result ≡ link_destination_in text.entry.now }
+    ensures rest { IfSome result (λ destination. IsRest text.entry.now destination.behind.now) }
+{
+    let destination = scan_link_dest(text, 0)?;
+    Some(Part {
+        part: destination.part,
+        behind: &text[destination.end..],
+    })
+}
+
+/// What stands in the parentheses, if they are closed behind a separator.
+fn closed_tail<'t>(
+    destination: &'t str,
+    title: Option<&'t str>,
+    text: &'t str,
+) -> Option<Inside<'t>>
+    ensures value { option_map shown_inside result ≡ closed_tail destination.entry.now (option_copied title.entry) text.entry.now }
+    ensures rest { IfSome result (λ inside. IsRest text.entry.now inside.behind.now) }
+{
+    let behind = behind_byte(b')', behind_separator(text))?;
+    Some(Inside {
+        destination,
+        title,
+        behind,
+    })
+}
+
+/// What stands in the parentheses behind a destination, with the title, if one follows.
+fn with_title(destination: Part<'_>) -> Option<Inside<'_>>
+    ensures value { option_map shown_inside result ≡ with_title (Some (shown_part destination.entry)) (title_in (behind_separator destination.entry.behind.now)) }
+    ensures rest { IfSome result (λ inside. IsRest destination.entry.behind.now inside.behind.now) }
+{
+    match title_in(behind_separator(destination.behind)) {
+        Some(title) => closed_tail(destination.part, Some(title.part), title.behind),
+        None => closed_tail(destination.part, None, destination.behind),
+    }
+}
+
+/// What stands in the parentheses behind the opening one.
+fn tail_inside(text: &str) -> Option<Inside<'_>>
+    ensures value { option_map shown_inside result ≡ tail_inside text.entry.now }
+    ensures rest { IfSome result (λ inside. IsRest text.entry.now inside.behind.now) }
+{
+    let destination = destination_in(behind_separator(text))?;
+    with_title(destination)
+}
+
+/// The destination and the title of an inline link at this place of the text, which stands right behind the closing bracket
+/// (CommonMark 6.3): in parentheses a destination, which may be empty, and a title, if it has one. Between them stand blanks
+/// with at most one line ending each; a title may also follow its destination at once (this profile's own).
+pub fn link_tail(text: &str, at: usize) -> Option<LinkTail<'_>>
+    requires { IsCharBoundary text.now at }
+    ensures value { option_map (shown_tail text.entry.now) result ≡ link_tail_in (drop at text.entry.now) }
+    ensures further { IfSome result (λ tail. at < tail.end) }
+    ensures ends { IfSome result (λ tail. IsCharBoundary text.entry.now tail.end) }
+{
+    let inside = tail_inside(behind_byte(b'(', &text[at..])?)?;
+    Some(LinkTail {
+        destination: inside.destination,
+        title: inside.title,
+        end: place_of(text, inside.behind),
+    })
+}

@@ -1,0 +1,71 @@
+//! Parts of a text: labels, destinations and titles.
+
+ghost use Rattle.std.specs.Prelude.{◌≡◌, ◌<◌, ◌==◌, ◌||◌, not, true, false, IfSome, option_map};
+ghost use Rattle.cmark_grammar.specs.Leaves.{is_empty};
+ghost use Rattle.cmark_grammar.specs.Letters.{first_is};
+ghost use Rattle.cmark_grammar.specs.LinkDefinitions.{up_to, destination_in, title_in};
+ghost use Rattle.cmark_links.specs.Rests.{IsRest};
+ghost use Rattle.cmark_links.specs.Shown.{shown_part};
+
+use cmark_scan_parts::{closed_size, scan_link_dest};
+
+/// A part of a text, and the text behind it and its closer.
+#[derive(Clone, Copy)]
+pub struct Part<'t> {
+    /// The part, without what encloses it.
+    pub part: &'t str,
+    /// The text behind it.
+    pub behind: &'t str,
+}
+
+/// The part up to a closer of ASCII, which no backslash escapes, if no unescaped refused byte comes before it. It may take
+/// several lines.
+pub fn closed_part(text: &str, closer: u8, refused: u8) -> Option<Part<'_>>
+    requires { closer < 128 }
+    ensures value { option_map shown_part result ≡ up_to false closer refused true text.entry.now }
+    ensures rest { IfSome result (λ part. IsRest text.entry.now part.behind.now) }
+{
+    let size = closed_size(text.as_bytes(), closer, refused, true)?;
+    Some(Part {
+        part: &text[..size],
+        behind: &text[size + 1..],
+    })
+}
+
+/// Whether a part is a destination of this text: one in pointed brackets, or one that is not empty.
+fn is_destination(text: &str, part: &str) -> bool
+    ensures { result ≡ (first_is (λ b. b == 60) text.now || not (is_empty part.now)) }
+{
+    match text.as_bytes() {
+        [b'<', ..] => true,
+        _ => !part.is_empty(),
+    }
+}
+
+/// The destination in front: in pointed brackets on one line, or bare and not empty.
+pub fn destination_in(text: &str) -> Option<Part<'_>>
+    ensures value { option_map shown_part result ≡ destination_in text.entry.now }
+    ensures rest { IfSome result (λ destination. IsRest text.entry.now destination.behind.now) }
+{
+    let destination = scan_link_dest(text, 0)?;
+    if !is_destination(text, destination.part) {
+        return None;
+    }
+    Some(Part {
+        part: destination.part,
+        behind: &text[destination.end..],
+    })
+}
+
+/// The title in front: in double or single quotes, or in parentheses.
+pub fn title_in(text: &str) -> Option<Part<'_>>
+    ensures value { option_map shown_part result ≡ title_in text.entry.now }
+    ensures rest { IfSome result (λ title. IsRest text.entry.now title.behind.now) }
+{
+    match text.as_bytes() {
+        [b'"', ..] => closed_part(&text[1..], b'"', b'"'),
+        [b'\'', ..] => closed_part(&text[1..], b'\'', b'\''),
+        [b'(', ..] => closed_part(&text[1..], b')', b'('),
+        _ => None,
+    }
+}

@@ -1,0 +1,47 @@
+//! Titles of links (CommonMark 6.3), line by line.
+
+ghost use Rattle.std.specs.Prelude.{◌≡◌, ◌<◌, false, length, string_bytes, IfOk};
+ghost use Rattle.cmark_grammar.specs.Tokens.{title_lines};
+ghost use Rattle.cmark_grammar.specs.Unescaped.{unescaped};
+ghost use Rattle.cmark_text_parts.specs.Shown.{text_bytes};
+
+use crate::blank::behind_separator;
+use cmark_scan_parts::unescape;
+use cmark_search::find_line_end;
+use cmark_text_parts::{CowStr, EntityLookup};
+use memchr::memchr2;
+use std::alloc::{AllocError, Global};
+
+/// The lines of a title: each line ending and the blanks behind it are one line feed (this profile's own). Fails only where memory is
+/// refused.
+pub fn title_lines(alloc: Global, title: &str) -> Result<String, AllocError>
+    ensures { IfOk result (λ lines. string_bytes lines ≡ title_lines false title.now) }
+{
+    let mut lines = String::new(alloc);
+    let mut rest = title;
+    while let Some(at) = memchr2(b'\n', b'\r', rest.as_bytes()) {
+        lines.push_str(&rest[..at])?;
+        lines.push_str("\n")?;
+        rest = behind_separator(&rest[at..]);
+    }
+    lines.push_str(rest)?;
+    Ok(lines)
+}
+
+/// The text of a title as it is written (CommonMark 6.3): each line ending and the blanks behind it are one line feed, and
+/// escapes and entities are resolved; in a table `\\|` is `|`. It is borrowed where none of these is in it; fails only where memory is
+/// refused.
+pub fn title_text<'t, E: EntityLookup>(
+    alloc: Global,
+    title: &'t str,
+    is_in_table: bool,
+    entities: &E,
+) -> Result<CowStr<'t>, AllocError>
+    ensures { IfOk result (λ made. text_bytes made ≡ unescaped (E.replacement entities.now) is_in_table (title_lines false title.entry.now)) }
+{
+    if find_line_end(title.as_bytes()).is_none() {
+        return unescape(alloc, CowStr::Borrowed(title), is_in_table, entities);
+    }
+    let lines = CowStr::from_string(title_lines(alloc, title)?)?;
+    unescape(alloc, lines, is_in_table, entities)
+}

@@ -1,0 +1,323 @@
+//! The front of a line, as the prefixes of containers are read off it (CommonMark 2.2 and 5).
+
+ghost use Rattle.std.specs.Prelude.{◌≡◌, ◌+◌, ◌-◌, ◌%◌, ◌<◌, ◌≤◌, false, length, take, slice_index};
+ghost use Rattle.cmark_grammar.specs.Columns.{is_blank_byte};
+ghost use Rattle.cmark_grammar.specs.Lines.{content};
+ghost use Rattle.cmark_scan_blocks.specs.Places.{column_behind};
+
+mod markers;
+
+use crate::leaf::{break_stop, is_break_character, is_break_of};
+use cmark_search::find_line_end;
+
+/// A line, of which some columns in front were taken. A tab stands for the columns up to the next tab stop, four columns
+/// apart; it is never written out, and a part of it may be taken.
+#[derive(Clone, Copy)]
+pub struct LineStart<'a> {
+    /// The line without its ending.
+    bytes: &'a [u8],
+    /// How many of its bytes were taken; of the last one, a tab, columns may be left.
+    taken: usize,
+    /// The place behind the last tab that was taken, or 0: a tab stop.
+    behind_tab: usize,
+    /// How many columns are left of the tab that was taken last.
+    pending: usize,
+    /// The place of a byte that is no blank, or the line's length: where the last search for a thematic break stopped.
+    break_stop: usize,
+    /// 1 where a container that has no prefix keeps the line (this profile's own), and 0 elsewhere: a whole word, since a line is moved word by word.
+    held: usize,
+    ghost plain: { content bytes.now ≡ bytes.now },
+    ghost inside: { taken ≤ length bytes.now },
+    ghost behind: { behind_tab ≤ taken },
+    ghost aligned: { (taken - behind_tab) % 4 ≡ column_behind 0 (take taken bytes.now) % 4 },
+    ghost stop: { break_stop < length bytes.now → is_blank_byte (slice_index bytes.now break_stop) ≡ false },
+    ghost cut: { 0 < pending → column_behind 0 (take (taken - 1) bytes.now) + pending < column_behind 0 (take taken bytes.now) },
+}
+
+impl<'a> LineStart<'a> {
+    ghost use Rattle.std.specs.Prelude.{ℕ, ◌≢◌, ◌==◌, ◌&&◌, ◌||◌, IsTrue, nat_le, min, true, false, drop, slice_index, MatchOption};
+    ghost use Rattle.cmark_grammar.specs.Columns.{indent, tab, bytes_of};
+    ghost use Rattle.cmark_grammar.specs.Containers.{begins_with};
+    ghost use Rattle.cmark_grammar.specs.Footnotes.{columns_over};
+    ghost use Rattle.cmark_grammar.specs.Rows.{without, hold, indent_of, words_of, is_bare, begin_of};
+    ghost use Rattle.cmark_grammar.specs.Leaves.{all_pass, is_parted, is_break_of, is_thematic_break};
+    ghost use Rattle.cmark_scan_blocks.specs.LineMarkers.{is_flush};
+    ghost use Rattle.cmark_scan_blocks.specs.LeafLines.{is_break_character};
+    ghost use Rattle.cmark_scan_blocks.specs.LineStart.{columns_taken, columns_from, row_from, line_of, cut_columns, knows_stop};
+
+    /// The line that the bytes begin with, of which nothing was taken: the bytes up to the first LF or CR, or all.
+    #[inline(always)]
+    pub fn new(bytes: &'a [u8]) -> LineStart<'a>
+        ensures { (at line_end : ℕ) → row_from at line_end result ≡ line_of at line_end bytes.entry.now }
+    {
+        let len = content_len(bytes);
+        LineStart {
+            bytes: &bytes[..len],
+            taken: 0,
+            behind_tab: 0,
+            pending: 0,
+            break_stop: len,
+            held: 0,
+        }
+    }
+
+    /// The next byte, if there is one.
+    #[inline]
+    fn next_byte(&self) -> Option<u8>
+        ensures { MatchOption result (self.now.taken ≡ length self.now.bytes.now) (λ byte. (self.now.taken < length self.now.bytes.now) × (byte ≡ slice_index self.now.bytes.now self.now.taken)) }
+    {
+        if self.taken < self.bytes.len() {
+            Some(self.bytes[self.taken])
+        } else {
+            None
+        }
+    }
+
+    /// The bytes to come, or none where columns of a tab are left.
+    #[inline]
+    fn ahead(&self) -> &'a [u8]
+        ensures words { (at line_end : ℕ) → is_flush (row_from at line_end self.now) ≡ true → words_of (row_from at line_end self.now) ≡ result.now }
+        ensures blank { (at line_end : ℕ) → is_flush (row_from at line_end self.now) ≡ false → is_parted result.now ≡ true }
+        ensures whole { 0 < length result.now → self.now.pending ≡ 0 }
+        ensures rest { 0 < length result.now → result.now ≡ drop self.now.taken self.now.bytes.now }
+    {
+        if self.pending == 0 {
+            &self.bytes[self.taken..]
+        } else {
+            &self.bytes[self.bytes.len()..]
+        }
+    }
+
+    /// Whether a byte still to come is known, by an earlier search, that stops a thematic break of this character.
+    #[inline]
+    fn has_stop(&self, character: u8) -> bool
+        ensures known { result ≡ knows_stop character self.now }
+        ensures none { IsTrue result → is_break_of character (drop self.now.taken self.now.bytes.now) ≡ false }
+    {
+        self.taken <= self.break_stop
+            && self.break_stop < self.bytes.len()
+            && self.bytes[self.break_stop] != character
+    }
+
+    /// Whether a thematic break stands from here on (CommonMark 4.1), where the byte in front is no blank.
+    ///
+    /// A search that fails leaves its stop behind. In `- - - x` the one at the first `-` reads up to `x`, and at the next
+    /// two the known stop answers. A new search begins at the last stop or behind it, so that each byte is read a few times
+    /// at most, however many markers the line has.
+    fn is_break(&mut self) -> bool
+        requires { is_blank_byte (slice_index (drop self.old.taken self.old.bytes.now) 0) ≡ false }
+        ensures found { result ≡ is_thematic_break (drop self.old.taken self.old.bytes.now) }
+        ensures learns { (character : ℕ) → slice_index (drop self.old.taken self.old.bytes.now) 0 ≡ character → is_break_character character ≡ true → all_pass (λ b. (b == character) || is_blank_byte b) (drop self.old.taken self.old.bytes.now) ≡ false → knows_stop character self.new ≡ true }
+        ensures stays { IsTrue result → self.new ≡ self.old }
+        ensures rest { (at line_end : ℕ) → row_from at line_end self.new ≡ row_from at line_end self.old }
+        ensures line { self.new.bytes ≡ self.old.bytes }
+        ensures taken { self.new.taken ≡ self.old.taken }
+        ensures pending { self.new.pending ≡ self.old.pending }
+    {
+        let rest = &self.bytes[self.taken..];
+        let Some(character) = self.next_byte() else {
+            return false;
+        };
+        if !is_break_character(character) || self.has_stop(character) {
+            return false;
+        }
+        let Some(size) = break_stop(rest, character) else {
+            return is_break_of(rest, character);
+        };
+        self.break_stop = self.taken + size;
+        false
+    }
+
+    /// Takes this many bytes, none of which is a tab.
+    #[inline]
+    fn take_bytes(&mut self, n: usize)
+        requires whole { self.old.pending ≡ 0 }
+        requires within { n ≤ length (drop self.old.taken self.old.bytes.now) }
+        requires plain { (k : ℕ) → k < n → slice_index (drop self.old.taken self.old.bytes.now) k ≢ tab }
+        ensures line { self.new.bytes ≡ self.old.bytes }
+        ensures rest { (at line_end : ℕ) → row_from at line_end self.new ≡ without n (row_from at line_end self.old) }
+        ensures whole { self.new.pending ≡ 0 }
+        ensures taken { self.new.taken ≡ self.old.taken + n }
+    {
+        self.taken += n;
+    }
+
+    /// Takes the next byte, with all columns of it.
+    #[inline]
+    fn take_byte(&mut self)
+        requires whole { self.old.pending ≡ 0 }
+        requires within { self.old.taken < length self.old.bytes.now }
+        ensures line { self.new.bytes ≡ self.old.bytes }
+        ensures held { self.new.held ≡ self.old.held }
+        ensures whole { self.new.pending ≡ 0 }
+        ensures taken { self.new.taken ≡ self.old.taken + 1 }
+    {
+        let behind = self.taken + 1;
+        let is_tab = self.bytes[self.taken] == b'\t';
+        self.taken = behind;
+        if is_tab {
+            self.behind_tab = behind;
+        }
+    }
+
+    /// Takes this many bytes, among which tabs may stand, but not as the last one.
+    fn take_marker(&mut self, n: usize)
+        requires whole { self.old.pending ≡ 0 }
+        requires some { 0 < n }
+        requires within { n ≤ length (drop self.old.taken self.old.bytes.now) }
+        requires last { slice_index (drop self.old.taken self.old.bytes.now) (n - 1) ≢ tab }
+        ensures line { self.new.bytes ≡ self.old.bytes }
+        ensures whole { self.new.pending ≡ 0 }
+        ensures rest { (at line_end : ℕ) → row_from at line_end self.new ≡ without (columns_over n (columns_from at self.old)) (row_from at line_end self.old) }
+    {
+        let stop = self.taken + n;
+        while self.taken < stop {
+            self.take_byte();
+        }
+    }
+
+    /// Whether the line goes on with this byte, which is no blank, and nothing is left of a tab.
+    #[inline]
+    fn goes_on_with(&self, byte: u8) -> bool
+        requires { is_blank_byte byte ≡ false }
+        ensures found { (at line_end : ℕ) → result ≡ (is_flush (row_from at line_end self.now) && begins_with byte (words_of (row_from at line_end self.now))) }
+        ensures whole { IsTrue result → self.now.pending ≡ 0 }
+        ensures some { IsTrue result → 1 ≤ length (drop self.now.taken self.now.bytes.now) }
+        ensures first { IsTrue result → slice_index (drop self.now.taken self.now.bytes.now) 0 ≡ byte }
+    {
+        match self.ahead() {
+            [first, ..] => *first == byte,
+            [] => false,
+        }
+    }
+
+    /// Takes the byte in front, if it is a blank, and answers how many columns it has, or 0.
+    #[inline]
+    fn take_blank(&mut self) -> usize
+        requires { self.old.pending ≡ 0 }
+        ensures line { self.new.bytes ≡ self.old.bytes }
+        ensures held { self.new.held ≡ self.old.held }
+        ensures whole { self.new.pending ≡ 0 }
+        ensures small { result ≤ 4 }
+        ensures one { 0 < result → self.new.taken ≡ self.old.taken + 1 }
+        ensures wide { 0 < result → column_behind 0 (take self.old.taken self.old.bytes.now) + result ≡ column_behind 0 (take self.new.taken self.new.bytes.now) }
+        ensures taken { columns_taken self.new ≡ columns_taken self.old + result }
+        ensures blank { (at : ℕ) → result ≤ indent (columns_from at self.old) }
+        ensures none { (at : ℕ) → result ≡ 0 → indent (columns_from at self.old) ≡ 0 }
+    {
+        match self.next_byte() {
+            Some(b' ') => {
+                self.taken += 1;
+                1
+            }
+            Some(b'\t') => {
+                let width = 4 - (self.taken - self.behind_tab) % 4;
+                self.taken += 1;
+                self.behind_tab = self.taken;
+                width
+            }
+            _ => 0,
+        }
+    }
+
+    /// Takes up to `n` columns of spaces and tabs, and answers how many. Of a tab in the line's first column, which has four,
+    /// `scan_space_upto(1)` takes one, and three are left as spaces.
+    #[inline]
+    pub fn scan_space_upto(&mut self, n: usize) -> usize
+        ensures count { (at : ℕ) → result ≡ min n (indent (columns_from at self.old)) }
+        ensures rest { (at line_end : ℕ) → row_from at line_end self.new ≡ without result (row_from at line_end self.old) }
+    {
+        let mut count = self.pending.min(n);
+        self.pending -= count;
+        while count < n {
+            let width = self.take_blank();
+            if width == 0 {
+                break;
+            }
+            let part = width.min(n - count);
+            self.pending = width - part;
+            count += part;
+        }
+        count
+    }
+
+    /// Takes up to `n` columns of spaces and tabs, and answers whether so many stand there. Where fewer do, they are taken
+    /// all the same.
+    #[inline]
+    pub fn scan_space(&mut self, n: usize) -> bool
+        ensures enough { (at line_end : ℕ) → result ≡ nat_le n (indent_of (row_from at line_end self.old)) }
+        ensures rest { (at line_end : ℕ) → row_from at line_end self.new ≡ without (min n (indent_of (row_from at line_end self.old))) (row_from at line_end self.old) }
+    {
+        self.scan_space_upto(n) == n
+    }
+
+    /// Takes all spaces and tabs in front.
+    #[inline]
+    pub fn scan_all_space(&mut self)
+        ensures { (at line_end : ℕ) → row_from at line_end self.new ≡ without (indent_of (row_from at line_end self.old)) (row_from at line_end self.old) }
+    {
+        self.pending = 0;
+        while self.take_blank() > 0 {}
+    }
+
+    /// Notes that a container which has no prefix keeps the line (this profile's own). Nothing is taken.
+    #[inline]
+    pub fn hold(&mut self)
+        ensures { (at line_end : ℕ) → row_from at line_end self.new ≡ hold (row_from at line_end self.old) }
+    {
+        self.held = 1;
+    }
+
+    /// Whether a container which has no prefix keeps the line (this profile's own).
+    #[inline]
+    pub fn is_held(&self) -> bool
+        ensures { (at line_end : ℕ) → result ≡ (row_from at line_end self.now).held }
+    {
+        self.held != 0
+    }
+
+    /// How many columns are left of a tab of which a part was taken, 0 to 3.
+    #[inline]
+    pub fn remaining_space(&self) -> usize
+        ensures { (at : ℕ) → result ≡ cut_columns (columns_from at self.now) }
+    {
+        self.pending
+    }
+
+    /// Whether nothing is left of the line, not even blanks.
+    #[inline]
+    pub fn is_at_eol(&self) -> bool
+        ensures { (at : ℕ) → result ≡ is_bare (columns_from at self.now) }
+    {
+        self.pending == 0 && self.taken == self.bytes.len()
+    }
+
+    /// The bytes to come: those behind the ones that were taken.
+    #[inline]
+    pub fn remaining_bytes(&self) -> &'a [u8]
+        ensures { (at : ℕ) → bytes_of (columns_from at self.now) ≡ result.now }
+    {
+        let LineStart { bytes, taken, .. } = *self;
+        &bytes[taken..]
+    }
+
+    /// How many bytes of the line were taken, a tab of which a part was taken among them.
+    #[inline]
+    pub fn bytes_scanned(&self) -> usize
+        ensures { (at line_end : ℕ) → begin_of (row_from at line_end self.now) ≡ at + result }
+    {
+        self.taken
+    }
+}
+
+/// How many bytes stand before the first LF or CR, or how many there are. Of an empty line, of which texts have many, its first byte tells it.
+#[inline(always)]
+fn content_len(bytes: &[u8]) -> usize
+    ensures content { take result bytes.now ≡ content bytes.now }
+    ensures within { result ≤ length bytes.now }
+{
+    match bytes {
+        [b'\n', ..] => 0,
+        _ => find_line_end(bytes).unwrap_or(bytes.len()),
+    }
+}

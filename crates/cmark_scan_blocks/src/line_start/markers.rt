@@ -1,0 +1,139 @@
+//! The markers in front of a line, behind the prefixes that were taken. Where columns of a tab are left, or a blank stands
+//! in front, there is none.
+
+ghost use Rattle.std.specs.Prelude.{◌≡◌, ◌≤◌, ℕ, None, IfSome, option_map};
+ghost use Rattle.std.specs.Bool.{OnFalse};
+ghost use Rattle.cmark_grammar.specs.Rows.{without, words_of};
+ghost use Rattle.cmark_scan_parts.specs.Footnotes.{marked, IsClosed};
+ghost use Rattle.cmark_grammar.specs.Containers.{padding};
+ghost use Rattle.cmark_text_parts.specs.Shown.{shown_block_quote_kind};
+ghost use Rattle.cmark_scan_blocks.specs.LineStart.{columns_from, row_from};
+ghost use Rattle.cmark_scan_blocks.specs.LineMarkers.{begins_block_quote, behind_block_quote, alert_in, behind_alert, item_in, item_numbers, entered, definition_in, behind_definition, sum_up_to_most, task_in, behind_task, footnote_at, behind_footnote};
+
+use crate::line_start::LineStart;
+use crate::marker::{scan_alert, scan_listitem, scan_task};
+use cmark_scan_parts::scan_footnote_marker;
+use cmark_text_parts::BlockQuoteKind;
+
+impl<'a> LineStart<'a> {
+    /// Takes the marker of a block quote (CommonMark 5.1): `>` and one column of space, if there is one. Where the line
+    /// does not go on with `>`, nothing is taken.
+    #[inline]
+    pub fn scan_blockquote_marker(&mut self) -> bool
+        ensures found { (at line_end : ℕ) → result ≡ begins_block_quote (row_from at line_end self.old) }
+        ensures rest { (at line_end : ℕ) → row_from at line_end self.new ≡ behind_block_quote (row_from at line_end self.old) }
+        ensures stays { OnFalse result (self.new ≡ self.old) }
+    {
+        if !self.goes_on_with(b'>') {
+            return false;
+        }
+        self.take_bytes(1);
+        self.scan_space_upto(1);
+        true
+    }
+
+    /// Takes the rest of the line, if it is the tag of an alert (this profile's own): exactly `[!NOTE]`, `[!TIP]`,
+    /// `[!IMPORTANT]`, `[!WARNING]` or `[!CAUTION]`, in any case, and blanks. Else nothing is taken.
+    pub fn scan_blockquote_tag(&mut self) -> Option<BlockQuoteKind>
+        ensures found { (at line_end : ℕ) → option_map shown_block_quote_kind result ≡ alert_in (row_from at line_end self.old) }
+        ensures rest { (at line_end : ℕ) → row_from at line_end self.new ≡ behind_alert (row_from at line_end self.old) }
+        ensures stays { result ≡ None → self.new ≡ self.old }
+    {
+        let (kind, size) = scan_alert(self.ahead())?;
+        self.take_bytes(size);
+        self.scan_all_space();
+        Some(kind)
+    }
+
+    /// Takes the marker of a list item and the blanks behind it that count (CommonMark 5.2), and answers its character
+    /// (the bullet, or what stands behind the number), its number, none for a bullet, and the item's width in columns: the
+    /// indent, which was taken before, the marker and those blanks. At most `usize::MAX` is answered. Where no list item
+    /// begins, or a thematic break stands, nothing is taken. In front of `10) x`, with no indent, the answer is
+    /// `(b')', Some(10), 4)`.
+    #[inline]
+    pub fn scan_list_marker_with_indent(
+        &mut self,
+        indent: usize,
+    ) -> Option<(u8, Option<u64>, usize)>
+        ensures found { (at line_end : ℕ) → result ≡ item_numbers indent (item_in (row_from at line_end self.old)) }
+        ensures rest { (at line_end : ℕ) → row_from at line_end self.new ≡ entered (item_in (row_from at line_end self.old)) (row_from at line_end self.old) }
+        ensures stays { result ≡ None → self.new ≡ self.old }
+    {
+        let marker = scan_listitem(self.ahead())?;
+        if self.is_break() {
+            return None;
+        }
+        self.take_bytes(marker.size);
+        let width = marker.size + self.scan_padding();
+        Some((
+            marker.delimiter,
+            marker.number,
+            indent.saturating_add(width),
+        ))
+    }
+
+    /// Takes the marker of a definition and the blanks behind it that count (this profile's own), and answers the
+    /// definition's width in columns: the indent, which was taken before, the marker `:` and those blanks. None has to
+    /// stand there. At most `usize::MAX` is answered. Where the line does not go on with `:`, nothing is taken.
+    #[inline]
+    pub fn scan_definition_list_definition_marker_with_indent(
+        &mut self,
+        indent: usize,
+    ) -> Option<usize>
+        ensures found { (at line_end : ℕ) → result ≡ option_map (sum_up_to_most indent) (definition_in (row_from at line_end self.old)) }
+        ensures rest { (at line_end : ℕ) → row_from at line_end self.new ≡ behind_definition (row_from at line_end self.old) }
+        ensures stays { result ≡ None → self.new ≡ self.old }
+    {
+        if !self.goes_on_with(b':') {
+            return None;
+        }
+        self.take_bytes(1);
+        let width = 1 + self.scan_padding();
+        Some(indent.saturating_add(width))
+    }
+
+    /// Takes the box of a task marker (GFM 5.3), `[ ]`, `[x]` or `[X]`, and answers whether it is checked. Where there is
+    /// none, or no blank and text behind it, nothing is taken.
+    #[inline]
+    pub fn scan_task_list_marker(&mut self) -> Option<bool>
+        ensures found { (at line_end : ℕ) → result ≡ task_in (row_from at line_end self.old) }
+        ensures rest { (at line_end : ℕ) → row_from at line_end self.new ≡ behind_task (row_from at line_end self.old) }
+        ensures stays { result ≡ None → self.new ≡ self.old }
+    {
+        let checked = scan_task(self.ahead())?;
+        self.take_bytes(3);
+        Some(checked)
+    }
+
+    /// Takes the marker of a footnote definition (this profile's own), `[^`, a label on one line and `]:`, and all blanks behind it. Answers how many bytes
+    /// the label has, which stands behind the first two bytes. Where there is none, nothing is taken.
+    pub fn scan_footnote_marker(&mut self) -> Option<usize>
+        ensures found { (at line_end : ℕ) → option_map (marked (words_of (row_from at line_end self.old))) result ≡ footnote_at (row_from at line_end self.old) }
+        ensures closed { (at line_end : ℕ) → IfSome result (IsClosed (words_of (row_from at line_end self.old))) }
+        ensures rest { (at line_end : ℕ) → row_from at line_end self.new ≡ behind_footnote (footnote_at (row_from at line_end self.old)) (row_from at line_end self.old) }
+        ensures stays { result ≡ None → self.new ≡ self.old }
+    {
+        let size = scan_footnote_marker(self.ahead())?;
+        self.take_marker(size + 4);
+        self.scan_all_space();
+        Some(size)
+    }
+
+    /// Takes the blanks behind a marker that count (CommonMark 5.2): of five or more columns, and in front of a blank rest,
+    /// one. Answers how many columns that are; where nothing at all is left of the line, one is answered all the same.
+    #[inline]
+    fn scan_padding(&mut self) -> usize
+        ensures count { (at : ℕ) → result ≡ padding (columns_from at self.old) }
+        ensures rest { (at line_end : ℕ) → row_from at line_end self.new ≡ without result (row_from at line_end self.old) }
+        ensures few { result ≤ 4 }
+    {
+        let mut behind = *self;
+        let blanks = behind.scan_space_upto(5);
+        if blanks == 5 || behind.is_at_eol() {
+            self.scan_space_upto(1);
+            return 1;
+        }
+        *self = behind;
+        blanks
+    }
+}

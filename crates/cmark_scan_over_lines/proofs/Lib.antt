@@ -1,0 +1,3 @@
+pub mod LabelSteps
+pub mod OwnedSteps
+pub mod TagTexts

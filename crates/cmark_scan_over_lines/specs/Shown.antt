@@ -1,0 +1,17 @@
+-- What the values of structs mean.
+use Rattle.std.specs.Prelude.{◌≡◌, suc, length}
+use Rattle.cmark_grammar.specs.InlineHtml.{OwnedTag}
+use Rattle.cmark_text_parts.specs.Shown.{text_bytes}
+use Rattle.cmark_scan_parts.specs.Shown.{Part}
+use Rattle.cmark_scan_over_lines.specs.declared.label.LinkLabelRest.{LinkLabelRest}
+use Rattle.cmark_scan_over_lines.specs.declared.owned.HtmlTag.{HtmlTag}
+
+abbrev pub shown_tag : HtmlTag → OwnedTag
+shown_tag tag = record { end = tag.end; buffer = tag.buffer.items }
+
+abbrev pub shown_label : LinkLabelRest → Part
+shown_label label = record { end = label.end; bytes = text_bytes label.text }
+
+-- a label of as many bytes as stand up to its closing bracket, so that none is left out
+abbrev pub IsWhole : LinkLabelRest → Type 0
+IsWhole label = suc (length (text_bytes label.text)) ≡ label.end
