@@ -7,8 +7,8 @@ use Rattle.cmark_grammar.specs.Options.{Options}
 use Rattle.cmark_grammar.specs.References.{first_with}
 use Rattle.cmark_grammar.specs.SpanDocuments.{has_label}
 use Rattle.cmark_items.specs.ItemNodes.{shown_forest}
-use Rattle.cmark_items.specs.Definitions.{definition, shown_definition}
-use Rattle.cmark_items.specs.Footnotes.{footnote}
+use Rattle.cmark_references.specs.Definitions.{definition, shown_definition}
+use Rattle.cmark_references.specs.Footnotes.{footnote}
 use Rattle.cmark_builder.specs.Drawn.{shown_open, open_node}
 use Rattle.cmark_block_model.specs.BlockPass.{pass_over, all_closed, lines_fed}
 use Rattle.cmark_block_model.specs.OpenBlocks.{at_start}

@@ -10,8 +10,8 @@ use Rattle.std.proofs.lemmas.Slice.Eq.{bytes_eq-Decides}
 use Rattle.cmark_grammar.specs.BlockDocument.{Reference}
 use Rattle.cmark_grammar.specs.Labels.{is_nonempty, words, normal_form, case_folded, fold}
 use Rattle.cmark_grammar.specs.References.{found_or, first_with}
-use Rattle.cmark_items.specs.Definitions.{shown_definition, first_of, at_label}
-use Rattle.cmark_items.specs.declared.definitions.LinkDef.{LinkDef}
+use Rattle.cmark_references.specs.Definitions.{shown_definition, first_of, at_label}
+use Rattle.cmark_references.specs.declared.definitions.LinkDef.{LinkDef}
 use Rattle.cmark_blocks.specs.Runs.{shown_reference}
 
 -- words of a label

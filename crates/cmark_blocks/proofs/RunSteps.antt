@@ -2,8 +2,8 @@
 use Rattle.std.proofs.Common.{◌≡◌, ℕ, Bool, true, false, List, [], ◌∷◌, ◌++◌, Option, Some, None, option_map, refl, ap, subst, ◌∙◌, Vec, String, Global, ◌==◌}
 use Rattle.cmark_grammar.specs.Options.{Options}
 use Rattle.cmark_grammar.specs.Answers.{Lookup}
-use Rattle.cmark_items.specs.Definitions.{definition, shown_definition}
-use Rattle.cmark_items.specs.Footnotes.{footnote}
+use Rattle.cmark_references.specs.Definitions.{definition, shown_definition}
+use Rattle.cmark_references.specs.Footnotes.{footnote}
 use Rattle.cmark_items.specs.Tables.{defined}
 use Rattle.cmark_block_model.specs.Drawing.{Drawing}
 use Rattle.cmark_block_model.specs.OpenBlocks as model

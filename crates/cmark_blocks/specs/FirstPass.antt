@@ -10,7 +10,7 @@ use Rattle.cmark_grammar.specs.Ranges.{count_tables}
 use Rattle.cmark_grammar.specs.References.{first_with, references}
 use Rattle.cmark_grammar.specs.SpanDocuments.{footnote_labels}
 use Rattle.cmark_items.specs.declared.item.Item.{Item}
-use Rattle.cmark_items.specs.Definitions.{definition, shown_definition}
+use Rattle.cmark_references.specs.Definitions.{definition, shown_definition}
 use Rattle.cmark_items.specs.ItemNodes.{shown_forest, nodes_of}
 use Rattle.cmark_block_model.specs.BlockPass.{pass_over}
 use Rattle.cmark_blocks.specs.declared.first_pass.FirstPass.{FirstPass}

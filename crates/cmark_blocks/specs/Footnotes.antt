@@ -1,11 +1,11 @@
 -- Footnote definitions that are kept (this profile's own).
 use Rattle.std.specs.Prelude.{◌≡◌, ℕ, Bool, if◌then◌else◌, List, [], ◌∷◌, ◌++◌, Option, Some, None}
 use Rattle.cmark_grammar.specs.Labels.{fold}
-use Rattle.cmark_items.specs.Definitions.{first_of, at_label}
-use Rattle.cmark_items.specs.Footnotes.{footnote}
+use Rattle.cmark_references.specs.Definitions.{first_of, at_label}
+use Rattle.cmark_references.specs.Footnotes.{footnote}
 use Rattle.cmark_items.specs.Tables.{Tables}
-use Rattle.cmark_items.specs.declared.footnotes.FootnoteDef.{FootnoteDef}
-use Rattle.cmark_items.specs.declared.footnotes.FootnoteDefs.{FootnoteDefs}
+use Rattle.cmark_references.specs.declared.footnotes.FootnoteDef.{FootnoteDef}
+use Rattle.cmark_references.specs.declared.footnotes.FootnoteDefs.{FootnoteDefs}
 use Rattle.cmark_grammar.specs.SpanDocuments.{has_label}
 use Rattle.cmark_text_parts.specs.Shown.{text_bytes}
 use Rattle.cmark_text_parts.specs.declared.text.CowStr.{CowStr}

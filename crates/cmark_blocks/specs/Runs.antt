@@ -7,7 +7,7 @@ use Rattle.cmark_grammar.specs.Answers.{Lookup}
 use Rattle.cmark_grammar.specs.Labels.{fold}
 use Rattle.cmark_grammar.specs.References.{first_with}
 use Rattle.cmark_grammar.specs.BlockDocument.{Reference}
-use Rattle.cmark_items.specs.Definitions.{definition, ShownDefinition, shown_definition}
+use Rattle.cmark_references.specs.Definitions.{definition, ShownDefinition, shown_definition}
 use Rattle.cmark_builder.specs.Drawn.{Draws}
 use Rattle.cmark_lines.specs.Rests.{row_of}
 use Rattle.cmark_lines.specs.declared.line_rest.LineRest.{LineRest}

@@ -6,8 +6,8 @@ use Rattle.cmark_tree.specs.Forest.{Forest}
 use Rattle.cmark_items.specs.declared.item.Item.{Item}
 use Rattle.cmark_items.specs.declared.item.ItemBody.{ItemBody}
 use Rattle.cmark_items.specs.declared.item.ItemBody.TheVariants as body
-use Rattle.cmark_items.specs.Definitions.{definition}
-use Rattle.cmark_items.specs.Footnotes.{footnote}
+use Rattle.cmark_references.specs.Definitions.{definition}
+use Rattle.cmark_references.specs.Footnotes.{footnote}
 use Rattle.cmark_items.specs.Tables.{Tables}
 
 abbrev pub item_at : (start end : ℕ) → ItemBody → Item

@@ -5,7 +5,7 @@ use Rattle.cmark_grammar.specs.LinkDefinitions as definitions
 use Rattle.cmark_text_parts.specs.Labelled.{link_text}
 use Rattle.cmark_text_parts.specs.Shown.{text_bytes}
 use Rattle.cmark_text_parts.specs.declared.label.LinkLabel.{LinkLabel}
-use Rattle.cmark_items.specs.declared.definitions.LinkDef.{LinkDef}
+use Rattle.cmark_references.specs.declared.definitions.LinkDef.{LinkDef}
 use Rattle.cmark_definitions.specs.declared.definition.Definition.{Definition}
 use Rattle.cmark_definitions.specs.declared.definition.Read.{Read}
 

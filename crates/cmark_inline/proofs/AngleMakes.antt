@@ -18,7 +18,7 @@ use Rattle.cmark_scan_parts.proofs.Endings.{tag-behind}
 use Rattle.cmark_inline.specs.MarkupInSource.{IsTag, IsFound, FindsNone, ReadsLess}
 use Rattle.cmark_inline.specs.Linked.{IsAutolink}
 use Rattle.cmark_inline.specs.Tokens.{whole, reading, read_on, opens_markup, shown_autolink, Says, Puts, BeginsThere, PutsAutolink}
-use Rattle.cmark_items.specs.declared.allocations.Link.{Link}
+use Rattle.cmark_references.specs.declared.link.Link.{Link}
 use Rattle.cmark_inline.specs.declared.markup.FoundHtml.{FoundHtml}
 use Rattle.cmark_slots.specs.declared.slot.SlotKind.TheVariants as kind
 use Rattle.cmark_inline.specs.declared.state.InlineState.{InlineState}

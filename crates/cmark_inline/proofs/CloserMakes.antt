@@ -19,8 +19,8 @@ use Rattle.cmark_grammar.specs.Parts.{Footnote, Linking}
 use Rattle.cmark_grammar.specs.Questions.{AnyAnswer}
 use Rattle.cmark_grammar.specs.Readers.{Reader}
 use Rattle.cmark_grammar.specs.Tokens.{slice}
-use Rattle.cmark_items.specs.declared.definitions.RefDefs.{RefDefs}
-use Rattle.cmark_items.specs.declared.footnotes.FootnoteDefs.{FootnoteDefs}
+use Rattle.cmark_references.specs.declared.definitions.RefDefs.{RefDefs}
+use Rattle.cmark_references.specs.declared.footnotes.FootnoteDefs.{FootnoteDefs}
 use Rattle.cmark_leaf_text.specs.Reads as reads
 use Rattle.cmark_leaf_text.specs.Reads.{text_of, source_of, is_cell_of}
 use Rattle.cmark_leaf_text.specs.declared.leaf_text.LeafText.{LeafText}
@@ -32,7 +32,7 @@ use Rattle.cmark_inline.specs.Decided.{ComesTo, EndsWithin, IsCloser, ReadsSame,
 use Rattle.cmark_slots.specs.Doubled as stacks
 use Rattle.cmark_inline.specs.Footnoted.{KeepsLabel, footnote_of, forms_footnote}
 use Rattle.cmark_inline.specs.Hiding.{WritesReference, WritesWikilink}
-use Rattle.cmark_items.specs.Links.{shown_link}
+use Rattle.cmark_references.specs.Links.{shown_link}
 use Rattle.cmark_inline.specs.Sound.{IsSound, IsTakenFrom}
 use Rattle.cmark_slots.specs.Slots.{IsBracket}
 use Rattle.cmark_inline.specs.Stands.{Stands}

@@ -21,7 +21,7 @@ use Rattle.cmark_grammar.specs.Readers.{Reader}
 use Rattle.cmark_grammar.specs.Siblings.{tag_by}
 use Rattle.cmark_grammar.specs.Tokens.{slice}
 use Rattle.cmark_grammar.proofs.EmphasisSound.{sound}
-use Rattle.cmark_items.specs.declared.definitions.RefDefs.{RefDefs}
+use Rattle.cmark_references.specs.declared.definitions.RefDefs.{RefDefs}
 use Rattle.cmark_leaf_text.specs.Reads.{place_of, text_of}
 use Rattle.cmark_leaf_text.specs.declared.leaf_text.LeafText.{LeafText}
 use Rattle.cmark_text_parts.specs.declared.text.CowStr.{CowStr}
@@ -35,7 +35,7 @@ use Rattle.cmark_inline.specs.Closers.{Formed, LinksTaken, ReadsOn}
 use Rattle.cmark_inline.specs.Decided.{ComesTo, IsCloser}
 use Rattle.cmark_slots.specs.MarkedSlots.{places_of, siblings_from}
 use Rattle.cmark_inline.specs.Reached.{HasRead, ReadsPlaces, bracket_place, quotes_of, runs_of}
-use Rattle.cmark_items.specs.Links.{shown_link}
+use Rattle.cmark_references.specs.Links.{shown_link}
 use Rattle.cmark_slots.specs.SlotViews.{first_of, shown_slot, shown_slots, slot_as}
 use Rattle.cmark_slots.specs.Slots.{PushesText}
 use Rattle.cmark_inline.specs.Tokens.{Puts}
@@ -43,7 +43,7 @@ use Rattle.cmark_inline.specs.FormedSlots.{WritesElement, dressed_behind, wrappe
 use Rattle.cmark_slots.specs.declared.bracket.Bracket.{Bracket}
 use Rattle.cmark_inline.specs.declared.callback.BrokenLink.{BrokenLink}
 use Rattle.cmark_slots.specs.declared.delimiter.PlacedRun.{PlacedRun}
-use Rattle.cmark_items.specs.declared.allocations.Link.{Link}
+use Rattle.cmark_references.specs.declared.link.Link.{Link}
 use Rattle.cmark_inline.specs.declared.link.Target.{Target}
 use Rattle.cmark_slots.specs.declared.quote.PlacedQuote.{PlacedQuote}
 use Rattle.cmark_slots.specs.declared.slot.Slot.{Slot}

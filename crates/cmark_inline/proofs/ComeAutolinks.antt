@@ -35,7 +35,7 @@ use Rattle.cmark_inline.specs.Sound.{IsSound}
 use Rattle.cmark_slots.specs.SlotViews.{linked_at, linked_or_none, shown_slot, shown_slots}
 use Rattle.cmark_inline.specs.Tokens.{AppendsAutolink, begins_at}
 use Rattle.cmark_inline.specs.declared.callback.BrokenLink.{BrokenLink}
-use Rattle.cmark_items.specs.declared.allocations.Link.{Link}
+use Rattle.cmark_references.specs.declared.link.Link.{Link}
 use Rattle.cmark_slots.specs.declared.quote.PlacedQuote.{PlacedQuote}
 use Rattle.cmark_slots.specs.declared.slot.Element.TheVariants as element
 use Rattle.cmark_slots.specs.declared.slot.Slot.{Slot}

@@ -30,7 +30,7 @@ use Rattle.cmark_slots.specs.SlotViews.{shown_slot, shown_slots}
 use Rattle.cmark_inline.specs.Tokens.{AppendsQuote, AppendsRun}
 use Rattle.cmark_slots.specs.Slots.{byte_slots}
 use Rattle.cmark_inline.specs.declared.callback.BrokenLink.{BrokenLink}
-use Rattle.cmark_items.specs.declared.allocations.Link.{Link}
+use Rattle.cmark_references.specs.declared.link.Link.{Link}
 use Rattle.cmark_slots.specs.declared.slot.Slot.{Slot}
 use Rattle.cmark_inline.specs.declared.state.InlineState.{InlineState}
 use Rattle.cmark_inline.specs.declared.step.Cursor.{Cursor}

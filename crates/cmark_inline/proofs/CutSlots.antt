@@ -28,7 +28,7 @@ use Rattle.cmark_inline_model.specs.SlotRows as row
 use Rattle.cmark_inline.specs.Reached.{ReadsPlaces}
 use Rattle.cmark_slots.specs.SlotViews.{shown_slot, slot_as, text_at, written}
 use Rattle.cmark_slots.specs.Cuts.{cut_kind, cut_slot}
-use Rattle.cmark_items.specs.declared.allocations.Link.{Link}
+use Rattle.cmark_references.specs.declared.link.Link.{Link}
 use Rattle.cmark_slots.specs.declared.slot.Slot.{Slot}
 use Rattle.cmark_slots.specs.declared.slot.SlotKind.{SlotKind}
 use Rattle.cmark_slots.specs.declared.slot.SlotKind.TheVariants as kind

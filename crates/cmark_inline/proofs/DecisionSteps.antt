@@ -12,7 +12,7 @@ use Rattle.cmark_grammar.specs.LinkType as link
 use Rattle.cmark_grammar.specs.OpenBrackets.{Taken}
 use Rattle.cmark_grammar.specs.Questions.{Question, Exchange}
 use Rattle.cmark_grammar.specs.Readers.{Reader}
-use Rattle.cmark_items.specs.declared.definitions.LinkDef.{LinkDef}
+use Rattle.cmark_references.specs.declared.definitions.LinkDef.{LinkDef}
 use Rattle.cmark_text_parts.specs.Shown.{shown_link_type, text_bytes}
 use Rattle.cmark_text_parts.specs.declared.kind.LinkType.{LinkType}
 use Rattle.cmark_text_parts.specs.declared.text.CowStr.{CowStr}

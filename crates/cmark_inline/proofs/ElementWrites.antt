@@ -14,14 +14,14 @@ use Rattle.cmark_inline_model.specs.SlotRows as row
 use Rattle.cmark_inline_model.specs.SlotRows.{marks_by}
 use Rattle.cmark_slots.specs.MarkedSlots.{begun_as, places_of, siblings_from}
 use Rattle.cmark_slots.specs.QuoteSlots.{characters_of}
-use Rattle.cmark_items.specs.Links.{shown_link}
+use Rattle.cmark_references.specs.Links.{shown_link}
 use Rattle.cmark_slots.specs.SlotViews.{first_of, linked_or_none, shown_element, shown_slot, shown_slots}
 use Rattle.cmark_slots.specs.Standing.{AreNamed, CanSettle}
 use Rattle.cmark_slots.specs.Slots.{AreSlots}
 use Rattle.cmark_inline.specs.FormedSlots.{WritesElement, dressed_behind, end_slot, wrapped}
 use Rattle.cmark_slots.specs.declared.bracket.Bracket.{Bracket}
 use Rattle.cmark_slots.specs.declared.delimiter.PlacedRun.{PlacedRun}
-use Rattle.cmark_items.specs.declared.allocations.Link.{Link}
+use Rattle.cmark_references.specs.declared.link.Link.{Link}
 use Rattle.cmark_inline.specs.declared.link.Target.{Target}
 use Rattle.cmark_slots.specs.declared.quote.PlacedQuote.{PlacedQuote}
 use Rattle.cmark_slots.specs.declared.slot.Element.{Element}

@@ -12,8 +12,8 @@ use Rattle.cmark_grammar.specs.LinkTails.{is_bracketed_label, link_tail_in, refe
 use Rattle.cmark_grammar.specs.Options.{Options}
 use Rattle.cmark_grammar.specs.Tokens.{slice}
 use Rattle.cmark_grammar.specs.Labels.{fold, normal_form}
-use Rattle.cmark_items.specs.Footnotes.{Counts}
-use Rattle.cmark_items.specs.declared.footnotes.FootnoteDefs.{FootnoteDefs}
+use Rattle.cmark_references.specs.Footnotes.{Counts}
+use Rattle.cmark_references.specs.declared.footnotes.FootnoteDefs.{FootnoteDefs}
 use Rattle.cmark_leaf_text.specs.Reads.{IsPart}
 use Rattle.cmark_inline.specs.Footnoted.{CountsOf, KeepsLabel, as_label, fits_footnote, footnote_behind, footnote_label, footnote_of, labels, no_leaf, reference_start, unless_footnote}
 use Rattle.cmark_slots.specs.Slots.{IsBracket, IsSlot}

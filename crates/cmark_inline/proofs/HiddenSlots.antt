@@ -18,7 +18,7 @@ use Rattle.cmark_slots.specs.SlotViews.{bytes_or_none, item_slot, shown_slot, sh
 use Rattle.cmark_slots.specs.Standing.{AreNamed}
 use Rattle.cmark_slots.specs.Cuts.{Hides, hidden}
 use Rattle.cmark_slots.specs.declared.bracket.Bracket.{Bracket}
-use Rattle.cmark_items.specs.declared.allocations.Link.{Link}
+use Rattle.cmark_references.specs.declared.link.Link.{Link}
 use Rattle.cmark_slots.specs.declared.slot.Slot.{Slot}
 use Rattle.cmark_inline.specs.declared.state.InlineState.{InlineState}
 use Rattle.cmark_slots.proofs.Longer.{get-last, shown-longer}

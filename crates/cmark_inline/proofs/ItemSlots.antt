@@ -19,7 +19,7 @@ use Rattle.cmark_inline_model.specs.SlotRows.{ItemSlot}
 use Rattle.cmark_inline_model.proofs.TogetherTokens.{byte-lines, byte-together}
 use Rattle.cmark_slots.specs.SlotViews.{first_of, slot_end, written, bytes_or_none, text_at, slot_as, shown_slot}
 use Rattle.cmark_inline.specs.Tokens.{begins_at, Says, IsItem}
-use Rattle.cmark_items.specs.declared.allocations.Link.{Link}
+use Rattle.cmark_references.specs.declared.link.Link.{Link}
 use Rattle.cmark_slots.specs.declared.slot.Slot.{Slot}
 use Rattle.cmark_slots.specs.declared.slot.SlotKind.{SlotKind}
 use Rattle.cmark_slots.specs.declared.slot.SlotKind.TheVariants as kind

@@ -17,7 +17,7 @@ use Rattle.cmark_inline.specs.PlainStretches.{StandsForItself}
 use Rattle.cmark_inline.specs.Reached.{ReadsPlaces}
 use Rattle.cmark_slots.specs.SlotViews.{shown_slot}
 use Rattle.cmark_inline.specs.Tokens.{begins_at}
-use Rattle.cmark_items.specs.declared.allocations.Link.{Link}
+use Rattle.cmark_references.specs.declared.link.Link.{Link}
 use Rattle.cmark_slots.specs.declared.slot.Slot.{Slot}
 use Rattle.cmark_slots.specs.declared.slot.SlotKind.TheVariants as kind
 use Rattle.cmark_inline.proofs.ItemSlots.{item-like}

@@ -1,14 +1,14 @@
 -- What a reference leads to.
 use Rattle.std.proofs.Common.{◌≡◌, ℕ, List, ap, ◌∙◌, Some, None}
 use Rattle.std.specs.Prelude.{Option, option_map}
-use Rattle.cmark_items.specs.declared.definitions.LinkDef.{LinkDef}
+use Rattle.cmark_references.specs.declared.definitions.LinkDef.{LinkDef}
 use Rattle.cmark_text_parts.specs.Shown.{text_bytes}
 use Rattle.cmark_text_parts.specs.declared.kind.LinkType.{LinkType}
 use Rattle.cmark_text_parts.specs.declared.text.CowStr.{CowStr}
 use Rattle.cmark_inline.specs.Linked.{Answers, IsAnswered, IsLed, Refers, said_by, said_in, shown_destination}
 use Rattle.cmark_inline.specs.declared.callback.BrokenLink.{BrokenLink}
 use Rattle.cmark_inline.specs.declared.reference.Destination.{Destination}
-use Rattle.cmark_items.specs.declared.allocations.Link.{Link}
+use Rattle.cmark_references.specs.declared.link.Link.{Link}
 
 module _ {F : Type 0} (R : F → BrokenLink → Option (CowStr × CowStr) → F → Type 0) where
   pub by-definition : (def : Option LinkDef) (form : LinkType) (label : List ℕ) (start end : ℕ) (before after : F) (found : Destination) (parts : Link)

@@ -13,7 +13,7 @@ use Rattle.cmark_inline.specs.MarkupInSource.{IsFound}
 use Rattle.cmark_slots.specs.SlotViews.{CanBeGiven, EndsBehind}
 use Rattle.cmark_slots.specs.Standing.{AreNamed, EndsIn, source_end}
 use Rattle.cmark_text_parts.specs.declared.text.CowStr.{CowStr}
-use Rattle.cmark_items.specs.declared.allocations.Link.{Link}
+use Rattle.cmark_references.specs.declared.link.Link.{Link}
 use Rattle.cmark_inline.specs.declared.markup.FoundHtml.{FoundHtml}
 use Rattle.cmark_slots.specs.declared.slot.Slot.{Slot}
 use Rattle.cmark_slots.specs.declared.slot.SlotKind.{SlotKind}

@@ -21,11 +21,11 @@ use Rattle.cmark_grammar.specs.Parts.{Footnote}
 use Rattle.cmark_grammar.specs.Readers.{Reader}
 use Rattle.cmark_grammar.specs.Tokens.{slice, title_lines}
 use Rattle.cmark_grammar.specs.Unescaped.{unescaped}
-use Rattle.cmark_items.specs.Footnotes.{footnote}
-use Rattle.cmark_items.specs.declared.footnotes.FootnoteDefs.{FootnoteDefs}
+use Rattle.cmark_references.specs.Footnotes.{footnote}
+use Rattle.cmark_references.specs.declared.footnotes.FootnoteDefs.{FootnoteDefs}
 use Rattle.cmark_text_parts.specs.Shown.{shown_link_type, text_bytes}
 use Rattle.cmark_inline_model.specs.TextPlaces.{ArePlaces}
-use Rattle.cmark_items.specs.Links.{shown_link}
+use Rattle.cmark_references.specs.Links.{shown_link}
 use Rattle.cmark_inline.specs.Decided.{IsCloser, EndsWithin, is_full, target_outcome}
 use Rattle.cmark_inline.specs.Footnoted.{labels, no_leaf, as_label, is_footnote_label, footnote_label, footnote_behind, unless_footnote, is_accepted, forms_footnote}
 use Rattle.cmark_inline.specs.Linked as linked

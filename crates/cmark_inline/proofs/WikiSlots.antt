@@ -19,7 +19,7 @@ use Rattle.cmark_inline_model.specs.SlotRows.{marked, marks_by, quoted, seen}
 use Rattle.cmark_inline.specs.Hiding.{AreLeft, WritesShown}
 use Rattle.cmark_slots.specs.MarkedSlots.{SameBefore, begun_as, places_of, siblings_from}
 use Rattle.cmark_slots.specs.QuoteSlots.{characters_of}
-use Rattle.cmark_items.specs.Links.{shown_link}
+use Rattle.cmark_references.specs.Links.{shown_link}
 use Rattle.cmark_slots.specs.SlotViews.{first_of, shown_element, shown_slot, shown_slots}
 use Rattle.cmark_slots.specs.Standing.{AreNamed, AreSound, CanSettle}
 use Rattle.cmark_slots.specs.Slots.{AreSlots}
@@ -29,7 +29,7 @@ use Rattle.cmark_inline.specs.FormedSlots.{Forgets, dressed_behind, end_slot, wr
 use Rattle.cmark_slots.specs.declared.bracket.Bracket.{Bracket}
 use Rattle.cmark_slots.specs.declared.bracket.Brackets.{Brackets}
 use Rattle.cmark_slots.specs.declared.delimiter.PlacedRun.{PlacedRun}
-use Rattle.cmark_items.specs.declared.allocations.Link.{Link}
+use Rattle.cmark_references.specs.declared.link.Link.{Link}
 use Rattle.cmark_slots.specs.declared.quote.PlacedQuote.{PlacedQuote}
 use Rattle.cmark_slots.specs.declared.slot.Element.{Element}
 use Rattle.cmark_slots.specs.declared.slot.Element.TheVariants as element

@@ -10,14 +10,14 @@ use Rattle.cmark_grammar.specs.LeafText.{Leaf}
 use Rattle.cmark_grammar.specs.Options.{Options}
 use Rattle.cmark_grammar.specs.Parts.{Linking, Footnote, Wiki}
 use Rattle.cmark_grammar.specs.Readers.{Reader}
-use Rattle.cmark_items.specs.declared.definitions.RefDefs.{RefDefs}
-use Rattle.cmark_items.specs.declared.footnotes.FootnoteDefs.{FootnoteDefs}
+use Rattle.cmark_references.specs.declared.definitions.RefDefs.{RefDefs}
+use Rattle.cmark_references.specs.declared.footnotes.FootnoteDefs.{FootnoteDefs}
 use Rattle.cmark_leaf_text.specs.declared.leaf_text.LeafText.{LeafText}
 use Rattle.cmark_text_parts.specs.Shown.{text_bytes}
 use Rattle.cmark_text_parts.specs.declared.text.CowStr.{CowStr}
 use Rattle.cmark_inline_model.specs.BracketPass.{Pass, closed_by}
 use Rattle.cmark_inline.specs.BracketViews.{StandFor, IsFresh, behind_opening, standing_of}
-use Rattle.cmark_items.specs.Links.{shown_link}
+use Rattle.cmark_references.specs.Links.{shown_link}
 use Rattle.cmark_inline.specs.Decided.{ReadsSame, IsCloser, Remembers, ComesTo, EndsWithin, TargetDecides}
 use Rattle.cmark_slots.specs.Doubled.{DropsBehind}
 use Rattle.cmark_inline.specs.Reached.{HasRead, ReadsPlaces}
@@ -28,7 +28,7 @@ use Rattle.cmark_inline.specs.FormedSlots.{WritesElement}
 use Rattle.cmark_slots.specs.declared.bracket.Bracket.{Bracket}
 use Rattle.cmark_slots.specs.declared.bracket.Brackets.{Brackets}
 use Rattle.cmark_inline.specs.declared.callback.BrokenLink.{BrokenLink}
-use Rattle.cmark_items.specs.declared.allocations.Link.{Link}
+use Rattle.cmark_references.specs.declared.link.Link.{Link}
 use Rattle.cmark_inline.specs.declared.link.Target.{Target}
 use Rattle.cmark_inline.specs.declared.state.InlineState.{InlineState}
 use Rattle.cmark_inline.specs.declared.step.Cursor.{Cursor}

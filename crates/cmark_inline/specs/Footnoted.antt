@@ -8,8 +8,8 @@ use Rattle.cmark_grammar.specs.LinkTails.{is_bracketed_label, link_tail_in, refe
 use Rattle.cmark_grammar.specs.Options.{Options, no_options}
 use Rattle.cmark_grammar.specs.Readers.{Reader}
 use Rattle.cmark_grammar.specs.Tokens.{slice}
-use Rattle.cmark_items.specs.Footnotes.{footnote, Counts, Keeps}
-use Rattle.cmark_items.specs.declared.footnotes.FootnoteDefs.{FootnoteDefs}
+use Rattle.cmark_references.specs.Footnotes.{footnote, Counts, Keeps}
+use Rattle.cmark_references.specs.declared.footnotes.FootnoteDefs.{FootnoteDefs}
 use Rattle.cmark_text_parts.specs.Shown.{text_bytes}
 use Rattle.cmark_text_parts.specs.declared.text.CowStr.{CowStr}
 use Rattle.cmark_slots.specs.Cuts.{Hides}

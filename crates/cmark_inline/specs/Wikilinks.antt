@@ -11,7 +11,7 @@ use Rattle.cmark_text_parts.specs.Shown.{shown_link_type, text_bytes}
 use Rattle.cmark_slots.specs.Doubled.{nearest}
 use Rattle.cmark_slots.specs.declared.bracket.Bracket.{Bracket}
 use Rattle.cmark_slots.specs.declared.bracket.Brackets.{Brackets}
-use Rattle.cmark_items.specs.declared.allocations.Link.{Link}
+use Rattle.cmark_references.specs.declared.link.Link.{Link}
 use Rattle.cmark_slots.specs.declared.slot.Slot.{Slot}
 use Rattle.cmark_slots.specs.declared.slot.SlotKind.TheVariants as kind
 use Rattle.cmark_inline.specs.declared.wikilink.Wikilink.{Wikilink}

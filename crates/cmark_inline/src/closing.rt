@@ -22,7 +22,7 @@ ghost use Rattle.cmark_text_parts.specs.declared.text.CowStr.{CowStr as Texts};
 ghost use Rattle.cmark_grammar.specs.Emphasis.{IsEmphasis, Pair};
 ghost use Rattle.cmark_slots.specs.MarkedSlots.{siblings_from};
 ghost use Rattle.cmark_slots.specs.SlotViews.{shown_slots};
-ghost use Rattle.cmark_items.specs.declared.allocations.Link.{Link as Links};
+ghost use Rattle.cmark_references.specs.declared.link.Link.{Link as Links};
 
 use crate::callback::BrokenLinkCallback;
 use crate::link::{Target, inline_target};
@@ -32,7 +32,7 @@ use crate::reference::link_reference_at;
 use crate::state::InlineState;
 use crate::step::Cursor;
 use crate::wikilink::linked_element;
-use cmark_items::FootnoteDefs;
+use cmark_references::FootnoteDefs;
 use cmark_leaf_text::LeafText;
 use cmark_slots::bracket::Bracket;
 use cmark_slots::slot::{Slot, SlotKind, begin, push_slot};

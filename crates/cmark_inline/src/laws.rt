@@ -18,7 +18,7 @@ ghost use Rattle.cmark_inline.specs.PlainStretches.{StandsForItself};
 ghost use Rattle.cmark_inline.specs.Reached.{ReadsPlaces};
 ghost use Rattle.cmark_slots.specs.SlotViews.{shown_slot};
 ghost use Rattle.cmark_inline.specs.Tokens.{IsItem, begins_at};
-ghost use Rattle.cmark_items.specs.declared.allocations.Link.{Link};
+ghost use Rattle.cmark_references.specs.declared.link.Link.{Link};
 ghost use Rattle.cmark_slots.specs.declared.slot.Slot.{Slot};
 ghost use Rattle.cmark_slots.specs.declared.slot.SlotKind.TheVariants as kind;
 

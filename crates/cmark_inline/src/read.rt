@@ -1,7 +1,7 @@
 //! What a leaf's text is read with.
 
 use crate::special::SpecialBytes;
-use cmark_items::RefDefs;
+use cmark_references::RefDefs;
 use cmark_text::Options;
 
 /// What the texts of all leaves of a source are read with.

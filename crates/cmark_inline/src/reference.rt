@@ -3,7 +3,7 @@
 ghost use Rattle.std.specs.Prelude.{◌≡◌, if◌then◌else◌, ◌<◌, ◌+◌, ◌-◌, IfOk, IfSome, Some, drop, option_map};
 ghost use Rattle.cmark_leaf_text.specs.Reads.{IsRead, IsPart, is_cell_of, place_of, text_of};
 ghost use Rattle.cmark_grammar.specs.Labels.{fold, normal_form};
-ghost use Rattle.cmark_items.specs.Definitions.{definition};
+ghost use Rattle.cmark_references.specs.Definitions.{definition};
 ghost use Rattle.cmark_text_parts.specs.Labelled.{link_text, link_key};
 ghost use Rattle.cmark_inline.specs.Linked.{Answers, IsLed, Refers, left_behind, reference_behind, shown_link_reference, by_own_label, said_by, shown_destination, target_link};
 ghost use Rattle.cmark_text_parts.specs.Shown.{shown_link_type, shown_options, text_bytes};
@@ -20,7 +20,7 @@ use crate::link::Target;
 use crate::read::Reader;
 use crate::state::InlineState;
 use cmark_links::{collapsed_end, is_bracketed_label};
-use cmark_items::{Link, RefDefs};
+use cmark_references::{Link, RefDefs};
 use cmark_leaf_text::LeafText;
 use cmark_scan_parts::with_literal_pipes;
 use cmark_slots::bracket::Bracket;

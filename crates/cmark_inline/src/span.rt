@@ -6,7 +6,7 @@ ghost use Rattle.cmark_grammar.specs.Options.{Options};
 ghost use Rattle.cmark_finds.specs.Backticks.{AreRunsOf};
 ghost use Rattle.cmark_leaf_text.specs.Reads.{IsRead, IsPart, text_of};
 ghost use Rattle.cmark_inline.specs.Linked.{IsAutolink};
-ghost use Rattle.cmark_items.specs.declared.allocations.Link.{Link as Links};
+ghost use Rattle.cmark_references.specs.declared.link.Link.{Link as Links};
 ghost use Rattle.cmark_inline.specs.ReadsOn.{ReadsOn};
 ghost use Rattle.cmark_inline.specs.Stands.{IsAtByte, IsCursor, Moves, Stands};
 ghost use Rattle.cmark_inline.specs.Tokens.{Appends, PutsAutolink, TakesEscaped};
@@ -19,7 +19,7 @@ use crate::place::{autolink_end, behind, is_followed_by, pass, run_end, text_sta
 use crate::state::InlineState;
 use crate::step::Cursor;
 use cmark_finds::BacktickRuns;
-use cmark_items::Link;
+use cmark_references::Link;
 use cmark_leaf_text::LeafText;
 use cmark_slots::slot::{Element, Slot, SlotKind};
 use cmark_slots::text::text_between;

@@ -5,7 +5,7 @@ ghost use Rattle.cmark_inline.specs.CursorProgress.{IsCleared};
 ghost use Rattle.cmark_inline.specs.Sound.{IsSound};
 ghost use Rattle.cmark_inline.specs.Stands.{Stands};
 
-use cmark_items::Link;
+use cmark_references::Link;
 use cmark_slots::bracket::Brackets;
 use cmark_slots::delimiter::Delimiters;
 use cmark_slots::quote::Quotes;

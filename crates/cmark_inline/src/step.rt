@@ -30,7 +30,7 @@ use crate::place::{behind, onto_words};
 use crate::read::Reader;
 use crate::state::InlineState;
 use cmark_finds::{BacktickRuns, Dollars};
-use cmark_items::FootnoteDefs;
+use cmark_references::FootnoteDefs;
 use cmark_leaf_text::LeafText;
 use cmark_slots::slot::{Slot, push_slot, push_text};
 use cmark_text::EntityLookup;

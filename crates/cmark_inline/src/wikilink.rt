@@ -19,13 +19,13 @@ ghost use Rattle.cmark_leaf_text.specs.declared.leaf_text.LeafText.{LeafText as 
 ghost use Rattle.cmark_slots.specs.Slots.{AreSlots, HoldNoLink, IsBracket, NoNewLink};
 ghost use Rattle.cmark_inline.specs.Stands.{Moves, Stands};
 ghost use Rattle.cmark_inline.specs.Wikilinks.{IsNamed, IsWikilink, Shows, forms_wikilink, wiki_text};
-ghost use Rattle.cmark_items.specs.declared.allocations.Link.{Link as Links};
+ghost use Rattle.cmark_references.specs.declared.link.Link.{Link as Links};
 
 use crate::place::is_followed_by;
 use crate::state::InlineState;
 use crate::step::Cursor;
 use bitflags::Flags;
-use cmark_items::Link;
+use cmark_references::Link;
 use cmark_leaf_text::LeafText;
 use cmark_scan_parts::scan_wikilink_pipe;
 use cmark_slots::bracket::Bracket;

@@ -1,2 +1,1 @@
-pub mod DefinitionSteps
 pub mod HeadingSteps

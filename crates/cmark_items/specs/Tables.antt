@@ -3,10 +3,10 @@ use Rattle.std.specs.Prelude.{◌≡◌, ℕ, List, [], ◌∷◌, ◌++◌, sli
 use Rattle.cmark_text_parts.specs.Shown.{text_bytes}
 use Rattle.cmark_text_parts.specs.declared.text.CowStr.{CowStr}
 use Rattle.cmark_text_parts.specs.declared.kind.Alignment.{Alignment}
-use Rattle.cmark_text_parts.specs.declared.kind.LinkType.TheVariants.{ShortcutUnknown}
-use Rattle.cmark_items.specs.declared.allocations.Link.{Link}
-use Rattle.cmark_items.specs.declared.definitions.RefDefs.{RefDefs}
-use Rattle.cmark_items.specs.declared.footnotes.FootnoteDefs.{FootnoteDefs}
+use Rattle.cmark_references.specs.Links.{IsUnknown}
+use Rattle.cmark_references.specs.declared.link.Link.{Link}
+use Rattle.cmark_references.specs.declared.definitions.RefDefs.{RefDefs}
+use Rattle.cmark_references.specs.declared.footnotes.FootnoteDefs.{FootnoteDefs}
 
 -- the texts, the links and images and the alignments of tables, each at its index, and the
 -- link reference definitions, and those of footnotes
@@ -37,9 +37,6 @@ with_alignments row t = record t { alignments = t.alignments ++ row ∷ [] }
 -- an empty text stands at the index instead
 abbrev pub LeavesNoText : ℕ → Tables → Tables → Type 0
 LeavesNoText index old new = (left : CowStr) × (text_bytes left ≡ []) × (new ≡ record old { texts = slice_set old.texts index left })
-
-abbrev pub IsUnknown : Link → Type 0
-IsUnknown link = (link.link_type ≡ ShortcutUnknown) × (text_bytes link.dest_url ≡ []) × (text_bytes link.title ≡ []) × (text_bytes link.id ≡ [])
 
 -- an unknown shortcut without texts stands at the index instead
 abbrev pub LeavesNoLink : ℕ → Tables → Tables → Type 0

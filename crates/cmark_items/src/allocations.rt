@@ -1,13 +1,12 @@
 //! The tables that items point into.
 
 ghost use Rattle.std.specs.Prelude.{◌≡◌, ◌<◌, ◌++◌, ◌∷◌, [], length, IfOk, OnOk, OnErr, slice_get, Some, None, List, ℕ};
-ghost use Rattle.cmark_items.specs.Definitions.{definition};
-ghost use Rattle.cmark_items.specs.Footnotes.{footnote};
-ghost use Rattle.cmark_items.specs.Tables.{with_text, with_link, with_alignments, IsUnknown, LeavesNoText, LeavesNoLink, without_alignments};
+ghost use Rattle.cmark_references.specs.Definitions.{definition};
+ghost use Rattle.cmark_references.specs.Footnotes.{footnote};
+ghost use Rattle.cmark_items.specs.Tables.{with_text, with_link, with_alignments, LeavesNoText, LeavesNoLink, without_alignments};
 
-use crate::definitions::RefDefs;
-use crate::footnotes::FootnoteDefs;
-use cmark_text_parts::{Alignment, CowStr, LinkType};
+use cmark_references::{FootnoteDefs, Link, RefDefs};
+use cmark_text_parts::{Alignment, CowStr};
 use std::alloc::{AllocError, Global};
 use std::marker::Model;
 use std::mem;
@@ -28,33 +27,6 @@ pub struct AlignmentIndex(usize);
 /// Where the words between the braces of a heading's attributes stand in the table of texts.
 #[derive(Clone, Copy, PartialEq, Eq)]
 pub struct HeadingIndex(usize);
-
-/// What a link or an image says of itself (CommonMark 6.3, 6.4).
-#[derive(Drop)]
-pub struct Link<'a> {
-    /// How it is written.
-    pub link_type: LinkType,
-    /// Where it leads.
-    pub dest_url: CowStr<'a>,
-    /// Its title; empty if it has none.
-    pub title: CowStr<'a>,
-    /// The label of a reference; empty for others.
-    pub id: CowStr<'a>,
-}
-
-impl<'a> Link<'a> {
-    /// An unknown shortcut without texts, which stands where a link was taken.
-    pub fn none() -> Link<'a>
-        ensures { IsUnknown result }
-    {
-        Link {
-            link_type: LinkType::ShortcutUnknown,
-            dest_url: CowStr::Borrowed(""),
-            title: CowStr::Borrowed(""),
-            id: CowStr::Borrowed(""),
-        }
-    }
-}
 
 /// The tables that the items of a tree point into, and the definitions of links and footnotes.
 ///

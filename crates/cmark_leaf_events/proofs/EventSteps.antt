@@ -18,7 +18,7 @@ use Rattle.cmark_leaf_events.specs.Opens.{Gives, Passes}
 use Rattle.cmark_slots.specs.SlotViews.{slot_as, shown_slot, shown_slots, first_of, slot_end, text_named, link_of, link_named, shown_element, IsThere, Differ, AreOnce, EndsBehind, CanBeGiven}
 use Rattle.cmark_leaf_events.specs.Events.{shown_open, shown_opened, events_of, event_in, KeepsOthers, IsFirst, with_given}
 use Rattle.cmark_leaf_events.specs.declared.leaf_events.Opened.{Opened}
-use Rattle.cmark_items.specs.declared.allocations.Link.{Link}
+use Rattle.cmark_references.specs.declared.link.Link.{Link}
 use Rattle.cmark_slots.specs.declared.slot.Element.{Element}
 use Rattle.cmark_slots.specs.declared.slot.Slot.{Slot}
 use Rattle.cmark_slots.specs.declared.slot.SlotKind.{SlotKind}

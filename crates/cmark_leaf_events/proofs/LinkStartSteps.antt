@@ -9,8 +9,8 @@ use Rattle.cmark_grammar.specs.Tag as tag
 use Rattle.cmark_grammar.specs.TagEnd as end
 use Rattle.cmark_inline_model.specs.FirstEvents.{BeginWithoutEnd}
 use Rattle.cmark_inline_model.specs.SlotRows.{slot_events}
-use Rattle.cmark_items.specs.Links.{shown_link}
-use Rattle.cmark_items.specs.declared.allocations.Link.{Link}
+use Rattle.cmark_references.specs.Links.{shown_link}
+use Rattle.cmark_references.specs.declared.link.Link.{Link}
 use Rattle.cmark_leaf_text.specs.declared.leaf_text.LeafText.{LeafText}
 use Rattle.cmark_leaf_text.specs.Reads.{IsRead, IsPart, place_of, source_of, text_of}
 use Rattle.cmark_text.specs.declared.event.TagEnd.TheVariants as tag_end

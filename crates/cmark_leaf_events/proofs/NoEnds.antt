@@ -12,7 +12,7 @@ use Rattle.cmark_leaf_events.specs.Shorts.{IsAlone}
 use Rattle.cmark_slots.specs.SlotViews.{slot_as, shown_slots}
 use Rattle.cmark_leaf_events.specs.Events.{shown_opened, events_of}
 use Rattle.cmark_leaf_events.specs.declared.leaf_events.Opened.{Opened}
-use Rattle.cmark_items.specs.declared.allocations.Link.{Link}
+use Rattle.cmark_references.specs.declared.link.Link.{Link}
 use Rattle.cmark_slots.specs.declared.slot.Element.{Element}
 use Rattle.cmark_slots.specs.declared.slot.Slot.{Slot}
 use Rattle.cmark_slots.specs.declared.slot.SlotKind.{SlotKind}

@@ -27,7 +27,7 @@ use Rattle.cmark_leaf_events.specs.Shorts.{AreSome, IsAlone, IsCodeOf, IsNextFir
 use Rattle.cmark_leaf_events.specs.Events.{events_of, shown_opened}
 use Rattle.cmark_slots.specs.SlotViews.{first_of, slot_end, shown_element, shown_slots, slot_as}
 use Rattle.cmark_leaf_events.specs.declared.leaf_events.Opened.{Opened}
-use Rattle.cmark_items.specs.declared.allocations.Link.{Link}
+use Rattle.cmark_references.specs.declared.link.Link.{Link}
 use Rattle.cmark_slots.specs.declared.slot.Element.{Element}
 use Rattle.cmark_slots.specs.declared.slot.Element.TheVariants as element
 use Rattle.cmark_slots.specs.declared.slot.Slot.{Slot}

@@ -6,7 +6,7 @@ use Rattle.cmark_leaf_text.specs.declared.leaf_text.LeafText.{LeafText}
 use Rattle.cmark_text_parts.specs.declared.text.CowStr.{CowStr}
 use Rattle.cmark_leaf_events.specs.Events.{AreLeft}
 use Rattle.cmark_slots.specs.SlotViews.{AreOnce, CanBeGiven, Differ, EndsBehind, IsThere, link_named, text_named}
-use Rattle.cmark_items.specs.declared.allocations.Link.{Link}
+use Rattle.cmark_references.specs.declared.link.Link.{Link}
 use Rattle.cmark_slots.specs.declared.slot.Slot.{Slot}
 use Rattle.cmark_slots.specs.declared.slot.SlotKind.{SlotKind}
 use Rattle.cmark_leaf_events.specs.declared.leaf_events.LeafEvents.{LeafEvents}

@@ -3,7 +3,7 @@ use Rattle.std.specs.Prelude.{◌≡◌, ℕ, List, ◌∷◌, Option, None, Som
 use Rattle.cmark_grammar.specs.Event.{Ranged, Start}
 use Rattle.cmark_grammar.specs.Tag as tag
 use Rattle.cmark_grammar.specs.Tag.{Linked}
-use Rattle.cmark_items.specs.declared.allocations.Link.{Link}
+use Rattle.cmark_references.specs.declared.link.Link.{Link}
 use Rattle.cmark_leaf_events.specs.Opens.{Follows}
 use Rattle.cmark_leaf_events.specs.declared.leaf_events.Opened.{Opened}
 use Rattle.cmark_slots.specs.declared.slot.Element.{Element}

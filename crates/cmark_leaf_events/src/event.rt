@@ -17,7 +17,7 @@ ghost use Rattle.cmark_text_parts.specs.Shown.{text_bytes};
 ghost use Rattle.cmark_text.specs.ZeroCopy.{IsZeroCopy};
 ghost use Rattle.cmark_text_parts.specs.Lending.{IsLentBy};
 ghost use Rattle.cmark_leaf_events.specs.Opens.{element_end, Gives, Passes, events_left, AreOpened};
-ghost use Rattle.cmark_items.specs.Links.{shown_link};
+ghost use Rattle.cmark_references.specs.Links.{shown_link};
 ghost use Rattle.cmark_leaf_events.specs.Events.{AreLeft, IsFirst, IsHeldAs, KeepsOthers, event_as, event_in, held_in, events_of, events_to_come, shown_opened, with_given};
 ghost use Rattle.cmark_slots.specs.SlotViews.{CanBeGiven, IsThere, link_named, link_of, linked_at, shown_element, text_at, text_named};
 ghost use Rattle.cmark_slots.specs.Slots.{AreSlots, IsSlot};
@@ -25,7 +25,7 @@ ghost use Rattle.cmark_slots.specs.declared.slot.Slot.{Slot as Slots};
 
 use crate::content::Content;
 use crate::leaf_events::{LeafEvents, Opened};
-use cmark_items::Link;
+use cmark_references::Link;
 use cmark_leaf_text::LeafText;
 use cmark_slots::slot::{Element, Slot, SlotKind};
 use cmark_slots::text::{copied, text_between};

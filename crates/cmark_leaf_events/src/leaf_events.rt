@@ -5,7 +5,7 @@ ghost use Rattle.cmark_leaf_events.specs.Events.{AreLeft, events_to_come};
 ghost use Rattle.cmark_leaf_text.specs.declared.leaf_text.LeafText.{LeafText};
 ghost use Rattle.cmark_slots.specs.SlotViews.{CanBeGiven, all_events};
 
-use cmark_items::Link;
+use cmark_references::Link;
 use cmark_slots::slot::Slot;
 use cmark_text::{CowStr, TagEnd};
 use std::alloc::Global;

@@ -2,7 +2,7 @@
 
 ghost use Rattle.std.specs.Prelude.{◌≡◌, ◌<◌, true, IfSome, OnErr, OnOk, is_some, length, option_map};
 ghost use Rattle.cmark_inline_model.specs.FirstEvents.{BeginWithoutEnd};
-ghost use Rattle.cmark_items.specs.Links.{shown_link};
+ghost use Rattle.cmark_references.specs.Links.{shown_link};
 ghost use Rattle.cmark_leaf_text.specs.Reads.{IsRead, source_of, text_of};
 ghost use Rattle.cmark_leaf_events.specs.LinkStarts.{IsStartFirst, link_to_come};
 ghost use Rattle.cmark_leaf_events.specs.Opens.{events_left, AreOpened};
@@ -10,7 +10,7 @@ ghost use Rattle.cmark_leaf_events.specs.Events.{AreLeft, events_to_come};
 ghost use Rattle.cmark_slots.specs.Slots.{AreSlots};
 
 use crate::leaf_events::{LeafEvents, Opened};
-use cmark_items::Link;
+use cmark_references::Link;
 use cmark_leaf_text::LeafText;
 use cmark_slots::slot::{Element, SlotKind};
 use cmark_text::TagEnd;

@@ -20,7 +20,7 @@ ghost use Rattle.cmark_slots.specs.Slots.{AreSlots, IsSlot};
 ghost use Rattle.cmark_leaf_events.specs.declared.leaf_events.Opened.{Opened as OpenedOnes};
 ghost use Rattle.cmark_slots.specs.declared.slot.Slot.{Slot as Slots};
 ghost use Rattle.cmark_leaf_text.specs.declared.leaf_text.LeafText.{LeafText as LeafTexts};
-ghost use Rattle.cmark_items.specs.declared.allocations.Link.{Link as Links};
+ghost use Rattle.cmark_references.specs.declared.link.Link.{Link as Links};
 ghost use Rattle.cmark_text.specs.declared.event.TagEnd.{TagEnd as TagEnds};
 ghost use Rattle.cmark_text_parts.specs.declared.text.CowStr.{CowStr as Texts};
 ghost use Rattle.cmark_text.specs.declared.short.PlainTag.{PlainTag as PlainTags};

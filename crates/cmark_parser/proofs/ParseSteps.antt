@@ -33,12 +33,12 @@ use Rattle.cmark_inline_model.proofs.BlockRanges.{derived-ranges}
 use Rattle.cmark_inline_model.proofs.LeafEndings.{derived-placed}
 use Rattle.cmark_inline_model.proofs.LeafGaps.{derived-no-pipes}
 use Rattle.cmark_inline_model.proofs.PlannedReadings.{left-planned}
-use Rattle.cmark_items.specs.Definitions.{ShownDefinition, definition, shown_definition}
-use Rattle.cmark_items.specs.Footnotes.{footnote}
-use Rattle.cmark_items.specs.Links.{shown_link}
-use Rattle.cmark_items.specs.declared.allocations.Link.{Link}
-use Rattle.cmark_items.specs.declared.definitions.LinkDef.{LinkDef}
-use Rattle.cmark_items.specs.declared.footnotes.FootnoteDef.{FootnoteDef}
+use Rattle.cmark_references.specs.Definitions.{ShownDefinition, definition, shown_definition}
+use Rattle.cmark_references.specs.Footnotes.{footnote}
+use Rattle.cmark_references.specs.Links.{shown_link}
+use Rattle.cmark_references.specs.declared.link.Link.{Link}
+use Rattle.cmark_references.specs.declared.definitions.LinkDef.{LinkDef}
+use Rattle.cmark_references.specs.declared.footnotes.FootnoteDef.{FootnoteDef}
 use Rattle.cmark_span_walk.specs.Callback.{AnswersIfAny}
 use Rattle.cmark_span_walk.specs.Walking as walking
 use Rattle.cmark_span_walk.specs.Walking.{ArePlaced}

@@ -15,8 +15,8 @@ use Rattle.cmark_html.specs.declared.state.OpenImage.{OpenImage}
 use Rattle.cmark_inline.specs.Resolved.{Answered}
 use Rattle.cmark_inline.specs.declared.callback.BrokenLink.{BrokenLink}
 use Rattle.cmark_inline_model.proofs.SilentReadings.{reading-silent}
-use Rattle.cmark_items.specs.Links.{shown_link}
-use Rattle.cmark_items.specs.declared.allocations.Link.{Link}
+use Rattle.cmark_references.specs.Links.{shown_link}
+use Rattle.cmark_references.specs.declared.link.Link.{Link}
 use Rattle.cmark_span_walk.specs.Callback.{AnswersIfAny}
 use Rattle.cmark_span_walk.proofs.Readings.{answered-on}
 use Rattle.cmark_text.specs.declared.short.Next.TheVariants as next

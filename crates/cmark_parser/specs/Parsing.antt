@@ -20,11 +20,11 @@ use Rattle.cmark_grammar.specs.Tag.{Linked}
 use Rattle.cmark_inline.specs.Footnoted.{SameFootnotes}
 use Rattle.cmark_inline.specs.Resolved.{Answered}
 use Rattle.cmark_inline.specs.declared.callback.BrokenLink.{BrokenLink}
-use Rattle.cmark_items.specs.Definitions.{definition, shown_definition}
-use Rattle.cmark_items.specs.Links.{shown_link}
-use Rattle.cmark_items.specs.declared.allocations.Link.{Link}
-use Rattle.cmark_items.specs.declared.definitions.RefDefs.{RefDefs}
-use Rattle.cmark_items.specs.declared.footnotes.FootnoteDefs.{FootnoteDefs}
+use Rattle.cmark_references.specs.Definitions.{definition, shown_definition}
+use Rattle.cmark_references.specs.Links.{shown_link}
+use Rattle.cmark_references.specs.declared.link.Link.{Link}
+use Rattle.cmark_references.specs.declared.definitions.RefDefs.{RefDefs}
+use Rattle.cmark_references.specs.declared.footnotes.FootnoteDefs.{FootnoteDefs}
 use Rattle.cmark_span_walk.specs.Callback.{AnswersIfAny}
 use Rattle.cmark_span_walk.specs.Walking as walking
 use Rattle.cmark_span_walk.specs.declared.coming.Coming.{Coming}

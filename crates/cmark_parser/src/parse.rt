@@ -9,7 +9,7 @@ ghost use Rattle.cmark_parser.specs.Parsing.{is_last};
 use bitflags::Flags;
 use cmark_blocks::{FirstPass, run_first_pass};
 use cmark_inline::{BrokenLinkCallback, DefaultBrokenLinkCallback};
-use cmark_items::{FootnoteDefs, Link, RefDefs};
+use cmark_references::{FootnoteDefs, Link, RefDefs};
 use cmark_span_walk::{Coming, OptionalCallback, SpanWalk};
 use cmark_text::{EntityLookup, Event, Options, Ranged};
 use cmark_walk::Walk;

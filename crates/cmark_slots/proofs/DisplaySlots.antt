@@ -20,7 +20,7 @@ use Rattle.cmark_inline_model.proofs.RowPasses.{like-both}
 use Rattle.cmark_slots.specs.SlotViews.{shown_element, shown_slot, shown_slots, slot_as}
 use Rattle.cmark_slots.specs.Standing.{EndsIn, source_end}
 use Rattle.cmark_slots.specs.Cuts.{cut_at, cut_kind, cut_slot, ends_by, has_none_behind, hidden}
-use Rattle.cmark_items.specs.declared.allocations.Link.{Link}
+use Rattle.cmark_references.specs.declared.link.Link.{Link}
 use Rattle.cmark_slots.specs.declared.slot.Slot.{Slot}
 use Rattle.cmark_slots.specs.declared.slot.SlotKind.{SlotKind}
 use Rattle.cmark_slots.specs.declared.slot.SlotKind.TheVariants as kind

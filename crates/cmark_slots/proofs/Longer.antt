@@ -9,7 +9,7 @@ use Rattle.cmark_leaf_text.specs.declared.leaf_text.LeafText.{LeafText}
 use Rattle.cmark_text_parts.specs.declared.text.CowStr.{CowStr}
 use Rattle.cmark_slots.specs.SlotViews.{IsThere, bytes_or_none, first_of, item_slot, link_named, link_of, linked_or_none, shown_element, shown_slot, shown_slots, slot_as, slot_end, text_named}
 use Rattle.cmark_slots.specs.Standing.{AreNamed}
-use Rattle.cmark_items.specs.declared.allocations.Link.{Link}
+use Rattle.cmark_references.specs.declared.link.Link.{Link}
 use Rattle.cmark_slots.specs.declared.slot.Element.{Element}
 use Rattle.cmark_slots.specs.declared.slot.Element.TheVariants as element
 use Rattle.cmark_slots.specs.declared.slot.Slot.{Slot}

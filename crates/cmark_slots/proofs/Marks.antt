@@ -19,7 +19,7 @@ use Rattle.cmark_text_parts.specs.declared.text.CowStr.{CowStr}
 use Rattle.cmark_slots.specs.MarkedSlots.{AreAhead, AreBegun, AreReady, AreWhole, BeganFrom, EndWithin, Merges, SameBefore, begun_as, ended, last_in, shown_mark, whole_to}
 use Rattle.cmark_slots.specs.SlotViews.{slot_as, shown_slot, shown_slots, shown_element, item_slot, first_of, slot_end}
 use Rattle.cmark_slots.specs.Cuts.{Hides, hidden}
-use Rattle.cmark_items.specs.declared.allocations.Link.{Link}
+use Rattle.cmark_references.specs.declared.link.Link.{Link}
 use Rattle.cmark_slots.specs.declared.slot.Element.{Element}
 use Rattle.cmark_slots.specs.declared.slot.Slot.{Slot}
 use Rattle.cmark_slots.specs.declared.slot.SlotKind.TheVariants as kind

@@ -13,7 +13,7 @@ use Rattle.cmark_text_parts.specs.declared.text.CowStr.{CowStr}
 use Rattle.cmark_slots.specs.MarkedSlots.{HaveTexts}
 use Rattle.cmark_slots.specs.QuoteSlots.{with_character, with_characters}
 use Rattle.cmark_slots.specs.SlotViews.{slot_as, shown_slot, shown_slots, item_slot, first_of, slot_end}
-use Rattle.cmark_items.specs.declared.allocations.Link.{Link}
+use Rattle.cmark_references.specs.declared.link.Link.{Link}
 use Rattle.cmark_slots.specs.declared.quote.PlacedQuote.{PlacedQuote}
 use Rattle.cmark_slots.specs.declared.slot.Slot.{Slot}
 use Rattle.cmark_slots.specs.declared.slot.SlotKind.{SlotKind}

@@ -17,7 +17,7 @@ ghost use Rattle.cmark_slots.specs.SlotViews.{link_of, shown_element, shown_slot
 ghost use Rattle.cmark_slots.specs.Standing.{NamesNoMore};
 ghost use Rattle.cmark_slots.specs.Slots.{AreSlots, NoNewLink, bytes_of, is_link};
 ghost use Rattle.cmark_slots.specs.declared.delimiter.PlacedRun.{PlacedRun as Placed};
-ghost use Rattle.cmark_items.specs.declared.allocations.Link.{Link};
+ghost use Rattle.cmark_references.specs.declared.link.Link.{Link};
 ghost use Rattle.cmark_slots.specs.declared.slot.Slot.{Slot as Slots};
 ghost use Rattle.cmark_slots.specs.declared.slot.SlotKind.TheVariants as kind;
 

@@ -8,7 +8,7 @@ ghost use Rattle.cmark_slots.specs.MarkedSlots.{HaveTexts};
 ghost use Rattle.cmark_slots.specs.QuoteSlots.{characters_of, with_characters};
 ghost use Rattle.cmark_slots.specs.SlotViews.{shown_slots};
 ghost use Rattle.cmark_slots.specs.Slots.{AreSlots, NoNewLink};
-ghost use Rattle.cmark_items.specs.declared.allocations.Link.{Link};
+ghost use Rattle.cmark_references.specs.declared.link.Link.{Link};
 ghost use Rattle.cmark_slots.specs.declared.quote.PlacedQuote.{PlacedQuote};
 
 use crate::slot::{Slot, become_character};

@@ -17,10 +17,10 @@ use Rattle.cmark_inline_model.specs.PlacedTokens.{AreLeafPlaces}
 use Rattle.cmark_inline_model.specs.TextPlaces as places
 use Rattle.cmark_inline_model.specs.TextPlaces.{place_in}
 use Rattle.cmark_inline_model.proofs.LeafSteps.{all_bytes, all-size, bytes-low}
-use Rattle.cmark_items.specs.Definitions.{definition}
-use Rattle.cmark_items.specs.Footnotes.{footnote}
-use Rattle.cmark_items.specs.declared.definitions.RefDefs.{RefDefs}
-use Rattle.cmark_items.specs.declared.footnotes.FootnoteDefs.{FootnoteDefs}
+use Rattle.cmark_references.specs.Definitions.{definition}
+use Rattle.cmark_references.specs.Footnotes.{footnote}
+use Rattle.cmark_references.specs.declared.definitions.RefDefs.{RefDefs}
+use Rattle.cmark_references.specs.declared.footnotes.FootnoteDefs.{FootnoteDefs}
 use Rattle.cmark_leaf_text.specs.Reads.{is_cell_of, place_of, source_of, text_of}
 use Rattle.cmark_leaf_text.specs.Stretches.{leaf_bytes, end_in_leaf, place_on}
 use Rattle.cmark_leaf_text.specs.declared.leaf_text.LeafText.{LeafText}

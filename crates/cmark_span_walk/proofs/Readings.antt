@@ -28,10 +28,10 @@ use Rattle.cmark_inline_model.proofs.Backwards.{left-given, left-leaf}
 use Rattle.cmark_inline_model.proofs.DecisionLaws.{decide-recorded}
 use Rattle.cmark_inline_model.proofs.DecisionShifted.{decide-shifted}
 use Rattle.cmark_inline_model.proofs.PlainLeaves.{plain-leaf}
-use Rattle.cmark_items.specs.Definitions.{definition}
-use Rattle.cmark_items.specs.Links.{shown_link}
-use Rattle.cmark_items.specs.declared.allocations.Link.{Link}
-use Rattle.cmark_items.specs.declared.definitions.RefDefs.{RefDefs}
+use Rattle.cmark_references.specs.Definitions.{definition}
+use Rattle.cmark_references.specs.Links.{shown_link}
+use Rattle.cmark_references.specs.declared.link.Link.{Link}
+use Rattle.cmark_references.specs.declared.definitions.RefDefs.{RefDefs}
 use Rattle.cmark_leaf_text.specs.declared.stretch.LeafLine.{LeafLine}
 use Rattle.cmark_text_parts.specs.declared.text.CowStr.{CowStr}
 use Rattle.cmark_walk.specs.declared.walk.Walk.{Walk}

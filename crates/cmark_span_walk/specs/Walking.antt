@@ -15,11 +15,11 @@ use Rattle.cmark_grammar.specs.Tokens.{slice}
 use Rattle.cmark_inline_model.specs.FirstEvents.{BeginWithEnd}
 use Rattle.cmark_inline_model.specs.LeafGaps.{HasNoPipesBetween}
 use Rattle.cmark_inline_model.specs.PlacedLeaves.{IsPlaced}
-use Rattle.cmark_items.specs.Definitions.{definition}
-use Rattle.cmark_items.specs.Footnotes.{footnote}
-use Rattle.cmark_items.specs.declared.allocations.Link.{Link}
-use Rattle.cmark_items.specs.declared.definitions.RefDefs.{RefDefs}
-use Rattle.cmark_items.specs.declared.footnotes.FootnoteDefs.{FootnoteDefs}
+use Rattle.cmark_references.specs.Definitions.{definition}
+use Rattle.cmark_references.specs.Footnotes.{footnote}
+use Rattle.cmark_references.specs.declared.link.Link.{Link}
+use Rattle.cmark_references.specs.declared.definitions.RefDefs.{RefDefs}
+use Rattle.cmark_references.specs.declared.footnotes.FootnoteDefs.{FootnoteDefs}
 use Rattle.cmark_inline.specs.Decided.{said}
 use Rattle.cmark_inline.specs.Linked.{said_by}
 use Rattle.cmark_leaf_events.specs.LinkStarts as starts

@@ -9,7 +9,7 @@ ghost use Rattle.cmark_grammar.specs.LeafText.{Leaf};
 ghost use Rattle.cmark_grammar.specs.Options.{Options as Extensions};
 ghost use Rattle.cmark_grammar.specs.SpanDocuments.{Left, Segment};
 ghost use Rattle.cmark_inline.specs.Footnoted.{SameFootnotes};
-ghost use Rattle.cmark_items.specs.Links.{shown_link};
+ghost use Rattle.cmark_references.specs.Links.{shown_link};
 ghost use Rattle.cmark_inline.specs.PlainStretches.{IsSetOf, StandUpTo};
 ghost use Rattle.cmark_leaf_text.specs.Stretches.{AreLines};
 ghost use Rattle.cmark_walk.specs.Walking.{Remains as BlocksRemain, definitions_of as block_definitions, text_of};
@@ -20,7 +20,7 @@ ghost use Rattle.cmark_span_walk.specs.Walking.{ArePlaced, HasAsked, HasPlaces, 
 
 use crate::coming::Coming;
 use cmark_inline::{BrokenLinkCallback, InlineState, Reader, SpecialBytes, special_bytes};
-use cmark_items::{FootnoteDefs, Link, RefDefs};
+use cmark_references::{FootnoteDefs, Link, RefDefs};
 use cmark_leaf_events::LeafEvents;
 use cmark_leaf_text::{LeafLine, LeafText};
 use cmark_text::{EntityLookup, Excerpt, Next, Options, Ranged, Short};

@@ -26,7 +26,7 @@ use Rattle.cmark_grammar.specs.Ranges.{InOrder}
 use Rattle.cmark_grammar.specs.SpanDocuments.{Segment, Given, Content, is_leaf, leaf_of, first_of_segments, segments}
 use Rattle.cmark_grammar.specs.Tightness.{tight_within}
 use Rattle.cmark_grammar.specs.Tokens.{slice}
-use Rattle.cmark_items.specs.declared.definitions.RefDefs.{RefDefs}
+use Rattle.cmark_references.specs.declared.definitions.RefDefs.{RefDefs}
 use Rattle.cmark_items.specs.declared.item.Item.{Item}
 use Rattle.cmark_items.specs.declared.item.ItemBody.{ItemBody}
 use Rattle.cmark_items.specs.declared.item.ItemBody.TheVariants as body

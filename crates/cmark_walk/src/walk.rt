@@ -18,7 +18,8 @@ ghost use Rattle.cmark_walk.specs.Walking.{GoesOn, LeavesTheSame, Remains, Goes,
 use crate::item::event_of;
 use crate::kind::{is_leaf, is_synthesized, task_of};
 use crate::reading::{BriefStep, Met, Stage};
-use cmark_items::{Allocations, Item, RefDefs};
+use cmark_items::{Allocations, Item};
+use cmark_references::RefDefs;
 use cmark_leaf_text::LeafLine;
 use cmark_text::{Event, Ranged, Tag};
 use cmark_tree::{Tree, TreeIndex};

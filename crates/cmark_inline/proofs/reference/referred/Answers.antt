@@ -1,7 +1,7 @@
 use Rattle.std.specs.Prelude.{option_map}
 use Rattle.std.proofs.Common.{◌+◌, ◌-◌, List, ℕ, None, Some, refl, sym, ap, subst, ◌∙◌}
 use Rattle.cmark_grammar.specs.Labels.{fold, normal_form}
-use Rattle.cmark_items.specs.Definitions.{definition}
+use Rattle.cmark_references.specs.Definitions.{definition}
 use Rattle.cmark_leaf_text.specs.Reads.{is_cell_of, place_of}
 use Rattle.cmark_text_parts.specs.Shown.{shown_link_type}
 use Rattle.cmark_inline.specs.Footnoted.{as_label}

@@ -3,7 +3,7 @@ use Rattle.std.proofs.Common.{◌≡◌, ◌++◌, ◌∷◌, [], Some, option_m
 use Rattle.cmark_grammar.specs.Labels.{fold}
 use Rattle.cmark_grammar.specs.References.{first_with}
 use Rattle.cmark_grammar.specs.Derivation.{reference_of}
-use Rattle.cmark_items.specs.Definitions.{definition, shown_definition, first_of, at_label}
+use Rattle.cmark_references.specs.Definitions.{definition, shown_definition, first_of, at_label}
 use Rattle.cmark_definitions.specs.Shown.{written}
 use Rattle.cmark_blocks.specs.Runs.{Runs, shown_reference}
 use Rattle.cmark_blocks.proofs.DefinitionSteps.{runs-references}

@@ -1,7 +1,7 @@
 use Rattle.std.specs.List.{slice_get}
 use Rattle.std.proofs.Common.{◌≡◌, ◌≢◌, ℕ, zero, suc, List, [], ◌∷◌, Some, set, refl, sym, ap, ◌∙◌, length-set}
 use Rattle.std.proofs.lemmas.Option.{slice_get-get_or}
-use Rattle.cmark_items.specs.Links.{shown_link}
+use Rattle.cmark_references.specs.Links.{shown_link}
 use Rattle.cmark_slots.specs.SlotViews.{linked_or_none}
 use Rattle.cmark_leaf_events.proofs.leaf_events.LeafEvents.take_link.Goals as goal
 

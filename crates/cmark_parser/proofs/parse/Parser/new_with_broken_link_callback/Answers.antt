@@ -11,10 +11,10 @@ use Rattle.cmark_grammar.specs.SpanDocuments.{segments, footnote_labels, has_lab
 use Rattle.cmark_grammar.proofs.BlockDocumentOne.{document-only}
 use Rattle.cmark_blocks.specs.Footnotes.{unused_if}
 use Rattle.cmark_blocks.specs.Runs.{shown_reference}
-use Rattle.cmark_items.specs.Definitions.{definition, shown_definition}
-use Rattle.cmark_items.specs.declared.definitions.RefDefs.{RefDefs}
-use Rattle.cmark_items.specs.declared.footnotes.FootnoteDefs.{FootnoteDefs}
-use Rattle.cmark_items.specs.Footnotes.{footnote}
+use Rattle.cmark_references.specs.Definitions.{definition, shown_definition}
+use Rattle.cmark_references.specs.declared.definitions.RefDefs.{RefDefs}
+use Rattle.cmark_references.specs.declared.footnotes.FootnoteDefs.{FootnoteDefs}
+use Rattle.cmark_references.specs.Footnotes.{footnote}
 use Rattle.cmark_items.specs.ItemNodes.{shown_forest}
 use Rattle.cmark_items.specs.Tables.{Tables}
 use Rattle.cmark_walk.specs.Walking.{Remains}

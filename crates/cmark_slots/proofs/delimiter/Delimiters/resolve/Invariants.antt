@@ -8,7 +8,7 @@ use Rattle.cmark_slots.specs.MarkedSlots.{AreReady, BeganFrom, EndWithin, HaveBy
 use Rattle.cmark_slots.specs.SlotViews.{shown_slots}
 use Rattle.cmark_slots.specs.Standing.{NamesNoMore}
 use Rattle.cmark_slots.specs.Slots.{AreSlots, NoNewLink}
-use Rattle.cmark_items.specs.declared.allocations.Link.{Link}
+use Rattle.cmark_references.specs.declared.link.Link.{Link}
 use Rattle.cmark_slots.proofs.RunPlaces.{RunsFrom}
 use Rattle.cmark_slots.proofs.delimiter.Delimiters.resolve.Given as goal
 

@@ -1,7 +1,7 @@
 use Rattle.std.specs.Prelude.{is_some, IfSome}
 use Rattle.std.proofs.Common.{[], ◌∷◌, refl, ap, ◌∙◌, subst, ◌<◌, OnSome}
 use Rattle.cmark_grammar.specs.SpanDocuments.{Content, Given as GivenOf}
-use Rattle.cmark_items.specs.Footnotes.{footnote}
+use Rattle.cmark_references.specs.Footnotes.{footnote}
 use Rattle.cmark_walk.specs.Walking as walking
 use Rattle.cmark_text.specs.Ranged.{IsRangedZeroCopy, shown_ranged}
 use Rattle.cmark_walk.specs.Walking.{MeetsZeroCopy, lines_of}

@@ -3,7 +3,7 @@ use Rattle.std.proofs.Common.{[], ◌∷◌, refl, sym, ap, ◌∙◌, subst}
 use Rattle.cmark_grammar.specs.Event.{Text}
 use Rattle.cmark_grammar.specs.SpanDocuments.{Content, Given as GivenOf}
 use Rattle.cmark_grammar.specs.SpecialBytes.{is_special}
-use Rattle.cmark_items.specs.Footnotes.{footnote}
+use Rattle.cmark_references.specs.Footnotes.{footnote}
 use Rattle.cmark_text.specs.declared.short.Next.{Next}
 use Rattle.cmark_text.specs.Excerpt.{excerpt_bytes}
 use Rattle.cmark_text.specs.Short.{IsShortZeroCopy}

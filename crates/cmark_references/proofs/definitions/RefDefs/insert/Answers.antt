@@ -1,8 +1,8 @@
 use Rattle.std.proofs.Common.{ap, ◌∙◌}
 use Rattle.cmark_text_parts.specs.Labelled.{link_key}
-use Rattle.cmark_items.specs.Definitions.{definition, first_of, at_label}
-use Rattle.cmark_items.proofs.DefinitionSteps.{kept, none_there}
-use Rattle.cmark_items.proofs.definitions.RefDefs.insert.Goals as goal
+use Rattle.cmark_references.specs.Definitions.{definition, first_of, at_label}
+use Rattle.cmark_references.proofs.DefinitionSteps.{kept, none_there}
+use Rattle.cmark_references.proofs.definitions.RefDefs.insert.Goals as goal
 
 pub returns-clause-first_stays : goal.returns-clause-first_stays
 returns-clause-first_stays c folded =

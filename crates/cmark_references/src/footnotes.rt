@@ -4,8 +4,8 @@ ghost use Rattle.std.specs.Prelude.{◌≡◌, IfOk, OnOk, OnErr, List, ℕ, Non
 ghost use Rattle.std.specs.Option.{option_copied_mut};
 ghost use Rattle.cmark_grammar.specs.Labels.{fold};
 ghost use Rattle.cmark_text_parts.specs.Labelled.{footnote_key};
-ghost use Rattle.cmark_items.specs.Definitions.{first_of, at_label};
-ghost use Rattle.cmark_items.specs.Footnotes.{footnote, with_use, Counts, Keeps};
+ghost use Rattle.cmark_references.specs.Definitions.{first_of, at_label};
+ghost use Rattle.cmark_references.specs.Footnotes.{footnote, with_use, Counts, Keeps};
 
 use cmark_text_parts::FootnoteLabel;
 use std::alloc::{AllocError, Global};
@@ -42,7 +42,7 @@ pub struct FootnoteDefs {
 impl Model for FootnoteDefs {
     ghost use Rattle.std.specs.Prelude.{List};
     ghost use Rattle.cmark_text_parts.specs.declared.label.FootnoteLabel.{FootnoteLabel};
-    ghost use Rattle.cmark_items.specs.declared.footnotes.FootnoteDef.{FootnoteDef};
+    ghost use Rattle.cmark_references.specs.declared.footnotes.FootnoteDef.{FootnoteDef};
 
     ghost Value = { List (FootnoteLabel × FootnoteDef) };
 

@@ -9,7 +9,7 @@ use Rattle.std.specs.Map.{KeepsOthers, IsKeyTest, AreApart, lookup}
 use Rattle.std.proofs.lemmas.Map.Text.{is_eq-slice_cmp}
 use Rattle.std.proofs.lemmas.Cmp.{eq_by_cmp_equiv}
 use Rattle.std.proofs.lemmas.Bool.{cases_Bool}
-use Rattle.cmark_items.specs.Definitions.{first_of, at_label}
+use Rattle.cmark_references.specs.Definitions.{first_of, at_label}
 
 module _ {L : Type 0} (key : L → List ℕ) where
   abbrev pub label_cmp : L → L → Ordering

@@ -1,9 +1,9 @@
 use Rattle.std.proofs.Common.{ap, ◌∙◌}
 use Rattle.cmark_text_parts.specs.Labelled.{footnote_key}
-use Rattle.cmark_items.specs.Definitions.{first_of, at_label}
-use Rattle.cmark_items.specs.Footnotes.{footnote}
-use Rattle.cmark_items.proofs.DefinitionSteps.{kept, none_there}
-use Rattle.cmark_items.proofs.footnotes.FootnoteDefs.insert.Goals as goal
+use Rattle.cmark_references.specs.Definitions.{first_of, at_label}
+use Rattle.cmark_references.specs.Footnotes.{footnote}
+use Rattle.cmark_references.proofs.DefinitionSteps.{kept, none_there}
+use Rattle.cmark_references.proofs.footnotes.FootnoteDefs.insert.Goals as goal
 
 pub returns-clause-first_stays : goal.returns-clause-first_stays
 returns-clause-first_stays c folded =

@@ -4,7 +4,7 @@ ghost use Rattle.std.specs.Prelude.{◌≡◌, IfOk, OnOk, OnErr, List, ℕ, opt
 ghost use Rattle.std.specs.Iterator.{YieldsFirstBy, item_count};
 ghost use Rattle.cmark_grammar.specs.Labels.{fold};
 ghost use Rattle.cmark_text_parts.specs.Labelled.{link_key};
-ghost use Rattle.cmark_items.specs.Definitions.{definition, definitions, first_of, at_label, left, seen, shown_definition};
+ghost use Rattle.cmark_references.specs.Definitions.{definition, definitions, first_of, at_label, left, seen, shown_definition};
 
 use cmark_text_parts::{CowStr, LinkLabel};
 use std::alloc::{AllocError, Global};
@@ -35,7 +35,7 @@ pub struct RefDefs<'a> {
 impl<'a> Model for RefDefs<'a> {
     ghost use Rattle.std.specs.Prelude.{List};
     ghost use Rattle.cmark_text_parts.specs.declared.label.LinkLabel.{LinkLabel};
-    ghost use Rattle.cmark_items.specs.declared.definitions.LinkDef.{LinkDef};
+    ghost use Rattle.cmark_references.specs.declared.definitions.LinkDef.{LinkDef};
 
     ghost Value = { List (LinkLabel × LinkDef) };
 

@@ -2,9 +2,9 @@ use Rattle.std.proofs.Common.{rules, ◌≡◌, ap, ◌∙◌, subst, Some, IsSo
 use Rattle.std.specs.BTreeMap.{get_by, UpdatesBy}
 use Rattle.cmark_grammar.specs.Labels.{fold}
 use Rattle.cmark_text_parts.specs.Labelled.{footnote_key}
-use Rattle.cmark_items.specs.Footnotes.{footnote, with_use}
-use Rattle.cmark_items.proofs.DefinitionSteps.{rewritten, label_cmp}
-use Rattle.cmark_items.proofs.footnotes.FootnoteDefs.count_use.Goals as goal
+use Rattle.cmark_references.specs.Footnotes.{footnote, with_use}
+use Rattle.cmark_references.proofs.DefinitionSteps.{rewritten, label_cmp}
+use Rattle.cmark_references.proofs.footnotes.FootnoteDefs.count_use.Goals as goal
 
 pub returns-in-Some-clause-counted : goal.returns-in-Some-clause-counted
 returns-in-Some-clause-counted c folded =

@@ -5,8 +5,8 @@ use Rattle.std.specs.Map.{lookup}
 use Rattle.std.specs.Cmp.Lexicographic.{slice_cmp}
 use Rattle.std.specs.Ordering.{nat_cmp}
 use Rattle.cmark_text_parts.specs.Labelled.{footnote_key}
-use Rattle.cmark_items.specs.declared.footnotes.FootnoteDef.{FootnoteDef}
-use Rattle.cmark_items.specs.declared.footnotes.FootnoteDefs.{FootnoteDefs}
+use Rattle.cmark_references.specs.declared.footnotes.FootnoteDef.{FootnoteDef}
+use Rattle.cmark_references.specs.declared.footnotes.FootnoteDefs.{FootnoteDefs}
 
 -- the definition of a folded label
 abbrev pub footnote : FootnoteDefs → List ℕ → Option FootnoteDef

@@ -1,0 +1,3 @@
+pub mod Definitions
+pub mod Footnotes
+pub mod Links
