@@ -1,7 +1,8 @@
+use Rattle.std.proofs.lemmas.Grind.{common_steps}
 use Rattle.cmark_leaf_events.specs.Events.{shown_opened}
 use Rattle.cmark_leaf_events.specs.declared.leaf_events.Walk.{Walk}
 use Rattle.cmark_leaf_events.proofs.EventSteps.{opened-more}
-use Rattle.std.proofs.Common.{ap}
+use Rattle.std.proofs.Common.{ap, arith}
 use Rattle.cmark_leaf_events.proofs.leaf_events.LeafEvents.begin.Goals as goal
 
 pub returns-clause-opens : goal.returns-clause-opens
@@ -10,3 +11,6 @@ returns-clause-opens c =
     let walk = ap (λ (w : Walk). shown_opened w.opened.items) c.tag.ensures.walk in
     let items = ap shown_opened c.in_ok-push.ensures.items in
     cc
+
+pub returns-clause-opened : goal.returns-clause-opened
+returns-clause-opened c = grind (arith, common_steps)

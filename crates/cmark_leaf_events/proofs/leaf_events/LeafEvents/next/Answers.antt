@@ -1,4 +1,5 @@
 use Rattle.std.proofs.Common.{◌≡◌, ◌<◌, ◌≤◌, ◌∷◌, length, refl, sym, ap, ◌∙◌, subst, arith}
+use Rattle.std.proofs.lemmas.Grind.{common_steps}
 use Rattle.std.specs.Prelude.{None, Some}
 use Rattle.cmark_leaf_text.specs.Reads.{source_of}
 use Rattle.cmark_leaf_events.specs.Opens.{Passes, AreOpened}
@@ -104,3 +105,9 @@ returns-in_default-clause-ends c =
     let n = c.len.ensures in
     let lt : old.walk.next < length old.slots.items = omega (arith, t, n) in
     subst BeginWithoutEnd (sym i.3) (here-no-end leaf old.texts.items old.links.items old.slots.items old.walk.opened.items old.walk.next c.index-slot.result.now lt c.index-slot.ensures (at-err c.give.result _ c.in_default.not-Ok c.give.ensures.ends))
+
+pub returns-in-Some-clause-fewer : goal.returns-in-Some-clause-fewer
+returns-in-Some-clause-fewer c = grind (arith, common_steps)
+
+pub returns-in-Some-clause-most : goal.returns-in-Some-clause-most
+returns-in-Some-clause-most c = grind (arith, common_steps)

@@ -1,4 +1,5 @@
 use Rattle.std.proofs.Common.{◌≤◌, ◌+◌, sym, subst, ◌∙◌, ◌-◌, ◌<◌, length, ap, arith}
+use Rattle.std.proofs.lemmas.Grind.{common_steps}
 use Rattle.cmark_leaf_events.specs.declared.leaf_events.LeafEvents.{LeafEvents}
 use Rattle.cmark_leaf_events.proofs.StillToCome.{left-later}
 use Rattle.cmark_leaf_text.specs.Reads.{source_of}
@@ -67,3 +68,21 @@ returns-in_default-clause-ends c =
     subst BeginWithoutEnd (sym i.5)
     (here-no-end c.args.leaf.now old.texts.items old.links.items old.slots.items old.walk.opened.items old.walk.next c.index-slot.result.now lt c.index-slot.ensures
     (at-err c.give_short.result _ c.in_default.not-Ok c.give_short.ensures.ends old.texts.items old.links.items))
+
+pub loop-self-preserved : goal.loop-self-preserved
+loop-self-preserved c = grind (arith, common_steps)
+
+pub returns-clause-events : goal.returns-clause-events
+returns-clause-events c = grind (arith, common_steps)
+
+pub returns-in-Long-clause-events : goal.returns-in-Long-clause-events
+returns-in-Long-clause-events c = grind (arith, common_steps)
+
+pub returns-in-Short-clause-events : goal.returns-in-Short-clause-events
+returns-in-Short-clause-events c = grind (arith, common_steps)
+
+pub returns-in-Short-clause-fewer : goal.returns-in-Short-clause-fewer
+returns-in-Short-clause-fewer c = grind (arith, common_steps)
+
+pub returns-in-Short-clause-most : goal.returns-in-Short-clause-most
+returns-in-Short-clause-most c = grind (arith, common_steps)
