@@ -2,7 +2,8 @@
 
 A function is proved by itself. Its goals come from its own text and contract, the contracts of what it calls, the declarations that all
 these name, and the definitions and lemmas that they and its proof import and name. The number of an edit covers that, found by names and
-rather too much than too little; it covers no comment, no body of another function, no derived trait, and of the toolchain the logic alone.
+rather too much than too little; it covers no comment, no body of another function, no derived trait, no module that something stands in, and
+of the toolchain the logic alone.
 """
 import collections
 import functools
@@ -16,6 +17,8 @@ import items
 
 IMPORT = re.compile(r"\bRattle\.(\w+)\.(specs|proofs)\.([\w.]+)|\b(\w+)::(specs|proofs)::([\w:]+)")
 COMMENT_LINE = re.compile(r"^\s*--.*\n", re.M)
+# The module in an import of names, or of a module under another name.
+FROM_MODULE = re.compile(r"^(\s*(?:pub\s+)?use\s+)Rattle\.[^\s{]+?(\.\{|\s+as\s)", re.M)
 RENAMING = re.compile(r"([^\W\d]\w*)\s+as\s+([^\W\d]\w*)")
 
 
@@ -114,7 +117,9 @@ class Sources:
 
     @functools.cache
     def digest(self, path):
-        return hashlib.sha256(COMMENT_LINE.sub("", self.text(path)).encode()).digest()
+        """A digest of a file without its comments. In which module an imported name stands does not count: what it is called and says does."""
+        text = FROM_MODULE.sub(r"\1\2", COMMENT_LINE.sub("", self.text(path)))
+        return hashlib.sha256(text.encode()).digest()
 
     @functools.cache
     def definitions(self, path):
@@ -249,8 +254,11 @@ class Stands:
             if not self.left:
                 return self
 
+    def digests(self):
+        return {piece.digest for _, piece in self.pieces} | {self.sources.digest(it) for it in self.whole} | self.reached
+
     def number(self, edit):
         sum_of = hashlib.sha256(f"{self.sources.logic}\0{edit}".encode())
-        for digest in sorted({piece.digest for _, piece in self.pieces} | {self.sources.digest(it) for it in self.whole} | self.reached):
+        for digest in sorted(self.digests()):
             sum_of.update(digest)
         return sum_of.hexdigest()[:16]

@@ -24,7 +24,7 @@ use crate::state::InlineState;
 use crate::step::Cursor;
 use bitflags::Flags;
 use cmark_finds::has_line_ending;
-use cmark_links::{Label, behind_byte, is_bracketed_label, link_tail, reference_label};
+use cmark_links::{ReferenceLabel, behind_byte, is_bracketed_label, link_tail, reference_label};
 use cmark_references::FootnoteDefs;
 use cmark_leaf_text::LeafText;
 use cmark_slots::bracket::Bracket;
@@ -61,7 +61,7 @@ pub fn is_footnote_label(options: Options, between: &str) -> bool
 }
 
 /// The label of a full reference at this place of the text, which stands right behind a closing bracket; one of a footnote is none.
-pub fn full_label(options: Options, text: &str, at: usize) -> Option<Label<'_>>
+pub fn full_label(options: Options, text: &str, at: usize) -> Option<ReferenceLabel<'_>>
     requires { IsCharBoundary text.now at }
     ensures value { option_map (shown_label text.entry.now) result ≡ unless_footnote (shown_options options) (reference_label_in (drop at text.entry.now)) }
     ensures further { IfSome result (λ label. at < label.end) }

@@ -5,7 +5,7 @@ use Rattle.cmark_grammar.specs.LinkDefinitions.{Parsed}
 use Rattle.cmark_grammar.specs.LineBreaks as breaks
 use Rattle.cmark_grammar.specs.LinkTails as tails
 use Rattle.cmark_links.specs.declared.part.Part.{Part}
-use Rattle.cmark_links.specs.declared.label.Label.{Label}
+use Rattle.cmark_links.specs.declared.label.ReferenceLabel.{ReferenceLabel}
 use Rattle.cmark_links.specs.declared.breaks.LineBreak.{LineBreak}
 use Rattle.cmark_links.specs.declared.breaks.Parting.{Parting}
 use Rattle.cmark_links.specs.declared.link.Inside.{Inside}
@@ -14,7 +14,7 @@ use Rattle.cmark_links.specs.declared.link.LinkTail.{LinkTail}
 abbrev pub shown_part : Part → Parsed
 shown_part part = record { bytes = part.part.now; behind = part.behind.now }
 
-abbrev pub shown_label : (text : List ℕ) → Label → Parsed
+abbrev pub shown_label : (text : List ℕ) → ReferenceLabel → Parsed
 shown_label text label = record { bytes = label.label.now; behind = drop label.end text }
 
 abbrev pub shown_inside : Inside → tails.LinkTail

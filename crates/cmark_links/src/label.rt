@@ -28,7 +28,7 @@ pub fn label_in(text: &str) -> Option<Part<'_>>
 
 /// The label of a full reference.
 #[derive(Clone, Copy)]
-pub struct Label<'t> {
+pub struct ReferenceLabel<'t> {
     /// What is written between its brackets.
     pub label: &'t str,
     /// The place in the text behind its closing bracket.
@@ -37,14 +37,14 @@ pub struct Label<'t> {
 
 /// The label in brackets at this place of the text, which stands right behind a closing bracket: that of a full reference
 /// (CommonMark 6.3). A label has 1 to 999 characters, at least one of them no white space, and no bracket but escaped ones.
-pub fn reference_label(text: &str, at: usize) -> Option<Label<'_>>
+pub fn reference_label(text: &str, at: usize) -> Option<ReferenceLabel<'_>>
     requires { IsCharBoundary text.now at }
     ensures value { option_map (shown_label text.entry.now) result ≡ reference_label_in (drop at text.entry.now) }
     ensures further { IfSome result (λ label. at < label.end) }
     ensures ends { IfSome result (λ label. IsCharBoundary text.entry.now label.end) }
 {
     let label = label_in(behind_byte(b'[', &text[at..])?)?;
-    Some(Label {
+    Some(ReferenceLabel {
         label: label.part,
         end: place_of(text, label.behind),
     })

@@ -15,7 +15,7 @@ mod title;
 
 pub use blank::{behind_blanks, behind_byte, behind_ending, behind_separator, is_line_done};
 pub use breaks::{LineBreak, line_break};
-pub use label::{Label, collapsed_end, is_bracketed_label, label_in, reference_label};
+pub use label::{ReferenceLabel, collapsed_end, is_bracketed_label, label_in, reference_label};
 pub use link::{LinkTail, link_tail};
 pub use part::{Part, destination_in, title_in};
 pub use title::{title_lines, title_text};
