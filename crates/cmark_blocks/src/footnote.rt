@@ -13,8 +13,8 @@ ghost use Rattle.cmark_leaves.specs.TextColumns.{IsRead};
 use crate::gathered::words_in;
 use crate::state::Pass;
 use cmark_items::{Allocations, CowIndex, ItemBody};
-use cmark_references::FootnoteDef;
 use cmark_lines::{Container, FootnoteStart, LineRest};
+use cmark_references::FootnoteDef;
 use cmark_text_parts::{CowStr, EntityLookup, FootnoteLabel};
 use std::alloc::{AllocError, Global};
 

@@ -7,7 +7,9 @@ ghost use Rattle.cmark_definitions.specs.Shown.{shown_read, shown_definition};
 ghost use Rattle.cmark_links.specs.Rests.{IsRest};
 ghost use Rattle.cmark_links.specs.Shown.{shown_part};
 
-use cmark_links::{Part, behind_byte, behind_separator, destination_in, is_line_done, label_in, title_in};
+use cmark_links::{
+    Part, behind_byte, behind_separator, destination_in, is_line_done, label_in, title_in,
+};
 
 /// A link reference definition as it is written (CommonMark 4.7).
 #[derive(Clone, Copy)]

@@ -9,8 +9,8 @@ ghost use Rattle.cmark_text_parts.specs.Shown.{text_bytes};
 ghost use Rattle.cmark_definitions.specs.Shown.{written, shown_reference};
 
 use crate::definition::Definition;
-use cmark_references::LinkDef;
 use cmark_links::title_lines;
+use cmark_references::LinkDef;
 use cmark_scan_parts::unescape;
 use cmark_text_parts::{CowStr, EntityLookup, LinkLabel};
 use std::alloc::{AllocError, Global};

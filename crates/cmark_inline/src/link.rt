@@ -7,9 +7,9 @@ ghost use Rattle.cmark_grammar.specs.Letters.{first_is};
 ghost use Rattle.cmark_text_parts.specs.Shown.{text_bytes};
 ghost use Rattle.cmark_inline.specs.Linked.{FindsInline, resolved_title, shown_target};
 
+use cmark_leaf_text::LeafText;
 use cmark_links::{link_tail, title_text};
 use cmark_references::Link;
-use cmark_leaf_text::LeafText;
 use cmark_scan_parts::unescape;
 use cmark_text::{CowStr, EntityLookup, LinkType};
 use std::alloc::{AllocError, Global};

@@ -19,8 +19,8 @@ use crate::place::{autolink_end, behind, is_followed_by, pass, run_end, text_sta
 use crate::state::InlineState;
 use crate::step::Cursor;
 use cmark_finds::BacktickRuns;
-use cmark_references::Link;
 use cmark_leaf_text::LeafText;
+use cmark_references::Link;
 use cmark_slots::slot::{Element, Slot, SlotKind};
 use cmark_slots::text::text_between;
 use cmark_text::{CowStr, LinkType};

@@ -25,8 +25,8 @@ ghost use Rattle.cmark_slots.specs.declared.slot.Slot.{Slot as Slots};
 
 use crate::content::Content;
 use crate::leaf_events::{LeafEvents, Opened};
-use cmark_references::Link;
 use cmark_leaf_text::LeafText;
+use cmark_references::Link;
 use cmark_slots::slot::{Element, Slot, SlotKind};
 use cmark_slots::text::{copied, text_between};
 use cmark_text::{CowStr, Event, Ranged, Tag, TagEnd};

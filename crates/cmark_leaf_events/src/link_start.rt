@@ -10,8 +10,8 @@ ghost use Rattle.cmark_leaf_events.specs.Events.{AreLeft, events_to_come};
 ghost use Rattle.cmark_slots.specs.Slots.{AreSlots};
 
 use crate::leaf_events::{LeafEvents, Opened};
-use cmark_references::Link;
 use cmark_leaf_text::LeafText;
+use cmark_references::Link;
 use cmark_slots::slot::{Element, SlotKind};
 use cmark_text::TagEnd;
 use std::alloc::AllocError;

@@ -19,7 +19,9 @@ use crate::container::{ContainerStart, container_start};
 use crate::footnotes::reads_footnotes;
 use crate::interrupt::begins_with_letter;
 use crate::line_rest::LineRest;
-use cmark_scan_blocks::{CodeFence, HtmlKind, html_kind, scan_atx_heading, scan_code_fence, scan_hrule};
+use cmark_scan_blocks::{
+    CodeFence, HtmlKind, html_kind, scan_atx_heading, scan_code_fence, scan_hrule,
+};
 use cmark_text_parts::{HeadingLevel, Options};
 
 /// What a line begins that lacks no prefix of the containers around it, metadata aside.

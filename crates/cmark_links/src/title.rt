@@ -1,6 +1,6 @@
 //! Titles of links (CommonMark 6.3), line by line.
 
-ghost use Rattle.std.specs.Prelude.{◌≡◌, ◌<◌, false, length, string_bytes, IfOk};
+ghost use Rattle.std.specs.Prelude.{◌≡◌, false, string_bytes, IfOk};
 ghost use Rattle.cmark_grammar.specs.Tokens.{title_lines};
 ghost use Rattle.cmark_grammar.specs.Unescaped.{unescaped};
 ghost use Rattle.cmark_text_parts.specs.Shown.{text_bytes};

@@ -27,13 +27,7 @@ fn refuses(escaped: bool, refused: u8, over_lines: bool, byte: u8) -> bool
 /// What a byte does to a part up to its closer: the closer ends it and the refused byte refuses it, unless a backslash escapes them,
 /// and a line ending refuses it where the part may not take several lines.
 #[inline]
-pub fn closed_step(
-    escaped: bool,
-    closer: u8,
-    refused: u8,
-    over_lines: bool,
-    byte: u8,
-) -> Step
+pub fn closed_step(escaped: bool, closer: u8, refused: u8, over_lines: bool, byte: u8) -> Step
     ensures value { (bs : List ℕ) (found : Option Parsed) → up_to_byte escaped closer refused over_lines byte bs found ≡ read_closed result byte bs found }
     ensures ends { OnEnds result (byte ≡ closer) }
 {

@@ -20,9 +20,9 @@ ghost use Rattle.cmark_span_walk.specs.Walking.{ArePlaced, HasAsked, HasPlaces, 
 
 use crate::coming::Coming;
 use cmark_inline::{BrokenLinkCallback, InlineState, Reader, SpecialBytes, special_bytes};
-use cmark_references::{FootnoteDefs, Link, RefDefs};
 use cmark_leaf_events::LeafEvents;
 use cmark_leaf_text::{LeafLine, LeafText};
+use cmark_references::{FootnoteDefs, Link, RefDefs};
 use cmark_text::{EntityLookup, Excerpt, Next, Options, Ranged, Short};
 use cmark_walk::{Brief, Met, Walk};
 use std::alloc::{AllocError, Global};
