@@ -17,8 +17,8 @@ import items
 
 IMPORT = re.compile(r"\bRattle\.(\w+)\.(specs|proofs)\.([\w.]+)|\b(\w+)::(specs|proofs)::([\w:]+)")
 COMMENT_LINE = re.compile(r"^\s*--.*\n", re.M)
-# The module in an import of names, or of a module under another name.
-FROM_MODULE = re.compile(r"^(\s*(?:pub\s+)?use\s+)Rattle\.[^\s{]+?(\.\{|\s+as\s)", re.M)
+# The module in an import of names, or of a module under another name: what stands before it, its crate, and what stands behind it.
+FROM_MODULE = re.compile(r"^(\s*(?:pub\s+)?use\s+)Rattle\.(\w+)\.[^\s{]+?(\.\{|\s+as\s)", re.M)
 RENAMING = re.compile(r"([^\W\d]\w*)\s+as\s+([^\W\d]\w*)")
 
 
@@ -117,8 +117,10 @@ class Sources:
 
     @functools.cache
     def digest(self, path):
-        """A digest of a file without its comments. In which module an imported name stands does not count: what it is called and says does."""
-        text = FROM_MODULE.sub(r"\1\2", COMMENT_LINE.sub("", self.text(path)))
+        """A digest of a file without its comments. In which module of this repository an imported name stands does not count, since what it says
+        counts by itself; that of a name of the toolchain's crates does."""
+        without_module = lambda it: it[1] + it[3] if it[2] in self.below else it[0]
+        text = FROM_MODULE.sub(without_module, COMMENT_LINE.sub("", self.text(path)))
         return hashlib.sha256(text.encode()).digest()
 
     @functools.cache
