@@ -6,10 +6,10 @@ FRAGMENTS = ["\n"] * 14 + ["\n\n"] * 3 + [" "] * 6 + [
 # what the rules of an option read
 FRAGMENTS_OF = {
     "tables": ["|", "|", "|", "|a|b|", "-|-", "|-|", "\\|", "a|b", ":-:|-", "|\n|-|\n", "a|b\n-|-\n", "\\\\|"],
-    "footnotes": ["[^a]:", "[^a]: ", "[^b c]:x", "[^a]", "[^"],
+    "footnotes": ["[^a]:", "[^a]: ", "[^a]:\n\n", "[^b c]:x", "[^a]", "[^"],
     "old-footnotes": ["[^a]:", "[^a]: ", "[^b]:x"],
     "tasklists": ["[ ] ", "[x] ", "- [x] a", "[X]"],
-    "heading-attributes": ["{#b}", "{.c d=e}", " {", "}"],
+    "heading-attributes": ["{#b}", "\f{}", "{.c d=e}", " {", "}"],
     "yaml-metadata": ["---\n", "---\na\n---\n", "..."],
     "plus-metadata": ["+++\n", "+++"],
     "gfm": ["[!NOTE]", "> [!tip]\n", "[!WARNING] "],

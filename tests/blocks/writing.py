@@ -10,11 +10,11 @@ from inlines.tokens import Stretch
 # ## Lists
 
 def ends_blank(block):
-    """Whether a blank line ends a container; those directly behind its own marker do not count."""
+    """Whether a blank line ends a container; the blank rest of its marker's line is none."""
     if block.kind not in ("Item", "DefinitionListDefinition", "FootnoteDefinition") or not block.entries:
         return False
     last = block.entries[-1]
-    return any(it is not BLANK_LINE for it in block.entries) if last is BLANK_LINE else ends_blank(last)
+    return len(block.entries) > 1 if last is BLANK_LINE else ends_blank(last)
 
 
 def parted(entries):

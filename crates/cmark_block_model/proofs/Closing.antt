@@ -28,14 +28,17 @@ before-lines closes [] h = refl
 before-lines closes (r ∷ rs) h = ap (λ y. stop_at y r (lines_before closes rs)) h.0 ∙ ap (λ x. r ∷ x) (before-lines closes rs h.1)
 
 module _ (text : List ℕ) (options : Options) (lookup : Lookup) where
-  blank-replay : (rs : List Row) (l : Level) → l.inner.has_block ≡ true → l.inner.blank ≡ true → replay text options lookup (blank_lines rs) l ≡ l
+  blank-replay : (rs : List Row) (l : Level) → l.inner.has_line ≡ true → l.inner.blank ≡ true → replay text options lookup (blank_lines rs) l ≡ l
   blank-replay [] l h b = refl
   blank-replay (r ∷ rs) l h b =
-      blank-replay rs (blank_level l) h h ∙ ap (λ z. record l { inner = record l.inner { blank = z } }) (h ∙ sym b)
+      blank-replay rs (blank_level l) refl h ∙ ap (λ z. record l { inner = record l.inner { has_line = true; blank = z } }) (h ∙ sym b)
+      ∙ ap (λ z. record l { inner = record l.inner { has_line = z } }) (sym h)
 
-  blanks-replay : (rs : List Row) (l : Level) → l.inner.has_block ≡ true → l.inner.blank ≡ false → replay text options lookup (blank_lines rs) l ≡ record l { inner = record l.inner { blank = is_some rs } }
+  blanks-replay : (rs : List Row) (l : Level) → l.inner.has_line ≡ true → l.inner.blank ≡ false → replay text options lookup (blank_lines rs) l ≡ record l { inner = record l.inner { blank = is_some rs } }
   blanks-replay [] l h b = ap (λ z. record l { inner = record l.inner { blank = z } }) b
-  blanks-replay (r ∷ rs) l h b = blank-replay rs (blank_level l) h h ∙ ap (λ z. record l { inner = record l.inner { blank = z } }) h
+  blanks-replay (r ∷ rs) l h b =
+      blank-replay rs (blank_level l) refl h ∙ ap (λ z. record l { inner = record l.inner { has_line = true; blank = z } }) h
+      ∙ ap (λ z. record l { inner = record l.inner { has_line = z; blank = true } }) (sym h)
 
   -- the innermost level, when the leaf is closed
   abbrev pub inner_closed : OpenLines → Level → Level

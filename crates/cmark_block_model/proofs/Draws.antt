@@ -356,7 +356,7 @@ module _ (text : List ℕ) (options : Options) (lookup : Lookup) where
   draws-all (BlankLine line after) = let a = draws-all after in (at a.0, λ here up start line_end tokens blank p q rs. a.1 here up start line_end tokens true p q rs, λ o v here up start line_end tokens blank p q rs. a.2 o v here up start line_end tokens true p q rs)
     where
       at : Draws after → Draws (BlankLine line after)
-      at a First v here up blank p rs = a First v here up false p rs
+      at a First v here up blank p rs = a Behind v here up false p rs
       at a Behind v here up blank p rs = a Behind v here up true p rs
       at a (InList o) v here up blank p rs = a (InList o) v here up true p rs
   draws-all (Paragraph first more after) =

@@ -124,7 +124,7 @@ module _ (text : List ℕ) (options : Options) (lookup : Lookup) where
     where
       at : ((s : Stand) → (d : Drawing) (blank p : Bool) (rs : Noted) → (replay text options lookup after (level_of s d blank p rs)).inner.blank ≡ ends_blank (front_of s) blank after)
           → (s : Stand) → (d : Drawing) (blank p : Bool) (rs : Noted) → (replay text options lookup (BlankLine line after) (level_of s d blank p rs)).inner.blank ≡ ends_blank (front_of s) blank (BlankLine line after)
-      at a First d blank p rs = a First d false p rs
+      at a First d blank p rs = a Behind d false p rs
       at a Behind d blank p rs = a Behind d true p rs
       at a (InList o) d blank p rs = a (InList o) d true p rs
   blank_behind (Paragraph first more after) = let a = blank_behind after in (λ s d blank p rs. a.1 _ _ false _ _ rs, λ o d blank p q rs. a.1 _ _ false _ _ rs)
@@ -225,7 +225,7 @@ module _ (text : List ℕ) (options : Options) (lookup : Lookup) where
     where
       at : ((s : Stand) (d : Drawing) (blank p : Bool) (rs : Noted) → (replay text options lookup after (level_of s d blank p rs)).inner.parted ≡ (p || parted (before_of s) blank after))
           → (s : Stand) (d : Drawing) (blank p : Bool) (rs : Noted) → (replay text options lookup (BlankLine line after) (level_of s d blank p rs)).inner.parted ≡ (p || parted (before_of s) blank (BlankLine line after))
-      at a First d blank p rs = a First d false p rs
+      at a First d blank p rs = a Behind d false p rs
       at a Behind d blank p rs = a Behind d true p rs
       at a (InList o) d blank p rs = a (InList o) d true p rs
   parted_behind (Paragraph first more after) = paragraph-parted first more after (parted_behind after)

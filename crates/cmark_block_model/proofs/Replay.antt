@@ -107,7 +107,7 @@ left_by k around end l = record l {
 }
 
 abbrev pub blank_level : Level → Level
-blank_level l = record l { inner = record l.inner { blank = l.inner.has_block } }
+blank_level l = record l { inner = record l.inner { has_line = true; blank = l.inner.has_line } }
 
 module _ (text : List ℕ) (options : Options) (lookup : Lookup) where
   abbrev pub paragraph_level : Row → List Row → Level → Level

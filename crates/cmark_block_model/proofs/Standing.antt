@@ -1,6 +1,6 @@
 -- A level behind no block, behind a blank line alone, behind a block that is no item, or behind an item of a list that is open.
 use Rattle.std.specs.Prelude.{ℕ, Bool, true, false, Option, Some, None}
-use Rattle.cmark_grammar.specs.Lists.{Before, NoBlock, Other, ItemWith, definition_delimiter}
+use Rattle.cmark_grammar.specs.Lists.{Before, Marker, Other, ItemWith, definition_delimiter}
 use Rattle.cmark_block_model.specs.Drawing.{Drawing}
 use Rattle.cmark_block_model.specs.OpenBlocks.{OpenList}
 use Rattle.cmark_block_model.proofs.Replay.{Noted, Level}
@@ -26,7 +26,7 @@ list_of Behind = None
 list_of (InList o) = Some o
 
 abbrev pub before_of : Stand → Before
-before_of First = NoBlock
+before_of First = Marker
 before_of Behind = Other
 before_of (InList o) = ItemWith o.delimiter
 
@@ -38,7 +38,7 @@ delimiter_of (InList o) = Some o.delimiter
 abbrev pub level_of : Stand → Drawing → (blank parted : Bool) → Noted → Level
 level_of stand d blank parted noted = record {
   drawing = d;
-  inner = record { has_block = has_of stand; blank = blank; parted = parted; list = list_of stand; title = None };
+  inner = record { has_line = has_of stand; blank = blank; parted = parted; list = list_of stand; title = None };
   noted = noted;
 }
 
@@ -46,7 +46,7 @@ level_of stand d blank parted noted = record {
 abbrev pub titled : Option OpenList → Drawing → (blank parted before : Bool) → Noted → Level
 titled list d blank parted before noted = record {
   drawing = d;
-  inner = record { has_block = true; blank = blank; parted = parted; list = None; title = Some (record { list = list; parted = before }) };
+  inner = record { has_line = true; blank = blank; parted = parted; list = None; title = Some (record { list = list; parted = before }) };
   noted = noted;
 }
 

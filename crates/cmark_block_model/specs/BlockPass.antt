@@ -50,7 +50,7 @@ definitions_in (Some l) = if l.delimiter == definition_delimiter then Some l els
 
 -- one more block that is no item, a paragraph, one more item of a list, and an item that has ended with these blocks in it
 abbrev pub siblings_with_block : Siblings → Siblings
-siblings_with_block s = record { has_block = true; blank = false; parted = s.parted || s.blank; list = None; title = None }
+siblings_with_block s = record { has_line = true; blank = false; parted = s.parted || s.blank; list = None; title = None }
 
 abbrev pub siblings_with_paragraph : Siblings → Siblings
 siblings_with_paragraph s = record (siblings_with_block s) { title = Some (record { list = definitions_in s.list; parted = s.parted }) }
@@ -281,7 +281,7 @@ module _ (text : List ℕ) (options : Options) (lookup : Lookup) where
       let q = with_drawn (Node (node (document.Table alignments) (start_of r) (last_line_end r (take more ahead))) (table_tokens text (length alignments) r (take more ahead)) Nil) (block_begun p) in record q { leaf = InTable more }
 
   abbrev pub begin_as : Opening → (Container → Pass) → Row → (ahead : List Row) → (bare : Bool) → Pass → Pass
-  begin_as Blank inside r ahead bare p = record p { inner = record p.inner { blank = p.inner.has_block }; bare = bare }
+  begin_as Blank inside r ahead bare p = record p { inner = record p.inner { has_line = true; blank = p.inner.has_line }; bare = bare }
   begin_as (Nests k) inside r ahead bare p = inside k
   begin_as (Takes leaf more) inside r ahead bare p = leaf_begun leaf more r ahead p
   begin_as Plain inside r ahead bare p = paragraph_begun r p

@@ -22,18 +22,19 @@ pub record Title : Type 0 where
   pub list : Option OpenList
   pub parted : Bool
 
--- the blocks of a container so far: whether there is one, whether a blank line stands behind the last one, whether one stands
--- between two of them, the list that the last one is an item of, and what was known before the last one, if it is a paragraph, which
--- may be a title: a definition list to which it may belong stays open, and is no list that the last one is an item of
+-- the blocks of a container so far: whether it has one, or a blank line, or blanks alone behind its marker; whether a blank line stands at
+-- the end, and whether one stands between two lines of them, neither of which those blanks are; the list that the last block is an item of,
+-- and what was known before the last one, if it is a paragraph, which may be a title: a definition list to which it may belong stays open,
+-- and is no list that the last one is an item of
 pub record Siblings : Type 0 where
-  pub has_block : Bool
+  pub has_line : Bool
   pub blank : Bool
   pub parted : Bool
   pub list : Option OpenList
   pub title : Option Title
 
 abbrev pub no_siblings : Siblings
-no_siblings = record { has_block = false; blank = false; parted = false; list = None; title = None }
+no_siblings = record { has_line = false; blank = false; parted = false; list = None; title = None }
 
 -- an open container, with the siblings that it stands behind
 pub record OpenContainer : Type 0 where

@@ -190,7 +190,7 @@ blank-words r e = go (without_indent r.columns) e
 
 -- a blank line begins nothing
 pub begins-blank : (text : List ℕ) (options : Options) (lookup : Lookup) (r : Row) (next : List Row) (m : model.Pass) → r.lazy ≡ false → is_blank_line r ≡ true →
-    begin text options lookup r next m ≡ record m { inner = record m.inner { blank = m.inner.has_block }; bare = false }
+    begin text options lookup r next m ≡ record m { inner = record m.inner { has_line = true; blank = m.inner.has_line }; bare = false }
 begins-blank text options lookup r next m whole blank =
     ap (λ o. begin_as text options lookup o (λ k. inside_begun (is_alert k) (container_begun k r m) (begin_in text options lookup (length r.columns) (place_in k) (enter k r) next (is_item k) (container_begun k r m))) r (ahead_in text options lookup m.outer next) false m)
     (opens-anywhere options m.inner r (ahead_in text options lookup m.outer next) (blank-defines-not options (place_of m.inner) r (blank-words r blank)) ∙ opens-blank options r (ahead_in text options lookup m.outer next) whole blank ∙ ap (λ kind. or_else (metadata_begun kind (ahead_in text options lookup m.outer next)) Blank) (no_metadata options r blank))

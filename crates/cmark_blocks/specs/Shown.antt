@@ -15,7 +15,7 @@ abbrev pub shown_title : Title → model.Title
 shown_title t = record { list = option_map shown_list t.list; parted = t.parted }
 
 abbrev pub shown_siblings : Siblings → model.Siblings
-shown_siblings s = record { has_block = s.has_block; blank = s.blank; parted = s.parted; list = option_map shown_list s.list; title = option_map shown_title s.title }
+shown_siblings s = record { has_line = s.has_line; blank = s.blank; parted = s.parted; list = option_map shown_list s.list; title = option_map shown_title s.title }
 
 -- the list, if it has this character
 abbrev pub list_of : (delimiter : ℕ) → Option model.OpenList → Option model.OpenList

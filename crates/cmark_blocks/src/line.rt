@@ -1,6 +1,6 @@
 //! All that a line begins: containers, and then a leaf (CommonMark 3 to 5).
 
-ghost use Rattle.std.specs.Prelude.{◌≡◌, ◌<◌, false, length, OnOk, IfOk, IfSome};
+ghost use Rattle.std.specs.Prelude.{true, ◌≡◌, ◌<◌, false, length, OnOk, IfOk, IfSome};
 ghost use Rattle.cmark_text_parts.specs.Shown.{shown_options};
 ghost use Rattle.cmark_lines.specs.Opened.{InfoIsIn};
 ghost use Rattle.cmark_lines.specs.Rests.{row_of};
@@ -22,10 +22,11 @@ impl<'a, E: EntityLookup> Pass<'a, E> {
     pub(crate) fn pass_blank_line(&mut self, bare: bool)
         requires { IsGood self.old }
         ensures good { IsGood self.new }
-        ensures runs { Steps E.replacement self.old self.new (λ p. record p { inner = record p.inner { blank = p.inner.has_block }; bare = bare }) }
+        ensures runs { Steps E.replacement self.old self.new (λ p. record p { inner = record p.inner { has_line = true; blank = p.inner.has_line }; bare = bare }) }
         ensures text { self.new.text ≡ self.old.text }
     {
-        self.inner.blank = self.inner.has_block;
+        self.inner.blank = self.inner.has_line;
+        self.inner.has_line = true;
         self.bare = bare;
     }
 

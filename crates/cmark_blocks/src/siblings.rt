@@ -36,11 +36,11 @@ pub(crate) struct Siblings {
     pub list: Option<OpenList>,
     /// What was known before the last one, where it is a paragraph.
     pub title: Option<Title>,
-    /// There is one.
-    pub has_block: bool,
-    /// A blank line stands behind the last one.
+    /// There is one, or a blank line, or blanks alone behind the container's marker.
+    pub has_line: bool,
+    /// A blank line stands at the end. Blanks behind the container's marker are none.
     pub blank: bool,
-    /// A blank line stands between two of them.
+    /// A blank line stands before one of them, but in front of an item of the list that stands there.
     pub parted: bool,
 }
 
@@ -53,7 +53,7 @@ impl Siblings {
         ensures { shown_siblings result ≡ no_siblings }
     {
         Siblings {
-            has_block: false,
+            has_line: false,
             blank: false,
             parted: false,
             list: None,
@@ -66,7 +66,7 @@ impl Siblings {
         ensures { shown_siblings result ≡ siblings_with_block (shown_siblings self) }
     {
         Siblings {
-            has_block: true,
+            has_line: true,
             blank: false,
             parted: self.parted || self.blank,
             list: None,
@@ -82,7 +82,7 @@ impl Siblings {
     {
         self.title = None;
         self.parted = self.parted || self.blank;
-        self.has_block = true;
+        self.has_line = true;
         self.blank = false;
     }
 
@@ -108,7 +108,7 @@ impl Siblings {
         let parted = self.parted;
         self.title = Some(Title { list: None, parted });
         self.parted = parted || self.blank;
-        self.has_block = true;
+        self.has_line = true;
         self.blank = false;
     }
 

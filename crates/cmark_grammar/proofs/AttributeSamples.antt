@@ -108,6 +108,15 @@ stretches_before : read (codes "> a\n> b\n> {#c}\n> ===") ≡ node (BlockQuote N
 unfolding blocks begin opens texts lazily enter keeps underlines
 stretches_before = refl
 
+-- blanks and line endings before the braces go with them, and no other white space
+setext_form_feed : read (codes "a\x0c {}\n===") ≡ node (Heading 1 no_attributes) 0 9 ∷ node (Text (codes "a\x0c")) 0 2 ∷ []
+unfolding blocks begin opens texts lazily enter keeps underlines
+setext_form_feed = refl
+
+setext_line_of_braces : read (codes "a \n{}\n===") ≡ node (Heading 1 no_attributes) 0 9 ∷ node (Text (codes "a")) 0 1 ∷ []
+unfolding blocks begin opens texts lazily enter keeps underlines
+setext_line_of_braces = refl
+
 setext_last_braces : read (codes "{a} {b{c}\n===") ≡ node (Heading 1 no_attributes) 0 13 ∷ node (Text (codes "{a} {b")) 0 6 ∷ []
 unfolding blocks begin opens texts lazily enter keeps underlines
 setext_last_braces = refl

@@ -121,6 +121,18 @@ pub parts_items : outline (document (codes "- [^a]: b\n\n- c") footnotes basic_e
 unfolding blocks begin opens texts lazily enter keeps underlines
 parts_items = refl
 
+-- a footnote definition that holds nothing ends with its blank lines too
+pub loose_behind_nothing : outline (document (codes "- [^a]:\n\n  b") footnotes basic_entity) ≡
+    node (BlockList None false) 0 12 ∷ node ListItem 0 12 ∷ node (FootnoteDefinition (codes "a")) 2 9 ∷ node Paragraph 11 12 ∷ node (Text (codes "b")) 11 12 ∷ []
+unfolding blocks begin opens texts lazily enter keeps underlines
+loose_behind_nothing = refl
+
+-- the blank rest of its own line is no blank line
+pub tight_behind_nothing : outline (document (codes "- [^a]:\n  b") footnotes basic_entity) ≡
+    node (BlockList None true) 0 11 ∷ node ListItem 0 11 ∷ node (FootnoteDefinition (codes "a")) 2 8 ∷ node TightParagraph 10 11 ∷ node (Text (codes "b")) 10 11 ∷ []
+unfolding blocks begin opens texts lazily enter keeps underlines
+tight_behind_nothing = refl
+
 -- where none stands there, the list is tight
 pub tight : outline (document (codes "- [^a]: b\n- c") footnotes basic_entity) ≡
     node (BlockList None true) 0 13 ∷ node ListItem 0 10 ∷ node (FootnoteDefinition (codes "a")) 2 10 ∷ node Paragraph 8 10 ∷ node (Text (codes "b")) 8 9 ∷ node ListItem 10 13 ∷ node TightParagraph 12 13 ∷ node (Text (codes "c")) 12 13 ∷ []

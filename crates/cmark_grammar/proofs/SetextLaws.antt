@@ -1,6 +1,5 @@
 -- The content of a setext heading without its attributes is cut out of that of a paragraph.
 use Rattle.std.proofs.Common.{◌≡◌, ℕ, suc, ◌≤◌, ◌<◌, Bool, true, false, ◌==◌, List, [], ◌∷◌, ◌++◌, length, drop, refl, sym, arith, true≢false}
-use Rattle.std.specs.Char.{is_ascii_whitespace}
 use Rattle.std.specs.Prelude.{if◌then◌else◌, nat_lt}
 use Rattle.std.proofs.lemmas.Bool.Decides.{nat_tests}
 use Rattle.cmark_grammar.specs.Attributes.{is_braced, before_braces, closes}
@@ -8,7 +7,8 @@ use Rattle.cmark_grammar.specs.BlockDocument.{BlockDocument, Nil, Node}
 use Rattle.cmark_grammar.specs.Columns.{Column, drop_end, put_before, is_blank}
 use Rattle.cmark_grammar.specs.Ranges.{InOrder, AllAt, count_nodes, count_tables}
 use Rattle.cmark_grammar.specs.Rows.{Row, place, first_place, start_of, last_line_end}
-use Rattle.cmark_grammar.specs.SetextAttributes.{line_end_column, content_of, is_white, ends_in_braces, before_attributes, attributes_place, texts_before, texts_if, without_braces, setext_tokens}
+use Rattle.cmark_grammar.specs.Tags.{is_space_byte}
+use Rattle.cmark_grammar.specs.SetextAttributes.{line_end_column, content_of, ends_in_braces, before_attributes, attributes_place, texts_before, texts_if, without_braces, setext_tokens}
 use Rattle.cmark_grammar.specs.Tokens.{slice, texts_then, stretch_then, paragraph_tokens}
 use Rattle.cmark_grammar.proofs.RowEdges.{is-ascii, AreGood, GoodRow, GoodRows}
 use Rattle.cmark_grammar.proofs.RowPlaces.{Lies, Along}
@@ -50,22 +50,22 @@ module _ (E : ℕ → Type 0) where
   content-reaches r [] g gs = end-reaches is_blank r.columns (good-reaches r.columns g.good)
   content-reaches r (s ∷ more) g gs = join-reaches r.columns (line_end_column r ∷ content_of (s ∷ more)) (good-reaches r.columns g.good) (λ lt. g.content_end, content-reaches s more gs.0 gs.1)
 
-  white-ascii : (b : ℕ) → is_ascii_whitespace b ≡ true → b < 128
-  white-ascii b e = grind (arith, nat_tests)
+  space-ascii : (b : ℕ) → is_space_byte b ≡ true → b < 128
+  space-ascii b e = grind (arith, nat_tests)
 
   first-reaches : (cs : List Column) → Reaches cs → ends_in_braces cs ≡ true → E (attributes_place cs)
   first-reaches [] r e = absurd (true≢false (sym e))
   first-reaches (c ∷ cs) r e = go (is_braced (λ x. x.byte) (c ∷ cs)) refl e (first-reaches cs r.1)
     where
-      behind : (z : Bool) → is_white c ≡ z → (ds : List Column) → E (first_place 0 (drop (length ds) cs)) → E (first_place 0 (drop (length (put_before z c ds)) (c ∷ cs)))
-      behind true w [] h = r.0 (white-ascii c.byte w)
+      behind : (z : Bool) → is_space_byte c.byte ≡ z → (ds : List Column) → E (first_place 0 (drop (length ds) cs)) → E (first_place 0 (drop (length (put_before z c ds)) (c ∷ cs)))
+      behind true w [] h = r.0 (space-ascii c.byte w)
       behind false w [] h = h
       behind z w (d ∷ ds) h = h
 
       go : (z : Bool) → is_braced (λ x. x.byte) (c ∷ cs) ≡ z → nat_lt (length (if z then [] else c ∷ before_braces (λ x. x.byte) cs)) (suc (length cs)) ≡ true
-          → (ends_in_braces cs ≡ true → E (attributes_place cs)) → E (first_place 0 (drop (length (drop_end is_white (if z then [] else c ∷ before_braces (λ x. x.byte) cs))) (c ∷ cs)))
+          → (ends_in_braces cs ≡ true → E (attributes_place cs)) → E (first_place 0 (drop (length (drop_end (λ x. is_space_byte x.byte) (if z then [] else c ∷ before_braces (λ x. x.byte) cs))) (c ∷ cs)))
       go true b l ih = r.0 (is-ascii c.byte 123 (omega arith) (and-first E (c.byte == 123) (closes (λ x. x.byte) cs) b))
-      go false b l ih = behind (is_white c) refl (before_attributes cs) (ih (shorter (length (before_braces (λ x. x.byte) cs)) (length cs) l))
+      go false b l ih = behind (is_space_byte c.byte) refl (before_attributes cs) (ih (shorter (length (before_braces (λ x. x.byte) cs)) (length cs) l))
         where
           shorter : (a b : ℕ) → nat_lt (suc a) (suc b) ≡ true → nat_lt a b ≡ true
           shorter a b e = grind (arith)

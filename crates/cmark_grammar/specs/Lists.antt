@@ -19,11 +19,11 @@ is_title (ContainerBlock (Footnote label old size) first more inside after) = fa
 is_title (ContainerBlock (Item delimiter number width task) first more inside after) = false
 is_title (ContainerBlock (ListDefinition width) first more inside after) = true
 
--- whether a blank line ends these blocks, where a nested item or definition, of a list or of a footnote, ends with the blank lines that its last
--- block ends with. Front: no block stands before, so that a blank line ends none; so: a blank line stands before
+-- whether a blank line ends these blocks, where a nested item or definition, of a list or of a footnote, ends with the blank lines that it ends
+-- with. Front: the marker of their container stands directly before, and its line's blank rest is no blank line; so: a blank line stands before
 abbrev pub ends_blank : (front so : Bool) → Blocks → Bool
 ends_blank front so Nil = so
-ends_blank front so (BlankLine line after) = ends_blank front (not front) after
+ends_blank front so (BlankLine line after) = ends_blank false (not front) after
 ends_blank front so (Paragraph first more after) = ends_blank false false after
 ends_blank front so (SetextHeading level first more underline after) = ends_blank false false after
 ends_blank front so (LeafBlock leaf first more after) = ends_blank false false after
@@ -32,27 +32,35 @@ ends_blank front so (ContainerBlock (Footnote label old size) first more inside 
 ends_blank front so (ContainerBlock (Item delimiter number width task) first more inside after) = ends_blank false (ends_blank true false inside) after
 ends_blank front so (ContainerBlock (ListDefinition width) first more inside after) = ends_blank false (ends_blank true false inside) after
 
--- what stands before a block in its container: an item of a list, or a title or definition, which are items of a list of their own character
+-- what stands before a line in its container: the container's marker alone; an item of a list, or a title or definition, which are items of a list
+-- of their own character; or any other line
 pub data Before : Type 0 where
-  NoBlock : Before
+  Marker : Before
   Other : Before
   ItemWith : (delimiter : ℕ) → Before
 
 abbrev pub is_list_of : ℕ → Before → Bool
-is_list_of delimiter NoBlock = false
+is_list_of delimiter Marker = false
 is_list_of delimiter Other = false
 is_list_of delimiter (ItemWith m) = m == delimiter
 
-abbrev pub is_block : Before → Bool
-is_block NoBlock = false
-is_block Other = true
-is_block (ItemWith m) = true
+-- whether a blank line behind that is one: the blank rest of the marker's line is none
+abbrev pub is_line : Before → Bool
+is_line Marker = false
+is_line Other = true
+is_line (ItemWith m) = true
+
+-- what stands before the next line, behind a blank one
+abbrev pub behind_blank : Before → Before
+behind_blank Marker = Other
+behind_blank Other = Other
+behind_blank (ItemWith m) = ItemWith m
 
 -- whether a blank line stands between two of these blocks, where the items of one list are one block, and so are titles with their definitions.
 -- Blank: a blank line stands directly before
 abbrev pub parted : Before → (blank : Bool) → Blocks → Bool
 parted before blank Nil = false
-parted before blank (BlankLine line after) = parted before (is_block before) after
+parted before blank (BlankLine line after) = parted (behind_blank before) (is_line before) after
 parted before blank (Paragraph first more after) =
     if is_title after then (blank && not (is_list_of definition_delimiter before)) || parted (ItemWith definition_delimiter) false after else blank || parted Other false after
 parted before blank (SetextHeading level first more underline after) = blank || parted Other false after
@@ -66,7 +74,7 @@ parted before blank (ContainerBlock (ListDefinition width) first more inside aft
 
 -- whether an item or a definition contains two blocks with a blank line between them
 abbrev pub is_parted_item : Blocks → Bool
-is_parted_item inside = parted NoBlock false inside
+is_parted_item inside = parted Marker false inside
 
 -- whether a list of this character, of which an item, a title or a definition stands before, is loose from there on. A blank line before a title
 -- makes no list loose

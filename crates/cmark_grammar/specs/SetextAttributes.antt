@@ -1,15 +1,16 @@
 -- The attributes of a setext heading (this profile's own): braces at the end of its content, which may stand over several lines.
 use Rattle.std.specs.Prelude.{ℕ, Bool, true, false, nat_lt, if◌then◌else◌, List, [], ◌∷◌, ◌++◌, length, drop}
-use Rattle.std.specs.Char.{is_ascii_whitespace}
 use Rattle.cmark_grammar.specs.Attributes.{Attributes, no_attributes, before_braces, inside_braces, attributes_of}
 use Rattle.cmark_grammar.specs.BlockDocument.{BlockDocument, Nil, Node}
 use Rattle.cmark_grammar.specs.Columns.{Column, drop_end, without_trailing_blanks, bytes_of}
+use Rattle.cmark_grammar.specs.Lines.{line_feed}
 use Rattle.cmark_grammar.specs.Rows.{Row, first_place}
+use Rattle.cmark_grammar.specs.Tags.{is_space_byte}
 use Rattle.cmark_grammar.specs.Tokens.{stretch_then, paragraph_tokens}
 
--- a line ending between two lines: white space, in a column of its own
+-- a line ending between two lines, in a column of its own
 abbrev pub line_end_column : Row → Column
-line_end_column r = record { byte = 10; at = r.content_end; part = 0 }
+line_end_column r = record { byte = line_feed; at = r.content_end; part = 0 }
 
 -- the columns of a heading's lines behind their prefixes, one line behind the other, without the blanks at the end
 abbrev pub content_of : List Row → List Column
@@ -17,18 +18,15 @@ content_of [] = []
 content_of (r ∷ []) = without_trailing_blanks r.columns
 content_of (r ∷ (s ∷ more)) = r.columns ++ line_end_column r ∷ content_of (s ∷ more)
 
-abbrev pub is_white : Column → Bool
-is_white c = is_ascii_whitespace c.byte
-
 -- braces stand at the end that hold no braces
 abbrev pub ends_in_braces : List Column → Bool
 ends_in_braces cs = nat_lt (length (before_braces (λ c. c.byte) cs)) (length cs)
 
--- what stands before the braces, without the white space at its end
+-- what stands before the braces, without the blanks and line endings at its end
 abbrev pub before_attributes : List Column → List Column
-before_attributes cs = drop_end is_white (before_braces (λ c. c.byte) cs)
+before_attributes cs = drop_end (λ c. is_space_byte c.byte) (before_braces (λ c. c.byte) cs)
 
--- where the attributes begin, or the white space before them
+-- where the attributes begin, or the blanks and line endings before them
 abbrev pub attributes_place : List Column → ℕ
 attributes_place cs = first_place 0 (drop (length (before_attributes cs)) cs)
 

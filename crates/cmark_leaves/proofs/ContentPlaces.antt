@@ -1,11 +1,11 @@
 -- Where the attributes of a setext heading begin in the text, by how many bytes of its content stand before them.
 use Rattle.std.proofs.Common.{◌≡◌, ◌⊎◌, inl, inr, ℕ, zero, suc, ◌+◌, ◌-◌, ◌<◌, ◌≤◌, Bool, true, false, ◌==◌, List, [], ◌∷◌, ◌++◌, append_assoc, append-nil, length, length-append, drop, get_or, map, refl, sym, ap, ◌∙◌, subst, arith}
-use Rattle.std.specs.Char.{is_ascii_whitespace}
 use Rattle.std.specs.Prelude.{if◌then◌else◌, nat_le, nat_lt}
 use Rattle.cmark_grammar.specs.Attributes.{before_braces}
 use Rattle.cmark_grammar.specs.Columns.{Column, drop_end, bytes_of}
 use Rattle.cmark_grammar.specs.Rows.{Row, place, first_place, begin_of}
-use Rattle.cmark_grammar.specs.SetextAttributes.{line_end_column, is_white, ends_in_braces, before_attributes, attributes_place}
+use Rattle.cmark_grammar.specs.Tags.{is_space_byte}
+use Rattle.cmark_grammar.specs.SetextAttributes.{line_end_column, ends_in_braces, before_attributes, attributes_place}
 use Rattle.cmark_grammar.proofs.RowPlaces.{Runs}
 use Rattle.cmark_lines.proofs.RestSteps.{rest-runs, bytes-content_end}
 use Rattle.cmark_lines.specs.Rests.{row_of}
@@ -101,7 +101,7 @@ less-lt a b e = grind (arith)
 
 -- the attributes begin where so many bytes stand before them
 pub found-place : (before : List LineRest) (last : LineRest) → let cs = content_columns before last in ends_in_braces cs ≡ true
-    → place_in (map row_of before) (row_of last) (length (drop_end is_ascii_whitespace (before_braces (λ b. b) (bytes_of cs)))) ≡ attributes_place cs
+    → place_in (map row_of before) (row_of last) (length (drop_end is_space_byte (before_braces (λ b. b) (bytes_of cs)))) ≡ attributes_place cs
 found-place before last e = go white.behind cut
   where
     cs : List Column
@@ -117,7 +117,7 @@ found-place before last e = go white.behind cut
     first = before-cut cs
 
     second : Cut front left
-    second = drop_end-cut is_white front
+    second = drop_end-cut (λ c. is_space_byte c.byte) front
 
     white : Cut cs left
     white = record { behind = second.behind ++ first.behind; is = first.is ∙ ap (λ l. l ++ first.behind) second.is ∙ append_assoc left second.behind first.behind }
@@ -125,11 +125,11 @@ found-place before last e = go white.behind cut
     cut : cs ≡ left ++ white.behind
     cut = white.is
 
-    size : length (bytes_of left) ≡ length (drop_end is_ascii_whitespace (before_braces (λ b. b) (bytes_of cs)))
-    size = ap length (white-bytes is_ascii_whitespace front refl (front-tabs front first.behind (subst AreTabs first.is (content-tabs before last))) ∙ ap (drop_end is_ascii_whitespace) (before-whole cs (content-tabs before last) (content-whole before last)))
+    size : length (bytes_of left) ≡ length (drop_end is_space_byte (before_braces (λ b. b) (bytes_of cs)))
+    size = ap length (white-bytes is_space_byte front refl (front-tabs front first.behind (subst AreTabs first.is (content-tabs before last))) ∙ ap (drop_end is_space_byte) (before-whole cs (content-tabs before last) (content-whole before last)))
 
-    go : (behind : List Column) → cs ≡ left ++ behind → place_in (map row_of before) (row_of last) (length (drop_end is_ascii_whitespace (before_braces (λ b. b) (bytes_of cs)))) ≡ attributes_place cs
-    go [] is = absurd (let l = less-lt (length front) (length cs) e in let m = end-shorter is_white front in let n = ap length (is ∙ append-nil left) in omega (arith, l, m, n))
+    go : (behind : List Column) → cs ≡ left ++ behind → place_in (map row_of before) (row_of last) (length (drop_end is_space_byte (before_braces (λ b. b) (bytes_of cs)))) ≡ attributes_place cs
+    go [] is = absurd (let l = less-lt (length front) (length cs) e in let m = end-shorter (λ c. is_space_byte c.byte) front in let n = ap length (is ∙ append-nil left) in omega (arith, l, m, n))
     go (c ∷ behind) is =
         ap (place_in (map row_of before) (row_of last)) (sym size)
         ∙ place-at before last left c behind is

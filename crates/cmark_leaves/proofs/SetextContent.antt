@@ -1,10 +1,10 @@
 -- The attributes that are found in the gathered lines of a setext heading are those at the end of its content.
 use Rattle.std.proofs.Common.{◌≡◌, ℕ, suc, ◌+◌, ◌-◌, ◌≤◌, Bool, true, false, List, [], ◌∷◌, length, take, map, refl, sym, ap, ◌∙◌, subst, arith, String, Global}
-use Rattle.std.specs.Char.{is_ascii_whitespace}
 use Rattle.std.specs.Prelude.{if◌then◌else◌, nat_lt, string_bytes}
 use Rattle.std.specs.Str.{IsUtf8}
 use Rattle.cmark_grammar.specs.Attributes.{is_braced, before_braces, without_last, inside_braces, attributes_of, no_attributes}
 use Rattle.cmark_grammar.specs.Columns.{Column, is_blank_byte, drop_end, bytes_of}
+use Rattle.cmark_grammar.specs.Tags.{is_space_byte}
 use Rattle.cmark_grammar.specs.SetextAttributes.{ends_in_braces, setext_attributes}
 use Rattle.cmark_grammar.specs.Tokens.{slice}
 use Rattle.cmark_lines.specs.Rests.{row_of}
@@ -49,14 +49,14 @@ module _ (before : List LineRest) (last : LineRest) (content : List ℕ) (count 
   none-found e = ends ∙ less-not count (length content) e
 
   pub all-found : (words white : List ℕ) (made : String Global) (at : ℕ) → count ≤ length content → (count ≡ length content → ⊥) → words ≡ inside_braces (λ b. b) content → string_bytes made ≡ words
-      → white ≡ drop_end is_ascii_whitespace (take count content) → at ≡ place_in (map row_of before) (row_of last) (length white) → HasAttributes (content_columns before last) (record { words = made; place = at })
+      → white ≡ drop_end is_space_byte (take count content) → at ≡ place_in (map row_of before) (row_of last) (length white) → HasAttributes (content_columns before last) (record { words = made; place = at })
   all-found words white made at le some w m z p =
       let found : ends_in_braces (content_columns before last) ≡ true = ends ∙ less-true count (length content) le some in
       let front : take count content ≡ before_braces (λ b. b) content = ap (λ n. take n content) k ∙ before-take content in
       record {
         ends = found;
         words = m ∙ w ∙ sym (inside-whole (content_columns before last) (content-tabs before last) (content-whole before last) ∙ ap (inside_braces (λ b. b)) content_is);
-        place = p ∙ ap (λ ws. place_in (map row_of before) (row_of last) (length ws)) (z ∙ ap (drop_end is_ascii_whitespace) (front ∙ ap (before_braces (λ b. b)) (sym content_is))) ∙ found-place before last found;
+        place = p ∙ ap (λ ws. place_in (map row_of before) (row_of last) (length ws)) (z ∙ ap (drop_end is_space_byte) (front ∙ ap (before_braces (λ b. b)) (sym content_is))) ∙ found-place before last found;
       }
 
 -- without braces at the end there are no attributes

@@ -8,7 +8,7 @@ ghost use Rattle.cmark_leaves.specs.TextColumns.{IsRead};
 
 use crate::heading::count_before_braces;
 use cmark_lines::LineRest;
-use cmark_scan_parts::bytes::{without_trailing, without_trailing_blanks};
+use cmark_scan_parts::bytes::{is_space, without_trailing, without_trailing_blanks};
 use std::alloc::{AllocError, Global};
 
 /// The attributes at the end of a setext heading's content.
@@ -16,7 +16,7 @@ use std::alloc::{AllocError, Global};
 pub struct SetextAttributes {
     /// The words between the braces, with a line feed for each line ending.
     pub words: String,
-    /// Where the attributes begin, or the white space before them: a byte offset of the text.
+    /// Where the attributes begin, or the blanks and line endings before them: a byte offset of the text.
     pub place: usize,
 }
 
@@ -82,7 +82,7 @@ pub fn find_setext_attributes(
         return Ok(None);
     }
     let words = String::from_str(alloc, &room.as_str()[count + 1..content.len() - 1])?;
-    let kept = without_trailing(&content[..count], |byte| byte.is_ascii_whitespace());
+    let kept = without_trailing(&content[..count], is_space);
     Ok(Some(SetextAttributes {
         words,
         place: place_of(before, last, kept.len()),

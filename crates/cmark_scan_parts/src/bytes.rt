@@ -112,7 +112,7 @@ pub fn without_trailing<F: Fn(u8) -> bool>(bytes: &[u8], passes: F) -> &[u8]
 }
 
 /// Whether a byte is a blank or a part of a line ending.
-pub(crate) fn is_space(byte: u8) -> bool
+pub fn is_space(byte: u8) -> bool
     ensures { result ≡ is_space_byte byte }
 {
     matches!(byte, b' ' | b'\t' | b'\n' | b'\r')

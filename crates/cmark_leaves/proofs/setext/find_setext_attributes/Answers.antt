@@ -1,6 +1,6 @@
 use Rattle.std.proofs.Common.{sym, ap, ◌∙◌, rules}
-use Rattle.std.specs.Char.{is_ascii_whitespace}
 use Rattle.cmark_grammar.specs.Columns.{is_blank_byte, drop_end}
+use Rattle.cmark_grammar.specs.Tags.{is_space_byte}
 use Rattle.cmark_leaves.proofs.SetextContent.{words-in, none-found, all-found}
 use Rattle.cmark_leaves.proofs.setext.find_setext_attributes.Goals as goal
 
@@ -37,4 +37,4 @@ returns c =
     (c.without_trailing_blanks-content.ensures.value ∙ ap (drop_end is_blank_byte) (c.as_bytes.ensures.value ∙ c.in_ok-gather_lines.ensures))
     c.count_before_braces-count.ensures.value
     c.range.result.now c.without_trailing-kept.result.now c.in_ok-words.words c.place_of.result c.count_before_braces-count.ensures.within c.if-count-content.false
-    (c.range.ensures.value ∙ inside) c.in_ok-words.ensures.ok (c.without_trailing-kept.ensures.value is_ascii_whitespace (λ b r low answers. search rules)) c.place_of.ensures
+    (c.range.ensures.value ∙ inside) c.in_ok-words.ensures.ok (c.without_trailing-kept.ensures.value is_space_byte (λ b r low answers. search rules)) c.place_of.ensures
