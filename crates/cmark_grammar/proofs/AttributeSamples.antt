@@ -109,7 +109,7 @@ unfolding blocks begin opens texts lazily enter keeps underlines
 stretches_before = refl
 
 -- blanks and line endings before the braces go with them, and no other white space
-setext_form_feed : read (codes "a\x0c {}\n===") ≡ node (Heading 1 no_attributes) 0 9 ∷ node (Text (codes "a\x0c")) 0 2 ∷ []
+setext_form_feed : read (codes "a\u{c} {}\n===") ≡ node (Heading 1 no_attributes) 0 9 ∷ node (Text (codes "a\u{c}")) 0 2 ∷ []
 unfolding blocks begin opens texts lazily enter keeps underlines
 setext_form_feed = refl
 
