@@ -57,7 +57,8 @@ behind_blank Other = Other
 behind_blank (ItemWith m) = ItemWith m
 
 -- whether a blank line stands between two of these blocks, where the items of one list are one block, and so are titles with their definitions.
--- Blank: a blank line stands directly before
+-- Blank: a blank line stands directly before. One in front of the first block would count too, and there is none: an item begins with at most
+-- one blank line, the rest of its marker's line (CommonMark 5.2), and so does a definition
 abbrev pub parted : Before → (blank : Bool) → Blocks → Bool
 parted before blank Nil = false
 parted before blank (BlankLine line after) = parted (behind_blank before) (is_line before) after
