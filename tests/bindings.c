@@ -1,17 +1,28 @@
 /* Tries the library from C: tests/bindings builds it, with the archive and with the shared library, and reads what it writes.
 
    bindings batch     reads records of options, a length and a text; writes for each the status, the size and the answer of both calls
+   bindings large     the same with the answers of all calls, within the usual limit and with no further scheme
+   bindings safe      the same of the call for safe HTML
    bindings tries     tries the same records for what no answer shows: short rooms, rooms at the end, refused memory, bad UTF-8
    bindings threads   answers the same records in four threads at once, each all of them, and compares
+   bindings stacks    the same in sixteen threads, each with a stack of 24 KB
+   bindings pages     answers each beginning of each record beside pages that may not be touched, and compares
+   bindings exact     answers the same records in memory of exactly their sizes, for a program that watches each access
+   bindings refusals  writes for each record how many allocations of each call were refused in turn
 
    Numbers are of eight bytes, as this machine has them. The status is 0 where all is well. */
 #include "pulldown_cmark.h"
 #include <pthread.h>
+#include <signal.h>
 #include <stdio.h>
 #include <string.h>
+#include <sys/mman.h>
+#include <unistd.h>
 
 #define FILL 0xA5
 #define GUARD 64
+/* What the header says is enough of a stack, the thread's own data with it. */
+#define SMALL_STACK (24 * 1024)
 
 static long refuse_at = -1, asked, held;
 
@@ -57,7 +68,9 @@ struct record {
 
 static struct record *records;
 static size_t count;
-static const pcm_call calls[2] = {pcm_html, pcm_events_json};
+/* The first two are those whose answers the programs write too. */
+#define CALLS 3
+static const pcm_call calls[CALLS] = {pcm_html, pcm_events_json, pcm_safe_html};
 
 static void stop(const char *why, const struct record *it)
 {
@@ -149,20 +162,28 @@ static uint8_t *answer(pcm_call call, const struct record *it, uint32_t *status,
     return whole;
 }
 
-static void batch(void)
+/* Writes the status, the size and the answer of each of some calls. */
+static void write_answers(const pcm_call *some, size_t number, const struct record *it)
 {
-    size_t i, k, size;
+    size_t k, size;
     uint32_t status;
+    for (k = 0; k < number; k++) {
+        uint8_t *given = answer(some[k], it, &status, &size);
+        uint64_t head[2];
+        head[0] = status;
+        head[1] = size;
+        fwrite(head, sizeof head, 1, stdout);
+        fwrite(given, 1, size, stdout);
+        free(given);
+    }
+}
+
+/* The answers of the calls from one to before another, for each record. */
+static void batch(size_t first, size_t end)
+{
+    size_t i;
     for (i = 0; i < count; i++)
-        for (k = 0; k < 2; k++) {
-            uint8_t *given = answer(calls[k], &records[i], &status, &size);
-            uint64_t head[2];
-            head[0] = status;
-            head[1] = size;
-            fwrite(head, sizeof head, 1, stdout);
-            fwrite(given, 1, size, stdout);
-            free(given);
-        }
+        write_answers(calls + first, end - first, &records[i]);
 }
 
 /* All rooms that are too short, one that is just long enough, and one that is longer. */
@@ -197,7 +218,7 @@ static void try_helpers(const struct record *it)
     size_t k, size, given_size, lines = 0, all = 0, i;
     uint32_t status;
     int taken;
-    for (k = 0; k < 2; k++) {
+    for (k = 0; k < CALLS; k++) {
         char *given;
         uint8_t *wanted = answer(calls[k], it, &status, &size);
         if (pcm_answer(calls[k], (const char *)it->text, it->len, (uint32_t)it->options, &given, &given_size) != status || given_size != size)
@@ -250,13 +271,29 @@ static long try_refusals(pcm_call call, const struct record *it)
     return number;
 }
 
+/* The inline functions take no text at all for an empty one. */
+static void try_no_text(void)
+{
+    size_t k, size;
+    char *given;
+    int taken;
+    for (k = 0; k < 2; k++) {
+        if (pcm_answer(calls[k], NULL, 0, 0, &given, &size) != PCM_DONE || size || given[0])
+            stop("a helper answered something for no text", NULL);
+        pcm_free(given);
+    }
+    size = 0;
+    if (pcm_html_to(NULL, 0, 0, gather, &size, &taken) != PCM_DONE || size != 1 || pcm_events_to(NULL, 0, 0, gather, &size, &taken) != PCM_DONE || size != 1)
+        stop("a helper gave something for no text", NULL);
+}
+
 static void try_bad_utf8(void)
 {
     static const char *const bad[] = {"\x80", "a\xff", "caf\xe9", "\xc0\x80", "\xed\xa0\x80", "\xf4\x90\x80\x80", "*a* \xe2\x82", "# \xf0\x9f\x98"};
     uint8_t whole[256 + 2 * GUARD];
     size_t i, k, size;
     for (i = 0; i < sizeof bad / sizeof *bad; i++)
-        for (k = 0; k < 2; k++) {
+        for (k = 0; k < CALLS; k++) {
             struct record it;
             it.options = 0;
             it.len = strlen(bad[i]);
@@ -266,6 +303,109 @@ static void try_bad_utf8(void)
         }
 }
 
+/* A call within a limit, in the shape of the others. */
+static size_t limit;
+
+static uint32_t html_within(const uint8_t *text, size_t text_len, uint32_t options, uint8_t *room, size_t room_len, size_t *size)
+{
+    return pcm_html_within(text, text_len, options, limit, room, room_len, size);
+}
+
+/* References within a limit; footnotes, inline links and wikilinks take nothing of it. */
+static const struct {
+    const char *text;
+    uint32_t options;
+    size_t limit;
+    const char *html;
+} limits[] = {
+    {"[A]\n\n[a]: /1\n", 0, 0, "<p>[A]</p>\n"},
+    {"[x] [x]\n\n[x]: /u", 0, 1, "<p><a href=\"/u\">x</a> [x]</p>\n"},
+    {"[x] [x]\n\n[x]: /u", 0, 2, "<p><a href=\"/u\">x</a> [x]</p>\n"},
+    {"[x] [x]\n\n[x]: /u", 0, 3, "<p><a href=\"/u\">x</a> <a href=\"/u\">x</a></p>\n"},
+    {"[x](/u) [[y]]", PCM_WIKILINKS, 0, "<p><a href=\"/u\">x</a> <a href=\"y\">y</a></p>\n"},
+    {"a[^1]\n\n[^1]: b\n", PCM_FOOTNOTES, 0, "<p>a<sup class=\"footnote-reference\"><a href=\"#1\">1</a></sup></p>\n<div class=\"footnote-definition\" id=\"1\"><sup class=\"footnote-definition-label\">1</sup>\n<p>b</p>\n</div>\n"},
+};
+
+static void try_limits(void)
+{
+    size_t i, size;
+    uint32_t status;
+    for (i = 0; i < sizeof limits / sizeof *limits; i++) {
+        struct record it;
+        uint8_t *given;
+        it.options = limits[i].options;
+        it.len = strlen(limits[i].text);
+        it.text = (uint8_t *)limits[i].text;
+        limit = limits[i].limit;
+        given = answer(html_within, &it, &status, &size);
+        if (status != PCM_DONE || size != strlen(limits[i].html) || memcmp(given, limits[i].html, size))
+            stop("a text within a limit has other HTML", &it);
+        free(given);
+    }
+}
+
+/* Within the usual limit the HTML is that of pcm_html. */
+static void try_usual_limit(const struct record *it)
+{
+    size_t wanted, size;
+    uint32_t status, within;
+    uint8_t *all = answer(pcm_html, it, &status, &wanted), *given;
+    limit = it->len < 100000 ? 100000 : it->len;
+    given = answer(html_within, it, &within, &size);
+    if (status != within || size != wanted || memcmp(given, all, size))
+        stop("a text within the usual limit has other HTML", it);
+    free(given);
+    free(all);
+}
+
+static uint32_t safe_html_with_none(const uint8_t *text, size_t text_len, uint32_t options, uint8_t *room, size_t room_len, size_t *size)
+{
+    return pcm_safe_html_with(text, text_len, options, (const uint8_t *)"", 0, room, room_len, size);
+}
+
+static void large(void)
+{
+    static const pcm_call all[] = {pcm_html, pcm_events_json, html_within, pcm_safe_html, safe_html_with_none};
+    size_t i;
+    for (i = 0; i < count; i++) {
+        limit = records[i].len < 100000 ? 100000 : records[i].len;
+        write_answers(all, sizeof all / sizeof *all, &records[i]);
+    }
+}
+
+/* The call that takes further schemes: what it answers with a list, with none, and with one that is not UTF-8. */
+static void try_schemes(void)
+{
+    static const struct {
+        const char *schemes, *html;
+        uint32_t status;
+    } tried[] = {
+        {"", "<p><a href=\"\">a</a></p>\n", PCM_DONE},
+        {"sms\ttel", "<p><a href=\"tel:1\">a</a></p>\n", PCM_DONE},
+        {"tel1 javascript", "<p><a href=\"\">a</a></p>\n", PCM_DONE},
+        {"tel\xff", "", PCM_NOT_UTF8},
+    };
+    const char *text = "[a](tel:1)";
+    size_t i, size;
+    for (i = 0; i < sizeof tried / sizeof *tried; i++) {
+        uint8_t room[64];
+        uint32_t status;
+        size = 12345;
+        status = pcm_safe_html_with((const uint8_t *)text, strlen(text), 0, (const uint8_t *)tried[i].schemes, strlen(tried[i].schemes), room, sizeof room, &size);
+        if (status != tried[i].status || size != strlen(tried[i].html) || memcmp(room, tried[i].html, size))
+            stop("further schemes were taken wrongly", NULL);
+    }
+}
+
+static void refusals(void)
+{
+    size_t i;
+    for (i = 0; i < count; i++) {
+        long html = try_refusals(pcm_html, &records[i]), events = try_refusals(pcm_events_json, &records[i]);
+        printf("%ld %ld\n", html, events);
+    }
+}
+
 static void tries(void)
 {
     size_t i, k;
@@ -273,9 +413,13 @@ static void tries(void)
     if (pcm_version() != PCM_VERSION)
         stop("the library is of another version than the header", NULL);
     try_bad_utf8();
+    try_no_text();
+    try_schemes();
+    try_limits();
     for (i = 0; i < count; i++) {
+        try_usual_limit(&records[i]);
         try_helpers(&records[i]);
-        for (k = 0; k < 2; k++) {
+        for (k = 0; k < CALLS; k++) {
             try_rooms(calls[k], &records[i]);
 #ifdef REFUSES
             refused += try_refusals(calls[k], &records[i]);
@@ -288,9 +432,9 @@ static void tries(void)
 }
 
 struct wanted {
-    uint32_t status[2];
-    size_t size[2];
-    uint8_t *bytes[2];
+    uint32_t status[CALLS];
+    size_t size[CALLS];
+    uint8_t *bytes[CALLS];
 };
 
 static struct wanted *wanted;
@@ -300,7 +444,7 @@ static void *work(void *user)
     size_t i, k, size, at = (size_t)(uintptr_t)user;
     uint32_t status;
     for (i = 0; i < count; i++, at++)
-        for (k = 0; k < 2; k++) {
+        for (k = 0; k < CALLS; k++) {
             struct wanted *it = &wanted[at % count];
             uint8_t *given = answer(calls[k], &records[at % count], &status, &size);
             if (status != it->status[k] || size != it->size[k] || memcmp(given, it->bytes[k], size))
@@ -310,36 +454,186 @@ static void *work(void *user)
     return NULL;
 }
 
-static void threads(void)
+/* All records in so many threads at once, with stacks of this size, or of the usual one where it is 0. */
+static void threads(size_t number, size_t stack)
 {
-    pthread_t all[4];
+    pthread_t all[16];
+    pthread_attr_t how;
     size_t i, k;
+    pthread_attr_init(&how);
+    if (stack && pthread_attr_setstacksize(&how, stack))
+        stop("no thread may have this stack", NULL);
     wanted = memory(count * sizeof *wanted);
     for (i = 0; i < count; i++)
-        for (k = 0; k < 2; k++)
+        for (k = 0; k < CALLS; k++)
             wanted[i].bytes[k] = answer(calls[k], &records[i], &wanted[i].status[k], &wanted[i].size[k]);
-    for (i = 0; i < 4; i++)
-        if (pthread_create(&all[i], NULL, work, (void *)(uintptr_t)(i * count / 4)))
+    for (i = 0; i < number; i++)
+        if (pthread_create(&all[i], &how, work, (void *)(uintptr_t)(i * count / number)))
             stop("a thread was not started", NULL);
-    for (i = 0; i < 4; i++)
+    for (i = 0; i < number; i++)
         pthread_join(all[i], NULL);
+    pthread_attr_destroy(&how);
     for (i = 0; i < count; i++)
-        for (k = 0; k < 2; k++)
+        for (k = 0; k < CALLS; k++)
             free(wanted[i].bytes[k]);
     free(wanted);
+}
+
+/* Pages that may be read and written, between two that may not. */
+struct pages {
+    uint8_t *begin, *end;
+};
+
+static struct pages pages_of(size_t size)
+{
+    size_t page = (size_t)sysconf(_SC_PAGESIZE), inner = (size / page + 1) * page;
+    uint8_t *whole = mmap(NULL, inner + 2 * page, PROT_NONE, MAP_PRIVATE | MAP_ANONYMOUS, -1, 0);
+    struct pages it;
+    if (whole == MAP_FAILED || mprotect(whole + page, inner, PROT_READ | PROT_WRITE))
+        stop("there are no pages for the test itself", NULL);
+    it.begin = whole + page;
+    it.end = it.begin + inner;
+    return it;
+}
+
+static void give_pages(struct pages it)
+{
+    size_t page = (size_t)sysconf(_SC_PAGESIZE);
+    munmap(it.begin - page, (size_t)(it.end - it.begin) + 2 * page);
+}
+
+static void may_write(struct pages it, int is_allowed)
+{
+    if (mprotect(it.begin, (size_t)(it.end - it.begin), is_allowed ? PROT_READ | PROT_WRITE : PROT_READ))
+        stop("the pages of the test do not change", NULL);
+}
+
+static const struct record *tried;
+
+static void touched(int number)
+{
+    (void)number;
+    stop("a call touched memory that is not its own", tried);
+}
+
+/* One call in a room of this length that ends where its pages do, behind a guard. */
+static uint32_t at_end(pcm_call call, const struct record *it, struct pages room, size_t room_len, size_t *size)
+{
+    uint8_t *begin = room.end - room_len;
+    uint32_t status;
+    memset(begin - GUARD, FILL, room_len + GUARD);
+    tried = it;
+    *size = 12345;
+    status = call(it->text, it->len, (uint32_t)it->options, begin, room_len, size);
+    if (!is_filled(begin - GUARD, GUARD))
+        stop("a call wrote before the room", it);
+    if (status != PCM_DONE && !is_filled(begin, room_len))
+        stop("a call that is not done wrote into the room", it);
+    return status;
+}
+
+/* A text that ends where its pages do, and may not be written; a room that does, just long enough and a byte too short; a text that
+   begins where its pages do, with bytes behind it that would go on with it. */
+static long try_pages(pcm_call call, const struct record *whole, size_t len, struct pages text, struct pages room)
+{
+    static const uint8_t behind[] = {'`', '\n', ']', 0x80};
+    struct record it = *whole;
+    size_t wanted, size, i;
+    uint32_t status;
+    uint8_t *all;
+    it.len = len;
+    all = answer(call, &it, &status, &wanted);
+    may_write(text, 1);
+    it.text = text.end - len;
+    memcpy(it.text, whole->text, len);
+    may_write(text, 0);
+    if (at_end(call, &it, room, wanted, &size) != status || size != wanted || memcmp(room.end - wanted, all, wanted))
+        stop("an answer depends on where the text ends", &it);
+    if (wanted && (at_end(call, &it, room, wanted - 1, &size) != PCM_TOO_LONG || size != wanted))
+        stop("a room at the end of its pages was judged wrongly", &it);
+    it.text = text.begin;
+    for (i = 0; i < sizeof behind; i++) {
+        may_write(text, 1);
+        memset(text.begin, behind[i], (size_t)(text.end - text.begin));
+        memcpy(it.text, whole->text, len);
+        may_write(text, 0);
+        if (at_end(call, &it, room, wanted, &size) != status || size != wanted || memcmp(room.end - wanted, all, wanted))
+            stop("an answer depends on what stands behind the text", &it);
+    }
+    free(all);
+    return wanted ? 6 : 5;
+}
+
+static void pages(void)
+{
+    size_t i, k, len, size, most;
+    uint32_t status;
+    long number = 0;
+    signal(SIGSEGV, touched);
+    signal(SIGBUS, touched);
+    for (i = 0; i < count; i++) {
+        struct pages text = pages_of(records[i].len), room;
+        for (k = 0, most = 0; k < 2; k++) {
+            free(answer(calls[k], &records[i], &status, &size));
+            most = size > most ? size : most;
+        }
+        /* A beginning may have a longer answer than the whole. */
+        room = pages_of(16 * (most + records[i].len) + 65536);
+        for (len = 0; len <= records[i].len; len++)
+            for (k = 0; k < 2; k++)
+                number += try_pages(calls[k], &records[i], len, text, room);
+        give_pages(text);
+        give_pages(room);
+    }
+    printf("%ld\n", number);
+}
+
+/* Each call in memory that has not a byte more than it needs; the answer's bytes are read. */
+static void exact(void)
+{
+    size_t i, k, at, wanted, size;
+    unsigned long sum = 0;
+    for (i = 0; i < count; i++)
+        for (k = 0; k < 2; k++) {
+            struct record *it = &records[i];
+            uint8_t *room = memory(1);
+            uint32_t status = calls[k](it->text, it->len, (uint32_t)it->options, room, 0, &wanted);
+            free(room);
+            if (status != PCM_TOO_LONG)
+                continue;
+            room = memory(wanted);
+            if (calls[k](it->text, it->len, (uint32_t)it->options, room, wanted, &size) != PCM_DONE || size != wanted)
+                stop("a room of the answer's size was refused", it);
+            for (at = 0; at < size; at++)
+                sum += room[at] == '<';
+            free(room);
+        }
+    printf("%lu\n", sum);
 }
 
 int main(int words, char **word)
 {
     read_records();
     if (words == 2 && !strcmp(word[1], "batch"))
-        batch();
+        batch(0, 2);
+    else if (words == 2 && !strcmp(word[1], "safe"))
+        batch(2, CALLS);
+    else if (words == 2 && !strcmp(word[1], "large"))
+        large();
     else if (words == 2 && !strcmp(word[1], "tries"))
         tries();
     else if (words == 2 && !strcmp(word[1], "threads"))
-        threads();
+        threads(4, 0);
+    else if (words == 2 && !strcmp(word[1], "stacks"))
+        threads(16, SMALL_STACK);
+    else if (words == 2 && !strcmp(word[1], "pages"))
+        pages();
+    else if (words == 2 && !strcmp(word[1], "exact"))
+        exact();
+    else if (words == 2 && !strcmp(word[1], "refusals"))
+        refusals();
     else
-        stop("say batch, tries or threads", NULL);
+        stop("say batch, safe, tries, threads, stacks, pages, exact or refusals", NULL);
     give_records();
     return 0;
 }

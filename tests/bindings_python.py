@@ -1,10 +1,26 @@
 """What is tried of the Python package, beside the examples of its README; tests/bindings has installed it."""
 import concurrent.futures
 import json
+import os
 
 import pulldown_cmark
 from programs import BITS, NONE
 from pulldown_cmark import Event, Options, Tag, events, html
+
+
+# References within a limit of bytes; footnotes, inline links and wikilinks take nothing of it.
+FOOTNOTE = (
+    '<p>a<sup class="footnote-reference"><a href="#1">1</a></sup></p>\n<div class="footnote-definition" id="1">'
+    '<sup class="footnote-definition-label">1</sup>\n<p>b</p>\n</div>\n'
+)
+LIMITS = (
+    ("[A]\n\n[a]: /1\n", Options.NONE, 0, "<p>[A]</p>\n"),
+    ("[x] [x]\n\n[x]: /u", Options.NONE, 1, '<p><a href="/u">x</a> [x]</p>\n'),
+    ("[x] [x]\n\n[x]: /u", Options.NONE, 2, '<p><a href="/u">x</a> [x]</p>\n'),
+    ("[x] [x]\n\n[x]: /u", Options.NONE, 3, '<p><a href="/u">x</a> <a href="/u">x</a></p>\n'),
+    ("[x](/u) [[y]]", Options.WIKILINKS, 0, '<p><a href="/u">x</a> <a href="y">y</a></p>\n'),
+    ("a[^1]\n\n[^1]: b\n", Options.FOOTNOTES, 0, FOOTNOTE),
+)
 
 
 def line_of(event):
@@ -17,9 +33,9 @@ def line_of(event):
 
 
 def answer_of(bits, text, number):
-    """The HTML of a text, or its events as mdevents writes them."""
-    if number == 0:
-        return html(text, options=bits).encode()
+    """The HTML of a text, its events as mdevents writes them, or its safe HTML."""
+    if number != 1:
+        return html(text, options=bits, safe=number == 2).encode()
     # the lines of JSON that are not ASCII may be escaped in more than one way, so what they say is compared
     return Lines("".join(map(line_of, events(text, options=bits))))
 
@@ -46,6 +62,18 @@ def raised(call, *words, **options):
     return None
 
 
+def forked(texts, wanted):
+    """How many texts a forked process gives other HTML for, or 1 where it ends by a signal."""
+    child = os.fork()
+    if child == 0:
+        try:
+            os._exit(sum(html(text).encode() != wanted["mdhtml", 0, text] for text in texts))
+        finally:
+            os._exit(255)
+    _, status = os.waitpid(child, 0)
+    return os.waitstatus_to_exitcode(status)
+
+
 def faults(texts, wanted):
     """What is wrong with types, ranges of texts, errors and threads."""
     found = []
@@ -60,12 +88,20 @@ def faults(texts, wanted):
     judge("an empty text", (html(""), list(events(""))), ("", []))
     judge("a text with a NUL is read to its end", [it.end for it in events("a\0b")][-1], 3)
     judge("an event", next(events("a")), Event("Start", Tag("Paragraph"), 0, 1))
+    for text, bits, limit, expected in LIMITS:
+        judge(f"{text!r} within {limit} bytes", html(text, options=bits, expansion_limit=limit), expected)
+    judge("a limit of more bytes than there are", html("[x]\n\n[x]: /u", expansion_limit=1 << 80), '<p><a href="/u">x</a></p>\n')
+    judge("a limit below 0", raised(html, "a", expansion_limit=-1), ValueError)
+    judge("a text for a limit", raised(html, "a", expansion_limit="2"), TypeError)
     for call in (html, events):
         judge(f"{call.__name__} of bytes that are not UTF-8", raised(call, b"\xff"), UnicodeDecodeError)
         judge(f"{call.__name__} of half a pair", raised(call, "\ud800"), UnicodeEncodeError)
-        judge(f"{call.__name__} of a number", raised(call, 1), TypeError)
+        for wrong in (1, 1.5, None, ["a"], {}, object()):
+            judge(f"{call.__name__} of {wrong!r}", raised(call, wrong), TypeError)
+            judge(f"{call.__name__} with {wrong!r} for options", raised(call, "a", options=wrong), ValueError if wrong == 1 else TypeError)
+        for bits in (-1, 1 << 18, 1 << 32, 1 << 64):
+            judge(f"{call.__name__} with the bits {bits}", raised(call, "a", options=bits), ValueError)
         judge(f"{call.__name__} with options by place", raised(call, "a", 2), TypeError)
-        judge(f"{call.__name__} with no option's bit", raised(call, "a", options=1), ValueError)
         judge(f"{call.__name__} with a text for options", raised(call, "a", options="2"), TypeError)
     judge("the bits of the options", [int(it) for it in Options.__members__.values()], [NONE, *BITS])
     for text in texts:
@@ -73,7 +109,8 @@ def faults(texts, wanted):
         for a, b in zip(events(text), events(string)):
             if text[a.range] != string[b.range].encode() or a[:2] != b[:2]:
                 found.append(f"the range of {b} in {string!r}")
-    with concurrent.futures.ThreadPoolExecutor(4) as pool:
+    with concurrent.futures.ThreadPoolExecutor(16) as pool:
         for text, given in zip(texts * 4, pool.map(html, texts * 4)):
             judge(f"a thread's HTML of {text!r}", given.encode(), wanted["mdhtml", 0, text])
+    judge("the HTML of a forked process", forked(texts[:200], wanted), 0)
     return found

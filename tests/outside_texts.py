@@ -12,3 +12,11 @@ def texts(root):
         if "text" in row:
             found[row["text"]] = None
     return list(found)
+
+
+def large_texts(root):
+    """The flags and the bytes of each row that is put together of pieces to twenty megabytes or more."""
+    for row in json.loads((root / "tests" / "rows.json").read_text()):
+        text = "".join(piece * count for piece, count in row.get("pieces", ())).encode()
+        if len(text) >= 20_000_000:
+            yield row.get("flags", []), text

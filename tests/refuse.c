@@ -1,7 +1,10 @@
-/* Refuses one allocation of the program that this is loaded into: the one whose number REFUSED gives, counted from 1. It tells
-   that it did by a byte to the file whose number TOLD gives. It is written without headers, so that any C compiler takes it. */
+/* Refuses one allocation of the program that this is linked into: the one whose number REFUSED gives, counted from 1, and none for 0.
+   Of each allocation that was refused, here or by the system, it tells by a byte to the file whose number TOLD gives. So a program
+   that is out of memory without such a byte was refused none. The linker puts the last two functions in the place of malloc and realloc
+   (--wrap): the program refuses memory to itself, and nothing is loaded into it. There are no headers, since the toolchain's compiler
+   has none. */
 typedef unsigned long size;
-extern void *__libc_malloc(size), *__libc_calloc(size, size), *__libc_realloc(void *, size), *__libc_memalign(size, size);
+extern void *__real_malloc(size), *__real_realloc(void *, size);
 extern char *getenv(const char *);
 extern long write(int, const void *, size);
 
@@ -15,17 +18,14 @@ static long number(const char *digits) {
 
 static int is_refused(void) {
     if (left < 0) left = number(getenv("REFUSED"));
-    if (left == 0 || --left > 0) return 0;
-    write((int)number(getenv("TOLD")), "!", 1);
-    return 1;
+    return left > 0 && --left == 0;
 }
 
-void *malloc(size n) { return is_refused() ? 0 : __libc_malloc(n); }
-void *calloc(size n, size m) { return is_refused() ? 0 : __libc_calloc(n, m); }
-void *realloc(void *p, size n) { return is_refused() ? 0 : __libc_realloc(p, n); }
-void *aligned_alloc(size a, size n) { return is_refused() ? 0 : __libc_memalign(a, n); }
-int posix_memalign(void **p, size a, size n) {
-    if (is_refused()) return 12;
-    *p = __libc_memalign(a, n);
-    return *p ? 0 : 12;
+static void *told(void *p) {
+    if (!p) write((int)number(getenv("TOLD")), "!", 1);
+    return p;
 }
+
+void *__wrap_malloc(size n) { return told(is_refused() ? 0 : __real_malloc(n)); }
+/* what is made empty is freed, and not refused */
+void *__wrap_realloc(void *p, size n) { return n ? told(is_refused() ? 0 : __real_realloc(p, n)) : __real_realloc(p, n); }

@@ -1,5 +1,7 @@
-"""Edits that must be refused, as they are written: files of lines `file:`, `old:` and `new:`, and at most one `refused:`."""
+"""Edits that must be refused, as they are written: files of lines `file:`, `old:` and `new:`, at most one `refused:`, and at most one
+`false:`, which names the clause that the edit breaks and says why it does."""
 import collections
+import re
 
 # In a file of the crate: where the old text stands, from its start to before its end, and what takes its place.
 Change = collections.namedtuple("Change", "file start end new")
@@ -16,20 +18,58 @@ def read(path, folder):
     for line in path.read_text(encoding="utf-8").splitlines():
         word, parted, text = line.partition(":")
         text = text.removeprefix(" ")
-        if not parted or word not in ("file", "old", "new", "refused"):
-            raise Fault(f"a line that is no `file:`, `old:`, `new:` or `refused:`: {line[:80]}")
+        if not parted or word not in ("file", "old", "new", "refused", "false"):
+            raise Fault(f"a line that is no `file:`, `old:`, `new:`, `refused:` or `false:`: {line[:80]}")
         if word == "file":
             file = text
         elif word == "refused":
             refused = text
         elif word == "old":
             old = text
-        else:
+        elif word == "new":
             changes.append(Change(file, *place(folder, file, old), text))
             old = None
     if not changes or old is not None:
         raise Fault("it has no pair of `old:` and `new:`, or one that is not complete")
     return changes, refused
+
+
+# What makes a way of its own through a function.
+WAYS = re.compile(r"\b(?:if|match|return|while|for|loop|break|continue)\b|\?(?=[\s;,.)])|&&|\|\|(?=\s*[\w!(*&])")
+# A call of a function, a method or a macro. A tuple of an enum or a struct has a capital letter, and runs nothing.
+CALLS = re.compile(r"(?<!\bfn )\b(?!(?:if|match|while|for|in|return|fn|pub|as|move|let|mut|else|loop)\b)[a-z_]\w*!?(?:::<[^()]*>)?\(")
+# A clause of a function, by its name where it has one, and a ghost member of an impl.
+CLAUSES = re.compile(r"\bensures(?: (?P<name>\w+))? \{|\bghost (?P<member>\w+) ?[=:]")
+
+
+def lines(path, word):
+    """The texts of an edit's lines that begin with this word."""
+    return [it.removeprefix(f"{word}:").strip() for it in path.read_text(encoding="utf-8").splitlines() if it.startswith(f"{word}:")]
+
+
+def tried(path):
+    """The text of an edit without what is said of it, which no verdict stands on."""
+    return "".join(it for it in path.read_text(encoding="utf-8").splitlines(keepends=True) if not it.startswith("false:"))
+
+
+def adds_a_goal(path):
+    """Whether an edit of code adds a branch, a return or a call: then a goal that is new has no answer, and might be true all the same."""
+    old, new = ("\n".join(lines(path, word)) for word in ("old", "new"))
+    is_more = any(collections.Counter(form.findall(new)) - collections.Counter(form.findall(old)) for form in (WAYS, CALLS))
+    return is_more and any(it.endswith(".rt") for it in lines(path, "file"))
+
+
+def broken_clause(path, folder):
+    """The clause that an edit is said to break, and why it does, or None where no line says so."""
+    said = lines(path, "false")
+    if not said:
+        return None
+    clause, parted, why = said[0].partition(": ")
+    files = [folder / it for it in lines(path, "file")]
+    known = {it["name"] or it["member"] or "ensures" for file in files for it in CLAUSES.finditer(file.read_text(encoding="utf-8"))}
+    if len(said) > 1 or not parted or not why or clause not in known:
+        raise Fault(f"`false:` names no clause of its file, or does not say why it is broken: {said[0][:80]}")
+    return clause, why
 
 
 def place(folder, file, old):

@@ -1,5 +1,6 @@
 """The toolchain's command rt as a module: it knows the crates, how each is checked, and how many checks the machine holds."""
 import contextlib
+import functools
 import hashlib
 import importlib.machinery
 import importlib.util
@@ -20,14 +21,24 @@ def load_rt():
 def is_current(rt, crate, keeps=False):
     """Whether the built library is that of the sources: rt's stamp says so, or it was built without one, after the sources were written and
     after the libraries below it. With `keeps`, only a library with a stamp will do, which holds its proofs."""
-    if crate.is_built():
-        return True
-    if keeps or not os.path.isdir(crate.rlib) or os.path.exists(os.path.join(os.path.dirname(crate.rlib), "stamp")):
+    if os.path.exists(os.path.join(os.path.dirname(crate.rlib), "stamp")):
+        return crate.is_built()
+    if keeps or not os.path.isdir(crate.rlib):
         return False
     made = os.path.getmtime(crate.rlib)
     below = crate.below()
     sources = (it for lib in [crate, *below] for it in rt.rtlib.files_of(lib.folder))
     return all(os.path.getmtime(it) < made for it in sources) and all(os.path.isdir(it.rlib) and os.path.getmtime(it.rlib) < made for it in below)
+
+
+def lacking(rt, crates):
+    """Those of some libraries that are not current. The toolchain reckons a stamp from those of the libraries below: here each one once."""
+    reckoned = rt.rtlib.Crate.stamp
+    rt.rtlib.Crate.stamp = functools.lru_cache(None)(reckoned)
+    try:
+        return [it for it in crates if not is_current(rt, it)]
+    finally:
+        rt.rtlib.Crate.stamp = reckoned
 
 
 def with_libraries(rt, root, name):

@@ -23,7 +23,8 @@ static unsigned char *fresh(size_t size)
         size_t pages = (size - (size_t)(end - top) + PAGE - 1) / PAGE;
         if (pages < 16)
             pages = 16;
-        if (__builtin_wasm_memory_grow(0, pages) == (size_t)-1)
+        /* wasm-opt makes the number of pages one of 32 bits, and widens it without its sign. */
+        if ((unsigned)__builtin_wasm_memory_grow(0, pages) == (unsigned)-1)
             return 0;
         end += pages * PAGE;
     }

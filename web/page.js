@@ -28,10 +28,11 @@ bag, says <https://example.com>.
     at("options").append(label);
     return { box, bits };
   });
+  const safe = at("safe");
   const options = () => switches.reduce((set, { box, bits }) => (box.checked ? set | bits : set), 0);
   const choose = (set) => switches.forEach(({ box, bits }) => (box.checked = (set & bits) === bits));
 
-  // The state in the address: the options as a number, the text as base64 with the letters that an address may have.
+  // The state in the address: the options as a number, `s=0` where the HTML is the plain one, the text as base64 with the letters that an address may have.
   const packed = (string) => {
     let bytes = "";
     for (const byte of new TextEncoder().encode(string)) bytes += String.fromCharCode(byte);
@@ -43,13 +44,14 @@ bag, says <https://example.com>.
   };
   let written = null;
   const write = () => {
-    written = `#o=${options()}&t=${packed(text.value)}`;
+    written = `#o=${options()}&t=${packed(text.value)}${safe.checked ? "" : "&s=0"}`;
     history.replaceState(null, "", written);
   };
   const read = () => {
     if (location.hash === written) return;
     const state = new URLSearchParams(location.hash.slice(1));
     choose(Number(state.get("o")) || 0);
+    safe.checked = state.get("s") !== "0";
     try {
       text.value = state.has("t") ? unpacked(state.get("t")) : SAMPLE;
     } catch {
@@ -76,12 +78,13 @@ bag, says <https://example.com>.
     behind.scrollTop = text.scrollTop;
   };
 
-  // The events: elements are moved in by what is around them.
+  // The events: elements are moved in by what is around them. A text may nest and repeat without end, so both are bounded.
+  const ROWS = 2000, STEPS = 40;
   const row = (event, depth) => {
     const item = document.createElement("li"), name = document.createElement("b"), place = document.createElement("i");
     name.textContent = event.name;
     place.textContent = ` ${event.start}..${event.end}`;
-    item.append("  ".repeat(depth), name, event.value === null ? "" : ` ${JSON.stringify(event.value)}`, place);
+    item.append("  ".repeat(Math.min(depth, STEPS)), name, event.value === null ? "" : ` ${JSON.stringify(event.value)}`, place);
     item.tabIndex = 0;
     item.dataset.event = JSON.stringify(event);
     item.addEventListener("mouseenter", () => point(event));
@@ -93,17 +96,35 @@ bag, says <https://example.com>.
   };
   const rows = (events) => {
     let depth = 0;
-    return events.map((event) => {
+    return events.slice(0, ROWS).map((event) => {
       if (event.name === "End") depth--;
       return row(event, event.name === "Start" ? depth++ : depth);
     });
+  };
+
+  // The HTML as elements, without those that open a connection by themselves, whatever the policy of the pane says. Each link stays,
+  // and leads nowhere: its target is a new window, which the pane's sandbox refuses. Its address becomes its title, because a browser may
+  // connect to an address as soon as a mouse button is down.
+  const OPENERS = "link, meta, base, iframe, frame, frameset, object, embed, portal, fencedframe";
+  const elements = (html) => {
+    const parsed = new DOMParser().parseFromString(html, "text/html");
+    parsed.querySelectorAll(OPENERS).forEach((it) => it.remove());
+    parsed.querySelectorAll("a, area, form").forEach((it) => it.setAttribute("target", "_blank"));
+    parsed.querySelectorAll("a[href], area[href]").forEach((it) => {
+      if (!it.hasAttribute("title")) it.setAttribute("title", it.getAttribute("href"));
+      it.setAttribute("href", "about:blank");
+    });
+    parsed.querySelectorAll("[formtarget]").forEach((it) => it.removeAttribute("formtarget"));
+    const all = parsed.createRange();
+    all.selectNodeContents(parsed.body);
+    return all.extractContents();
   };
 
   const show = () => {
     const value = text.value, set = options(), began = performance.now();
     let html, events;
     try {
-      html = calls.html(value, set);
+      html = calls.html(value, set, { safe: safe.checked });
       events = calls.events(value, set);
     } catch (error) {
       at("told").textContent = error.message;
@@ -111,8 +132,9 @@ bag, says <https://example.com>.
     }
     at("told").textContent = `${value.length} characters, ${events.length} events, read twice in ${(performance.now() - began).toFixed(1)} ms`;
     source.textContent = html;
-    if (rendered.contentDocument && rendered.contentDocument.body) rendered.contentDocument.body.innerHTML = html;
+    if (rendered.contentDocument && rendered.contentDocument.body) rendered.contentDocument.body.replaceChildren(elements(html));
     list.replaceChildren(...rows(events));
+    at("more").textContent = events.length > ROWS ? `These are the first ${ROWS} of ${events.length} events.` : "";
     point(null);
     document.documentElement.dataset.shown = String(Number(document.documentElement.dataset.shown || 0) + 1);
   };
@@ -126,6 +148,7 @@ bag, says <https://example.com>.
   text.addEventListener("input", changed);
   text.addEventListener("scroll", () => (behind.scrollTop = text.scrollTop));
   at("options").addEventListener("change", changed);
+  safe.addEventListener("change", changed);
   window.addEventListener("hashchange", read);
   rendered.addEventListener("load", show);
   read();

@@ -2,6 +2,7 @@
 //
 //     const pulldownCmark = await require("./pulldown_cmark.js").load();
 //     pulldownCmark.html("*Hi*");                        // "<p><em>Hi</em></p>\n"
+//     pulldownCmark.html("<b>", 0, { safe: true });      // "<p>&lt;b&gt;</p>\n", for a text of a stranger
 //     pulldownCmark.events("*Hi*")[2].value;             // "Hi"
 "use strict";
 var pulldownCmark = (() => {
@@ -11,7 +12,7 @@ var pulldownCmark = (() => {
   const OPTIONS = {
     TABLES: 2, FOOTNOTES: 4, STRIKETHROUGH: 8, TASKLISTS: 16, SMART_PUNCTUATION: 32, HEADING_ATTRIBUTES: 64,
     YAML_STYLE_METADATA_BLOCKS: 128, PLUSES_DELIMITED_METADATA_BLOCKS: 256, OLD_FOOTNOTES: 516, MATH: 1024, GFM: 2048,
-    DEFINITION_LIST: 4096, SUPERSCRIPT: 8192, SUBSCRIPT: 16384, WIKILINKS: 32768,
+    DEFINITION_LIST: 4096, SUPERSCRIPT: 8192, SUBSCRIPT: 16384, WIKILINKS: 32768, HIGHLIGHT: 65536, EMAIL_AUTOLINKS: 131072,
   };
 
   const bytesOf = (base64) => {
@@ -24,6 +25,11 @@ var pulldownCmark = (() => {
   const load = async () => {
     const { bytes } = typeof pulldownCmarkModule === "undefined" ? require("./module.js") : pulldownCmarkModule;
     const { instance } = await WebAssembly.instantiate(bytesOf(bytes.replace(/\s/g, "")), {});
+    return callsOf(instance);
+  };
+
+  /** The calls of an instance of the module. */
+  const callsOf = (instance) => {
     const module = instance.exports;
 
     /** Memory of the module for so many bytes. */
@@ -34,16 +40,18 @@ var pulldownCmark = (() => {
     };
     const give = (place) => module.give(BigInt(place));
 
-    /** What a call answers for these bytes. */
-    const answer = (call, data, options) => {
+    /** What a call answers for these bytes, and for a list of names or a limit if it takes one. */
+    const answer = (call, data, options, { names = null, limit = null } = {}) => {
       const held = [];
       const keep = (size) => (held.push(take(size)), held[held.length - 1]);
       try {
         const text = keep(data.length + 1), size = keep(8);
         new Uint8Array(module.memory.buffer).set(data, text);
+        const list = names ? keep(names.length + 1) : 0, listed = names ? [BigInt(list), BigInt(names.length)] : [];
+        if (names) new Uint8Array(module.memory.buffer).set(names, list);
         for (let length = data.length + (data.length >> 2) + 64; ; ) {
           const room = keep(length);
-          const status = call(BigInt(text), BigInt(data.length), options, BigInt(room), BigInt(length), BigInt(size));
+          const status = call(BigInt(text), BigInt(data.length), options, ...listed, ...(limit === null ? [] : [limit]), BigInt(room), BigInt(length), BigInt(size));
           const written = Number(new DataView(module.memory.buffer).getBigUint64(size, true));
           if (status === DONE) return new TextDecoder("utf-8", { ignoreBOM: true }).decode(new Uint8Array(module.memory.buffer, room, written));
           if (status !== TOO_LONG) throw status === NOT_UTF8 ? new TypeError("the text is not UTF-8") : new RangeError("out of memory");
@@ -54,10 +62,28 @@ var pulldownCmark = (() => {
       }
     };
 
+    /** A limit as the module takes it: each that is greater than any text allows is as good as none. */
+    const limitOf = (limit) => {
+      const bytes = BigInt(limit), most = (1n << 64n) - 1n;
+      if (bytes < 0n) throw new RangeError("a limit is at least 0");
+      return bytes < most ? bytes : most;
+    };
+
     const encoded = (text) => (typeof text === "string" ? new TextEncoder().encode(text) : text);
 
-    /** The HTML of a text, a string or the bytes of one. */
-    const html = (text, options = 0) => answer(module.pcm_html, encoded(text), options);
+    /**
+     * The HTML of a text, a string or the bytes of one. It is not safe to show for a text of a stranger, but for `safe`: then HTML is shown as
+     * text, a heading has no attribute but its anchor, and addresses are relative or begin with http:, https:, mailto: or one of `schemes`.
+     * That does not say that links lead to good places, that images do not track, or what a math renderer does with formulas.
+     * Once the destinations and titles of references have `expansionLimit` bytes, a further reference stays text. Without a limit it is the
+     * number of the text's bytes, or 100,000 if that is less. Safe HTML takes no limit.
+     */
+    const html = (text, options = 0, { safe = false, schemes = [], expansionLimit = null } = {}) => {
+      if (safe && expansionLimit !== null) throw new RangeError("safe HTML takes no limit");
+      if (safe) return answer(module.pcm_safe_html_with, encoded(text), options, { names: encoded(schemes.join(" ")) });
+      if (expansionLimit !== null) return answer(module.pcm_html_within, encoded(text), options, { limit: limitOf(expansionLimit) });
+      return answer(module.pcm_html, encoded(text), options);
+    };
 
     /** The events of a text: `{name, value, start, end}` each, where `text.slice(start, end)` is what the event comes from. */
     const events = (text, options = 0) => {
@@ -71,7 +97,8 @@ var pulldownCmark = (() => {
 
     const version = () => {
       const number = module.pcm_version();
-      return `${number >> 16}.${(number >> 8) & 255}.${number & 255}`;
+      const label = number >>> 31 ? " (not proved: what the proof rules out is checked at run time)" : "";
+      return `${(number >> 16) & 0x7fff}.${(number >> 8) & 255}.${number & 255}${label}`;
     };
     return { html, events, version, OPTIONS };
   };
@@ -89,6 +116,6 @@ var pulldownCmark = (() => {
     return places;
   };
 
-  return { load, OPTIONS };
+  return { load, callsOf, OPTIONS };
 })();
 if (typeof module !== "undefined") module.exports = pulldownCmark;

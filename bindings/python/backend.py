@@ -1,16 +1,21 @@
 """Builds the wheel of this package with Python alone: what pip calls, so that it needs no network and no other package.
 
-The shared library that `make lib` leaves at the top of the repository goes into the wheel; PULLDOWN_CMARK_LIBRARY names another one.
+The shared library that `make lib` leaves at the top of the repository goes into the wheel, or the one that a source package has inside;
+PULLDOWN_CMARK_LIBRARY names another one.
 """
 import base64
 import hashlib
 import os
+import io
 import pathlib
 import sysconfig
+import tarfile
 import zipfile
 
 HERE = pathlib.Path(__file__).resolve().parent
 NAME, VERSION = "pulldown_cmark", "0.13.6"
+# Where the library is in a source package, and where `make lib` leaves it.
+INSIDE = HERE / "native" / "libpulldown_cmark.so"
 LIBRARY = HERE.parent.parent / "bin" / "lib" / "libpulldown_cmark.so"
 INFO = f"{NAME}-{VERSION}.dist-info"
 METADATA = f"""Metadata-Version: 2.1
@@ -24,32 +29,41 @@ Description-Content-Type: text/markdown
 """
 
 
-def tag():
-    """The tag of the wheel: any Python 3, on this machine's kind of processor and system."""
-    platform = sysconfig.get_platform().replace("-", "_").replace(".", "_")
-    return f"py3-none-{platform}"
+def tag(platform=None):
+    """The tag of the wheel: any Python 3, on this machine's kind of processor and system, or on that of this name."""
+    here = sysconfig.get_platform().replace("-", "_").replace(".", "_")
+    return f"py3-none-{platform or here}"
 
 
 def library():
     """The shared library that goes into the wheel."""
     named = os.environ.get("PULLDOWN_CMARK_LIBRARY")
-    found = pathlib.Path(named) if named else LIBRARY
+    found = pathlib.Path(named) if named else INSIDE if INSIDE.is_file() else LIBRARY
     if not found.is_file():
         raise SystemExit(f"pulldown_cmark: there is no shared library {found}: run make lib at the top of the repository first")
     return found
 
 
-def information():
+def information(platform=None):
     """The files of the wheel that tell of it."""
-    wheel = f"Wheel-Version: 1.0\nGenerator: {NAME} backend\nRoot-Is-Purelib: false\nTag: {tag()}\n"
+    wheel = f"Wheel-Version: 1.0\nGenerator: {NAME} backend\nRoot-Is-Purelib: false\nTag: {tag(platform)}\n"
     return {f"{INFO}/METADATA": METADATA.encode() + (HERE / "README.md").read_bytes(), f"{INFO}/WHEEL": wheel.encode()}
 
 
-def files():
+def package():
+    """The files of the package but the library."""
+    return {f"{NAME}/{it.name}": it.read_bytes() for it in sorted((HERE / NAME).iterdir()) if it.suffix == ".py" or it.name == "py.typed"}
+
+
+def files(platform=None):
     """All files of the wheel but the list of them."""
-    package = HERE / NAME
-    found = {f"{NAME}/{it.name}": it.read_bytes() for it in sorted(package.iterdir()) if it.suffix == ".py" or it.name == "py.typed"}
-    return {**found, f"{NAME}/libpulldown_cmark.so": library().read_bytes(), **information()}
+    return {**package(), f"{NAME}/libpulldown_cmark.so": library().read_bytes(), **information(platform)}
+
+
+def source_files():
+    """The files of the source package, which has the library inside: who builds the wheel of it needs no toolchain."""
+    found = {it: (HERE / it).read_bytes() for it in ("README.md", "backend.py", "pyproject.toml")}
+    return {**found, **package(), "PKG-INFO": information()[f"{INFO}/METADATA"], "native/libpulldown_cmark.so": library().read_bytes()}
 
 
 def row(path, data):
@@ -59,10 +73,13 @@ def row(path, data):
 
 
 def build_wheel(wheel_directory, config_settings=None, metadata_directory=None):
-    """Writes the wheel, and answers its name."""
-    held = files()
+    """Writes the wheel, and returns its name. The settings may name a `platform` for its tag, and `more` files that tell of it."""
+    wishes = config_settings or {}
+    platform = wishes.get("platform")
+    held = files(platform)
+    held.update({f"{INFO}/{path}": data for path, data in wishes.get("more", {}).items()})
     held[f"{INFO}/RECORD"] = ("".join(row(*it) for it in held.items()) + f"{INFO}/RECORD,,\n").encode()
-    name = f"{NAME}-{VERSION}-{tag()}.whl"
+    name = f"{NAME}-{VERSION}-{tag(platform)}.whl"
     with zipfile.ZipFile(pathlib.Path(wheel_directory) / name, "w", zipfile.ZIP_DEFLATED) as wheel:
         for path, data in held.items():
             made = zipfile.ZipInfo(path, (1980, 1, 1, 0, 0, 0))
@@ -81,5 +98,11 @@ def prepare_metadata_for_build_wheel(metadata_directory, config_settings=None):
 
 
 def build_sdist(sdist_directory, config_settings=None):
-    """There is no source distribution: the library is proved and built at the top of the repository."""
-    raise SystemExit("pulldown_cmark: install from a clone of the repository")
+    """Writes the source package, and returns its name."""
+    folder = f"{NAME}-{VERSION}"
+    with tarfile.open(pathlib.Path(sdist_directory) / f"{folder}.tar.gz", "w:gz", format=tarfile.PAX_FORMAT) as tar:
+        for path, data in sorted(source_files().items()):
+            entry = tarfile.TarInfo(f"{folder}/{path}")
+            entry.size = len(data)
+            tar.addfile(entry, io.BytesIO(data))
+    return f"{folder}.tar.gz"

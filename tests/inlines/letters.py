@@ -210,8 +210,13 @@ def without_pipe_escapes(bs):
 
 
 def with_literal_pipes(bs):
-    """Without the backslash of each `\\|`, and without both of each `\\\\|`."""
-    return b"".join(bs[at:at + 1] for at in range(len(bs)) if not bs[at:].startswith((PIPED, b"\\" + PIPED)))
+    """Without the backslash of each `\\|`, and without both of each `\\\\|`, where backslashes are read from the left in pairs."""
+    kept, is_second = bytearray(), False
+    for at, b in enumerate(bs):
+        if is_second or not bs[at:].startswith((PIPED, b"\\" + PIPED)):
+            kept.append(b)
+            is_second = not is_second and bs[at:].startswith(b"\\\\")
+    return bytes(kept)
 
 
 # ## CodeSpans, LineBreaks and Dashes
@@ -422,8 +427,29 @@ def is_uri_byte(b):
     return not (b <= 32 or b in b"\x7f<>")
 
 
-def autolink_in(bs):
-    if not has_scheme(bs):
+def is_local_byte(b):
+    return is_alphanumeric(b) or b in b".!#$%&'*+/=?^_`{|}~-"
+
+
+def is_domain_label(bs):
+    return 1 <= len(bs) <= 63 and all(is_alphanumeric(b) or b == ord("-") for b in bs) and bs[:1] != b"-" and bs[-1:] != b"-"
+
+
+def is_domain(bs):
+    return all(is_domain_label(label) for label in bs.split(b"."))
+
+
+def is_email(bs):
+    n = prefix_len(is_local_byte, bs)
+    return n >= 1 and bs[n:n + 1] == b"@" and is_domain(bs[n + 1:])
+
+
+def has_address(emails, bs):
+    return has_scheme(bs) or (emails and is_email(bs[:prefix_len(is_uri_byte, bs)]))
+
+
+def autolink_in(emails, bs):
+    if not has_address(emails, bs):
         return None
     n = prefix_len(is_uri_byte, bs)
     return Parsed(bs[:n], bs[n + 1:]) if bs[n:n + 1] == b">" else None

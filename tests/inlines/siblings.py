@@ -4,10 +4,11 @@ Spans are lists of places and of ("Around", kind, start, end, inside); siblings 
 """
 from typing import NamedTuple
 
+from inlines import letters
 from inlines.brackets import Closing, Footnote, Form, Linked, Linking, Opening, Wiki, reads_whole
 from inlines.tokens import Item, Leaf, Run, quote_characters
 
-TILDE, CARET = ord("~"), ord("^")
+TILDE, CARET, EQUALS = ord("~"), ord("^"), ord("=")
 
 
 # ## Spans and Emphasis
@@ -20,7 +21,7 @@ class Pair(NamedTuple):
 
 
 def span_width(kind):
-    return 2 if kind in ("Strong", "DoubleTilde") else 1
+    return 2 if kind in ("Strong", "DoubleTilde", "DoubleEquals") else 1
 
 
 def can_both(run):
@@ -34,7 +35,7 @@ def keeps_rule_of_three(opener, closer):
 
 
 def has_same_delimiter(opener, closer):
-    return opener.delimiter == closer.delimiter and (closer.delimiter != TILDE or opener.run_length == closer.run_length)
+    return opener.delimiter == closer.delimiter and (closer.delimiter not in (TILDE, EQUALS) or opener.run_length == closer.run_length)
 
 
 def agrees(opener, closer):
@@ -58,7 +59,7 @@ def kinds_of(delimiter, count):
     """The spans that a pair becomes, the innermost first: twos, and an odd one outermost."""
     if delimiter == CARET:
         return ["Caret"] * count
-    two, one = ("DoubleTilde", "SingleTilde") if delimiter == TILDE else ("Strong", "Emphasis")
+    two, one = {TILDE: ("DoubleTilde", "SingleTilde"), EQUALS: ("DoubleEquals", "Emphasis")}.get(delimiter, ("Strong", "Emphasis"))
     return [two] * (count // 2) + [one] * (count % 2)
 
 
@@ -172,7 +173,7 @@ def span_tag(options, kind):
         return "Subscript" if options.subscript else "Strikethrough"
     if kind == "DoubleTilde":
         return "Strikethrough" if options.strikethrough else None
-    return "Superscript" if kind == "Caret" else kind
+    return {"Caret": "Superscript", "DoubleEquals": "Highlight"}.get(kind, kind)
 
 
 def element(tag, start, end, inside):
@@ -198,11 +199,16 @@ def dress(options, siblings):
     return gaps[0] + dressed(options, gaps, run_bytes(quoted), spans_of(runs_from(quoted)))
 
 
+def address_type(address):
+    """An address is a URI if a scheme begins it, and else an email address."""
+    return "Autolink" if letters.has_scheme(address) else "Email"
+
+
 def item_then(x):
     """An autolink is a link around its bytes."""
     if x.kind != "Autolink":
         return x
-    return Around("Link", Linked("Autolink", x.data, b"", b""), x.start, x.end, [Item("Own", x.start + 1, x.end - 1)])
+    return Around("Link", Linked(address_type(x.data), x.data, b"", b""), x.start, x.end, [Item("Own", x.start + 1, x.end - 1)])
 
 
 def from_place(place, siblings):

@@ -18,6 +18,8 @@ class Options(NamedTuple):
     footnotes: bool
     old_footnotes: bool
     tables: bool = False
+    highlight: bool = False
+    email_autolinks: bool = False
 
 
 class Reader(NamedTuple):
@@ -94,7 +96,9 @@ def is_delimiter_run(options, delimiter, run_length):
         return run_length > 0
     if delimiter == ord("~"):
         return (options.strikethrough or options.subscript) and run_length in (1, 2)
-    return delimiter == ord("^") and options.superscript and run_length == 1
+    if delimiter == ord("^"):
+        return options.superscript and run_length == 1
+    return delimiter == ord("=") and options.highlight and run_length == 2
 
 
 def is_intraword(options, delimiter, run_length):
@@ -301,7 +305,7 @@ class Leaf:
     def less_than(self, at, bs):
         if bs.startswith(b"\\"):
             return item_at("Plain", at, at + 1)
-        autolink = letters.autolink_in(bs)
+        autolink = letters.autolink_in(self.reader.options.email_autolinks, bs)
         if autolink is not None:
             return item_at("Autolink", at, self.place_of(autolink.behind), autolink.bytes)
         rest = letters.behind_markup(self.source_from(at))
@@ -364,7 +368,7 @@ class Leaf:
             return Opens(Bracket(False, at, at + 1))
         if b == ord("]"):
             return Closes(Bracket(False, at, at + 1))
-        if b in b"*_~^":
+        if b in b"*_~^=":
             return self.run_at(at, b, letters.prefix_len(lambda c: c == b, all_bytes))
         if self.reader.options.math and formulas.is_dollar(b):
             return self.dollar(at, bs, formulas.braces_behind(self.before(at), formulas.NO_BRACES))

@@ -5,7 +5,7 @@ import functools
 import operator
 import os
 import pathlib
-from typing import Union
+from typing import Iterable, Optional, Union
 
 Text = Union[str, bytes, bytearray, memoryview]
 
@@ -32,6 +32,8 @@ class Options(enum.IntFlag):
     SUPERSCRIPT = 8192
     SUBSCRIPT = 16384
     WIKILINKS = 32768
+    HIGHLIGHT = 65536
+    EMAIL_AUTOLINKS = 131072
 
 
 # The bits of all options.
@@ -48,22 +50,22 @@ def _loaded() -> ctypes.CDLL:
 _library = _loaded()
 _library.pcm_version.restype = ctypes.c_uint32
 _library.pcm_version.argtypes = []
+_TEXT = [ctypes.c_char_p, ctypes.c_size_t, ctypes.c_uint32]
+_ROOM = [ctypes.c_void_p, ctypes.c_size_t, ctypes.POINTER(ctypes.c_size_t)]
 for _call in (_library.pcm_html, _library.pcm_events_json):
     _call.restype = ctypes.c_uint32
-    _call.argtypes = [
-        ctypes.c_char_p,
-        ctypes.c_size_t,
-        ctypes.c_uint32,
-        ctypes.c_void_p,
-        ctypes.c_size_t,
-        ctypes.POINTER(ctypes.c_size_t),
-    ]
+    _call.argtypes = _TEXT + _ROOM
+_library.pcm_safe_html_with.restype = ctypes.c_uint32
+_library.pcm_safe_html_with.argtypes = _TEXT + [ctypes.c_char_p, ctypes.c_size_t] + _ROOM
+_library.pcm_html_within.restype = ctypes.c_uint32
+_library.pcm_html_within.argtypes = _TEXT + [ctypes.c_size_t] + _ROOM
 
 
 def library_version() -> str:
-    """The version of the shared library."""
+    """The version of the shared library, which ends with ``+not.proved`` where it was built without proofs."""
     version = _library.pcm_version()
-    return f"{version >> 16}.{version >> 8 & 255}.{version & 255}"
+    label = "+not.proved" if version >> 31 else ""
+    return f"{version >> 16 & 0x7FFF}.{version >> 8 & 255}.{version & 255}{label}"
 
 
 def bytes_of(text: Text) -> bytes:
@@ -83,14 +85,22 @@ def bits_of(options: int) -> int:
     return bits
 
 
-def answer(call: "ctypes._CFuncPtr", data: bytes, options: int) -> bytes:
-    """What a call of the library answers for these bytes. Python's lock is let go of while it runs."""
+def limit_of(limit: int) -> int:
+    """A reference expansion limit as the library takes it: of more bytes than there are, each is as good as none."""
+    bytes_left = operator.index(limit)
+    if bytes_left < 0:
+        raise ValueError("a limit is at least 0")
+    return min(bytes_left, ctypes.c_size_t(-1).value)
+
+
+def answer(call: "ctypes._CFuncPtr", data: bytes, options: int, *more: Union[bytes, int]) -> bytes:
+    """What a call of the library answers for these bytes, and what else it takes. Python's lock is let go of while it runs."""
     bits, size = bits_of(options), ctypes.c_size_t()
     room_len = len(data) + len(data) // 4 + 64
     while True:
         room = bytearray(room_len)
         place = ctypes.addressof(ctypes.c_char.from_buffer(room))
-        status = call(data, len(data), bits, place, room_len, ctypes.byref(size))
+        status = call(data, len(data), bits, *more, place, room_len, ctypes.byref(size))
         if status == _DONE:
             return ctypes.string_at(place, size.value)
         if status == _NOT_UTF8:
@@ -101,12 +111,24 @@ def answer(call: "ctypes._CFuncPtr", data: bytes, options: int) -> bytes:
         room_len = size.value
 
 
-def html(text: Text, *, options: int = Options.NONE) -> str:
+def html(text: Text, *, options: int = Options.NONE, safe: bool = False, schemes: Iterable[str] = (), expansion_limit: Optional[int] = None) -> str:
     """The HTML of a text of Markdown, read with these options.
 
-    Raw HTML of the text stands in it as it is, so it is not safe to show for a text of a stranger.
+    It is not safe to show for a text of a stranger: raw HTML stands in it as it is, links may lead to ``javascript:``, and headings
+    may have attributes as ``onclick``. With ``safe=True`` it is: HTML is shown as text, a heading has no attribute but its anchor,
+    anchors and names of footnotes begin with ``user-content-``, and addresses are relative or begin with ``http:``, ``https:``,
+    ``mailto:`` or one of ``schemes``, of which ``javascript``, ``vbscript``, ``data`` and ``file`` are never taken.
+    Once the destinations and titles of references have ``expansion_limit`` bytes, a further reference stays text. Without a limit it is
+    the number of the text's bytes, or 100,000 if that is less. HTML that is safe has no other limit: both together raise ``ValueError``.
     Raises ``UnicodeError`` where the text is not UTF-8 or cannot be written so, and ``MemoryError`` where memory is refused.
     """
+    if safe and expansion_limit is not None:
+        raise ValueError("safe HTML takes no limit")
+    if safe:
+        names = " ".join(schemes).encode("utf-8")
+        return answer(_library.pcm_safe_html_with, bytes_of(text), options, names, len(names)).decode("utf-8")
+    if expansion_limit is not None:
+        return answer(_library.pcm_html_within, bytes_of(text), options, limit_of(expansion_limit)).decode("utf-8")
     return answer(_library.pcm_html, bytes_of(text), options).decode("utf-8")
 
 

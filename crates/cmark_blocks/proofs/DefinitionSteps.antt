@@ -13,7 +13,7 @@ use Rattle.cmark_grammar.specs.TableRows.{table_head}
 use Rattle.cmark_grammar.specs.Options.{Options}
 use Rattle.cmark_grammar.specs.References.{first_with}
 use Rattle.cmark_grammar.specs.Rows.{Row, start_of}
-use Rattle.cmark_references.specs.Definitions.{definition, shown_definition}
+use Rattle.cmark_references.specs.Definitions.{reference_at}
 use Rattle.cmark_references.specs.declared.definitions.RefDefs.{RefDefs}
 use Rattle.cmark_definitions.specs.Settled.{defined_before}
 use Rattle.cmark_lines.specs.Opened.{bracket_of}
@@ -27,7 +27,7 @@ use Rattle.cmark_blocks.specs.LinkDefinitions.{definition_begun}
 use Rattle.cmark_blocks.specs.Gathered.{texts_at, Holds, Gathers, GathersMore, IsWhole}
 use Rattle.cmark_blocks.proofs.GatherSteps.{bytes-split}
 use Rattle.cmark_blocks.proofs.LineFeeds.{texts-end, ends-behind}
-use Rattle.cmark_blocks.specs.Runs.{Runs, shown_reference}
+use Rattle.cmark_blocks.specs.Runs.{Runs}
 
 -- the lines with which a paragraph goes on are the first of those ahead
 take-texts : (options : Options) (ahead : List Row) (n : ℕ) → n ≤ length (text_lines options ahead) → take n (text_lines options ahead) ≡ take n ahead
@@ -59,7 +59,7 @@ module _ (text : List ℕ) (options : Options) (lookup : Lookup) (m : model.Pass
 module _ {E : Type 0} (replacement : E → Lookup) (text : List ℕ) (options : Options) (lookup : Lookup) (m : model.Pass) (pass : Pass E) where
   -- another table of definitions
   pub runs-references : (table : RefDefs) (refs : List Reference) → Runs replacement text options lookup m pass →
-      ((folded : List ℕ) → option_map shown_definition (definition table folded) ≡ option_map shown_reference (first_with fold folded refs)) →
+      ((folded : List ℕ) → reference_at table folded ≡ first_with fold folded refs) →
       Runs replacement text options lookup (record m { references = refs }) (record pass { builder = record pass.builder { allocations = record pass.builder.allocations { references = table } } })
   runs-references table refs runs same = record {
     text_is = runs.text_is;

@@ -8,7 +8,7 @@ use Rattle.cmark_items.specs.declared.allocations.Allocations.{Allocations}
 use Rattle.cmark_items.specs.declared.allocations.CowIndex.{CowIndex}
 use Rattle.cmark_items.specs.declared.item.Item.{Item}
 use Rattle.cmark_items.specs.declared.item.ItemBody.TheVariants as body
-use Rattle.cmark_references.specs.Definitions.{definition, shown_definition, first_of}
+use Rattle.cmark_references.specs.Definitions.{first_of, reference_at}
 use Rattle.cmark_references.specs.Footnotes.{footnote}
 use Rattle.cmark_references.specs.declared.footnotes.FootnoteDef.{FootnoteDef}
 use Rattle.cmark_references.specs.declared.footnotes.FootnoteDefs.{FootnoteDefs}
@@ -84,6 +84,6 @@ module _ {E : Type 0} (replacement : E → Lookup) (text : List ℕ) (options : 
     bare = runs.bare;
     leaf = runs.leaf;
     line_end = runs.line_end;
-    references = λ folded. ap (λ r. option_map shown_definition (definition r folded)) same ∙ runs.references folded;
+    references = λ folded. ap (λ r. reference_at r folded) same ∙ runs.references folded;
     footnotes = labels-noted label m.footnotes pass.builder.allocations.footnotes b.allocations.footnotes runs.footnotes notes;
   }

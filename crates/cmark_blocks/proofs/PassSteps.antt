@@ -1,13 +1,15 @@
 -- The pass over a whole text.
 use Rattle.std.proofs.Common.{◌≡◌, ℕ, List, [], ◌∷◌, map, option_map, refl, sym, ap, subst, ◌∙◌}
 use Rattle.cmark_tree.specs.Building.{Is}
+use Rattle.cmark_grammar.proofs.BlocksSound.{blocks-body}
 use Rattle.cmark_grammar.specs.Answers.{Lookup}
+use Rattle.cmark_grammar.specs.BlocksModel.{blocks}
 use Rattle.cmark_grammar.specs.Labels.{fold}
 use Rattle.cmark_grammar.specs.Options.{Options}
 use Rattle.cmark_grammar.specs.References.{first_with}
 use Rattle.cmark_grammar.specs.SpanDocuments.{has_label}
 use Rattle.cmark_items.specs.ItemNodes.{shown_forest}
-use Rattle.cmark_references.specs.Definitions.{definition, shown_definition}
+use Rattle.cmark_references.specs.Definitions.{reference_at}
 use Rattle.cmark_references.specs.Footnotes.{footnote}
 use Rattle.cmark_builder.specs.Drawn.{shown_open, open_node}
 use Rattle.cmark_block_model.specs.BlockPass.{pass_over, all_closed, lines_fed}
@@ -19,7 +21,7 @@ use Rattle.cmark_blocks.specs.FirstPass.{Leaves}
 use Rattle.cmark_blocks.specs.Footnotes.{unused_if}
 use Rattle.cmark_blocks.specs.declared.first_pass.FirstPass.{FirstPass}
 use Rattle.cmark_blocks.specs.declared.state.Pass.{Pass}
-use Rattle.cmark_blocks.specs.Runs.{Runs, shown_reference}
+use Rattle.cmark_blocks.specs.Runs.{Runs}
 
 none-mapped : {A B C : Type 0} (f : A → C) (g : B → C) (xs : List A) (ys : List B) → map f xs ≡ map g ys → ys ≡ [] → xs ≡ []
 none-mapped f g [] ys e none = refl
@@ -36,11 +38,13 @@ module _ {E : Type 0} (replacement : E → Lookup) (text : List ℕ) (options : 
     forest = runs.drawing.here;
     tree_is = subst (λ t. Is t runs.drawing.here []) (sym tree) (subst (λ up. Is pass.builder.tree runs.drawing.here up) none runs.drawing.is);
     drawn = ap (λ a. shown_forest text a.texts runs.drawing.here) allocations ∙ runs.drawing.here_is;
+    derived = (blocks options text, blocks-body options text, refl);
+    settles = (pass-draws text options lookup).0;
     few = drawn-few text options lookup pass.builder.allocations.texts runs.drawing.here runs.drawing.here_is;
     references = λ folded.
-        ap (λ a. option_map shown_definition (definition a.references folded)) allocations
+        ap (λ a. reference_at a.references folded) allocations
         ∙ runs.references folded
-        ∙ ap (λ rs. option_map shown_reference (first_with fold folded rs)) (pass-draws text options lookup).2;
+        ∙ ap (first_with fold folded) (pass-draws text options lookup).2;
     footnotes = λ folded.
         ap (λ a. footnote a.footnotes folded) allocations
         ∙ runs.footnotes folded

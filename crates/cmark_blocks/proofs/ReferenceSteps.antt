@@ -10,9 +10,12 @@ use Rattle.std.proofs.lemmas.Slice.Eq.{bytes_eq-Decides}
 use Rattle.cmark_grammar.specs.BlockDocument.{Reference}
 use Rattle.cmark_grammar.specs.Labels.{is_nonempty, words, normal_form, case_folded, fold}
 use Rattle.cmark_grammar.specs.References.{found_or, first_with}
-use Rattle.cmark_references.specs.Definitions.{shown_definition, first_of, at_label}
+use Rattle.cmark_text_parts.specs.declared.label.LinkLabel.{LinkLabel}
+use Rattle.cmark_text_parts.specs.Labelled.{link_key}
+use Rattle.cmark_references.specs.Definitions.{definition, reference_at, shown_entry, first_of, at_label}
+use Rattle.cmark_references.specs.declared.definitions.RefDefs.{RefDefs}
+use Rattle.cmark_references.proofs.SpellingSteps.{at, no_entry}
 use Rattle.cmark_references.specs.declared.definitions.LinkDef.{LinkDef}
-use Rattle.cmark_blocks.specs.Runs.{shown_reference}
 
 -- words of a label
 abbrev pub IsWord : List ℕ → Type 0
@@ -96,30 +99,35 @@ known-some None found e is = absurd (true≢false (sym e))
 known-some (Some def) found e is = (def.now, sym is)
 
 -- where the table has a definition, there is a reference
-pub known-reference : (found : Option LinkDef) (def : LinkDef) (o : Option Reference) → found ≡ Some def → option_map shown_definition found ≡ option_map shown_reference o → (known : Reference) × (o ≡ Some known)
-known-reference found def None is same = absurd (let q : Some (shown_definition def) ≡ None = sym (ap (option_map shown_definition) is) ∙ same in cc)
-known-reference found def (Some known) is same = (known, refl)
+pub known-reference : (found : Option LinkDef) (def : LinkDef) (entry : Option (LinkLabel × LinkDef)) (o : Option Reference) → found ≡ Some def → found ≡ option_map (λ e. e.1) entry →
+    option_map shown_entry entry ≡ o → (known : Reference) × (o ≡ Some known)
+known-reference found def None o is looked same = absurd (let q : None ≡ Some def = sym looked ∙ is in cc)
+known-reference found def (Some e) o is looked same = (shown_entry e, sym same)
+
+-- what is shown of the first of two
+pub shown-first : {D S : Type 0} (sh : D → S) (found : Option D) (key : List ℕ) (def : D) (folded : List ℕ) →
+    option_map sh (first_of found (at_label key def folded)) ≡ first_of (option_map sh found) (at_label key (sh def) folded)
+shown-first sh (Some d) key def folded = refl
+shown-first sh None key def folded = go (bytes_eq folded key)
+  where
+    go : (same : Bool) → option_map sh (if same then Some def else None) ≡ (if same then Some (sh def) else None)
+    go true = refl
+    go false = refl
 
 -- one more reference behind the others
-pub with-more : (folded : List ℕ) (rs : List Reference) (r : Reference) (found : Option LinkDef) (def : LinkDef) →
-    option_map shown_definition found ≡ option_map shown_reference (first_with fold folded rs) → shown_definition def ≡ shown_reference r →
-    option_map shown_definition (first_of found (at_label (fold r.label) def folded)) ≡ option_map shown_reference (first_with fold folded (rs ++ r ∷ []))
-with-more folded [] r (Some x) def same is = absurd (let q : Some (shown_definition x) ≡ None = same in cc)
-with-more folded [] r None def same is = go (bytes_eq folded (fold r.label)) (bytes_eq (fold r.label) folded) (eq-sym folded (fold r.label))
+pub with-more : (folded : List ℕ) (rs : List Reference) (r : Reference) → first_of (first_with fold folded rs) (at_label (fold r.label) r folded) ≡ first_with fold folded (rs ++ r ∷ [])
+with-more folded [] r = ap (λ same. if same then Some r else None) (eq-sym folded (fold r.label)) ∙ go (bytes_eq (fold r.label) folded)
   where
-    go : (p q : Bool) → p ≡ q → option_map shown_definition (if p then Some def else None) ≡ option_map shown_reference (found_or q r None)
-    go true true e = ap Some is
-    go false false e = refl
-    go true false e = absurd (true≢false e)
-    go false true e = absurd (true≢false (sym e))
-with-more folded (s ∷ rs) r found def same is = go (bytes_eq (fold s.label) folded) found same (λ found e. with-more folded rs r found def e is)
+    go : (same : Bool) → (if same then Some r else None) ≡ found_or same r None
+    go true = refl
+    go false = refl
+with-more folded (s ∷ rs) r = go (bytes_eq (fold s.label) folded) (with-more folded rs r)
   where
-    With : Option LinkDef → List Reference → Type 0
-    With found rs = option_map shown_definition (first_of found (at_label (fold r.label) def folded)) ≡ option_map shown_reference (first_with fold folded (rs ++ r ∷ []))
+    go : (same : Bool) → first_of (first_with fold folded rs) (at_label (fold r.label) r folded) ≡ first_with fold folded (rs ++ r ∷ []) →
+        first_of (found_or same s (first_with fold folded rs)) (at_label (fold r.label) r folded) ≡ found_or same s (first_with fold folded (rs ++ r ∷ []))
+    go true later = refl
+    go false later = later
 
-    go : (p : Bool) (found : Option LinkDef) → option_map shown_definition found ≡ option_map shown_reference (found_or p s (first_with fold folded rs)) →
-        ((found : Option LinkDef) → option_map shown_definition found ≡ option_map shown_reference (first_with fold folded rs) → With found rs) →
-        option_map shown_definition (first_of found (at_label (fold r.label) def folded)) ≡ option_map shown_reference (found_or p s (first_with fold folded (rs ++ r ∷ [])))
-    go true (Some x) e later = e
-    go true None e later = absurd (let q : None ≡ Some (shown_reference s) = e in cc)
-    go false found e later = later found e
+-- a table without definitions has no reference
+pub no_reference : (table : RefDefs) (folded : List ℕ) → definition table folded ≡ None → reference_at table folded ≡ None
+no_reference table folded none = ap (option_map shown_entry) (no_entry (at link_key folded) table none)

@@ -2,7 +2,7 @@
 use Rattle.std.proofs.Common.{◌≡◌, ℕ, Bool, true, false, List, [], ◌∷◌, ◌++◌, Option, Some, None, option_map, refl, ap, subst, ◌∙◌, Vec, String, Global, ◌==◌}
 use Rattle.cmark_grammar.specs.Options.{Options}
 use Rattle.cmark_grammar.specs.Answers.{Lookup}
-use Rattle.cmark_references.specs.Definitions.{definition, shown_definition}
+use Rattle.cmark_references.specs.Definitions.{reference_at}
 use Rattle.cmark_references.specs.Footnotes.{footnote}
 use Rattle.cmark_items.specs.Tables.{defined}
 use Rattle.cmark_block_model.specs.Drawing.{Drawing}
@@ -70,7 +70,7 @@ module _ {E : Type 0} (replacement : E → Lookup) (text : List ℕ) (options : 
     bare = runs.bare;
     leaf = runs.leaf;
     line_end = runs.line_end;
-    references = λ folded. ap (λ d. option_map shown_definition (definition d.references folded)) same ∙ runs.references folded;
+    references = λ folded. ap (λ d. reference_at d.references folded) same ∙ runs.references folded;
     footnotes = λ folded. ap (λ d. footnote d.footnotes folded) same ∙ runs.footnotes folded;
   }
 

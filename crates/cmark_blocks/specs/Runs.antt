@@ -1,13 +1,12 @@
 -- Which state of its model the block pass is in.
-use Rattle.std.specs.Prelude.{◌≡◌, ℕ, List, [], option_map, map, Option, None}
+use Rattle.std.specs.Prelude.{◌≡◌, ℕ, List, [], map, Option, None}
 use Rattle.std.specs.Str.{IsCharBoundary}
 use Rattle.cmark_tree.specs.Building.{IsPlaced}
 use Rattle.cmark_grammar.specs.Options.{Options}
 use Rattle.cmark_grammar.specs.Answers.{Lookup}
 use Rattle.cmark_grammar.specs.Labels.{fold}
 use Rattle.cmark_grammar.specs.References.{first_with}
-use Rattle.cmark_grammar.specs.BlockDocument.{Reference}
-use Rattle.cmark_references.specs.Definitions.{definition, ShownDefinition, shown_definition}
+use Rattle.cmark_references.specs.Definitions.{reference_at}
 use Rattle.cmark_builder.specs.Drawn.{Draws}
 use Rattle.cmark_lines.specs.Rests.{row_of}
 use Rattle.cmark_lines.specs.declared.line_rest.LineRest.{LineRest}
@@ -74,9 +73,6 @@ module _ {E : Type 0} where
     pub lines : AreRead pass.text.now pass.blank_lines.items
     pub last : IsLastRead pass.text.now pass.leaf
 
-abbrev pub shown_reference : Reference → ShownDefinition
-shown_reference r = record { destination = r.destination; title = r.title; start = r.start; end = r.end }
-
 module _ {E : Type 0} (replacement : E → Lookup) where
   -- the pass over this text, with these options and this meaning of entity names, is in this state
   pub record Runs (text : List ℕ) (options : Options) (lookup : Lookup) (m : model.Pass) (pass : Pass E) : Type 0 where
@@ -89,5 +85,5 @@ module _ {E : Type 0} (replacement : E → Lookup) where
     pub bare : pass.bare ≡ m.bare
     pub leaf : ShowsLeaf text pass.leaf pass.blank_lines.items m.leaf
     pub line_end : pass.line_end ≡ m.line_end
-    pub references : (folded : List ℕ) → option_map shown_definition (definition pass.builder.allocations.references folded) ≡ option_map shown_reference (first_with fold folded m.references)
+    pub references : (folded : List ℕ) → reference_at pass.builder.allocations.references folded ≡ first_with fold folded m.references
     pub footnotes : HasLabels m.footnotes pass.builder.allocations.footnotes

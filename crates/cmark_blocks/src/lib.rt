@@ -12,6 +12,7 @@ mod footnote;
 mod gathered;
 mod heading;
 mod html;
+pub mod laws;
 mod leaf;
 mod line;
 mod list;
@@ -23,5 +24,6 @@ mod state;
 mod table;
 mod thematic_break;
 
+pub use cmark_finds::{LoopInstruction, iterate_special_bytes, special_bytes};
 pub use first_pass::{FirstPass, run_first_pass};
 pub use prefixes::{scan_containers, skip_container_prefixes};

@@ -74,6 +74,7 @@ impl<'a, E: EntityLookup> Pass<'a, E> {
     ghost use Rattle.cmark_text_parts.specs.Shown.{shown_options};
 
     /// Before the first line of this text, of which these options say what is read.
+    #[tactic(auto, using(crate::proofs::ReferenceSteps::no_reference))]
     pub(crate) fn new(
         alloc: Global,
         text: &'a str,

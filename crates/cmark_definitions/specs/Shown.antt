@@ -1,11 +1,6 @@
 -- What the values of structs mean.
-use Rattle.std.specs.Prelude.{ℕ, List, drop, option_map, option_copied}
-use Rattle.cmark_grammar.specs.BlockDocument.{Reference}
+use Rattle.std.specs.Prelude.{ℕ, List, drop, option_copied}
 use Rattle.cmark_grammar.specs.LinkDefinitions as definitions
-use Rattle.cmark_text_parts.specs.Labelled.{link_text}
-use Rattle.cmark_text_parts.specs.Shown.{text_bytes}
-use Rattle.cmark_text_parts.specs.declared.label.LinkLabel.{LinkLabel}
-use Rattle.cmark_references.specs.declared.definitions.LinkDef.{LinkDef}
 use Rattle.cmark_definitions.specs.declared.definition.Definition.{Definition}
 use Rattle.cmark_definitions.specs.declared.definition.Read.{Read}
 
@@ -19,13 +14,3 @@ written definition = record { label = definition.label.now; destination = defini
 -- with the bytes of the paragraph that stand behind it
 abbrev pub shown_definition : (paragraph : List ℕ) → Definition → definitions.Defined
 shown_definition paragraph definition = record { definition = written definition; behind = drop definition.end paragraph }
-
--- a definition with its label, as a document has it
-abbrev pub shown_reference : LinkLabel → LinkDef → Reference
-shown_reference label def = record {
-  label = link_text label;
-  destination = text_bytes def.dest;
-  title = option_map text_bytes def.title;
-  start = def.span.start;
-  end = def.span.end;
-}

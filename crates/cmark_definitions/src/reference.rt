@@ -4,9 +4,10 @@ ghost use Rattle.std.specs.Prelude.{◌≡◌, IfOk, option_map, option_copied};
 ghost use Rattle.cmark_grammar.specs.Derivation.{title_of, reference_of};
 ghost use Rattle.cmark_grammar.specs.Labels.{fold};
 ghost use Rattle.cmark_grammar.specs.Tokens.{resolved};
+ghost use Rattle.cmark_references.specs.Definitions.{shown_entry};
 ghost use Rattle.cmark_text_parts.specs.Labelled.{link_key};
 ghost use Rattle.cmark_text_parts.specs.Shown.{text_bytes};
-ghost use Rattle.cmark_definitions.specs.Shown.{written, shown_reference};
+ghost use Rattle.cmark_definitions.specs.Shown.{written};
 
 use crate::definition::Definition;
 use cmark_links::title_lines;
@@ -52,7 +53,7 @@ pub fn link_definition<E: EntityLookup>(
     span: Range<usize>,
     entities: &E,
 ) -> Result<(LinkLabel, LinkDef<'static>), AllocError>
-    ensures value { IfOk result (λ made. shown_reference made.0 made.1 ≡ reference_of (E.replacement entities.now) (written definition.now) span.start span.end) }
+    ensures value { IfOk result (λ made. shown_entry made ≡ reference_of (E.replacement entities.now) (written definition.now) span.start span.end) }
     ensures key { IfOk result (λ made. link_key made.0 ≡ fold definition.now.label.now) }
 {
     let label = LinkLabel::new(alloc, definition.label)?;

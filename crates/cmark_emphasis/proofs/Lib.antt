@@ -13,3 +13,5 @@ pub mod Deactivates
 pub mod Noted
 pub mod FewRuns
 pub mod TwoRuns
+pub mod Counting
+pub mod LeastSteps

@@ -5,7 +5,7 @@ use Rattle.std.proofs.lemmas.List.{append-nil}
 use Rattle.std.proofs.Math.ListN.{drop_of_length-le}
 use Rattle.cmark_emphasis.specs.Shown.{shown_pair}
 use Rattle.cmark_emphasis.specs.declared.run.Pair as code_pair
-use Rattle.cmark_grammar.specs.Spans.{SpanKind, Emphasis, Strong, SingleTilde, DoubleTilde, Caret, span_width, Spans, Nil, Single, Around}
+use Rattle.cmark_grammar.specs.Spans.{SpanKind, Emphasis, Strong, SingleTilde, DoubleTilde, Caret, DoubleEquals, span_width, Spans, Nil, Single, Around}
 use Rattle.cmark_grammar.specs.Emphasis.{Pair, Sibling, StandFrom, places_taken}
 use Rattle.cmark_grammar.specs.EmphasisModel.{pairs_of, spans_of}
 use Rattle.cmark_grammar.specs.SpanEntries.{AllWithin}
@@ -22,6 +22,7 @@ opening-wide Strong = refl
 opening-wide SingleTilde = refl
 opening-wide DoubleTilde = refl
 opening-wide Caret = refl
+opening-wide DoubleEquals = refl
 
 closing-wide : (k : SpanKind) → length (closing k) ≡ span_width k
 closing-wide Emphasis = refl
@@ -29,6 +30,7 @@ closing-wide Strong = refl
 closing-wide SingleTilde = refl
 closing-wide DoubleTilde = refl
 closing-wide Caret = refl
+closing-wide DoubleEquals = refl
 
 pub length-stays : (n : ℕ) → length (stays n) ≡ n
 length-stays n = entries.length-stays Slot slot.Single opening closing opening-wide closing-wide n
@@ -55,6 +57,7 @@ slots_balance (Around s inside after) kinds rest h =
     go SingleTilde a i = i code.SingleTilde (closing SingleTilde ++ (slots_of after ++ rest)) (refl, a)
     go DoubleTilde a i = i code.DoubleTilde (closing DoubleTilde ++ (slots_of after ++ rest)) (refl, a)
     go Caret a i = i code.Caret (closing Caret ++ (slots_of after ++ rest)) (refl, a)
+    go DoubleEquals a i = i code.DoubleEquals (closing DoubleEquals ++ (slots_of after ++ rest)) (refl, a)
 
 pub balanced : (f : Spans) → AreBalanced [] (slots_of f)
 balanced f = subst (AreBalanced []) (append-nil (slots_of f)) (slots_balance f [] [] tt)

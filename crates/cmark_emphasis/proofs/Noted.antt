@@ -37,7 +37,7 @@ pub all_inactive : (bottoms : OpenersBottom) (stack : List code_run.Run) → Are
 all_inactive bottoms stack h = record { emphasis = h.emphasis; inactive_below = omega arith }
 
 -- the stack is cut, and all heights with it
-pub lowered : (old new : OpenersBottom) (stack : List code_run.Run) (height : ℕ) → AreBottoms old stack → ((class : ℕ) → class < 12 → get_or new.heights class 0 ≡ min (get_or old.heights class 0) height) → new.inactive_below ≡ min old.inactive_below height → AreBottoms new (take height stack)
+pub lowered : (old new : OpenersBottom) (stack : List code_run.Run) (height : ℕ) → AreBottoms old stack → ((class : ℕ) → class < 13 → get_or new.heights class 0 ≡ min (get_or old.heights class 0) height) → new.inactive_below ≡ min old.inactive_below height → AreBottoms new (take height stack)
 lowered old new stack height h heights inactive_below = record { emphasis = each; inactive_below = under old.inactive_below new.inactive_below inactive_below h.inactive_below }
   where
     under : (n m : ℕ) → m ≡ min n height → n ≤ length stack → m ≤ length (take height stack)

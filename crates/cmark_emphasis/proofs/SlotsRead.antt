@@ -1,7 +1,7 @@
 -- Slots, read from left to right, say their spans.
 use Rattle.std.proofs.Common.{◌≡◌, ℕ, suc, ◌+◌, List, [], ◌∷◌, ◌++◌, refl, sym, ap, ◌∙◌, arith, append_assoc}
 use Rattle.std.proofs.lemmas.List.{append-nil}
-use Rattle.cmark_grammar.specs.Spans.{SpanKind, Emphasis, Strong, SingleTilde, DoubleTilde, Caret, span_width, Spans, Nil, Single, Around, join, TakePlaces}
+use Rattle.cmark_grammar.specs.Spans.{SpanKind, Emphasis, Strong, SingleTilde, DoubleTilde, Caret, DoubleEquals, span_width, Spans, Nil, Single, Around, join, TakePlaces}
 use Rattle.cmark_grammar.specs.Emphasis.{Sibling, StandFrom, places_taken}
 use Rattle.cmark_grammar.specs.EmphasisModel.{spans_of}
 use Rattle.cmark_emphasis.specs.declared.slot.Slot.{Slot}
@@ -24,6 +24,7 @@ begin Strong n s h up = let e : suc (suc n) ≡ n + 2 = omega arith in ap (λ j.
 begin SingleTilde n s h up = let e : suc n ≡ n + 1 = omega arith in ap (λ j. read_from j s Nil (record { before = h; kind = SingleTilde; start = n } ∷ up)) e
 begin DoubleTilde n s h up = let e : suc (suc n) ≡ n + 2 = omega arith in ap (λ j. read_from j s Nil (record { before = h; kind = DoubleTilde; start = n } ∷ up)) e
 begin Caret n s h up = let e : suc n ≡ n + 1 = omega arith in ap (λ j. read_from j s Nil (record { before = h; kind = Caret; start = n } ∷ up)) e
+begin DoubleEquals n s h up = let e : suc (suc n) ≡ n + 2 = omega arith in ap (λ j. read_from j s Nil (record { before = h; kind = DoubleEquals; start = n } ∷ up)) e
 
 abbrev ended : Begun → ℕ → Spans → Spans
 ended v end here = join v.before (Around (record { kind = v.kind; start = v.start; end = end }) here Nil)
@@ -34,6 +35,7 @@ finish Strong n s h v up = let e : suc (suc n) ≡ n + 2 = omega arith in ap (λ
 finish SingleTilde n s h v up = let e : suc n ≡ n + 1 = omega arith in ap (λ j. read_from j s (ended v j h) up) e
 finish DoubleTilde n s h v up = let e : suc (suc n) ≡ n + 2 = omega arith in ap (λ j. read_from j s (ended v j h) up) e
 finish Caret n s h v up = let e : suc n ≡ n + 1 = omega arith in ap (λ j. read_from j s (ended v j h) up) e
+finish DoubleEquals n s h v up = let e : suc (suc n) ≡ n + 2 = omega arith in ap (λ j. read_from j s (ended v j h) up) e
 
 reads-on : (f : Spans) (n m : ℕ) (s : List Slot) (h : Spans) (up : List Begun) → TakePlaces n f m → read_from n (slots_of f ++ s) h up ≡ read_from m s (join h f) up
 reads-on Nil n m s h up p = ap (λ j. read_from j s h up) p ∙ ap (λ l. read_from m s l up) (sym (join-nil h))

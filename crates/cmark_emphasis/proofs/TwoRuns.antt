@@ -1,7 +1,7 @@
 -- The slots of two runs that are all of a list and make one span.
 use Rattle.std.proofs.Common.{◌≡◌, ◌≢◌, ℕ, zero, suc, ◌+◌, ◌-◌, ◌<◌, ◌≤◌, ◌==◌, ◌&&◌, Bool, true, false, nat_lt, if◌then◌else◌, [], ◌∷◌, ◌++◌, refl, sym, ap, ◌∙◌, arith, true≢false}
-use Rattle.cmark_grammar.specs.Spans.{SpanKind, Emphasis, Strong, SingleTilde, DoubleTilde, Caret, span_width}
-use Rattle.cmark_grammar.specs.Emphasis.{Run, Pair, StandFrom, agrees, kinds_of, tilde_kinds, caret_kinds, emphasis_kinds, pair_of, places_taken}
+use Rattle.cmark_grammar.specs.Spans.{SpanKind, Emphasis, Strong, SingleTilde, DoubleTilde, Caret, DoubleEquals, span_width}
+use Rattle.cmark_grammar.specs.Emphasis.{Run, Pair, StandFrom, agrees, kinds_of, tilde_kinds, caret_kinds, equals_kinds, emphasis_kinds, pair_of, places_taken}
 use Rattle.cmark_grammar.specs.EmphasisModel.{pairs_of, spans_of}
 use Rattle.cmark_emphasis.specs.Slots.{opening, closing, stays, slots_of, mark_spans, mark_pairs}
 use Rattle.cmark_emphasis.specs.TwoRuns.{is_one, two_siblings}
@@ -24,6 +24,7 @@ two-marked k pair e f t =
     go SingleTilde = refl
     go DoubleTilde = refl
     go Caret = refl
+    go DoubleEquals = refl
 
 same-count : (a b : ℕ) → a ≡ b → (if nat_lt a b then a else b) ≡ b
 same-count a b e = go (nat_lt a b)
@@ -54,16 +55,18 @@ a-pair false b c x e = absurd (true≢false (sym e))
 
 one-more : (m n : ℕ) (k : SpanKind) → 0 < n → is_one (k ∷ kinds_of m n) ≡ false
 unfolding kinds_of
-one-more m n k lt = go (m == 126) (m == 94) n lt
+one-more m n k lt = go (m == 126) (m == 94) (m == 61) n lt
   where
-    go : (a b : Bool) (n : ℕ) → 0 < n → is_one (k ∷ (if a then tilde_kinds n else if b then caret_kinds n else emphasis_kinds n)) ≡ false
-    go a b zero lt = absurd (omega arith)
-    go true b (suc zero) lt = refl
-    go true b (suc (suc n)) lt = refl
-    go false true (suc zero) lt = refl
-    go false true (suc (suc n)) lt = refl
-    go false false (suc zero) lt = refl
-    go false false (suc (suc n)) lt = refl
+    go : (a b c : Bool) (n : ℕ) → 0 < n → is_one (k ∷ (if a then tilde_kinds n else if b then caret_kinds n else if c then equals_kinds n else emphasis_kinds n)) ≡ false
+    go a b c zero lt = absurd (omega arith)
+    go true b c (suc zero) lt = refl
+    go true b c (suc (suc n)) lt = refl
+    go false true c (suc zero) lt = refl
+    go false true c (suc (suc n)) lt = refl
+    go false false true (suc zero) lt = refl
+    go false false true (suc (suc n)) lt = refl
+    go false false false (suc zero) lt = refl
+    go false false false (suc (suc n)) lt = refl
 
 -- the innermost span is not all
 pub several : (m n w : ℕ) (k : SpanKind) → kinds_of m n ≡ k ∷ kinds_of m (n - w) → w ≤ n → w ≢ n → is_one (kinds_of m n) ≡ false

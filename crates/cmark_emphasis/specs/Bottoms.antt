@@ -1,5 +1,5 @@
 -- How far down the stack the search for an open run goes (`openers_bottom` in the appendix of CommonMark).
-use Rattle.std.specs.Prelude.{◌≡◌, ℕ, zero, suc, ◌+◌, ◌%◌, ◌<◌, ◌≤◌, Bool, false, ◌==◌, if◌then◌else◌, Option, Some, None, List, [], ◌∷◌, length, get_or}
+use Rattle.std.specs.Prelude.{◌≡◌, ℕ, zero, suc, ◌+◌, ◌%◌, ◌<◌, ◌≤◌, Bool, false, ◌==◌, ◌&&◌, if◌then◌else◌, Option, Some, None, List, [], ◌∷◌, length, get_or}
 use Rattle.cmark_grammar.specs.Emphasis.{Run, agrees, can_both, is_tilde_or_caret}
 use Rattle.cmark_emphasis.specs.Shown.{shown_run}
 use Rattle.cmark_emphasis.specs.Stack.{stays_open}
@@ -10,9 +10,9 @@ use Rattle.cmark_emphasis.specs.declared.bottom.OpenersBottom.{OpenersBottom}
 abbrev pub rank : Run → ℕ
 rank run = (if can_both run then 3 else 0) + run.run_length % 3
 
--- the class of a run of `*` or `_`: all closing runs of one class agree with the same open runs
+-- the class of a run of `*` or `_`, or of two `=`: all closing runs of one class agree with the same open runs
 abbrev pub class_of : Run → Option ℕ
-class_of run = if run.delimiter == 42 then Some (rank run) else if run.delimiter == 95 then Some (6 + rank run) else None
+class_of run = if run.delimiter == 42 then Some (rank run) else if run.delimiter == 95 then Some (6 + rank run) else if (run.delimiter == 61) && (run.run_length == 2) then Some 12 else None
 
 -- neither a tilde nor a caret
 abbrev pub stays : code_run.Run → Bool

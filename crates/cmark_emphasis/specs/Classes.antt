@@ -1,15 +1,19 @@
 -- Closing runs of one class, which agree with the same open runs.
-use Rattle.std.specs.Prelude.{◌≡◌, ◌%◌, ◌<◌, true, false}
-use Rattle.cmark_grammar.specs.Emphasis.{Run, can_both, is_tilde_or_caret}
+use Rattle.std.specs.Prelude.{◌≡◌, ℕ, ◌%◌, ◌<◌, Bool, true, ◌==◌, ◌||◌}
+use Rattle.cmark_grammar.specs.Emphasis.{Run, can_both}
 
 -- a run that can close, and of which something is left
 pub record IsClosing (run : Run) : Type 0 where
   pub closes : run.closes ≡ true
   pub left : 0 < run.left
 
+-- `*` or `_`
+abbrev pub is_emphasis_delimiter : ℕ → Bool
+is_emphasis_delimiter delimiter = (delimiter == 42) || (delimiter == 95)
+
 -- runs of `*` or of `_` whose lengths are the same modulo 3, and that both can open as well, or both cannot
 pub record IsLike (first second : Run) : Type 0 where
-  pub emphasis : is_tilde_or_caret first.delimiter ≡ false
+  pub emphasis : is_emphasis_delimiter first.delimiter ≡ true
   pub delimiter : second.delimiter ≡ first.delimiter
   pub run_length : second.run_length % 3 ≡ first.run_length % 3
   pub both : can_both second ≡ can_both first

@@ -1,6 +1,8 @@
 pub mod Ascii
 pub mod Bottoms
 pub mod Classes
+pub mod Counts
+pub mod Least
 pub mod Nearest
 pub mod QuoteSteps
 pub mod Shown

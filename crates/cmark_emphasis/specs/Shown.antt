@@ -35,6 +35,7 @@ shown_kind code.Strong = grammar.Strong
 shown_kind code.SingleTilde = grammar.SingleTilde
 shown_kind code.DoubleTilde = grammar.DoubleTilde
 shown_kind code.Caret = grammar.Caret
+shown_kind code.DoubleEquals = grammar.DoubleEquals
 
 abbrev pub shown_quote : code_quote.Quote → Quote
 shown_quote quote = record { double = quote.double; opens = quote.opens; closes = quote.closes }

@@ -1,6 +1,6 @@
 -- Spans around siblings as slots, one for each sibling.
 use Rattle.std.specs.Prelude.{◌≡◌, ℕ, suc, List, [], ◌∷◌}
-use Rattle.cmark_grammar.specs.Spans.{SpanKind, Emphasis, Strong, SingleTilde, DoubleTilde, Caret, Spans, Nil, Single, Around, join}
+use Rattle.cmark_grammar.specs.Spans.{SpanKind, Emphasis, Strong, SingleTilde, DoubleTilde, Caret, DoubleEquals, Spans, Nil, Single, Around, join}
 use Rattle.cmark_grammar.specs.Emphasis.{Run, Pair, Sibling, StandFrom, places_taken, runs_of}
 use Rattle.cmark_grammar.specs.EmphasisModel.{pairs_of}
 use Rattle.cmark_grammar.specs.SpanEntries as entries
@@ -18,6 +18,7 @@ opening Strong = slot.Begin code.Strong ∷ (slot.Blank ∷ [])
 opening SingleTilde = slot.Begin code.SingleTilde ∷ []
 opening DoubleTilde = slot.Begin code.DoubleTilde ∷ (slot.Blank ∷ [])
 opening Caret = slot.Begin code.Caret ∷ []
+opening DoubleEquals = slot.Begin code.DoubleEquals ∷ (slot.Blank ∷ [])
 
 abbrev pub closing : SpanKind → List Slot
 closing Emphasis = slot.End code.Emphasis ∷ []
@@ -25,6 +26,7 @@ closing Strong = slot.Blank ∷ (slot.End code.Strong ∷ [])
 closing SingleTilde = slot.End code.SingleTilde ∷ []
 closing DoubleTilde = slot.Blank ∷ (slot.End code.DoubleTilde ∷ [])
 closing Caret = slot.End code.Caret ∷ []
+closing DoubleEquals = slot.Blank ∷ (slot.End code.DoubleEquals ∷ [])
 
 -- so many siblings, each as it is
 abbrev pub stays : ℕ → List Slot

@@ -1,8 +1,10 @@
 //! How far down the stack the search for an open run goes (`openers_bottom` in the appendix of CommonMark).
 
-ghost use Rattle.std.specs.Prelude.{◌≡◌, ◌<◌, ℕ, List, [], IfSome, length, take};
+ghost use Rattle.std.specs.Prelude.{◌≡◌, ◌+◌, ◌-◌, ◌*◌, ◌<◌, ◌≤◌, true, false, ℕ, List, [], IfSome, length, min, take, ◌⊎◌, if◌then◌else◌};
 ghost use Rattle.cmark_grammar.specs.Emphasis as grammar;
 ghost use Rattle.cmark_emphasis.specs.Bottoms.{AreBottoms, bottom_of, class_of, active_runs};
+ghost use Rattle.cmark_emphasis.specs.Counts.{IsKnown, searches, total_of};
+ghost use Rattle.cmark_emphasis.specs.Least.{IsOfKind};
 ghost use Rattle.cmark_emphasis.specs.Shown.{shown_run, open_runs};
 ghost use Rattle.cmark_emphasis.specs.Stack.{NoneAgree, still_open};
 
@@ -23,16 +25,18 @@ fn deactivates(closer: Run) -> bool
     closer.closes && closer.left > 0 && is_tilde_or_caret(closer.delimiter)
 }
 
-/// The class of a run of `*` or `_`. All closing runs of one class agree with the same open runs, by the rule of three.
+/// The class of a run of `*`, `_` or `=`. All closing runs of one class agree with the same open runs: those of `*` and `_` by the rule of
+/// three, and each of `=` with each.
 fn class_of(run: Run) -> Option<usize>
     ensures value { result ≡ class_of (shown_run run) }
-    ensures within { IfSome result (λ class. class < 12) }
+    ensures within { IfSome result (λ class. class < 13) }
 {
     let both = if run.opens && run.closes { 3 } else { 0 };
     let rank = both + run.run_length % 3;
     match run.delimiter {
         b'*' => Some(rank),
         b'_' => Some(6 + rank),
+        b'=' if run.run_length == 2 => Some(12),
         _ => None,
     }
 }
@@ -40,8 +44,8 @@ fn class_of(run: Run) -> Option<usize>
 /// Heights of the stack of open runs below which a search need not look.
 #[derive(Clone, Copy)]
 pub struct OpenersBottom {
-    /// For each class of runs of `*` or `_`: below it no open run agrees with a closing one of the class.
-    heights: [usize; 12],
+    /// For each class of runs of `*`, `_` or `=`: below it no open run agrees with a closing one of the class.
+    heights: [usize; 13],
     /// Below it all tildes and carets are inactive: they stand on the stack, but are not open any more.
     inactive_below: usize,
 }
@@ -50,9 +54,10 @@ impl OpenersBottom {
     /// The bottoms of a stack that holds nothing.
     pub fn new() -> OpenersBottom
         ensures bottoms { AreBottoms result [] }
+        ensures total { total_of result ≡ 0 }
     {
         OpenersBottom {
-            heights: [0; 12],
+            heights: [0; 13],
             inactive_below: 0,
         }
     }
@@ -70,10 +75,13 @@ impl OpenersBottom {
 
     /// The stack is cut to this height.
     pub fn lower(&mut self, height: usize)
+        ensures lows { (other : grammar.Run) → bottom_of self.new other ≤ bottom_of self.old other }
+        ensures inactive { self.new.inactive_below ≡ min self.old.inactive_below height }
+        ensures falls { (stack : List Run) → AreBottoms self.old stack → total_of self.old ≤ total_of self.new + 14 * (length stack - height) }
         ensures bottoms { (stack : List Run) → AreBottoms self.old stack → AreBottoms self.new (take height stack) }
         ensures opens { (stack : List Run) → active_runs self.new.inactive_below (take height stack) ≡ active_runs self.old.inactive_below (take height stack) }
     {
-        for class in 0..12 {
+        for class in 0..13 {
             self.heights[class] = self.heights[class].min(height);
         }
         self.inactive_below = self.inactive_below.min(height);
@@ -83,6 +91,10 @@ impl OpenersBottom {
     pub fn note(&mut self, closer: Run, stack: &[Run])
         requires bottoms { AreBottoms self.old stack.now }
         requires none { NoneAgree (shown_run closer) (open_runs (active_runs self.old.inactive_below stack.now)) }
+        ensures rises { IsKnown closer → searches (shown_run closer) ≡ true → total_of self.new + bottom_of self.old (shown_run closer) ≡ total_of self.old + length stack.now }
+        ensures kinds { (other : grammar.Run) (k : ℕ) → k < bottom_of self.new other → (k < bottom_of self.old other) ⊎ IsOfKind (shown_run closer) other }
+        ensures inactive { self.new.inactive_below ≡ (if grammar.deactivates (shown_run closer) then length stack.now else self.old.inactive_below) }
+        ensures rests { searches (shown_run closer) ≡ false → self.new ≡ self.old }
         ensures bottoms { AreBottoms self.new stack.now }
         ensures opens { open_runs (active_runs self.new.inactive_below stack.now) ≡ still_open (shown_run closer) (open_runs (active_runs self.old.inactive_below stack.now)) }
     {

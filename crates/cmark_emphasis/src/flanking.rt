@@ -112,6 +112,7 @@ fn is_delimiter_run(options: Options, delimiter: u8, run_length: usize) -> bool
                 && (run_length == 1 || run_length == 2)
         }
         b'^' => options.contains(Options::ENABLE_SUPERSCRIPT) && run_length == 1,
+        b'=' => options.contains(Options::ENABLE_HIGHLIGHT) && run_length == 2,
         _ => false,
     }
 }

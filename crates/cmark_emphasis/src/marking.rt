@@ -2,7 +2,7 @@
 
 ghost use Rattle.std.specs.Prelude.{◌≡◌, ◌+◌, ◌-◌, ◌<◌, ◌≤◌, List, [], ◌∷◌, length, map, OnOk};
 ghost use Rattle.cmark_grammar.specs.Spans.{span_width};
-ghost use Rattle.cmark_grammar.specs.Emphasis.{Sibling, StandFrom, places_taken, kinds_of, emphasis_kinds, tilde_kinds};
+ghost use Rattle.cmark_grammar.specs.Emphasis.{Sibling, StandFrom, places_taken, kinds_of, emphasis_kinds, tilde_kinds, equals_kinds};
 ghost use Rattle.cmark_grammar.specs.EmphasisModel.{pairs_of, spans_of};
 ghost use Rattle.cmark_grammar.specs.SpanEntries.{IsWithin, write};
 ghost use Rattle.cmark_emphasis.specs.Shown.{shown_kind, shown_pair};
@@ -37,6 +37,18 @@ fn innermost_tilde(left: usize) -> SpanKind
     SpanKind::DoubleTilde
 }
 
+/// The innermost span of so many `=` a side, which are two.
+fn innermost_equals(left: usize) -> SpanKind
+    requires { 0 < left }
+    ensures kinds { equals_kinds left ≡ shown_kind result ∷ equals_kinds (left - span_width (shown_kind result)) }
+    ensures fits { span_width (shown_kind result) ≤ left }
+{
+    if left == 1 {
+        return SpanKind::Emphasis;
+    }
+    SpanKind::DoubleEquals
+}
+
 /// The innermost span of so many bytes a side.
 pub(crate) fn innermost(delimiter: u8, left: usize) -> SpanKind
     requires { 0 < left }
@@ -48,6 +60,9 @@ pub(crate) fn innermost(delimiter: u8, left: usize) -> SpanKind
     }
     if delimiter == b'^' {
         return SpanKind::Caret;
+    }
+    if delimiter == b'=' {
+        return innermost_equals(left);
     }
     innermost_emphasis(left)
 }

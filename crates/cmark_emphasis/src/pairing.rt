@@ -1,11 +1,14 @@
 //! Pairs the delimiter runs of a list of siblings (CommonMark 6.2).
 
-ghost use Rattle.std.specs.Prelude.{◌≡◌, ◌&&◌, ◌++◌, ◌∷◌, [], nat_lt, List, OnOk, IfOk, MatchOption, All, map};
+ghost use Rattle.std.specs.Prelude.{◌≡◌, ◌&&◌, ◌++◌, ◌∷◌, ◌+◌, ◌-◌, ◌*◌, ◌^◌, ◌<◌, ◌≤◌, [], nat_lt, if◌then◌else◌, length, List, OnOk, IfOk, MatchOption, All, map};
 ghost use Rattle.cmark_grammar.specs.Emphasis.{Sibling, agrees, pair_of, runs_of};
 ghost use Rattle.cmark_grammar.specs.EmphasisModel.{pairs_of};
 ghost use Rattle.cmark_grammar.specs.Emphasis as grammar;
 ghost use Rattle.cmark_emphasis.specs.Shown.{shown_run, shown_pair, open_runs, IsPlaced};
 ghost use Rattle.cmark_emphasis.specs.Bottoms.{AreBottoms, active_runs};
+ghost use Rattle.cmark_emphasis.specs.Bottoms.{bottom_of};
+ghost use Rattle.cmark_emphasis.specs.Counts.{IsKnown, examined_of_two, put_back, searches, total_of};
+ghost use Rattle.cmark_emphasis.specs.Least.{AreStanding, HasSought, Standing, least_examined};
 ghost use Rattle.cmark_emphasis.specs.Nearest.{IsNearest, with_opener, with_rest};
 ghost use Rattle.cmark_emphasis.specs.Stack.{Chased, NoneAgree, course_from, run_pairs};
 
@@ -22,6 +25,13 @@ fn keeps_rule_of_three(opener: Run, closer: Run) -> bool
     !either_can_both || opener.run_length % 3 + closer.run_length % 3 != 3
 }
 
+/// Whether the delimiter is a tilde or an equals sign, of which only runs of one length pair.
+fn is_tilde_or_equals(delimiter: u8) -> bool
+    ensures { result ≡ grammar.is_tilde_or_equals delimiter }
+{
+    delimiter == b'~' || delimiter == b'='
+}
+
 /// Whether the run can close the open one.
 #[tactic(auto, unfolding(cmark_grammar::specs::Emphasis::agrees))]
 fn can_close(opener: Run, closer: Run) -> bool
@@ -30,14 +40,30 @@ fn can_close(opener: Run, closer: Run) -> bool
     closer.closes
         && closer.left > 0
         && opener.delimiter == closer.delimiter
-        && (closer.delimiter != b'~' || opener.run_length == closer.run_length)
+        && (!is_tilde_or_equals(closer.delimiter) || opener.run_length == closer.run_length)
         && keeps_rule_of_three(opener, closer)
 }
 
-/// The last open run that the run can close. Below the bottom of its class there is none, and the search ends.
-fn nearest(closer: Run, stack: &[Run], bottoms: &OpenersBottom) -> Option<usize>
-    requires { AreBottoms bottoms.now stack.now }
-    ensures { MatchOption result (NoneAgree (shown_run closer) (open_runs (active_runs bottoms.now.inactive_below stack.now))) (IsNearest (shown_run closer) bottoms.now.inactive_below stack.now) }
+/// Counts runs that a search examined.
+fn count(examined: &mut u128, runs: usize)
+    requires { examined.old + runs < 2 ^ 128 }
+    ensures { examined.new ≡ examined.old + runs }
+{
+    *examined += runs as u128;
+}
+
+/// The last open run that the run can close. Below the bottom of its class there is none, and the search ends. What it examines is
+/// counted.
+fn nearest(
+    closer: Run,
+    stack: &[Run],
+    bottoms: &OpenersBottom,
+    examined: &mut u128,
+) -> Option<usize>
+    requires bottoms { AreBottoms bottoms.now stack.now }
+    requires room { examined.old + length stack.now < 2 ^ 128 }
+    ensures counts { MatchOption result (examined.new ≡ examined.old + (if searches (shown_run closer) then length stack.now - bottom_of bottoms.now (shown_run closer) else 0)) (λ i. examined.new ≡ examined.old + (length stack.now - i)) }
+    ensures value { MatchOption result (NoneAgree (shown_run closer) (open_runs (active_runs bottoms.now.inactive_below stack.now))) (IsNearest (shown_run closer) bottoms.now.inactive_below stack.now) }
 {
     if !closer.closes {
         return None;
@@ -51,9 +77,11 @@ fn nearest(closer: Run, stack: &[Run], bottoms: &OpenersBottom) -> Option<usize>
         i -= 1;
         let opener = stack[i];
         if can_close(opener, closer) {
+            count(examined, stack.len() - i);
             return Some(i);
         }
     }
+    count(examined, stack.len() - i);
     None
 }
 
@@ -133,10 +161,17 @@ fn close(
     stack: &mut Vec<Run>,
     bottoms: &mut OpenersBottom,
     pairs: &mut Vec<Pair>,
+    examined: &mut u128,
 ) -> Result<Run, AllocError>
     requires run { IsPlaced run }
+    requires known { IsKnown run }
     requires stack { All IsPlaced stack.old.items }
     requires bottoms { AreBottoms bottoms.old stack.old.items }
+    requires room { examined.old + 15 * length stack.old.items + 15 < 2 ^ 128 }
+    ensures counts { examined.new + total_of bottoms.old ≤ examined.old + 15 * length stack.old.items + 15 }
+    ensures pays { IfOk result (λ rest. examined.new + 15 * length stack.new.items + total_of bottoms.old
+        ≤ examined.old + 15 * length stack.old.items + total_of bottoms.new + put_back rest.left) }
+    ensures least { IfOk result (λ rest. (standing : List Standing) → AreStanding bottoms.old stack.old.items standing → HasSought (shown_run run) standing examined.old examined.new bottoms.new stack.new.items (shown_run rest)) }
     ensures placed { OnOk result (All IsPlaced stack.new.items) }
     ensures bottoms { OnOk result (AreBottoms bottoms.new stack.new.items) }
     ensures rest { IfOk result IsPlaced }
@@ -144,7 +179,7 @@ fn close(
         ≡ record { rest = shown_run rest; opens = open_runs (active_runs bottoms.new.inactive_below stack.new.items); pairs = map shown_pair pairs.new.items }) }
 {
     let mut closer = run;
-    while let Some(found) = nearest(closer, stack, bottoms) {
+    while let Some(found) = nearest(closer, stack, bottoms, examined) {
         let opener = stack[found];
         stack.truncate(found);
         bottoms.lower(found);
@@ -163,11 +198,32 @@ pub(crate) fn makes_a_pair(first: Run, second: Run) -> bool
     first.opens && first.left > 0 && can_close(first, second)
 }
 
-/// Adds the pair of two runs that are all of a list, if they make one.
-fn pair_two(first: Run, second: Run, pairs: &mut Vec<Pair>) -> Result<(), AllocError>
-    requires { IsPlaced first }
-    ensures { OnOk result (map shown_pair pairs.new.items ≡ map shown_pair pairs.old.items ++ run_pairs (shown_run first ∷ (shown_run second ∷ []))) }
+/// How many open runs the searches of two runs examine that are all of a list: the second examines the first, if it searches and the
+/// first is open.
+fn examined_of_two(first: Run, second: Run) -> usize
+    ensures { result ≡ examined_of_two (shown_run first) (shown_run second) }
 {
+    if first.opens && first.left > 0 && second.closes && second.left > 0 {
+        1
+    } else {
+        0
+    }
+}
+
+/// Adds the pair of two runs that are all of a list, if they make one.
+fn pair_two(
+    first: Run,
+    second: Run,
+    pairs: &mut Vec<Pair>,
+    examined: &mut u128,
+) -> Result<(), AllocError>
+    requires placed { IsPlaced first }
+    requires room { examined.old < 2 ^ 127 }
+    ensures counts { examined.new ≡ examined.old + examined_of_two (shown_run first) (shown_run second) }
+    ensures least { OnOk result (examined.old + least_examined (shown_run first ∷ (shown_run second ∷ [])) ≤ examined.new) }
+    ensures value { OnOk result (map shown_pair pairs.new.items ≡ map shown_pair pairs.old.items ++ run_pairs (shown_run first ∷ (shown_run second ∷ []))) }
+{
+    count(examined, examined_of_two(first, second));
     if !makes_a_pair(first, second) {
         return Ok(());
     }
@@ -179,15 +235,20 @@ fn pair_two(first: Run, second: Run, pairs: &mut Vec<Pair>) -> Result<(), AllocE
 /// list of siblings, in their order. `stack` is room for the call, whatever it holds. Where memory is refused, `pairs` may
 /// have some of them.
 ///
-/// A search that found none is not made again by a run of its class (`OpenersBottom`), and one that finds an open run takes
-/// all that it passed off the stack. So the time should grow in proportion to the number of runs: this is measured, not proved.
+/// `examined` counts the open runs that searches examine. A search that found none is not made again by a run of its class
+/// (`OpenersBottom`), and one that finds an open run takes all that it passed off the stack: so at most fifteen are examined for each run.
 pub fn pair_runs(
     runs: &[Run],
     stack: &mut Vec<Run>,
     pairs: &mut Vec<Pair>,
+    examined: &mut u128,
 ) -> Result<(), AllocError>
-    requires { All IsPlaced runs.now }
-    ensures { OnOk result ((siblings : List Sibling) → runs_of siblings ≡ map shown_run runs.now
+    requires placed { All IsPlaced runs.now }
+    requires known { All IsKnown runs.now }
+    requires room { examined.old < 2 ^ 127 }
+    ensures few { examined.new ≤ examined.old + 15 * length runs.now }
+    ensures least { OnOk result (examined.old + least_examined (map shown_run runs.now) ≤ examined.new) }
+    ensures value { OnOk result ((siblings : List Sibling) → runs_of siblings ≡ map shown_run runs.now
         → map shown_pair pairs.new.items ≡ map shown_pair pairs.old.items ++ pairs_of siblings) }
 {
     // Most lists have one run or two, which need no stack.
@@ -195,12 +256,12 @@ pub fn pair_runs(
         return Ok(());
     }
     if runs.len() == 2 {
-        return pair_two(runs[0], runs[1], pairs);
+        return pair_two(runs[0], runs[1], pairs, examined);
     }
     stack.clear();
     let mut bottoms = OpenersBottom::new();
     for run in runs.iter() {
-        let rest = close(*run, stack, &mut bottoms, pairs)?;
+        let rest = close(*run, stack, &mut bottoms, pairs, examined)?;
         keep_open(stack, rest)?;
     }
     Ok(())

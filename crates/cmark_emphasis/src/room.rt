@@ -1,8 +1,10 @@
 //! From the runs of a list of siblings to their slots.
 
-ghost use Rattle.std.specs.Prelude.{◌≡◌, List, [], map, OnOk};
+ghost use Rattle.std.specs.Prelude.{◌≡◌, ◌+◌, ◌*◌, ◌^◌, ◌<◌, ◌≤◌, All, List, [], length, map, OnOk};
 ghost use Rattle.cmark_grammar.specs.Emphasis.{Sibling, StandFrom, places_taken, runs_of};
 ghost use Rattle.cmark_grammar.specs.EmphasisModel.{spans_of};
+ghost use Rattle.cmark_emphasis.specs.Counts.{IsKnown};
+ghost use Rattle.cmark_emphasis.specs.Least.{least_examined};
 ghost use Rattle.cmark_emphasis.specs.Shown.{shown_run};
 ghost use Rattle.cmark_emphasis.specs.Slots.{AreBalanced, AreRuns, read_slots, slots_of};
 
@@ -32,14 +34,19 @@ impl PairingRoom {
 /// Makes the slots of `count` siblings of which these are the delimiter runs, in their order (CommonMark 6.2, GFM 6.5): which
 /// runs pair, and the spans that the pairs become. What `slots` held is gone; where memory is refused, they hold anything.
 ///
-/// The time should grow in proportion to the siblings (`pair_runs`).
+/// `examined` counts the open runs that searches examine, at most fifteen for each run (`pair_runs`).
 pub fn slots_of_runs(
     count: usize,
     runs: &[Run],
     room: &mut PairingRoom,
     slots: &mut Vec<Slot>,
+    examined: &mut u128,
 ) -> Result<(), AllocError>
-    requires { AreRuns count (map shown_run runs.now) }
+    requires known { All IsKnown runs.now }
+    requires room { examined.old < 2 ^ 127 }
+    requires runs { AreRuns count (map shown_run runs.now) }
+    ensures few { examined.new ≤ examined.old + 15 * length runs.now }
+    ensures least { OnOk result (examined.old + least_examined (map shown_run runs.now) ≤ examined.new) }
     ensures spans { OnOk result ((siblings : List Sibling) → StandFrom 0 siblings → places_taken siblings ≡ count
         → runs_of siblings ≡ map shown_run runs.now → slots.new.items ≡ slots_of (spans_of siblings)) }
     ensures says { OnOk result ((siblings : List Sibling) → StandFrom 0 siblings → places_taken siblings ≡ count
@@ -47,7 +54,7 @@ pub fn slots_of_runs(
     ensures balanced { OnOk result (AreBalanced [] slots.new.items) }
 {
     room.pairs.clear();
-    pair_runs(runs, &mut room.stack, &mut room.pairs)?;
+    pair_runs(runs, &mut room.stack, &mut room.pairs, examined)?;
     write_slots(count, &room.pairs, slots)?;
     Ok(())
 }

@@ -17,6 +17,8 @@ pub enum SpanKind {
     DoubleTilde,
     /// One `^` on each side.
     Caret,
+    /// Two `=` on each side.
+    DoubleEquals,
 }
 
 impl SpanKind {
@@ -27,7 +29,7 @@ impl SpanKind {
         ensures most { result ≤ 2 }
     {
         match self {
-            SpanKind::Strong | SpanKind::DoubleTilde => 2,
+            SpanKind::Strong | SpanKind::DoubleTilde | SpanKind::DoubleEquals => 2,
             SpanKind::Emphasis | SpanKind::SingleTilde | SpanKind::Caret => 1,
         }
     }

@@ -95,6 +95,9 @@ module _ (size : ℕ) where
         reads_open all (up_to_run size false run) bytes run at_run
         (run_here run (ap (first_is is_backtick) cut ∙ first_there is_backtick at rest first.0.high first.1) (eq-eqb (backticks run) size (sym is ∙ e)))
 
+    pub run_back : drop (length bytes - length run) bytes ≡ run
+    run_back = rest_back all _ bytes run at_run
+
     pub run_size : (count : ℕ) → count ≡ backticks run → count ≡ size → backticks (drop (length bytes - length run) bytes) ≡ size
     run_size count is e = ap backticks (rest_back all _ bytes run at_run) ∙ sym is ∙ e
 

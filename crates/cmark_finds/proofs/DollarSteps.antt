@@ -12,21 +12,21 @@ use Rattle.cmark_grammar.specs.Letters.{first_is}
 use Rattle.cmark_grammar.specs.Formulas.{Braces, is_dollar, is_ink, no_braces, context_of, behind_byte, braces_behind, closes_formula, formula_to, inline_in, display_in}
 use Rattle.cmark_grammar.specs.LinkDefinitions.{Parsed, put, escapes_next}
 use Rattle.cmark_grammar.specs.Tokens.{slice}
-use Rattle.cmark_finds.specs.Dollars.{IsFormulaAt, dollars_from, dollars_in, closing, braces_at, formula_at, signs_of}
+use Rattle.cmark_finds.specs.Dollars.{IsFormulaAt, dollars_from, dollars_in, closing, braces_at, formula_at, signs_of, stands_before}
 use Rattle.cmark_finds.specs.declared.dollars.Dollar.{Dollar}
 
 -- ## A byte more
 module _ (at : ℕ) (escaped : Bool) (braces : Braces) (b : ℕ) (bs : List ℕ) where
-  abbrev rest : List Dollar
+  abbrev pub rest : List Dollar
   rest = dollars_from (suc at) (escapes_next escaped b) (behind_byte escaped b braces) bs
 
-  abbrev sign : Dollar
+  abbrev pub sign : Dollar
   sign = record { place = at; context = context_of braces; is_escaped = escaped }
 
-  listed-here : is_dollar b ≡ true → dollars_from at escaped braces (b ∷ bs) ≡ sign ∷ rest
+  pub listed-here : is_dollar b ≡ true → dollars_from at escaped braces (b ∷ bs) ≡ sign ∷ rest
   listed-here e = ap (λ t. (if t then sign ∷ [] else []) ++ rest) e
 
-  listed-later : is_dollar b ≡ false → dollars_from at escaped braces (b ∷ bs) ≡ rest
+  pub listed-later : is_dollar b ≡ false → dollars_from at escaped braces (b ∷ bs) ≡ rest
   listed-later e = ap (λ t. (if t then sign ∷ [] else []) ++ rest) e
 
 -- ## What closes stands among the bytes
@@ -214,6 +214,11 @@ module _ (text : List ℕ) where
       let h = opened-one (at + 1) more again in
       subst (Opened at) two (record { low = h.low; within = h.within; sign = h.sign; unescaped = h.unescaped; braces = h.braces ∙ (opened-one at lt is).braces })
 
+  -- the braces in front of the last sign that opens are those in front of the first
+  pub last-braces : (is_display : Bool) (at : ℕ) → at < length text → get_or text at 0 ≡ 36 → braces_at text (at + signs_of is_display - 1) ≡ braces_at text at
+  last-braces true at lt is = ap (braces_at text) (let q : at + 2 - 1 ≡ at + 1 = omega arith in q) ∙ (opened-one at lt is).braces
+  last-braces false at lt is = ap (braces_at text) (let q : at + 1 - 1 ≡ at = omega arith in q)
+
   -- the search from there on, in the text's own places
   abbrev pub found_up_to : (is_display : Bool) → (start p : ℕ) → Option Parsed
   found_up_to is_display start p =
@@ -318,9 +323,6 @@ low-places : (at : ℕ) (escaped : Bool) (braces : Braces) (bs : List ℕ) (k : 
 low-places at escaped braces [] k d lt = absurd (omega (arith, lt))
 low-places at escaped braces (b ∷ bs) k d lt = low-step at escaped braces b bs k d (λ n h. low-places (suc at) (escapes_next escaped b) (behind_byte escaped b braces) bs n d h) lt
 
-abbrev pub stands_before : (place : ℕ) → Dollar → Bool
-stands_before place d = nat_lt d.place place
-
 -- so many dollar signs stand in front of a place, where one stands no further than it
 abbrev pub AreBefore : (place j : ℕ) → List Dollar → Type 0
 AreBefore place j list = prefix_len (stands_before place) list ≡ j + prefix_len (stands_before place) (drop j list)
@@ -358,6 +360,7 @@ some-before at escaped braces (b ∷ bs) place (suc j) d h = before-step at esca
 pub record IsListed (list : List Dollar) (place context : ℕ) (d : Dollar) : Type 0 where
   pub within : prefix_len (stands_before place) list < length list
   pub context_is : (get_or list (prefix_len (stands_before place) list) d).context ≡ context
+  pub place_is : (get_or list (prefix_len (stands_before place) list) d).place ≡ place
 
 listed-step : (at : ℕ) (escaped : Bool) (braces : Braces) (b : ℕ) (bs : List ℕ) (place context k : ℕ) (d : Dollar) → place ≡ at + suc k → IsListed (rest at escaped braces b bs) place context d
     → IsListed (dollars_from at escaped braces (b ∷ bs)) place context d
@@ -373,6 +376,7 @@ listed-step at escaped braces b bs place context k d e deeper = by_byte (is_doll
         record {
           within = omega (arith, front, within);
           context_is = ap (λ n. (get_or (sign at escaped braces b bs ∷ after) n d).context) front ∙ deeper.context_is;
+          place_is = ap (λ n. (get_or (sign at escaped braces b bs ∷ after) n d).place) front ∙ deeper.place_is;
         }
 
     by_byte : (t : Bool) → is_dollar b ≡ t → IsListed (dollars_from at escaped braces (b ∷ bs)) place context d
@@ -387,6 +391,7 @@ listed-at at escaped braces (b ∷ bs) place zero d e lt is =
     subst (λ l. IsListed l place (context_of braces) d) (sym (listed-here at escaped braces b bs (ap is_dollar is))) (record {
       within = omega (arith, front);
       context_is = ap (λ n. (get_or (sign at escaped braces b bs ∷ rest at escaped braces b bs) n d).context) front;
+      place_is = ap (λ n. (get_or (sign at escaped braces b bs ∷ rest at escaped braces b bs) n d).place) front ∙ (let q : at ≡ place = omega (arith, e) in q);
     })
 listed-at at escaped braces (b ∷ bs) place (suc k) d e lt is =
     listed-step at escaped braces b bs place (context_of (braces_behind (escapes_next escaped b) (take k bs) (behind_byte escaped b braces))) k d e

@@ -1,8 +1,8 @@
 -- Where inline HTML ends.
-use Rattle.std.proofs.Common.{◌≡◌, ℕ, suc, ◌+◌, ◌-◌, ◌<◌, Bool, true, false, if◌then◌else◌, List, length, drop, Option, None, Some, refl, sym, ap, ◌∙◌, arith, length-drop, drop-drop}
+use Rattle.std.proofs.Common.{◌≡◌, ◌⊎◌, inl, inr, true≢false, ℕ, suc, ◌+◌, ◌-◌, ◌<◌, Bool, true, false, if◌then◌else◌, List, length, drop, Option, None, Some, refl, sym, ap, ◌∙◌, arith, length-drop, drop-drop}
 use Rattle.std.specs.Prelude.{codes, option_map}
 use Rattle.std.specs.Str.{IsUtf8, IsCharBoundary}
-use Rattle.cmark_grammar.specs.InlineHtml.{Find, opened_in, find_with, comment_find, processing_find, behind_opened, behind_inline_html}
+use Rattle.cmark_grammar.specs.InlineHtml.{opened_in, find_with, comment_find, processing_find, behind_opened, behind_inline_html, behind_markup}
 use Rattle.cmark_grammar.specs.Letters.{starts, behind_first}
 use Rattle.cmark_grammar.specs.Tags.{behind_tag, no_prefix}
 use Rattle.cmark_scan_parts.proofs.Endings.{IsBehind, behind-rest, behind-boundary, tag-behind, opened-behind, processing-behind}
@@ -51,17 +51,17 @@ module _ (text : List ℕ) (at : ℕ) where
     inside : drop (at + 2) text ≡ drop 2 (drop at text)
     inside = sym (drop-drop 2 at text)
 
-    pub markup_value : (bytes : List ℕ) (find : Find) → bytes ≡ text → starts (codes "<!") rest ≡ true → find ≡ comment_find bytes (at + 2) → option_map (λ end. drop end text) find.end ≡ behind_inline_html (drop at text)
-    markup_value bytes find same opens is =
-        ap (λ (f : Find). option_map (λ end. drop end text) f.end) (is ∙ ap (λ bs. comment_find bs (at + 2)) same)
+    pub markup_value : (bytes : List ℕ) (end : Option ℕ) → bytes ≡ text → starts (codes "<!") rest ≡ true → end ≡ (comment_find bytes (at + 2)).end → option_map (λ end. drop end text) end ≡ behind_inline_html (drop at text)
+    markup_value bytes end same opens is =
+        ap (option_map (λ end. drop end text)) (is ∙ ap (λ bs. (comment_find bs (at + 2)).end) same)
         ∙ find_in text (at + 2) (opened_in (drop (at + 2) text)) (opened-behind (drop (at + 2) text))
         ∙ ap (λ bs. behind_opened (opened_in bs)) inside
         ∙ sym (ap (λ t. chosen t (starts (codes "<?") (drop at text))) (ap (starts (codes "<!")) (sym cut) ∙ opens))
 
-    pub instruction_value : (bytes : List ℕ) (find : Find) → bytes ≡ text → starts (codes "<!") rest ≡ false → starts (codes "<?") rest ≡ true → find ≡ processing_find bytes (at + 2)
-        → option_map (λ end. drop end text) find.end ≡ behind_inline_html (drop at text)
-    instruction_value bytes find same other opens is =
-        ap (λ (f : Find). option_map (λ end. drop end text) f.end) (is ∙ ap (λ bs. processing_find bs (at + 2)) same)
+    pub instruction_value : (bytes : List ℕ) (end : Option ℕ) → bytes ≡ text → starts (codes "<!") rest ≡ false → starts (codes "<?") rest ≡ true → end ≡ (processing_find bytes (at + 2)).end
+        → option_map (λ end. drop end text) end ≡ behind_inline_html (drop at text)
+    instruction_value bytes end same other opens is =
+        ap (option_map (λ end. drop end text)) (is ∙ ap (λ bs. (processing_find bs (at + 2)).end) same)
         ∙ find_in text (at + 2) (Some (behind_first (codes "?>") (drop (at + 2) text))) (λ r e. processing-behind (drop (at + 2) text) r cc)
         ∙ ap (behind_first (codes "?>")) inside
         ∙ sym (ap (λ t. chosen t (starts (codes "<?") (drop at text))) (ap (starts (codes "<!")) (sym cut) ∙ other) ∙ ap (chosen false) (ap (starts (codes "<?")) (sym cut) ∙ opens))
@@ -70,3 +70,16 @@ module _ (text : List ℕ) (at : ℕ) where
     other_value r is one two =
         tag_value rest r cut is
         ∙ sym (ap (λ t. chosen t (starts (codes "<?") (drop at text))) (ap (starts (codes "<!")) (sym cut) ∙ one) ∙ ap (chosen false) (ap (starts (codes "<?")) (sym cut) ∙ two))
+
+    -- where markup opens, inline HTML is markup
+    pub is_markup : (opens instructs : Bool) → starts (codes "<!") rest ≡ opens → starts (codes "<?") rest ≡ instructs → (opens ≡ true) ⊎ (instructs ≡ true) → behind_inline_html (drop at text) ≡ behind_markup (drop at text)
+    is_markup true instructs a b h =
+        ap (λ t. chosen t (starts (codes "<?") (drop at text))) (ap (starts (codes "<!")) (sym cut) ∙ a)
+        ∙ sym (ap (λ t. if t then behind_opened (opened_in (drop 2 (drop at text))) else if starts (codes "<?") (drop at text) then behind_first (codes "?>") (drop 2 (drop at text)) else None) (ap (starts (codes "<!")) (sym cut) ∙ a))
+    is_markup false true a b h =
+        ap (λ t. chosen t (starts (codes "<?") (drop at text))) (ap (starts (codes "<!")) (sym cut) ∙ a)
+        ∙ ap (chosen false) (ap (starts (codes "<?")) (sym cut) ∙ b)
+        ∙ sym (ap (λ t. if t then behind_opened (opened_in (drop 2 (drop at text))) else if starts (codes "<?") (drop at text) then behind_first (codes "?>") (drop 2 (drop at text)) else None) (ap (starts (codes "<!")) (sym cut) ∙ a)
+        ∙ ap (λ t. if t then behind_first (codes "?>") (drop 2 (drop at text)) else None) (ap (starts (codes "<?")) (sym cut) ∙ b))
+    is_markup false false a b (inl h) = absurd (true≢false (sym h))
+    is_markup false false a b (inr h) = absurd (true≢false (sym h))

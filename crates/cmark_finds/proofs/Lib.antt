@@ -7,3 +7,5 @@ pub mod PaddingSteps
 pub mod SpecialSteps
 pub mod Listed
 pub mod DollarSteps
+pub mod DollarLinks
+pub mod Visited

@@ -1,9 +1,9 @@
 -- Special bytes are ASCII.
-use Rattle.std.proofs.Common.{◌≡◌, ℕ, ◌+◌, ◌<◌, ◌≤◌, Bool, true, false, ◌==◌, ◌&&◌, ◌||◌, not, List, [], ◌∷◌, ◌++◌, length, drop, get_or, refl, sym, ap, ◌∙◌, arith, ⊎_elim, true≢false, eqb-true, length-drop, cond}
+use Rattle.std.proofs.Common.{◌≡◌, ◌⊎◌, inl, inr, ℕ, zero, suc, ◌+◌, ◌<◌, ◌≤◌, Bool, true, false, ◌==◌, ◌&&◌, ◌||◌, not, List, [], ◌∷◌, ◌++◌, length, drop, get_or, refl, sym, ap, ◌∙◌, arith, ⊎_elim, true≢false, eqb-true, subst, length-drop, drop-cons, set, get_or-set_same, get_or-set_other, cond}
 use Rattle.std.specs.List.{prefix_len, list_any}
 use Rattle.std.specs.Prelude.{codes}
 use Rattle.std.specs.Str.{IsCharBoundary}
-use Rattle.std.proofs.lemmas.Bool.{and_parts, or_cases}
+use Rattle.std.proofs.lemmas.Bool.{and_parts, or_cases, eqb-false}
 use Rattle.std.proofs.Math.Bool.{or-false}
 use Rattle.cmark_scan_parts.proofs.Lists.{or_false}
 use Rattle.std.proofs.lemmas.List.{get_or-drop}
@@ -12,37 +12,123 @@ use Rattle.cmark_grammar.specs.Options.{Options}
 use Rattle.cmark_grammar.specs.SpecialBytes.{is_one_of, is_always_special, is_special}
 use Rattle.cmark_finds.specs.Special.{has_byte, IsTableOf}
 
-abbrev AreAscii : List ℕ → Type 0
-AreAscii [] = Unit {0}
-AreAscii (sign ∷ signs) = (sign < 128) × AreAscii signs
+-- what each sign of a list is
+abbrev pub HaveAll : (P : ℕ → Type 0) → List ℕ → Type 0
+HaveAll P [] = Unit {0}
+HaveAll P (sign ∷ signs) = P sign × HaveAll P signs
 
-one_is_ascii : (signs : List ℕ) (b : ℕ) → AreAscii signs → is_one_of signs b ≡ true → b < 128
-one_is_ascii [] b h e = absurd (true≢false (sym e))
-one_is_ascii (sign ∷ signs) b h e =
-    ⊎_elim (λ x. let is = eqb-true sign b x in let low = h.0 in omega (arith, is, low)) (λ x. one_is_ascii signs b h.1 x) (or_cases (sign == b) (list_any (λ s. s == b) signs) e)
+module _ (P : ℕ → Type 0) where
+  one_has : (signs : List ℕ) (b : ℕ) → HaveAll P signs → is_one_of signs b ≡ true → P b
+  one_has [] b h e = absurd (true≢false (sym e))
+  one_has (sign ∷ signs) b h e = ⊎_elim (λ x. subst P (eqb-true sign b x) h.0) (λ x. one_has signs b h.1 x) (or_cases (sign == b) (list_any (λ s. s == b) signs) e)
 
-always_is_ascii : (b : ℕ) → is_always_special b ≡ true → b < 128
-always_is_ascii b e =
-    one_is_ascii (codes "\n\r*_&\\[]<!`") b
-    (omega arith, (omega arith, (omega arith, (omega arith, (omega arith, (omega arith, (omega arith, (omega arith, (omega arith, (omega arith, (omega arith, tt))))))))))) e
+  -- one sign of an extension
+  if_one : (on : Bool) (b sign : ℕ) → P sign → (on && (b == sign)) ≡ true → P b
+  if_one on b sign h e = subst P (sym (eqb-true b sign (and_parts on (b == sign) e).1)) h
 
--- one sign of an extension
-if_one : (on : Bool) (b sign : ℕ) → sign < 128 → (on && (b == sign)) ≡ true → b < 128
-if_one on b sign low e = let is = eqb-true b sign (and_parts on (b == sign) e).1 in omega (arith, is, low)
+  if_any : (on : Bool) (signs : List ℕ) (b : ℕ) → HaveAll P signs → (on && is_one_of signs b) ≡ true → P b
+  if_any on signs b h e = one_has signs b h (and_parts on (is_one_of signs b) e).1
+
+  -- what is true of each sign that the definition names is true of each special byte
+  special_has : HaveAll P (codes "\n\r*_&\\[]<!`") → HaveAll P (codes "|~^=") → HaveAll P (codes "${}") → HaveAll P (codes ".-\"'")
+      → (o : Options) (b : ℕ) → is_special o b ≡ true → P b
+  special_has always single math smart o b e =
+      ⊎_elim (one_has (codes "\n\r*_&\\[]<!`") b always)
+      (λ x. ⊎_elim (if_one o.tables b 124 single.0)
+      (λ y. ⊎_elim (if_one (o.strikethrough || o.subscript) b 126 single.1.0)
+      (λ z. ⊎_elim (if_one o.superscript b 94 single.1.1.0)
+      (λ w. ⊎_elim (if_one o.highlight b 61 single.1.1.1.0)
+      (λ u. ⊎_elim (if_any o.math (codes "${}") b math) (if_any o.smart_punctuation (codes ".-\"'") b smart) (or_cases _ _ u))
+      (or_cases _ _ w))
+      (or_cases _ _ z))
+      (or_cases _ _ y))
+      (or_cases _ _ x))
+      (or_cases _ _ e)
 
 pub special_is_ascii : (o : Options) (b : ℕ) → is_special o b ≡ true → b < 128
-special_is_ascii o b e =
-    ⊎_elim (always_is_ascii b)
-    (λ x. ⊎_elim (if_one o.tables b 124 (omega arith))
-    (λ y. ⊎_elim (if_one (o.strikethrough || o.subscript) b 126 (omega arith))
-    (λ z. ⊎_elim (if_one o.superscript b 94 (omega arith))
-    (λ u. ⊎_elim (λ v. one_is_ascii (codes "${}") b (omega arith, (omega arith, (omega arith, tt))) (and_parts o.math (is_one_of (codes "${}") b) v).1)
-    (λ v. one_is_ascii (codes ".-\"'") b (omega arith, (omega arith, (omega arith, (omega arith, tt)))) (and_parts o.smart_punctuation (is_one_of (codes ".-\"'") b) v).1)
-    (or_cases _ _ u))
-    (or_cases _ _ z))
-    (or_cases _ _ y))
-    (or_cases _ _ x))
-    (or_cases _ _ e)
+special_is_ascii =
+    special_has (λ b. b < 128)
+    (omega arith, (omega arith, (omega arith, (omega arith, (omega arith, (omega arith, (omega arith, (omega arith, (omega arith, (omega arith, (omega arith, tt)))))))))))
+    (omega arith, (omega arith, (omega arith, (omega arith, tt))))
+    (omega arith, (omega arith, (omega arith, tt)))
+    (omega arith, (omega arith, (omega arith, (omega arith, tt))))
+
+-- the bytes that are special under some options
+abbrev pub may_be_special : List ℕ
+may_be_special = codes "\n\r*_&\\[]<!`|~^=${}.-\"'"
+
+-- a byte that is none of them is special under no options
+pub plain_is_not_special : (o : Options) (b : ℕ) → is_one_of may_be_special b ≡ false → is_special o b ≡ false
+plain_is_not_special o b e = go (is_special o b) refl
+  where
+    listed : is_special o b ≡ true → is_one_of may_be_special b ≡ true
+    listed =
+        special_has (λ c. is_one_of may_be_special c ≡ true)
+        (refl, (refl, (refl, (refl, (refl, (refl, (refl, (refl, (refl, (refl, (refl, tt)))))))))))
+        (refl, (refl, (refl, (refl, tt))))
+        (refl, (refl, (refl, tt)))
+        (refl, (refl, (refl, (refl, tt)))) o b
+
+    go : (is : Bool) → is_special o b ≡ is → is_special o b ≡ false
+    go true h = absurd (true≢false (sym (listed h) ∙ e))
+    go false h = h
+
+is_byte : (n : ℕ) → get_or may_be_special n 0 < 256
+is_byte n = go may_be_special n
+    (omega arith, (omega arith, (omega arith, (omega arith, (omega arith, (omega arith, (omega arith, (omega arith, (omega arith, (omega arith, (omega arith, (omega arith, (omega arith, (omega arith, (omega arith, (omega arith, (omega arith, (omega arith, (omega arith, (omega arith, (omega arith, (omega arith, tt))))))))))))))))))))))
+  where
+    go : (signs : List ℕ) (n : ℕ) → HaveAll (λ sign. sign < 256) signs → get_or signs n 0 < 256
+    go [] n h = omega arith
+    go (sign ∷ signs) zero h = h.0
+    go (sign ∷ signs) (suc n) h = go signs n h.1
+
+-- a table that is right for all bytes but those that are to come, with one more of them
+pub marked : (o : Options) (table : List Bool) (i k : ℕ) (is : Bool) → i < 22 → length table ≡ 256 → is ≡ is_special o (get_or may_be_special i 0)
+    → (is_one_of (drop i may_be_special) k ≡ false → has_byte table k ≡ is_special o k)
+    → is_one_of (drop (i + 1) may_be_special) k ≡ false → has_byte (set table (get_or may_be_special i 0) is) k ≡ is_special o k
+marked o table i k is lt size told before after = go (sign == k) refl
+  where
+    sign : ℕ
+    sign = get_or may_be_special i 0
+
+    parts : drop i may_be_special ≡ sign ∷ drop (i + 1) may_be_special
+    parts = drop-cons may_be_special i 0 lt ∙ ap (λ n. sign ∷ drop n may_be_special) (let e : suc i ≡ i + 1 = omega arith in e)
+
+    low : sign < length table
+    low = let n = is_byte i in omega (arith, size, n)
+
+    go : (same : Bool) → (sign == k) ≡ same → has_byte (set table sign is) k ≡ is_special o k
+    go true h = subst (λ n. has_byte (set table sign is) n ≡ is_special o n) (eqb-true sign k h) (get_or-set_same table sign is false low ∙ told)
+    go false h =
+        get_or-set_other table sign k is false (λ e. eqb-false sign k h (sym e))
+        ∙ before (ap (λ signs. is_one_of signs k) parts ∙ ap (λ b. b || is_one_of (drop (i + 1) may_be_special) k) h ∙ after)
+
+-- a byte of typographic punctuation is special with it alone
+off : (x : Bool) → (x && false) ≡ false
+off true = refl
+off false = refl
+
+on : (x : Bool) → (x && true) ≡ x
+on true = refl
+on false = refl
+
+alone : (t w c h m s : Bool) → ((t && false) || ((w && false) || ((c && false) || ((h && false) || ((m && false) || (s && true)))))) ≡ s
+alone t w c h m s = rw (off t, off w, off c, off h, off m, on s) refl
+
+pub smart_alone : (o : Options) (b : ℕ) → ((b ≡ 46) ⊎ (b ≡ 45)) ⊎ ((b ≡ 34) ⊎ (b ≡ 39)) → is_special o b ≡ o.smart_punctuation
+smart_alone o b is = go is
+  where
+    same : (n : ℕ) → is_special o n ≡ o.smart_punctuation → b ≡ n → is_special o b ≡ o.smart_punctuation
+    same n h e = ap (is_special o) e ∙ h
+
+    one : ((o.tables && false) || (((o.strikethrough || o.subscript) && false) || ((o.superscript && false) || ((o.highlight && false) || ((o.math && false) || (o.smart_punctuation && true)))))) ≡ o.smart_punctuation
+    one = alone o.tables (o.strikethrough || o.subscript) o.superscript o.highlight o.math o.smart_punctuation
+
+    go : ((b ≡ 46) ⊎ (b ≡ 45)) ⊎ ((b ≡ 34) ⊎ (b ≡ 39)) → is_special o b ≡ o.smart_punctuation
+    go (inl (inl e)) = same 46 one e
+    go (inl (inr e)) = same 45 one e
+    go (inr (inl e)) = same 34 one e
+    go (inr (inr e)) = same 39 one e
 
 -- where the first special byte stands
 pub next_boundary : (o : Options) (table : List Bool) (bytes : List ℕ) (at size : ℕ) → IsTableOf o table → ((i : ℕ) → get_or bytes i 0 < 256) → at ≤ length bytes

@@ -1,5 +1,6 @@
 -- The dollar signs of a text, and which of them close a formula (this profile's own).
-use Rattle.std.specs.Prelude.{◌≡◌, ℕ, suc, ◌+◌, ◌≤◌, Bool, true, false, not, ◌==◌, ◌&&◌, nat_le, if◌then◌else◌, List, [], ◌∷◌, ◌++◌, take, drop, reverse, Option, Some, None}
+use Rattle.std.specs.Prelude.{◌≡◌, ℕ, suc, ◌+◌, ◌-◌, ◌*◌, ◌<◌, ◌≤◌, Bool, true, false, not, ◌==◌, ◌&&◌, nat_le, nat_lt, if◌then◌else◌, List, [], ◌∷◌, ◌++◌, take, drop, reverse, length, get_or, Option, Some, None}
+use Rattle.std.specs.List.{prefix_len}
 use Rattle.std.specs.Str.{IsCharBoundary}
 use Rattle.cmark_grammar.specs.Formulas as grammar
 use Rattle.cmark_grammar.specs.Formulas.{is_dollar, no_braces, context_of, behind_byte, braces_behind, inline_in, display_in}
@@ -27,9 +28,41 @@ dollars_from at escaped braces (b ∷ bs) = dollar_here at escaped braces b ++ d
 abbrev pub dollars_in : (text : List ℕ) → List Dollar
 dollars_in text = dollars_from 0 false no_braces text
 
+-- a dollar sign closes nothing in this context
+abbrev pub is_passed_in : (context : ℕ) → Dollar → Bool
+is_passed_in context d = not (not d.is_escaped && (d.context == context))
+
+-- each of these dollar signs has the index of the next one that may close what it opens
+pub record AreLinks (listed : List Dollar) (links : List ℕ) : Type 0 where
+  pub whole : length links ≡ length listed
+  pub each : (i : ℕ) (d : Dollar) → i < length listed → get_or links i 0 ≡ i + 1 + prefix_len (is_passed_in (get_or listed i d).context) (drop (i + 1) listed)
+
 -- the table is that of this text, once it is listed
+pub record AreListed (text : List ℕ) (dollars : Dollars) : Type 0 where
+  pub dollars_are : dollars.listed.items ≡ dollars_in text
+  pub links : AreLinks (dollars_in text) dollars.following.items
+
 abbrev pub AreDollarsOf : (text : List ℕ) → Dollars → Type 0
-AreDollarsOf text dollars = dollars.is_listed ≡ true → dollars.listed.items ≡ dollars_in text
+AreDollarsOf text dollars = dollars.is_listed ≡ true → AreListed text dollars
+
+-- ## How many dollar signs are visited
+
+abbrev pub stands_before : (place : ℕ) → Dollar → Bool
+stands_before place d = nat_lt d.place place
+
+-- the dollar sign that was asked for last stands no further than a place from which on others are asked for
+abbrev pub IsReached : (text : List ℕ) → (at : ℕ) → Dollars → Type 0
+IsReached text at dollars = dollars.is_listed ≡ true → dollars.reached ≤ prefix_len (stands_before at) (dollars_in text)
+
+-- at most so many are still visited where formulas are sought from a place of the text on, in turn: each of them twice to list them, and
+-- once to find one by its place; and for each byte one that may close
+abbrev pub may_visit : (text : List ℕ) → (at : ℕ) → Dollars → ℕ
+may_visit text at dollars = (if dollars.is_listed then length (dollars_in text) - dollars.reached else 3 * length text) + (length text - at)
+
+-- the table is listed: nothing changes if it was, else all dollar signs are visited twice
+pub record Lists (text : List ℕ) (old new : Dollars) : Type 0 where
+  pub was : old.is_listed ≡ true → (new.visited ≡ old.visited) × (new.reached ≡ old.reached)
+  pub made : old.is_listed ≡ false → (new.visited ≡ old.visited + length (dollars_in text) + length (dollars_in text)) × (new.reached ≡ 0)
 
 -- the place of the first of these dollar signs from a place on that no backslash escapes and that stands in this context
 abbrev pub closing : (from context : ℕ) → List Dollar → Option ℕ

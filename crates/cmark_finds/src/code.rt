@@ -1,11 +1,12 @@
 //! Code spans (CommonMark 6.1).
 
-ghost use Rattle.std.specs.Prelude.{◌≡◌, ◌≤◌, not, count_by, None, false, true, length, drop, take, IfOk, IsOk, IfSome, option_map};
+ghost use Rattle.std.specs.Prelude.{◌≡◌, ◌≤◌, ◌<◌, ◌+◌, ◌-◌, ◌^◌, MatchOption, not, count_by, None, false, true, length, drop, take, IfOk, IsOk, IfSome, option_map};
 ghost use Rattle.std.specs.Str.{IsCharBoundary};
 ghost use Rattle.cmark_grammar.specs.CodeSpans.{backticks, up_to_run, code_in, is_space, is_padded, without_padding, code_text};
 ghost use Rattle.cmark_grammar.specs.InlineHtml.{takes_lines};
 ghost use Rattle.cmark_text_parts.specs.Shown.{text_bytes};
 ghost use Rattle.cmark_text_parts.specs.Lending.{IsBorrowed, IsPartIfBorrowed, IsPartOf};
+ghost use Rattle.cmark_finds.specs.Backticks.{runs_in};
 ghost use Rattle.cmark_finds.specs.Shown.{shown_code, IsCodeAt, ClosesFirst};
 
 use crate::line_end::{has_line_ending, with_line_ends};
@@ -32,8 +33,12 @@ pub(crate) fn backticks(bytes: &[u8]) -> usize
     bytes.iter().take_while(|byte| **byte == b'`').count()
 }
 
-/// Where the first run of exactly so many backticks begins.
-fn find_run(bytes: &[u8], size: usize) -> Option<usize>
+/// Where the first run of exactly so many backticks begins. `visited` counts the runs that are looked at, this one among them.
+fn find_run(bytes: &[u8], size: usize, visited: &mut u128) -> Option<usize>
+    requires { visited.old + length bytes.now < 2 ^ 128 }
+    ensures counts { MatchOption result (visited.new ≡ visited.old + runs_in false bytes.now) (λ at. visited.new + runs_in false (drop at bytes.now) ≡ visited.old + runs_in false bytes.now + 1) }
+    ensures least { IfSome result (λ at. visited.old < visited.new) }
+    ensures grows { visited.old ≤ visited.new }
     ensures value { option_map (λ at. record { bytes = take at bytes.now; behind = drop at bytes.now }) result ≡ up_to_run size false bytes.now }
     ensures within { IfSome result (λ at. at ≤ length bytes.now) }
     ensures run { IfSome result (λ at. backticks (drop at bytes.now) ≡ size) }
@@ -42,6 +47,7 @@ fn find_run(bytes: &[u8], size: usize) -> Option<usize>
     while let Some(at) = find_backtick(rest) {
         let run = &rest[at..];
         let count = backticks(run);
+        *visited += 1;
         if count == size {
             return Some(bytes.len() - run.len());
         }
@@ -51,9 +57,15 @@ fn find_run(bytes: &[u8], size: usize) -> Option<usize>
 }
 
 /// The code span whose opening run of backticks stands at this place of the text (CommonMark 6.1): it is closed by the first
-/// later run of exactly as many. `None` where no backtick stands there, and where no such run follows.
-pub fn code_span(text: &str, at: usize) -> Option<CodeSpan>
-    requires { IsCharBoundary text.now at }
+/// later run of exactly as many. `None` where no backtick stands there, and where no such run follows. `visited` counts the runs that
+/// are looked at.
+pub fn code_span(text: &str, at: usize, visited: &mut u128) -> Option<CodeSpan>
+    requires place { IsCharBoundary text.now at }
+    requires room { visited.old + length text.now < 2 ^ 128 }
+    ensures few { visited.new ≤ visited.old + (length text.now - at) }
+    ensures found { IfSome result (λ span. visited.new < visited.old + (span.end - at)) }
+    ensures least { IfSome result (λ span. visited.old < visited.new) }
+    ensures grows { visited.old ≤ visited.new }
     ensures value { option_map (shown_code text.now) result ≡ code_in (drop at text.now) }
     ensures places { IfSome result (IsCodeAt text.now at) }
     ensures first { IfSome result (ClosesFirst text.now at) }
@@ -63,7 +75,7 @@ pub fn code_span(text: &str, at: usize) -> Option<CodeSpan>
     if size == 0 {
         return None;
     }
-    let content = find_run(&run[size..], size)?;
+    let content = find_run(&run[size..], size, visited)?;
     let content_start = at + size;
     let content_end = content_start + content;
     Some(CodeSpan {

@@ -1,12 +1,12 @@
 //! Formulas between dollar signs (this profile's own).
 
-ghost use Rattle.std.specs.Prelude.{◌≡◌, ◌<◌, ◌≤◌, ◌+◌, ◌-◌, ◌++◌, ◌||◌, true, ℕ, List, length, drop, slice_index, get_or, nat_lt, IfOk, IfSome, OnOk, Some, None, if◌then◌else◌, option_map};
+ghost use Rattle.std.specs.Prelude.{◌≡◌, ◌<◌, ◌≤◌, ◌+◌, ◌-◌, ◌^◌, ◌++◌, ◌||◌, ◌==◌, true, false, ℕ, List, length, drop, slice_index, slice_get, get_or, IfOk, IfSome, OnErr, OnOk, Some, None, if◌then◌else◌, option_map};
 ghost use Rattle.std.specs.List.{prefix_len};
 ghost use Rattle.std.specs.Str.{IsCharBoundary};
 ghost use Rattle.cmark_grammar.specs.Formulas.{is_dollar, is_ink, context_of, closes_formula};
 ghost use Rattle.cmark_grammar.specs.Letters.{first_is};
 ghost use Rattle.cmark_grammar.specs.Tokens.{slice};
-ghost use Rattle.cmark_finds.specs.Dollars.{AreDollarsOf, IsFormulaAt, braces_at, closing, dollar_here, dollars_in, formula_at, shown_braces, shown_formula, signs_of};
+ghost use Rattle.cmark_finds.specs.Dollars.{AreDollarsOf, AreLinks, IsFormulaAt, IsReached, Lists, braces_at, closing, dollar_here, dollars_in, formula_at, may_visit, shown_braces, shown_formula, signs_of, stands_before};
 
 use crate::braces::Braces;
 use cmark_scan_parts::bytes::escapes_next;
@@ -40,21 +40,30 @@ struct Dollar {
 pub struct Dollars {
     alloc: Global,
     listed: Vec<Dollar>,
+    /// For each of them the index of the next one of its context that no backslash escapes; their number, where there is none.
+    following: Vec<usize>,
     is_listed: bool,
     /// The index of the dollar sign that was asked for last.
     reached: usize,
+    /// How many dollar signs were visited: all of them twice to list them, and then in searches.
+    pub visited: u128,
 }
 
 impl Dollars {
     /// The dollar signs of a text in which no formula was sought yet. They take no memory.
     pub fn new(alloc: Global) -> Dollars
-        ensures { (text : List ℕ) → AreDollarsOf text result }
+        ensures dollars { (text : List ℕ) → AreDollarsOf text result }
+        ensures reached { (text : List ℕ) (at : ℕ) → IsReached text at result }
+        ensures visited { result.visited ≡ 0 }
+        ensures listed { result.is_listed ≡ false }
     {
         Dollars {
             alloc,
             listed: Vec::new(alloc),
+            following: Vec::new(alloc),
             is_listed: false,
             reached: 0,
+            visited: 0,
         }
     }
 
@@ -62,11 +71,18 @@ impl Dollars {
     /// space, and in front of another dollar sign a display. The first later dollar sign of the same context of braces that no
     /// backslash escapes decides: behind a byte that is no white space it closes a formula in the line, in front of another one a
     /// display. `None` where it does not. All calls must be made with the same text. Fails only where memory is refused.
+    // Few texts have formulas. Inlined, this makes the function that reads a span so large that it is not inlined into its loop.
+    #[inline(never)]
     pub fn formula(&mut self, text: &str, at: usize) -> Result<Option<Formula>, AllocError>
         requires within { at < length text.now }
         requires dollar { slice_index text.now at ≡ 36 }
         requires dollars { AreDollarsOf text.now self.old }
+        requires room { self.old.visited < 2 ^ 127 }
         ensures dollars { AreDollarsOf text.now self.new }
+        ensures reached { IsReached text.now at self.old → IsReached text.now (at + 1) self.new }
+        ensures pays { IsReached text.now at self.old → self.new.visited + may_visit text.now (at + 1) self.new ≤ self.old.visited + may_visit text.now at self.old }
+        ensures least { IfOk result (λ found. IfSome found (λ formula. self.old.visited < self.new.visited)) }
+        ensures grows { self.old.visited ≤ self.new.visited }
         ensures value { IfOk result (λ found. option_map (shown_formula text.now) found ≡ formula_at text.now at) }
         ensures kind { IfOk result (λ found. IfSome found (λ formula. formula.is_display ≡ first_is is_dollar (drop (at + 1) text.now))) }
         ensures places { IfOk result (λ found. IfSome found (IsFormulaAt text.now at)) }
@@ -78,7 +94,7 @@ impl Dollars {
         }
         self.list(text)?;
         let content_start = at + signs_of(is_display);
-        let Some(closer) = self.closer(text, at, content_start) else {
+        let Some(closer) = self.closer(text, content_start - 1) else {
             return Ok(None);
         };
         Ok(formula_up_to(text, content_start, closer, is_display))
@@ -86,75 +102,142 @@ impl Dollars {
 
     /// Lists the dollar signs, unless they are listed.
     fn list(&mut self, text: &str) -> Result<(), AllocError>
-        requires { AreDollarsOf text.now self.old }
+        requires dollars { AreDollarsOf text.now self.old }
+        requires room { self.old.visited < 2 ^ 127 }
         ensures dollars { AreDollarsOf text.now self.new }
-        ensures listed { OnOk result (self.new.listed.items ≡ dollars_in text.now) }
+        ensures listed { OnOk result (self.new.is_listed ≡ true) }
+        ensures counts { OnOk result (Lists text.now self.old self.new) }
+        ensures grows { self.old.visited ≤ self.new.visited }
+        ensures none { OnErr result ((self.new.visited ≡ self.old.visited) × (self.new.is_listed ≡ false) × (self.old.is_listed ≡ false)) }
     {
-        if !self.is_listed {
-            self.listed = list_dollars(self.alloc, text.as_bytes())?;
-            self.is_listed = true;
+        if self.is_listed {
+            return Ok(());
         }
+        self.listed = list_dollars(self.alloc, text.as_bytes())?;
+        self.following = link_dollars(self.alloc, &self.listed)?;
+        self.visited += self.listed.len() as u128;
+        self.visited += self.listed.len() as u128;
+        self.reached = 0;
+        self.is_listed = true;
         Ok(())
     }
 
-    /// The place of the first dollar sign from a place on that closes what the one at `at` opens, if any does.
-    fn closer(&mut self, text: &str, at: usize, from: usize) -> Option<usize>
-        requires listed { self.old.listed.items ≡ dollars_in text.now }
+    /// The place of the first later dollar sign of the same context of braces as the one at this place that no backslash escapes, if there
+    /// is one.
+    fn closer(&mut self, text: &str, at: usize) -> Option<usize>
+        requires dollars { AreDollarsOf text.now self.old }
+        requires listed { self.old.is_listed ≡ true }
         requires within { at < length text.now }
         requires dollar { slice_index text.now at ≡ 36 }
-        requires behind { at < from }
-        ensures value { result ≡ closing from (context_of (braces_at text.now at)) (dollars_in text.now) }
-        ensures listed { self.new.listed ≡ self.old.listed }
-        ensures same { self.new.is_listed ≡ self.old.is_listed }
+        requires room { self.old.visited < 2 ^ 127 + 2 ^ 100 }
+        ensures value { result ≡ closing (at + 1) (context_of (braces_at text.now at)) (dollars_in text.now) }
+        ensures dollars { AreDollarsOf text.now self.new }
+        ensures listed { self.new.is_listed ≡ true }
+        ensures reached { self.new.reached ≡ prefix_len (stands_before at) (dollars_in text.now) }
+        ensures within { self.new.reached < length (dollars_in text.now) }
+        ensures pays { IsReached text.now at self.old → self.new.visited + self.old.reached ≡ self.old.visited + self.new.reached + 1 }
+        ensures least { self.old.visited < self.new.visited }
     {
-        let index = self.index_of(text, at);
+        let first = self.first_index(text, at);
+        let index = self.index_of(text, at, first);
+        self.visited += (index - first) as u128;
+        self.visited += 1;
         self.reached = index;
-        self.closer_behind(index, from, self.listed[index].context)
+        self.place(self.following[index])
     }
 
-    /// The index of the dollar sign at this place. Dollar signs are mostly asked for in turn.
-    fn index_of(&self, text: &str, at: usize) -> usize
+    /// The place of the dollar sign with this index, if there is one.
+    fn place(&self, index: usize) -> Option<usize>
+        ensures { result ≡ option_map (λ d. d.place) (slice_get self.now.listed.items index) }
+    {
+        if index < self.listed.len() {
+            Some(self.listed[index].place)
+        } else {
+            None
+        }
+    }
+
+    /// The index of the dollar sign at this place, sought from one on in front of which none stands behind it. Dollar signs are mostly
+    /// asked for in turn.
+    fn index_of(&self, text: &str, at: usize, first: usize) -> usize
         requires listed { self.now.listed.items ≡ dollars_in text.now }
         requires within { at < length text.now }
         requires dollar { slice_index text.now at ≡ 36 }
-        ensures value { result ≡ prefix_len (λ d. nat_lt d.place at) self.now.listed.items }
+        requires first { prefix_len (stands_before at) self.now.listed.items ≡ first + prefix_len (stands_before at) (drop first self.now.listed.items) }
+        requires first_within { first ≤ length self.now.listed.items }
+        ensures value { result ≡ prefix_len (stands_before at) self.now.listed.items }
         ensures within { result < length self.now.listed.items }
+        ensures order { first ≤ result }
     {
-        let mut index = self.first_index(text, at);
+        let mut index = first;
         while index < self.listed.len() && self.listed[index].place < at {
             index += 1;
         }
         index
     }
 
-    /// An index in front of which no dollar sign stands behind this place.
+    /// An index in front of which no dollar sign stands behind this place: that of the dollar sign that was asked for last, if it stands no
+    /// further.
     fn first_index(&self, text: &str, at: usize) -> usize
-        requires { self.now.listed.items ≡ dollars_in text.now }
-        ensures value { prefix_len (λ d. nat_lt d.place at) self.now.listed.items ≡ result + prefix_len (λ d. nat_lt d.place at) (drop result self.now.listed.items) }
+        requires listed { self.now.listed.items ≡ dollars_in text.now }
+        requires within { at < length text.now }
+        requires dollar { slice_index text.now at ≡ 36 }
+        ensures value { prefix_len (stands_before at) self.now.listed.items ≡ result + prefix_len (stands_before at) (drop result self.now.listed.items) }
         ensures within { result ≤ length self.now.listed.items }
+        ensures reached { self.now.reached ≤ prefix_len (stands_before at) (dollars_in text.now) → result ≡ self.now.reached }
     {
         if self.reached < self.listed.len() && self.listed[self.reached].place <= at {
             return self.reached;
         }
         0
     }
+}
 
-    /// The place of the first dollar sign from an index on that stands from a place on in this context, unescaped. Those of a context
-    /// are passed over by searches for it once, and there are 256 contexts.
-    fn closer_behind(&self, index: usize, from: usize, context: u8) -> Option<usize>
-        requires { index ≤ length self.now.listed.items }
-        ensures { result ≡ closing from context (drop index self.now.listed.items) }
-    {
-        let mut next = index;
-        while next < self.listed.len() {
-            let dollar = self.listed[next];
-            if dollar.place >= from && !dollar.is_escaped && dollar.context == context {
-                return Some(dollar.place);
-            }
-            next += 1;
+/// For each of these dollar signs the index of the next one of its context that no backslash escapes; their number, where there is none.
+fn link_dollars(alloc: Global, listed: &[Dollar]) -> Result<Vec<usize>, AllocError>
+    ensures { IfOk result (λ links. AreLinks listed.now links.items) }
+{
+    let count = listed.len();
+    let mut links = Vec::new(alloc);
+    links.resize(count, count)?;
+    let mut heads = Vec::new(alloc);
+    let mut index = count;
+    while index > 0 {
+        index -= 1;
+        let dollar = listed[index];
+        links[index] = head_of(&heads, dollar.context as usize, count);
+        if !dollar.is_escaped {
+            set_head(&mut heads, dollar.context as usize, index, count)?;
         }
-        None
     }
+    Ok(links)
+}
+
+/// The head of a context: `none`, where the table has none.
+fn head_of(heads: &[usize], context: usize, none: usize) -> usize
+    ensures { result ≡ get_or heads.now context none }
+{
+    if context < heads.len() {
+        heads[context]
+    } else {
+        none
+    }
+}
+
+/// Sets the head of a context. The table goes no further than to the greatest context that has one, and has `none` for the others.
+fn set_head(
+    heads: &mut Vec<usize>,
+    context: usize,
+    index: usize,
+    none: usize,
+) -> Result<(), AllocError>
+    ensures { OnOk result ((k : ℕ) → get_or heads.new.items k none ≡ (if k == context then index else get_or heads.old.items k none)) }
+{
+    while heads.len() <= context {
+        heads.push(none)?;
+    }
+    heads[context] = index;
+    Ok(())
 }
 
 /// The dollar signs of a text.

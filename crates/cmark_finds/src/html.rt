@@ -1,11 +1,14 @@
 //! Inline HTML (CommonMark 6.6).
 
-ghost use Rattle.std.specs.Prelude.{◌≡◌, ◌<◌, ◌≤◌, true, length, drop, IfSome, option_map};
+ghost use Rattle.std.specs.Prelude.{◌≡◌, ℕ, ◌+◌, ◌<◌, ◌≤◌, true, length, drop, IfSome, MatchOption, option_map};
 ghost use Rattle.std.specs.Str.{IsCharBoundary};
-ghost use Rattle.cmark_grammar.specs.InlineHtml.{behind_inline_html};
+ghost use Rattle.cmark_grammar.specs.InlineHtml.{behind_inline_html, behind_markup};
 ghost use Rattle.cmark_grammar.specs.Letters.{starts};
+ghost use Rattle.cmark_scan_parts.specs.Guards.{AreMarks, may_pass};
 
-use cmark_scan_parts::{scan_inline_html_comment, scan_inline_html_processing, scan_tag};
+use cmark_scan_parts::{
+    HtmlFind, HtmlScanGuard, scan_inline_html_comment, scan_inline_html_processing, scan_tag,
+};
 
 /// Whether these bytes stand in front.
 fn starts(bytes: &[u8], prefix: &[u8]) -> bool
@@ -26,11 +29,37 @@ pub fn inline_html(text: &str, at: usize) -> Option<usize>
     let bytes = text.as_bytes();
     let rest = &bytes[at..];
     if starts(rest, b"<!") {
-        return scan_inline_html_comment(bytes, at + 2).end;
+        return scan_inline_html_comment(bytes, at + 2, &mut HtmlScanGuard::default()).end;
     }
     if starts(rest, b"<?") {
-        return scan_inline_html_processing(bytes, at + 2).end;
+        return scan_inline_html_processing(bytes, at + 2, &mut HtmlScanGuard::default()).end;
     }
     let behind = scan_tag(rest)?;
     Some(bytes.len() - behind.len())
+}
+
+/// The find of the comment, processing instruction, declaration or CDATA section whose `<` stands at this place of the text (CommonMark
+/// 6.6); where no such thing opens there by its first two bytes, nothing is passed. `guard` has the marks of this text.
+pub fn inline_markup(text: &str, at: usize, guard: &mut HtmlScanGuard) -> HtmlFind
+    requires place { IsCharBoundary text.now at }
+    requires marks { AreMarks text.now (at + 2) guard.old }
+    ensures value { option_map (λ end. drop end text.now) result.end ≡ behind_markup (drop at text.now) }
+    ensures passed { IfSome result.end (λ end. at + 2 + result.passed ≡ end) }
+    ensures ends { IfSome result.end (λ end. IsCharBoundary text.now end) }
+    ensures marks { (later : ℕ) → at + 2 ≤ later → AreMarks text.now later guard.new }
+    ensures few { result.passed ≤ length text.now }
+    ensures pays { MatchOption result.end (result.passed + may_pass (length text.now) (length text.now) guard.new ≤ 7 + may_pass (length text.now) (length text.now) guard.old) (λ end. guard.new ≡ guard.old) }
+{
+    let bytes = text.as_bytes();
+    let rest = &bytes[at..];
+    if starts(rest, b"<!") {
+        return scan_inline_html_comment(bytes, at + 2, guard);
+    }
+    if starts(rest, b"<?") {
+        return scan_inline_html_processing(bytes, at + 2, guard);
+    }
+    HtmlFind {
+        end: None,
+        passed: 0,
+    }
 }

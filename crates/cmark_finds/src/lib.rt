@@ -17,6 +17,6 @@ mod special;
 pub use backtick_runs::BacktickRuns;
 pub use code::{CodeSpan, code_part, code_span, code_text};
 pub use dollars::{Dollars, Formula};
-pub use html::inline_html;
+pub use html::{inline_html, inline_markup};
 pub use line_end::has_line_ending;
 pub use special::{LoopInstruction, iterate_special_bytes, next_special, special_bytes};

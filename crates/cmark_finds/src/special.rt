@@ -11,6 +11,9 @@ ghost use Rattle.cmark_finds.specs.Special.{has_byte, IsTableOf, next_in, Iterat
 use bitflags::Flags;
 use cmark_text_parts::Options;
 
+/// The bytes that are special under some options.
+const MAY_BE_SPECIAL: &[u8; 22] = b"\n\r*_&\\[]<!`|~^=${}.-\"'";
+
 /// What a callback answers about a special byte.
 #[derive(Drop)]
 pub enum LoopInstruction<T> {
@@ -41,6 +44,7 @@ fn is_special(options: Options, byte: u8) -> bool
                 || options.contains(Options::ENABLE_SUBSCRIPT)
         }
         b'^' => options.contains(Options::ENABLE_SUPERSCRIPT),
+        b'=' => options.contains(Options::ENABLE_HIGHLIGHT),
         b'$' | b'{' | b'}' => options.contains(Options::ENABLE_MATH),
         b'.' | b'-' | b'"' | b'\'' => options.contains(Options::ENABLE_SMART_PUNCTUATION),
         _ => is_always_special(byte),
@@ -48,14 +52,14 @@ fn is_special(options: Options, byte: u8) -> bool
 }
 
 /// The table of special bytes: true at line feed, carriage return, `*`, `_`, `&`, backslash, `[`, `]`, `<`, `!` and backtick; at
-/// `|` with tables, `~` with strikethrough or subscript, `^` with superscript, `$`, `{` and `}` with math, and at `.`, `-`
+/// `|` with tables, `~` with strikethrough or subscript, `^` with superscript, `=` with highlight, `$`, `{` and `}` with math, and at `.`, `-`
 /// and both quotes with smart punctuation.
 pub fn special_bytes(options: Options) -> [bool; 256]
     ensures { IsTableOf (shown_options options) result }
 {
     let mut table = [false; 256];
-    for byte in 0..256 {
-        table[byte] = is_special(options, byte as u8);
+    for byte in MAY_BE_SPECIAL {
+        table[*byte as usize] = is_special(options, *byte);
     }
     table
 }

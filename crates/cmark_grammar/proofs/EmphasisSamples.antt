@@ -29,7 +29,7 @@ abbrev siblings : Options → ℕ → Option ℕ → (skip : ℕ) → List ℕ �
 siblings options at last skip [] = []
 siblings options at last (suc skip) (c ∷ text) = siblings options (suc at) (Some c) skip text
 siblings options at last zero (c ∷ text) =
-    if (c == 42) || ((c == 95) || ((c == 126) || (c == 94)))
+    if (c == 42) || ((c == 95) || ((c == 126) || ((c == 94) || (c == 61))))
     then Delimiter (run_at options at last c text) ∷ siblings options (suc at) (Some c) (size_of c text) text
     else Plain at ∷ siblings options (suc at) (Some c) zero text
 
@@ -39,6 +39,7 @@ name tag.Strong = codes "strong"
 name tag.Strikethrough = codes "del"
 name tag.Subscript = codes "sub"
 name tag.Superscript = codes "sup"
+name tag.Highlight = codes "mark"
 name _ = []
 
 abbrev between : List ℕ → ℕ → ℕ → List ℕ
@@ -66,6 +67,9 @@ struck text = html_with (record no_options { strikethrough = true }) text
 
 abbrev raised : List ℕ → List ℕ
 raised text = html_with (record no_options { superscript = true; subscript = true }) text
+
+abbrev marked : List ℕ → List ℕ
+marked text = html_with (record no_options { highlight = true; strikethrough = true }) text
 
 example_350 : html (codes "*foo bar*") ≡ codes "<em>foo bar</em>"
 unfolding ucd_category is_unicode_white_space is_unicode_punctuation agrees pair_of rest_of_opener rest_of_closer kinds_of deactivates closed
@@ -534,3 +538,33 @@ two_tildes_as_text = refl
 super_and_subscript : raised (codes "x^2^ H~2~O *a^b*c^") ≡ codes "x<sup>2</sup> H<sub>2</sub>O <em>a^b</em>c^"
 unfolding ucd_category is_unicode_white_space is_unicode_punctuation agrees pair_of rest_of_opener rest_of_closer kinds_of deactivates closed
 super_and_subscript = refl
+
+highlights : marked (codes "==a== b==c==d") ≡ codes "<mark>a</mark> b<mark>c</mark>d"
+unfolding ucd_category is_unicode_white_space is_unicode_punctuation agrees pair_of rest_of_opener rest_of_closer kinds_of deactivates closed
+highlights = refl
+
+highlight_in_highlight : marked (codes "==a ==b== c==") ≡ codes "<mark>a <mark>b</mark> c</mark>"
+unfolding ucd_category is_unicode_white_space is_unicode_punctuation agrees pair_of rest_of_opener rest_of_closer kinds_of deactivates closed
+highlight_in_highlight = refl
+
+other_numbers_of_equals : marked (codes "=a= ===b=== ====c====") ≡ codes "=a= ===b=== ====c===="
+unfolding ucd_category is_unicode_white_space is_unicode_punctuation agrees pair_of rest_of_opener rest_of_closer kinds_of deactivates closed
+other_numbers_of_equals = refl
+
+blanks_beside_equals : marked (codes "== a ==") ≡ codes "== a =="
+unfolding ucd_category is_unicode_white_space is_unicode_punctuation agrees pair_of rest_of_opener rest_of_closer kinds_of deactivates closed
+blanks_beside_equals = refl
+
+-- a closing run takes the nearest of its kind, and what stands between opens nothing any more
+nearest_equals : marked (codes "==a *b ~c== d* e~") ≡ codes "<mark>a *b ~c</mark> d* e~"
+unfolding ucd_category is_unicode_white_space is_unicode_punctuation agrees pair_of rest_of_opener rest_of_closer kinds_of deactivates closed
+nearest_equals = refl
+
+-- those that find none leave the others open
+equals_and_tildes : marked (codes "~a b== c~ ==d e~ f==") ≡ codes "<del>a b== c</del> <mark>d e~ f</mark>"
+unfolding ucd_category is_unicode_white_space is_unicode_punctuation agrees pair_of rest_of_opener rest_of_closer kinds_of deactivates closed
+equals_and_tildes = refl
+
+equals_not_read : struck (codes "==a==") ≡ codes "==a=="
+unfolding ucd_category is_unicode_white_space is_unicode_punctuation agrees pair_of rest_of_opener rest_of_closer kinds_of deactivates closed
+equals_not_read = refl

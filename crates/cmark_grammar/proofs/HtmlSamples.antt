@@ -60,6 +60,9 @@ spans : html (Start tag.Emphasis ∷ Start tag.Strong ∷ Start tag.Strikethroug
     ≡ codes "<em><strong><del><sup><sub>&lt;&amp;&gt;\"'</sub></sup></del></strong></em>"
 spans = refl
 
+highlight : html (Start tag.Highlight ∷ Text (codes "<a>") ∷ End end.Highlight ∷ []) ≡ codes "<mark>&lt;a&gt;</mark>"
+highlight = refl
+
 leaves : html (Code (codes "<\">") ∷ InlineMath (codes "a'") ∷ DisplayMath (codes "\"b") ∷ InlineHtml (codes "<i>") ∷ HardBreak ∷ SoftBreak ∷ [])
     ≡ codes "<code>&lt;\"&gt;</code><span class=\"math math-inline\">a&#x27;</span><span class=\"math math-display\">&quot;b</span><i><br />\n\n"
 leaves = refl

@@ -31,7 +31,7 @@ wikilinks = record no_options { wikilinks = true }
 abbrev x_is_u : List ℕ → Option Definition
 x_is_u label = if bytes_eq label (codes "x") then Some (record { label = codes "x"; destination = codes "/u"; title = None; start = 0; end = 0 }) else None
 
-abbrev reading : Options → List ℕ → Reader
+abbrev pub reading : Options → List ℕ → Reader
 reading options text = record { source = text; options = options; lookup = basic_entity; definition = x_is_u; has_footnote = λ label. bytes_eq label (codes "1"); has_callback = false }
 
 abbrev stretch : (start end : ℕ) → Stretch
@@ -43,12 +43,12 @@ paragraph stretches = record { stretches = stretches; is_cell = false }
 abbrev cell : (start end : ℕ) → Leaf
 cell start end = record { stretches = stretch start end ∷ []; is_cell = true }
 
-abbrev whole : List ℕ → Leaf
+abbrev pub whole : List ℕ → Leaf
 whole text = paragraph (stretch 0 (length text) ∷ [])
 
 -- ## Tokens
 
-abbrev stands : ItemKind → (start end resume : ℕ) → Token
+abbrev pub stands : ItemKind → (start end resume : ℕ) → Token
 stands kind start end resume = Stands (record { kind = kind; start = start; end = end }) resume
 
 -- bytes that stand for themselves are one text

@@ -13,6 +13,7 @@ pub mod BoundaryLaws
 pub mod ColumnSteps
 pub mod CountLaws
 mod DefinitionListSamples
+mod EmailSamples
 pub mod EmphasisOne
 pub mod EmphasisSamples
 pub mod EmphasisSound

@@ -5,7 +5,7 @@ use Rattle.std.specs.List.{prefix_len}
 use Rattle.std.proofs.Common.{◌≡◌, ◌≢◌, ◌+◌, refl, arith, length-drop}
 use Rattle.std.proofs.lemmas.Bool.{eq-eqb}
 use Rattle.std.proofs.lemmas.List.Sums.{prefix_len-le-length}
-use Rattle.cmark_grammar.specs.Autolinks.{closed_by, has_scheme, is_uri_byte, autolink_in}
+use Rattle.cmark_grammar.specs.Autolinks.{closed_by, has_address, is_uri_byte, autolink_in}
 use Rattle.cmark_grammar.specs.CodeSpans.{is_backtick, backticks, up_to_run, behind_run, code_in}
 use Rattle.cmark_grammar.specs.Columns.{is_blank_byte}
 use Rattle.cmark_grammar.specs.Destinations.{link_destination_in}
@@ -373,8 +373,8 @@ code-shorter bs = go (backticks bs == 0) refl
         let w = prefix_len-le-length is_backtick bs in
         more_found (suc (length rest)) (length bs) found (omega (arith, n, l, w)) (run_behind (backticks bs) (suc (length rest)) (up_to_run (backticks bs) false rest) (run-within (backticks bs) false rest))
 
-pub autolink-within : (bs : List ℕ) → ParsedBelow (suc (length bs)) (autolink_in bs)
-autolink-within bs = either (ParsedBelow (suc (length bs))) (has_scheme bs) (closed_by 62 (prefix_len is_uri_byte bs) bs) None (closed-shorter 62 (prefix_len is_uri_byte bs) bs) tt
+pub autolink-within : (emails : Bool) (bs : List ℕ) → ParsedBelow (suc (length bs)) (autolink_in emails bs)
+autolink-within emails bs = either (ParsedBelow (suc (length bs))) (has_address emails bs) (closed_by 62 (prefix_len is_uri_byte bs) bs) None (closed-shorter 62 (prefix_len is_uri_byte bs) bs) tt
 
 formula_shorter : (is_display : Bool) (context : ℕ) (escaped : Bool) (last : ℕ) (braces : Braces) (bs : List ℕ) → ParsedBelow (length bs) (formula_to is_display context escaped last braces bs)
 formula_shorter is_display context escaped last braces [] = tt

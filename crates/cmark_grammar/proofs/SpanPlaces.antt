@@ -4,7 +4,7 @@ use Rattle.std.specs.Prelude.{map}
 use Rattle.std.proofs.lemmas.Bool.{ltb-true, ltb-false}
 use Rattle.cmark_grammar.specs.Spans.{SpanKind, span_width, Spans, Nil, Single, Around, join, singles, TakePlaces}
 use Rattle.cmark_grammar.specs.Emphasis.{Run, Pair, Sibling, Plain, Delimiter, Piece, Whole, Standing, StandFrom, places_taken}
-use Rattle.cmark_grammar.specs.Emphasis.{paired_count, pair_of, rest_of_opener, rest_of_closer, emphasis_kinds, tilde_kinds, caret_kinds, kinds_of, nest, wrapped, row, keep, is_tilde_or_caret, deactivates, deactivated, left_open, stand, Closes}
+use Rattle.cmark_grammar.specs.Emphasis.{paired_count, pair_of, rest_of_opener, rest_of_closer, emphasis_kinds, tilde_kinds, caret_kinds, equals_kinds, kinds_of, nest, wrapped, row, keep, is_tilde_or_caret, deactivates, deactivated, left_open, stand, Closes}
 use Rattle.cmark_grammar.specs.EmphasisModel.{closed, resolve, spans_of}
 use Rattle.cmark_grammar.proofs.EmphasisSound.{closed-closes}
 
@@ -27,14 +27,20 @@ widths-caret : (n : ℕ) → widths (caret_kinds n) ≡ n
 widths-caret zero = refl
 widths-caret (suc n) = let i = widths-caret n in omega (arith, i)
 
+widths-equals : (n : ℕ) → widths (equals_kinds n) ≡ n
+widths-equals zero = refl
+widths-equals (suc zero) = refl
+widths-equals (suc (suc n)) = let i = widths-equals n in omega (arith, i)
+
 pub widths-kinds : (delimiter n : ℕ) → widths (kinds_of delimiter n) ≡ n
 unfolding kinds_of
-widths-kinds delimiter n = go (delimiter == 126) (delimiter == 94)
+widths-kinds delimiter n = go (delimiter == 126) (delimiter == 94) (delimiter == 61)
   where
-    go : (a b : Bool) → widths (if a then tilde_kinds n else if b then caret_kinds n else emphasis_kinds n) ≡ n
-    go true b = widths-tilde n
-    go false true = widths-caret n
-    go false false = widths-emphasis n
+    go : (a b c : Bool) → widths (if a then tilde_kinds n else if b then caret_kinds n else if c then equals_kinds n else emphasis_kinds n) ≡ n
+    go true b c = widths-tilde n
+    go false true c = widths-caret n
+    go false false true = widths-equals n
+    go false false false = widths-emphasis n
 
 pub count-opener : (o c : Run) → paired_count o c ≤ o.left
 count-opener o c = go (nat_lt o.left c.left) refl

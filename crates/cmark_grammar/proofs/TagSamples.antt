@@ -1,5 +1,5 @@
 -- Examples of tags and of other inline HTML (CommonMark 6.5 and 6.6), computed: what stands behind them.
-use Rattle.std.specs.Prelude.{◌≡◌, ℕ, List, codes, Option, Some, None}
+use Rattle.std.specs.Prelude.{◌≡◌, ℕ, false, List, codes, Option, Some, None}
 use Rattle.std.proofs.Common.{refl}
 use Rattle.cmark_grammar.specs.Tags.{behind_tag, no_prefix}
 use Rattle.cmark_grammar.specs.HtmlBlocks.{html_kind}
@@ -74,5 +74,5 @@ declaration = refl
 instruction : processing_find (codes "<?php echo $a; ?>") 2 ≡ (let find : Find = record { end = Some 17; passed = 15 } in find)
 instruction = refl
 
-no_autolink : autolink_in (codes "m:abc>") ≡ None
+no_autolink : autolink_in false (codes "m:abc>") ≡ None
 no_autolink = refl

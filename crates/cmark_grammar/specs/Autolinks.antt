@@ -1,8 +1,9 @@
 -- Autolinks (CommonMark 6.5), and the names of wikilinks (this profile's own).
-use Rattle.std.specs.Prelude.{ℕ, suc, Bool, ◌==◌, ◌&&◌, ◌||◌, not, nat_le, if◌then◌else◌, List, drop, take, Option, Some, None}
+use Rattle.std.specs.Prelude.{ℕ, suc, ◌-◌, Bool, true, ◌==◌, ◌&&◌, ◌||◌, not, nat_le, if◌then◌else◌, List, [], ◌∷◌, length, drop, take, get_or, Option, Some, None}
 use Rattle.std.specs.List.{prefix_len}
 use Rattle.cmark_grammar.specs.Letters.{is_letter, is_alphanumeric, first_is}
 use Rattle.cmark_grammar.specs.LinkDefinitions.{Parsed}
+use Rattle.cmark_grammar.specs.Tags.{is_name_byte}
 
 -- the bytes that pass, where the closer stands behind them; what is behind it
 abbrev pub closed_by : (closer size : ℕ) → List ℕ → Option Parsed
@@ -20,9 +21,55 @@ has_scheme bs =
 abbrev pub is_uri_byte : ℕ → Bool
 is_uri_byte b = not (nat_le b 32 || ((b == 127) || ((b == 60) || (b == 62))))
 
--- the URI of an autolink behind its `<`, which `>` closes
-abbrev pub autolink_in : List ℕ → Option Parsed
-autolink_in bs = if has_scheme bs then closed_by 62 (prefix_len is_uri_byte bs) bs else None
+-- ## Email addresses
+
+-- one of ".!#$%&'*+/=?^_`{|}~-"
+abbrev pub is_local_mark : ℕ → Bool
+is_local_mark b =
+    (b == 33) || ((nat_le 35 b && nat_le b 39) || ((b == 42) || ((b == 43) || ((nat_le 45 b && nat_le b 47)
+    || ((b == 61) || ((b == 63) || ((nat_le 94 b && nat_le b 96) || (nat_le 123 b && nat_le b 126))))))))
+
+abbrev pub is_local_byte : ℕ → Bool
+is_local_byte b = is_alphanumeric b || is_local_mark b
+
+-- a label of a domain: 1 to 63 letters, digits and hyphens, of which neither the first nor the last is a hyphen
+abbrev pub is_domain_label : List ℕ → Bool
+is_domain_label bs =
+    nat_le 1 (length bs) && (nat_le (length bs) 63 && ((prefix_len is_name_byte bs == length bs)
+    && (not (get_or bs 0 0 == 45) && not (get_or bs (length bs - 1) 0 == 45))))
+
+abbrev pub are_domain_labels : List (List ℕ) → Bool
+are_domain_labels [] = true
+are_domain_labels (label ∷ labels) = is_domain_label label && are_domain_labels labels
+
+abbrev pub onto_first : ℕ → List (List ℕ) → List (List ℕ)
+onto_first b [] = (b ∷ []) ∷ []
+onto_first b (label ∷ labels) = (b ∷ label) ∷ labels
+
+-- the parts between which periods are
+abbrev pub between_periods : List ℕ → List (List ℕ)
+between_periods [] = [] ∷ []
+between_periods (b ∷ bs) = if b == 46 then [] ∷ between_periods bs else onto_first b (between_periods bs)
+
+-- labels with a period between each two
+abbrev pub is_domain : List ℕ → Bool
+is_domain bs = are_domain_labels (between_periods bs)
+
+-- a local part of at least one byte, `@` and a domain
+abbrev pub is_email : List ℕ → Bool
+is_email bs =
+    nat_le 1 (prefix_len is_local_byte bs)
+    && (first_is (λ b. b == 64) (drop (prefix_len is_local_byte bs) bs) && is_domain (drop (suc (prefix_len is_local_byte bs)) bs))
+
+-- ## Both
+
+-- an address begins here: a URI, or with the option for them an email address up to the first byte that no URI has
+abbrev pub has_address : (emails : Bool) → List ℕ → Bool
+has_address emails bs = has_scheme bs || (emails && is_email (take (prefix_len is_uri_byte bs) bs))
+
+-- the address of an autolink after its `<`, which `>` closes
+abbrev pub autolink_in : (emails : Bool) → List ℕ → Option Parsed
+autolink_in emails bs = if has_address emails bs then closed_by 62 (prefix_len is_uri_byte bs) bs else None
 
 -- the name of a wikilink in front of the first `|`
 abbrev pub piped_name_in : List ℕ → Option Parsed

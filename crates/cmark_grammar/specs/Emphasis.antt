@@ -1,6 +1,6 @@
 -- Which delimiter runs of a list of siblings pair, and the spans that the pairs become (CommonMark 6.2, GFM 6.5).
 use Rattle.std.specs.Prelude.{◌≡◌, ℕ, zero, suc, ◌+◌, ◌-◌, ◌%◌, Bool, true, false, not, ◌==◌, ◌&&◌, ◌||◌, nat_lt, if◌then◌else◌, List, [], ◌∷◌, ◌++◌, map}
-use Rattle.cmark_grammar.specs.Spans.{SpanKind, Emphasis, Strong, SingleTilde, DoubleTilde, Caret, span_width, Spans, Nil, Single, Around, join, singles}
+use Rattle.cmark_grammar.specs.Spans.{SpanKind, Emphasis, Strong, SingleTilde, DoubleTilde, Caret, DoubleEquals, span_width, Spans, Nil, Single, Around, join, singles}
 
 -- what is left of a delimiter run: its delimiter, how many bytes it had, the place of the first byte that is left, how many
 -- are left, and whether it can open and close
@@ -56,9 +56,12 @@ keeps_rule_of_three opener closer =
     not (can_both opener || can_both closer)
     || (not ((opener.run_length + closer.run_length) % 3 == 0) || ((opener.run_length % 3 == 0) && (closer.run_length % 3 == 0)))
 
--- the same delimiter, and of `~` the same length (GFM 6.5)
+-- the same delimiter, and of `~` and `=` the same length (GFM 6.5, and this profile's own)
+abbrev pub is_tilde_or_equals : ℕ → Bool
+is_tilde_or_equals delimiter = (delimiter == 126) || (delimiter == 61)
+
 abbrev pub has_same_delimiter : (opener closer : Run) → Bool
-has_same_delimiter opener closer = (opener.delimiter == closer.delimiter) && (not (closer.delimiter == 126) || (opener.run_length == closer.run_length))
+has_same_delimiter opener closer = (opener.delimiter == closer.delimiter) && (not (is_tilde_or_equals closer.delimiter) || (opener.run_length == closer.run_length))
 
 -- this run can close that open one
 unfoldable pub agrees : (opener closer : Run) → Bool
@@ -96,8 +99,14 @@ abbrev pub caret_kinds : ℕ → List SpanKind
 caret_kinds zero = []
 caret_kinds (suc n) = Caret ∷ caret_kinds n
 
+-- a run of `=` has two bytes, so that none is left alone
+abbrev pub equals_kinds : ℕ → List SpanKind
+equals_kinds zero = []
+equals_kinds (suc zero) = Emphasis ∷ []
+equals_kinds (suc (suc n)) = DoubleEquals ∷ equals_kinds n
+
 unfoldable pub kinds_of : (delimiter count : ℕ) → List SpanKind
-kinds_of delimiter count = if delimiter == 126 then tilde_kinds count else if delimiter == 94 then caret_kinds count else emphasis_kinds count
+kinds_of delimiter count = if delimiter == 126 then tilde_kinds count else if delimiter == 94 then caret_kinds count else if delimiter == 61 then equals_kinds count else emphasis_kinds count
 
 -- spans around what stands between the places from and to
 abbrev pub nest : List SpanKind → (from to : ℕ) → Spans → Spans

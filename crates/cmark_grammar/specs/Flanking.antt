@@ -37,13 +37,18 @@ is_right_flanking before after =
     not (is_white_space_there before)
     && (not (is_punctuation_there before) || (is_white_space_there after || is_punctuation_there after))
 
+-- a byte that delimiter runs are made of
+abbrev pub is_run_delimiter : ℕ → Bool
+is_run_delimiter b = (b == 42) || ((b == 95) || ((b == 126) || ((b == 94) || (b == 61))))
+
 -- so many of a delimiter are a delimiter run: `*` and `_` in any number, one or two `~` where strikethrough or subscript is
--- read, and one `^` where superscript is (GFM 6.5, and this profile's own)
+-- read, one `^` where superscript is, and two `=` where highlight is (GFM 6.5, and this profile's own)
 abbrev pub is_delimiter_run : Options → (delimiter run_length : ℕ) → Bool
 is_delimiter_run options delimiter run_length =
     (((delimiter == 42) || (delimiter == 95)) && nat_lt 0 run_length)
     || ((delimiter == 126) && ((options.strikethrough || options.subscript) && ((run_length == 1) || (run_length == 2)))
-    || ((delimiter == 94) && (options.superscript && (run_length == 1))))
+    || (((delimiter == 94) && (options.superscript && (run_length == 1)))
+    || ((delimiter == 61) && (options.highlight && (run_length == 2)))))
 
 -- it can open and close inside a word too (CommonMark 6.2, rules 1 to 8): all but `_`, and one `~` where no subscript is
 -- read (this profile's own)

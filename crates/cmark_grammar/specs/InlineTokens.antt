@@ -5,7 +5,7 @@ use Rattle.cmark_grammar.specs.Autolinks.{autolink_in}
 use Rattle.cmark_grammar.specs.CodeSpans.{is_backtick, backticks, code_in, code_text}
 use Rattle.cmark_grammar.specs.Columns.{is_blank_byte}
 use Rattle.cmark_grammar.specs.Dashes.{dashes_of, dash_text}
-use Rattle.cmark_grammar.specs.Flanking.{Flanking, flanking}
+use Rattle.cmark_grammar.specs.Flanking.{Flanking, flanking, is_run_delimiter}
 use Rattle.cmark_grammar.specs.Formulas.{is_dollar, Braces, no_braces, braces_behind, inline_in, display_in}
 use Rattle.cmark_grammar.specs.InlineHtml.{behind_markup, takes_lines}
 use Rattle.cmark_grammar.specs.Items.{ItemKind, Plain, Own, Written, Quoted, Delimiters, Code, InlineMath, DisplayMath, Autolink, Html, OwnedHtml, SoftBreak, HardBreak, Bracket, Token, Stands, Opens, Closes, Ends}
@@ -132,7 +132,7 @@ module _ (reader : Reader) (leaf : Leaf) where
   abbrev pub less_than : (at : ℕ) → List ℕ → Token
   less_than at bs =
       if first_is (λ c. c == 92) bs then item_at Plain at (suc at)
-      else autolink_or at (autolink_in bs) (markup_or at (behind_markup (source_from at)) (tag_or_text at (behind_tag no_prefix (from at))))
+      else autolink_or at (autolink_in reader.options.email_autolinks bs) (markup_or at (behind_markup (source_from at)) (tag_or_text at (behind_tag no_prefix (from at))))
 
   -- a delimiter run (CommonMark 6.2), or bytes that stand for themselves
   abbrev pub run_or : (at delimiter run_length : ℕ) → Flanking → Token
@@ -181,7 +181,7 @@ module _ (reader : Reader) (leaf : Leaf) where
       else if b == 33 then (if first_is (λ c. c == 91) bs then Opens (bracket true at (at + 2)) else item_at Plain at (suc at))
       else if b == 91 then Opens (bracket false at (suc at))
       else if b == 93 then Closes (bracket false at (suc at))
-      else if (b == 42) || ((b == 95) || ((b == 126) || (b == 94))) then run_at at b (prefix_len (λ c. c == b) (b ∷ bs))
+      else if is_run_delimiter b then run_at at b (prefix_len (λ c. c == b) (b ∷ bs))
       else if reader.options.math && is_dollar b then dollar at bs (braces_behind false (before at) no_braces)
       else if reader.options.smart_punctuation then smart_or at b
       else item_at Plain at (suc at)

@@ -18,7 +18,7 @@ pub data ItemKind : Type 0 where
   Code : (text : List ℕ) → ItemKind
   InlineMath : (text : List ℕ) → ItemKind
   DisplayMath : (text : List ℕ) → ItemKind
-  Autolink : (uri : List ℕ) → ItemKind
+  Autolink : (address : List ℕ) → ItemKind
   Html : ItemKind
   OwnedHtml : (text : List ℕ) → ItemKind
   FootnoteReference : (label : List ℕ) → ItemKind

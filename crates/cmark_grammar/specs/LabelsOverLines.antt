@@ -9,10 +9,21 @@ use Rattle.cmark_grammar.specs.LinkDefinitions.{Parsed, up_to_byte, escapes_next
 abbrev pub piped : List ℕ
 piped = 92 ∷ 124 ∷ []
 
--- without the backslash of each `\|`, and without both of each `\\|`
+-- two backslashes
+abbrev pub backslash_pair : List ℕ
+backslash_pair = 92 ∷ 92 ∷ []
+
+-- Backslashes are read from the left, in pairs: that of each `\|` is left out, both of each `\\|` are, and both of any other pair
+-- stay. A byte is the second of such a pair, or not.
+abbrev pub literal_pipes_from : (is_second : Bool) → List ℕ → List ℕ
+literal_pipes_from is_second [] = []
+literal_pipes_from true (b ∷ bs) = b ∷ literal_pipes_from false bs
+literal_pipes_from false (b ∷ bs) =
+    if starts piped (b ∷ bs) || starts escaped_pipe (b ∷ bs) then literal_pipes_from false bs
+    else b ∷ literal_pipes_from (starts backslash_pair (b ∷ bs)) bs
+
 abbrev pub with_literal_pipes : List ℕ → List ℕ
-with_literal_pipes [] = []
-with_literal_pipes (b ∷ bs) = if starts piped (b ∷ bs) || starts escaped_pipe (b ∷ bs) then with_literal_pipes bs else b ∷ with_literal_pipes bs
+with_literal_pipes = literal_pipes_from false
 
 abbrev pub as_in_cell : (is_in_table : Bool) → Parsed → Parsed
 as_in_cell is_in_table found = if is_in_table then record { bytes = with_literal_pipes found.bytes; behind = found.behind } else found

@@ -1,7 +1,7 @@
 -- How the spans of a leaf nest (CommonMark 6), and the events of a document whose leaves stand with such spans.
 use Rattle.std.specs.Prelude.{◌≡◌, ℕ, ◌≤◌, List, [], ◌∷◌, ◌++◌, length}
 use Rattle.std.specs.Str.{IsCharBoundary}
-use Rattle.cmark_grammar.specs.Tag.{Tag, Emphasis, Strong, Strikethrough, Superscript, Subscript, Link, Image}
+use Rattle.cmark_grammar.specs.Tag.{Tag, Emphasis, Strong, Strikethrough, Superscript, Subscript, Highlight, Link, Image}
 use Rattle.cmark_grammar.specs.TagEnd.{end_of}
 use Rattle.cmark_grammar.specs.Event.{Event, Start, End, Text, Code, InlineMath, DisplayMath, InlineHtml, FootnoteReference, SoftBreak, HardBreak, Ranged}
 use Rattle.cmark_grammar.specs.LeafText.{Leaf}
@@ -14,6 +14,7 @@ IsSpan Strong = Unit {0}
 IsSpan Strikethrough = Unit {0}
 IsSpan Superscript = Unit {0}
 IsSpan Subscript = Unit {0}
+IsSpan Highlight = Unit {0}
 IsSpan (Link linked) = Unit {0}
 IsSpan (Image linked) = Unit {0}
 IsSpan _ = ⊥

@@ -17,6 +17,8 @@ pub record Options : Type 0 where
   pub superscript : Bool
   pub subscript : Bool
   pub wikilinks : Bool
+  pub highlight : Bool
+  pub email_autolinks : Bool
 
 abbrev pub no_options : Options
 no_options = record {
@@ -35,4 +37,6 @@ no_options = record {
   superscript = false;
   subscript = false;
   wikilinks = false;
+  highlight = false;
+  email_autolinks = false;
 }

@@ -1,6 +1,7 @@
 -- The spans of a leaf: what the parts of its text become, list of siblings by list of siblings (CommonMark 6.2, "process
 -- emphasis").
 use Rattle.std.specs.Prelude.{◌≡◌, ℕ, zero, suc, ◌+◌, ◌-◌, Bool, true, false, ◌==◌, nat_le, if◌then◌else◌, max, List, [], ◌∷◌, drop, get_or, encode_utf8, Option, Some, None}
+use Rattle.cmark_grammar.specs.Autolinks.{has_scheme}
 use Rattle.cmark_grammar.specs.BracketDecisions.{linked}
 use Rattle.cmark_grammar.specs.Emphasis.{Pair, Sibling, Delimiter, IsEmphasis}
 use Rattle.cmark_grammar.specs.Items.{ItemKind, Own, Written, Quoted, Delimiters, Autolink, FootnoteReference, Item, Bracket}
@@ -124,12 +125,16 @@ module _ (options : Options) where
 
 -- ## Elements and texts that parts become
 
+-- an address is a URI if a scheme begins it, and else an email address (CommonMark 6.5)
+abbrev pub address_type : List ℕ → link_type.LinkType
+address_type address = if has_scheme address then link_type.Autolink else link_type.Email
+
 -- an autolink is a link around its bytes (CommonMark 6.5)
-abbrev pub uri_link : List ℕ → Linked
-uri_link uri = linked link_type.Autolink (record { url = uri; title = [] }) []
+abbrev pub address_link : List ℕ → Linked
+address_link address = linked (address_type address) (record { url = address; title = [] }) []
 
 abbrev pub item_then : ItemKind → Item → Inline → Inline
-item_then (Autolink uri) x after = Around (Link (uri_link uri)) x.start x.end (Single (item Own (suc x.start) (x.end - 1)) Nil) after
+item_then (Autolink address) x after = Around (Link (address_link address)) x.start x.end (Single (item Own (suc x.start) (x.end - 1)) Nil) after
 item_then _ x after = Single x after
 
 abbrev pub text_then : Bracket → Inline → Inline

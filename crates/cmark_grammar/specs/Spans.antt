@@ -4,13 +4,14 @@ use Rattle.cmark_grammar.specs.Options.{Options}
 use Rattle.cmark_grammar.specs.Tag.{Tag}
 use Rattle.cmark_grammar.specs.Tag as tag
 
--- what stands around a span: one byte each of `*` or `_`, two of them, one tilde, two of them, or a caret
+-- what stands around a span: one byte each of `*` or `_`, two of them, one tilde, two of them, a caret, or two equals signs
 pub data SpanKind : Type 0 where
   Emphasis : SpanKind
   Strong : SpanKind
   SingleTilde : SpanKind
   DoubleTilde : SpanKind
   Caret : SpanKind
+  DoubleEquals : SpanKind
 
 -- how many bytes open it, and as many close it
 abbrev pub span_width : SpanKind → ℕ
@@ -19,6 +20,7 @@ span_width Strong = 2
 span_width SingleTilde = 1
 span_width DoubleTilde = 2
 span_width Caret = 1
+span_width DoubleEquals = 2
 
 -- the element that it is; none for two tildes where no strikethrough is read, which are one text over all of it (this
 -- profile's own)
@@ -28,6 +30,7 @@ span_tag options Strong = Some tag.Strong
 span_tag options SingleTilde = Some (if options.subscript then tag.Subscript else tag.Strikethrough)
 span_tag options DoubleTilde = if options.strikethrough then Some tag.Strikethrough else None
 span_tag options Caret = Some tag.Superscript
+span_tag options DoubleEquals = Some tag.Highlight
 
 -- a span: from the place of the first byte that opens it to the place behind the last that closes it
 pub record Span : Type 0 where

@@ -17,5 +17,6 @@ is_special options b =
     || ((options.tables && (b == 124))
     || (((options.strikethrough || options.subscript) && (b == 126))
     || ((options.superscript && (b == 94))
+    || ((options.highlight && (b == 61))
     || ((options.math && is_one_of (codes "${}") b)
-    || (options.smart_punctuation && is_one_of (codes ".-\"'") b)))))
+    || (options.smart_punctuation && is_one_of (codes ".-\"'") b))))))

@@ -37,6 +37,7 @@ pub data Tag : Type 0 where
   Strikethrough : Tag
   Superscript : Tag
   Subscript : Tag
+  Highlight : Tag
   Link : (linked : Linked) → Tag
   Image : (linked : Linked) → Tag
   MetadataBlock : (kind : MetadataBlockKind) → Tag

@@ -26,6 +26,7 @@ pub data TagEnd : Type 0 where
   Strikethrough : TagEnd
   Superscript : TagEnd
   Subscript : TagEnd
+  Highlight : TagEnd
   Link : TagEnd
   Image : TagEnd
   MetadataBlock : (kind : MetadataBlockKind) → TagEnd
@@ -51,6 +52,7 @@ end_of tag.Strong = Strong
 end_of tag.Strikethrough = Strikethrough
 end_of tag.Superscript = Superscript
 end_of tag.Subscript = Subscript
+end_of tag.Highlight = Highlight
 end_of (tag.Link linked) = Link
 end_of (tag.Image linked) = Image
 end_of (tag.MetadataBlock kind) = MetadataBlock kind

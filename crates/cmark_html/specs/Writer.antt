@@ -1,8 +1,10 @@
 -- What the writer keeps, as the definition of HTML has it.
 use Rattle.std.specs.Prelude.{ℕ, Bool, List, map, option_map}
+use Rattle.std.specs.Cow.{cow_str_bytes}
 use Rattle.cmark_grammar.specs.Html as html
 use Rattle.cmark_text_parts.specs.Shown.{text_bytes, shown_alignment}
-use Rattle.cmark_html.specs.declared.footnote.FootnoteNames.{FootnoteNames}
+use Rattle.cmark_html.specs.declared.names.FootnoteNames.{FootnoteNames}
+use Rattle.cmark_html.specs.Names.{names_of}
 use Rattle.cmark_html.specs.declared.state.OpenImage.{OpenImage}
 use Rattle.cmark_html.specs.declared.state.Writer.{Writer}
 use Rattle.cmark_html.specs.declared.table.TableState.{TableState}
@@ -14,7 +16,7 @@ abbrev pub shown_table : TableState → html.TableState
 shown_table table = record { in_head = table.in_head; alignments = map shown_alignment table.alignments.items; column = table.column }
 
 abbrev pub shown_names : FootnoteNames → List (List ℕ)
-shown_names names = map text_bytes names.names.keys
+shown_names names = names_of cow_str_bytes names.numbers.entries
 
 abbrev pub writing : Writer → html.Writing
 writing writer = record {

@@ -36,6 +36,7 @@ fn end_text(in_head: bool, tag: TagEnd) -> &'static str
         TagEnd::Strikethrough => "</del>",
         TagEnd::Superscript => "</sup>",
         TagEnd::Subscript => "</sub>",
+        TagEnd::Highlight => "</mark>",
         TagEnd::Link => "</a>",
         TagEnd::HtmlBlock | TagEnd::Image | TagEnd::MetadataBlock(_) => "",
     }
@@ -93,6 +94,7 @@ pub fn line_start_after_end(line_start: bool, tag: TagEnd) -> bool
         | TagEnd::Strikethrough
         | TagEnd::Superscript
         | TagEnd::Subscript
+        | TagEnd::Highlight
         | TagEnd::Link => false,
         TagEnd::HtmlBlock | TagEnd::Image | TagEnd::MetadataBlock(_) => line_start,
     }

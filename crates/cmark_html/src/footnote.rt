@@ -1,53 +1,17 @@
-//! Footnotes: the numbers of their names.
+//! The HTML of footnotes.
 
-ghost use Rattle.std.specs.Prelude.{◌≡◌, ◌++◌, [], OnOk, OnErr, string_bytes};
+ghost use Rattle.std.specs.Prelude.{◌≡◌, ◌++◌, OnOk, OnErr, string_bytes};
 ghost use Rattle.std.specs.Fmt.{decimal};
-ghost use Rattle.cmark_grammar.specs.Html.{alt_footnote_reference, footnote_number, footnote_reference, footnote_start, fresh_line, named};
+ghost use Rattle.cmark_grammar.specs.Html.{alt_footnote_reference, footnote_number, footnote_reference, footnote_start, fresh_line};
 ghost use Rattle.cmark_text.specs.Appended.{AppendsFront};
 ghost use Rattle.cmark_text_parts.specs.Shown.{text_bytes};
 ghost use Rattle.cmark_html.specs.Writer.{shown_names};
 
+use crate::names::FootnoteNames;
 use crate::parts::{Part, append_around, append_parts, new_line};
 use cmark_text::CowStr;
-use indexmap::IndexSet;
 use itoa::Buffer;
-use std::alloc::{AllocError, Global};
-
-/// The names of the footnotes that were numbered, in order.
-#[derive(Drop)]
-pub struct FootnoteNames<'a> {
-    names: IndexSet<CowStr<'a>>,
-}
-
-impl<'a> FootnoteNames<'a> {
-    /// No names yet.
-    pub fn new(alloc: Global) -> FootnoteNames<'a>
-        ensures { shown_names result ≡ [] }
-    {
-        FootnoteNames {
-            names: IndexSet::new(alloc),
-        }
-    }
-
-    /// The number of a footnote: that of its name, or else the next.
-    pub fn number(&self, name: &CowStr<'a>) -> usize
-        ensures { result ≡ footnote_number (shown_names self.now) (text_bytes name.now) }
-    {
-        let count = self.names.len();
-        match self.names.get_index_of(name) {
-            Some(index) => index + 1,
-            None => count + 1,
-        }
-    }
-
-    /// Numbers a name, if it has no number.
-    pub fn add(&mut self, name: CowStr<'a>) -> Result<(), AllocError>
-        ensures { OnOk result (shown_names self.new ≡ named (shown_names self.old) (text_bytes name.entry)) }
-    {
-        self.names.insert_full(name)?;
-        Ok(())
-    }
-}
+use std::alloc::AllocError;
 
 /// Appends the start of a footnote's definition; the number is in digits.
 fn append_footnote_start<'x>(

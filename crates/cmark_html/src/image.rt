@@ -6,7 +6,8 @@ ghost use Rattle.cmark_text.specs.Appended.{AppendsFront};
 ghost use Rattle.cmark_text.specs.Shown.{shown};
 ghost use Rattle.cmark_html.specs.Writer.{shown_image, shown_names};
 
-use crate::footnote::{FootnoteNames, append_alt_reference};
+use crate::footnote::append_alt_reference;
+use crate::names::FootnoteNames;
 use crate::parts::{Part, append, append_around, append_parts};
 use crate::state::OpenImage;
 use cmark_text::Event;

@@ -13,6 +13,7 @@ mod end;
 mod footnote;
 mod heading;
 mod image;
+mod names;
 mod parts;
 mod short;
 mod start;

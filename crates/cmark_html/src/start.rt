@@ -95,6 +95,7 @@ fn start_of(tag: PlainTag) -> Start
         PlainTag::Strikethrough => Start::Here("<del>"),
         PlainTag::Superscript => Start::Here("<sup>"),
         PlainTag::Subscript => Start::Here("<sub>"),
+        PlainTag::Highlight => Start::Here("<mark>"),
         PlainTag::HtmlBlock | PlainTag::MetadataBlock(_) => Start::Here(""),
     }
 }
@@ -145,7 +146,8 @@ pub fn line_start_after_plain(line_start: bool, tag: PlainTag) -> bool
         | PlainTag::Strong
         | PlainTag::Strikethrough
         | PlainTag::Superscript
-        | PlainTag::Subscript => false,
+        | PlainTag::Subscript
+        | PlainTag::Highlight => false,
     }
 }
 

@@ -4,7 +4,7 @@ ghost use Rattle.std.specs.Prelude.{◌≡◌};
 ghost use Rattle.cmark_grammar.specs.Html.{at_line_start};
 ghost use Rattle.cmark_html.specs.Writer.{writing};
 
-use crate::footnote::FootnoteNames;
+use crate::names::FootnoteNames;
 use crate::table::TableState;
 use cmark_text::CowStr;
 use std::alloc::Global;

@@ -11,8 +11,9 @@ ghost use Rattle.cmark_text.specs.Shown.{shown, shown_tag};
 ghost use Rattle.cmark_html.specs.Writer.{shown_image, shown_names, shown_table, with_names, writing};
 
 use crate::end::{append_end, line_start_after_end};
-use crate::footnote::{FootnoteNames, append_numbered_reference};
+use crate::footnote::append_numbered_reference;
 use crate::image::{append_image_end, write_inside};
+use crate::names::FootnoteNames;
 use crate::parts::{Part, append, append_around, append_on_line};
 use crate::start::{append_link, append_start, line_start_after_start};
 use crate::state::{OpenImage, Writer};

@@ -54,7 +54,7 @@ module _ (o : Options) (l : Lookup) (leaf : LeafText) (here : Cursor) (old new :
   text = text_of leaf
 
   module _ (behind : here.pending ≤ here.at) (lt : here.at < length text) (is : get_or text here.at 0 ≡ 60) (slash : first_is (λ c. c == 92) (drop (here.at + 1) text) ≡ false) where
-    autolink-made : (end : ℕ) → option_map (shown_autolink text here.at) (Some end) ≡ autolink_in (drop (here.at + 1) text) → IsPart text here.at end → (next.pending ≡ end) × (next.at ≡ end)
+    autolink-made : (end : ℕ) → option_map (shown_autolink text here.at) (Some end) ≡ autolink_in o.email_autolinks (drop (here.at + 1) text) → IsPart text here.at end → (next.pending ≡ end) × (next.at ≡ end)
         → PutsAutolink (length old.links.items) here.pending here.at end old.slots.items new.slots.items
         → (parts : Link) × IsAutolink text here.at end parts × (new.links.items ≡ old.links.items ++ (parts ∷ []))
         → new ≡ record old { slots = new.slots; links = new.links }
@@ -79,7 +79,7 @@ module _ (o : Options) (l : Lookup) (leaf : LeafText) (here : Cursor) (old new :
         go true = refl
         go false = refl
 
-    module _ (none : None ≡ autolink_in (drop (here.at + 1) text)) (pending : next.pending ≡ next.at) (others : new ≡ record old { slots = new.slots }) where
+    module _ (none : None ≡ autolink_in o.email_autolinks (drop (here.at + 1) text)) (pending : next.pending ≡ next.at) (others : new ≡ record old { slots = new.slots }) where
       tag-made : (found : FoundHtml) → IsTag leaf here.at found → IsPart text here.at found.end → next.at ≡ read_on text found.end
           → Puts here.pending here.at (record { kind = found.kind; start = here.at; end = found.end }) old.slots.items new.slots.items → ReadsLess o l leaf here old new next
       tag-made found tag part at slots =
@@ -138,7 +138,7 @@ module _ (o : Options) (l : Lookup) (leaf : LeafText) (here : Cursor) (old new :
 
   abbrev ByAutolink : (text : List ℕ) → Type 0
   ByAutolink text =
-      IsLess text → (end : ℕ) → option_map (shown_autolink text here.at) (Some end) ≡ autolink_in (drop (here.at + 1) text) → IsPart text here.at end → (next.pending ≡ end) × (next.at ≡ end)
+      IsLess text → (end : ℕ) → option_map (shown_autolink text here.at) (Some end) ≡ autolink_in o.email_autolinks (drop (here.at + 1) text) → IsPart text here.at end → (next.pending ≡ end) × (next.at ≡ end)
       → PutsAutolink (length old.links.items) here.pending here.at end old.slots.items new.slots.items
       → (parts : Link) × IsAutolink text here.at end parts × (new.links.items ≡ old.links.items ++ (parts ∷ []))
       → new ≡ record old { slots = new.slots; links = new.links }
@@ -149,7 +149,7 @@ module _ (o : Options) (l : Lookup) (leaf : LeafText) (here : Cursor) (old new :
 
   abbrev ByHtml : (text : List ℕ) → Type 0
   ByHtml text =
-      IsLess text → None ≡ autolink_in (drop (here.at + 1) text) → next.pending ≡ next.at → new ≡ record old { slots = new.slots }
+      IsLess text → None ≡ autolink_in o.email_autolinks (drop (here.at + 1) text) → next.pending ≡ next.at → new ≡ record old { slots = new.slots }
       → (found : FoundHtml) → IsFound leaf here.at found → IsPart text here.at found.end → next.at ≡ read_on text found.end
       → Puts here.pending here.at (record { kind = found.kind; start = here.at; end = found.end }) old.slots.items new.slots.items → ReadsLess o l leaf here old new next
 
@@ -158,7 +158,7 @@ module _ (o : Options) (l : Lookup) (leaf : LeafText) (here : Cursor) (old new :
 
   abbrev ByNone : (text : List ℕ) → Type 0
   ByNone text =
-      IsLess text → None ≡ autolink_in (drop (here.at + 1) text) → next.pending ≡ next.at → new ≡ record old { slots = new.slots }
+      IsLess text → None ≡ autolink_in o.email_autolinks (drop (here.at + 1) text) → next.pending ≡ next.at → new ≡ record old { slots = new.slots }
       → FindsNone leaf here.at → (end : ℕ) → end ≡ here.at + 1 → next.at ≡ end
       → Puts here.pending here.at (record { kind = kind.Text; start = here.at; end = end }) old.slots.items new.slots.items → ReadsLess o l leaf here old new next
 

@@ -1,6 +1,6 @@
 -- What begins at an angle bracket where no comment, declaration, CDATA section or processing instruction opens.
 use Rattle.std.specs.Prelude.{Some, None, if◌then◌else◌, codes}
-use Rattle.std.proofs.Common.{◌≡◌, ℕ, suc, ◌+◌, ◌-◌, ◌<◌, ◌≤◌, ◌==◌, Bool, true, false, List, [], ◌∷◌, length, take, drop, get_or, refl, sym, ap, ◌∙◌, arith, length-drop, true≢false}
+use Rattle.std.proofs.Common.{◌≡◌, ℕ, suc, ◌+◌, ◌-◌, ◌<◌, ◌≤◌, ◌==◌, ◌||◌, Bool, true, false, List, [], ◌∷◌, length, take, drop, get_or, refl, sym, ap, ◌∙◌, arith, length-drop, true≢false}
 use Rattle.std.proofs.lemmas.Bool.{eq-eqb, or_parts, false_from_ne_true}
 use Rattle.std.proofs.lemmas.Slice.Eq.{bytes_eq-Decides}
 use Rattle.cmark_grammar.specs.Answers.{Lookup}
@@ -14,6 +14,7 @@ use Rattle.cmark_grammar.specs.Tags.{behind_tag, no_prefix}
 use Rattle.cmark_grammar.specs.Tokens.{slice}
 use Rattle.cmark_text_parts.specs.declared.text.CowStr.{CowStr}
 use Rattle.cmark_scan_parts.proofs.Lists.{rest_of}
+use Rattle.cmark_inline.specs.LeastSteps.{begins_markup}
 use Rattle.cmark_inline.specs.Tokens.{whole, reading, begins_at, opens_markup, shown_autolink, Says}
 use Rattle.cmark_slots.specs.declared.slot.SlotKind.TheVariants as kind
 use Rattle.cmark_inline.proofs.TokenSteps.{from-is, front, begins-with}
@@ -39,6 +40,10 @@ module _ (bs : List ℕ) (none : opens_markup bs ≡ false) where
   starts-two : starts (codes "<?") (60 ∷ bs) ≡ false
   starts-two = other-second 63 (codes "<?") bs refl (second-parts bs none).1
 
+  -- no markup begins there
+  pub begins-none : begins_markup (60 ∷ bs) ≡ false
+  begins-none = ap (λ z. z || starts (codes "<?") (60 ∷ bs)) starts-one ∙ starts-two
+
   no-markup : behind_markup (60 ∷ bs) ≡ None
   no-markup =
       ap (λ z. if z then behind_opened (opened_in (drop 2 (60 ∷ bs))) else if starts (codes "<?") (60 ∷ bs) then behind_first (codes "?>") (drop 2 (60 ∷ bs)) else None) starts-one
@@ -57,7 +62,7 @@ module _ (o : Options) (l : Lookup) (cell : Bool) (text : List ℕ) (at : ℕ) (
   others = markup_or (reading o l text) (whole cell text) at (behind_markup (source_from (reading o l text) (whole cell text) at)) (tag_or_text (reading o l text) (whole cell text) at (behind_tag no_prefix (from (reading o l text) (whole cell text) at)))
 
   abbrev by_slash : Bool → List ℕ → Token
-  by_slash z rest = if z then item_at Plain at (suc at) else autolink_or (reading o l text) (whole cell text) at (autolink_in rest) others
+  by_slash z rest = if z then item_at Plain at (suc at) else autolink_or (reading o l text) (whole cell text) at (autolink_in o.email_autolinks rest) others
 
   less-begins : begins_at o l cell text at ≡ by_slash (first_is (λ c. c == 92) (drop (at + 1) text)) (drop (at + 1) text)
   less-begins = begins-with o l cell text at 60 lt is ∙ ap (λ rest. by_slash (first_is (λ c. c == 92) rest) rest) next-is
@@ -69,13 +74,13 @@ module _ (o : Options) (l : Lookup) (cell : Bool) (text : List ℕ) (at : ℕ) (
   place-is : (end : ℕ) → end ≤ length text → place_of (reading o l text) (whole cell text) (drop end text) ≡ end
   place-is end le = let d = length-drop end text in let q : length text - length (drop end text) ≡ end = omega (arith, d, le) in q
 
-  pub less-autolink : (end : ℕ) → first_is (λ c. c == 92) (drop (at + 1) text) ≡ false → Some (shown_autolink text at end) ≡ autolink_in (drop (at + 1) text) → end ≤ length text
+  pub less-autolink : (end : ℕ) → first_is (λ c. c == 92) (drop (at + 1) text) ≡ false → Some (shown_autolink text at end) ≡ autolink_in o.email_autolinks (drop (at + 1) text) → end ≤ length text
       → begins_at o l cell text at ≡ item_at (Autolink (slice text (at + 1) (end - 1))) at end
   less-autolink end e found le =
       less-begins ∙ ap (λ z. by_slash z (drop (at + 1) text)) e ∙ ap (λ m. autolink_or (reading o l text) (whole cell text) at m others) (sym found)
       ∙ ap (item_at (Autolink (slice text (at + 1) (end - 1))) at) (place-is end le)
 
-  module _ (slash : first_is (λ c. c == 92) (drop (at + 1) text) ≡ false) (link : None ≡ autolink_in (drop (at + 1) text)) (opens : opens_markup (drop (at + 1) text) ≡ false) where
+  module _ (slash : first_is (λ c. c == 92) (drop (at + 1) text) ≡ false) (link : None ≡ autolink_in o.email_autolinks (drop (at + 1) text)) (opens : opens_markup (drop (at + 1) text) ≡ false) where
     source-is : source_from (reading o l text) (whole cell text) at ≡ 60 ∷ drop (suc at) text
     source-is = ap (slice text at) (let q : length text - 0 ≡ length text = omega arith in q) ∙ rest_of text at ∙ front o l cell text at 60 lt is
 

@@ -2,9 +2,9 @@
 use Rattle.std.specs.Prelude.{Option, Some, None, if◌then◌else◌, nat_le}
 use Rattle.std.proofs.Common.{◌≡◌, ◌⊎◌, inl, inr, ℕ, zero, suc, ◌+◌, ◌-◌, ◌<◌, ◌≤◌, ◌==◌, ◌||◌, ◌&&◌, not, Bool, true, false, List, [], ◌∷◌, length, take, drop, get_or, refl, sym, ap, ◌∙◌, arith, cond, eqb-true, length-drop, drop-drop, true≢false}
 use Rattle.std.specs.List.{prefix_len}
-use Rattle.std.proofs.lemmas.Bool.{and_parts, leb-true, false_from_ne_true}
+use Rattle.std.proofs.lemmas.Bool.{and_parts, or_cases, leb-true, false_from_ne_true}
 use Rattle.std.proofs.lemmas.List.{length-take-le, get_or-drop}
-use Rattle.cmark_grammar.specs.Autolinks.{autolink_in, has_scheme, is_uri_byte, closed_by}
+use Rattle.cmark_grammar.specs.Autolinks.{autolink_in, has_address, has_scheme, is_email, is_uri_byte, closed_by}
 use Rattle.cmark_grammar.specs.Letters.{first_is, is_letter}
 use Rattle.cmark_grammar.specs.LinkDefinitions.{Parsed}
 use Rattle.cmark_grammar.specs.Tokens.{slice}
@@ -43,8 +43,8 @@ record IsClosed (bs : List ℕ) (found : Parsed) : Type 0 where
   bytes : found.bytes ≡ take size bs
   behind : found.behind ≡ drop (suc size) bs
 
-closed : (bs : List ℕ) (found : Parsed) → autolink_in bs ≡ Some found → IsClosed bs found
-closed bs found e = by-scheme (has_scheme bs) refl
+closed : (emails : Bool) (bs : List ℕ) (found : Parsed) → autolink_in emails bs ≡ Some found → IsClosed bs found
+closed emails bs found e = by-address (has_address emails bs) refl
   where
     n : ℕ
     n = prefix_len is_uri_byte bs
@@ -67,35 +67,44 @@ closed bs found e = by-scheme (has_scheme bs) refl
         go (inl h) = inl (let q : suc k < suc m = omega (arith, h) in q)
         go (inr h) = inr (let q : suc m ≤ suc k = omega (arith, h) in q)
 
-    by-place : first_is is_letter bs ≡ true → first_is (λ b. b == 62) (drop n bs) ≡ true → found ≡ made → (n < length bs) ⊎ (length bs ≤ n) → IsClosed bs found
-    by-place letter closes is (inl lt) = record {
+    by-place : 0 < n → first_is (λ b. b == 62) (drop n bs) ≡ true → found ≡ made → (n < length bs) ⊎ (length bs ≤ n) → IsClosed bs found
+    by-place some closes is (inl lt) = record {
       size = n;
-      some = some-first bs letter;
+      some = some;
       within = lt;
       closer = eqb-true (get_or bs n 0) 62 (sym (first-at (λ b. b == 62) bs n lt) ∙ closes);
       bytes = ap (λ (f : Parsed). f.bytes) is;
       behind = ap (λ (f : Parsed). f.behind) is;
     }
-    by-place letter closes is (inr le) = absurd (true≢false (sym closes ∙ first-past (λ b. b == 62) bs n le))
+    by-place some closes is (inr le) = absurd (true≢false (sym closes ∙ first-past (λ b. b == 62) bs n le))
 
-    by-closer : first_is is_letter bs ≡ true → (z : Bool) → first_is (λ b. b == 62) (drop n bs) ≡ z → (if z then Some made else None) ≡ Some found → IsClosed bs found
-    by-closer letter true q f = by-place letter q (same made found f) (places n (length bs))
-    by-closer letter false q f = absurd (none found f)
+    by-closer : 0 < n → (z : Bool) → first_is (λ b. b == 62) (drop n bs) ≡ z → (if z then Some made else None) ≡ Some found → IsClosed bs found
+    by-closer some true q f = by-place some q (same made found f) (places n (length bs))
+    by-closer some false q f = absurd (none found f)
 
-    by-scheme : (z : Bool) → has_scheme bs ≡ z → IsClosed bs found
-    by-scheme true q =
-        by-closer (and_parts (first_is is_letter bs) _ q).0 (first_is (λ b. b == 62) (drop n bs)) refl (sym (ap (λ z. if z then closed_by 62 n bs else None) q) ∙ e)
-    by-scheme false q = absurd (none found (sym (ap (λ z. if z then closed_by 62 n bs else None) q) ∙ e))
+    -- nothing is no email address
+    some-email : (k : ℕ) → is_email (take k bs) ≡ true → 0 < k
+    some-email zero h = cc
+    some-email (suc k) h = omega arith
+
+    some-address : (has_scheme bs ≡ true) ⊎ ((emails && is_email (take n bs)) ≡ true) → 0 < n
+    some-address (inl h) = some-first bs (and_parts (first_is is_letter bs) _ h).0
+    some-address (inr h) = some-email n (and_parts emails (is_email (take n bs)) h).1
+
+    by-address : (z : Bool) → has_address emails bs ≡ z → IsClosed bs found
+    by-address true q =
+        by-closer (some-address (or_cases (has_scheme bs) (emails && is_email (take n bs)) q)) (first_is (λ b. b == 62) (drop n bs)) refl (sym (ap (λ z. if z then closed_by 62 n bs else None) q) ∙ e)
+    by-address false q = absurd (none found (sym (ap (λ z. if z then closed_by 62 n bs else None) q) ∙ e))
 
 -- where a scan found an autolink behind its `<`
-pub record IsAutolinkAt (text : List ℕ) (at end : ℕ) : Type 0 where
-  pub value : Some (shown_autolink text at end) ≡ autolink_in (drop (at + 1) text)
+pub record IsAutolinkAt (emails : Bool) (text : List ℕ) (at end : ℕ) : Type 0 where
+  pub value : Some (shown_autolink text at end) ≡ autolink_in emails (drop (at + 1) text)
   pub some : at + 2 < end
   pub within : end ≤ length text
   pub closer : get_or text (end - 1) 0 ≡ 62
 
-pub autolink-at : (text : List ℕ) (at : ℕ) (part : Part) → at + 1 ≤ length text → Some part ≡ cut_at (at + 1) (autolink_in (drop (at + 1) text)) → IsAutolinkAt text at part.end
-autolink-at text at part le e = go (autolink_in (drop (at + 1) text)) refl e
+pub autolink-at : (emails : Bool) (text : List ℕ) (at : ℕ) (part : Part) → at + 1 ≤ length text → Some part ≡ cut_at (at + 1) (autolink_in emails (drop (at + 1) text)) → IsAutolinkAt emails text at part.end
+autolink-at emails text at part le e = go (autolink_in emails (drop (at + 1) text)) refl e
   where
     bs : List ℕ
     bs = drop (at + 1) text
@@ -106,10 +115,10 @@ autolink-at text at part le e = go (autolink_in (drop (at + 1) text)) refl e
     same : (x y : Part) → Some x ≡ Some y → x ≡ y
     same x y q = let z : x ≡ y = cc in z
 
-    go : (m : Option Parsed) → autolink_in bs ≡ m → Some part ≡ cut_at (at + 1) m → IsAutolinkAt text at part.end
+    go : (m : Option Parsed) → autolink_in emails bs ≡ m → Some part ≡ cut_at (at + 1) m → IsAutolinkAt emails text at part.end
     go None q f = absurd (none part f)
     go (Some found) q f =
-        let c = closed bs found q in
+        let c = closed emails bs found q in
         let n = c.size in
         let some = c.some in
         let within = c.within in

@@ -3,13 +3,15 @@ use Rattle.std.specs.Prelude.{if◌then◌else◌, nat_lt, not, ◌&&◌, ◌||�
 use Rattle.std.proofs.Common.{◌≡◌, ◌++◌, ℕ, suc, ◌+◌, ◌-◌, ◌<◌, ◌≤◌, ◌==◌, Bool, true, false, true≢false, List, [], ◌∷◌, length, get_or, refl, sym, ap, subst, ◌∙◌, arith, eqb-true}
 use Rattle.std.proofs.lemmas.Bool.{ltb-true, ltb-false, eq-eqb}
 use Rattle.std.proofs.lemmas.List.{get_or-drop, length-drop}
+use Rattle.cmark_emphasis.specs.Least.{least_examined}
 use Rattle.cmark_grammar.specs.Answers.{Lookup}
 use Rattle.cmark_grammar.specs.BracketDecisions as decisions
 use Rattle.cmark_grammar.specs.BracketDecisions.{decide, taking, wikilink_or, with_taken, link_or, stays, links, forms, wikilink, name_in, behind_pipe, is_there}
 use Rattle.cmark_grammar.specs.BracketReading.{Comes}
 use Rattle.cmark_grammar.specs.BracketStates.{Opener, State, Decision, Settled, Outcome, StaysText, Forms}
+use Rattle.cmark_grammar.specs.Emphasis.{runs_of}
 use Rattle.cmark_grammar.specs.Items as items
-use Rattle.cmark_grammar.specs.Labels.{normal_form}
+use Rattle.cmark_grammar.specs.Labels.{fold, normal_form}
 use Rattle.cmark_grammar.specs.LeafText.{Leaf}
 use Rattle.cmark_grammar.specs.Letters.{first_is}
 use Rattle.cmark_grammar.specs.LinkTails.{link_tail_in}
@@ -19,6 +21,7 @@ use Rattle.cmark_grammar.specs.Parts.{Footnote, Linking}
 use Rattle.cmark_grammar.specs.Questions.{AnyAnswer}
 use Rattle.cmark_grammar.specs.Readers.{Reader}
 use Rattle.cmark_grammar.specs.Tokens.{slice}
+use Rattle.cmark_references.specs.Footnotes.{Keeps}
 use Rattle.cmark_references.specs.declared.definitions.RefDefs.{RefDefs}
 use Rattle.cmark_references.specs.declared.footnotes.FootnoteDefs.{FootnoteDefs}
 use Rattle.cmark_leaf_text.specs.Reads as reads
@@ -30,10 +33,11 @@ use Rattle.cmark_inline.specs.Closers.{ClosesAs, ReadsOn, Formed, FormsTarget, L
 use Rattle.cmark_inline_model.specs.TextPlaces.{ArePlaces}
 use Rattle.cmark_inline.specs.Decided.{ComesTo, EndsWithin, IsCloser, ReadsSame, Remembers, TargetDecides, target_outcome, with_left}
 use Rattle.cmark_slots.specs.Doubled as stacks
-use Rattle.cmark_inline.specs.Footnoted.{KeepsLabel, footnote_of, forms_footnote}
+use Rattle.cmark_inline.specs.Footnoted.{CountsOf, KeepsLabel, footnote_of, forms_footnote}
 use Rattle.cmark_inline.specs.Hiding.{WritesReference, WritesWikilink}
 use Rattle.cmark_references.specs.Links.{shown_link}
 use Rattle.cmark_inline.specs.Sound.{IsSound, IsTakenFrom}
+use Rattle.cmark_slots.specs.MarkedSlots.{siblings_from}
 use Rattle.cmark_slots.specs.Slots.{IsBracket}
 use Rattle.cmark_inline.specs.Stands.{Stands}
 use Rattle.cmark_inline.specs.FormedSlots.{WritesElement}
@@ -51,6 +55,7 @@ use Rattle.cmark_inline.proofs.BracketSteps.{Takes, takes, and-right, fresh-past
 use Rattle.cmark_inline.proofs.ClosingReads.{IsFlushed, SameRows, comes-any, link-reads, rows-on}
 use Rattle.cmark_inline.proofs.HidingReads.{footnote-reads, wikilink-reads}
 use Rattle.cmark_inline.proofs.TargetSteps.{behind-is, closer-end, footnote-named, next-of, there-same}
+use Rattle.cmark_inline.proofs.UsesCounted.{rise-none, rise-one}
 
 abbrev pub with_openers : List Opener → State → State
 with_openers openers s = record { at = s.at; expansion_left = s.expansion_left; label_close = s.label_close; asked = s.asked; openers = openers }
@@ -229,9 +234,9 @@ module _ (options : Options) (lookup : Lookup) (references : RefDefs) (footnotes
 
   -- ## The four ways out
 
-  module _ {F : Type 0} (R : F → BrokenLink → Option (CowStr × CowStr) → F → Type 0) (next : Cursor) (new : InlineState) (before after : F) (from : ℕ) where
+  module _ {F : Type 0} (R : F → BrokenLink → Option (CowStr × CowStr) → F → Type 0) (next : Cursor) (others : FootnoteDefs) (new : InlineState) (before after : F) (from : ℕ) where
     abbrev Goal : Type 0
-    Goal = ClosesAs R options.wikilinks leaf text reader read place from close closer s bs next old new before after
+    Goal = ClosesAs R options.wikilinks leaf text reader read place from close closer s bs next footnotes others old new before after
 
     -- what was read where the decision comes to this
     abbrev ReadsFor : Outcome → Type 0
@@ -249,11 +254,25 @@ module _ (options : Options) (lookup : Lookup) (references : RefDefs) (footnotes
     here : close ≤ close
     here = omega arith
 
+    -- what was examined up to the slots that are pending stays examined
+    same-seen : (mine mid : InlineState) → IsFlushed from close old mine → SameRows mine mid → mid.delimiters.examined ≡ old.delimiters.examined
+    same-seen mine mid flushed rows = rows.examined ∙ ap (λ (x : InlineState). x.delimiters.examined) flushed.others
+
+    seen : (mine mid : InlineState) → IsFlushed from close old mine → SameRows mine mid → mid.delimiters.examined ≤ new.delimiters.examined → old.delimiters.examined ≤ new.delimiters.examined
+    seen mine mid flushed rows more = let e = same-seen mine mid flushed rows in omega (arith, e, more)
+
+    link-seen : (mine mid : InlineState) → IsFlushed from close old mine → SameRows mine mid → (b : Bracket) → mid.delimiters.examined + least_examined (runs_of (siblings_from 0 (drop b.runs mid.delimiters.placed.items))) ≤ new.delimiters.examined
+        → old.delimiters.examined + least_examined (runs_of (siblings_from 0 (drop b.runs old.delimiters.placed.items))) ≤ new.delimiters.examined
+    link-seen mine mid flushed rows b more =
+        let e = same-seen mine mid flushed rows in
+        let runs = ap (λ l. least_examined (runs_of (siblings_from 0 (drop b.runs l)))) (rows.runs ∙ ap (λ (x : InlineState). x.delimiters.placed.items) flushed.others) in
+        omega (arith, e, runs, more)
+
     -- a wikilink
     pub wikilink-closes : (mid : InlineState) → StandFor options.wikilinks place close os bs mid.brackets mid.doubled → true ≡ forms_wikilink options leaf close mid.doubled
-        → IfSome (stacks.nearest mid.doubled) (λ t. LeavesWikilink t.0.start mid new) → Remembers text place s new → next.at ≡ close + 2 → next.pending ≡ next.at → after ≡ before
+        → IfSome (stacks.nearest mid.doubled) (λ t. LeavesWikilink t.0.start mid new) → Remembers text place s new → next.at ≡ close + 2 → next.pending ≡ next.at → after ≡ before → Keeps footnotes others
         → (mine : InlineState) → IsFlushed from close old mine → SameRows mine mid → IsSound mid → Stands text close mid → IfSome (stacks.nearest mid.doubled) (λ t. WritesWikilink options leaf text t.0 close mid new) → Goal
-    wikilink-closes mid h formed leaves m at pending same_callback mine flushed rows sound stands writes =
+    wikilink-closes mid h formed leaves m at pending same_callback unused mine flushed rows sound stands writes =
         let wiki = left-true options.wikilinks (first_is (λ b. b == 93) (drop (close + 1) (text_of leaf)) && is_wikilink leaf close (stacks.nearest mid.doubled)) (sym formed) in
         let both = and-right options.wikilinks (first_is (λ b. b == 93) (drop (close + 1) (text_of leaf)) && is_wikilink leaf close (stacks.nearest mid.doubled)) (sym formed) in
         let follows = left-true (first_is (λ b. b == 93) (drop (close + 1) (text_of leaf))) (is_wikilink leaf close (stacks.nearest mid.doubled)) both in
@@ -293,6 +312,8 @@ module _ (options : Options) (lookup : Lookup) (references : RefDefs) (footnotes
                   (record { drops = leaving.drops; inactive_below = refl }) (record { standing = refl; inactive_below = leaving.inactive_below }) leaving.none)
                   (record { expansion_left = m.expansion_left; label = m.label; within = m.within });
               notes = tt;
+              examines = seen mine mid flushed rows (subst (λ (o : Option (Bracket × Bool)). IfSome o (λ t. WritesWikilink options leaf text t.0 close mid new)) i.is writes).writes.forgets.examined;
+              uses = rise-none footnotes others unused;
               reads = λ ended.
                   wikilink-reads leaf reader read place closer s bs from close old mine mid new flushed rows text same c (let q : close + 1 < length text = omega (arith, some, size) in q) first i sound stands options (sym r.options_are)
                   (subst (λ (o : Option (Bracket × Bool)). IfSome o (λ t. WritesWikilink options leaf text t.0 close mid new)) i.is writes)
@@ -321,11 +342,11 @@ module _ (options : Options) (lookup : Lookup) (references : RefDefs) (footnotes
 
     -- a footnote reference
     pub footnote-closes : (mid : InlineState) (taken : Option Bracket) → IsReady mid.brackets mid.doubled → TakenAs place bs tk taken → Remembers text place s mid → true ≡ forms_footnote options footnotes (footnote_of options (is_cell_of leaf) (is_there close mid.label_close) text close taken)
-        → IfSome taken (λ b. b.inside ≤ close) → IfSome taken (λ b. LeavesFootnote b.start mid new) → Remembers text place s new → next.at ≡ close + 1 → next.pending ≡ next.at → after ≡ before
+        → IfSome taken (λ b. b.inside ≤ close) → IfSome taken (λ b. LeavesFootnote b.start mid new) → Remembers text place s new → next.at ≡ close + 1 → next.pending ≡ next.at → after ≡ before → CountsOf (footnote_of options (is_cell_of leaf) (is_there close mid.label_close) text close taken) footnotes others
         → IfSome (footnote_of options (is_cell_of leaf) (is_there close mid.label_close) text close taken) (λ label. KeepsLabel label mid.texts.items new.texts.items) → mid.texts ≡ old.texts
         → (mine : InlineState) → IsFlushed from close old mine → SameRows mine mid
         → IfSome taken (λ b. IfSome (footnote_of options (is_cell_of leaf) (is_there close mid.label_close) text close taken) (λ label. WritesReference b (normal_form label) (close + 1) mid new)) → Goal
-    footnote-closes mid taken ready takes m0 formed up leaves m at pending same_callback keeps texts mine flushed rows writes = go taken refl tk refl
+    footnote-closes mid taken ready takes m0 formed up leaves m at pending same_callback counts keeps texts mine flushed rows writes = go taken refl tk refl
       where
         lt : close < next.at
         lt = let q = at in omega (arith, q)
@@ -340,16 +361,16 @@ module _ (options : Options) (lookup : Lookup) (references : RefDefs) (footnotes
             let i = taken_is t taken b (subst (λ d. TakenAs place bs d taken) f takes) e in
             let le = subst (λ (o : Option Bracket). IfSome o (λ b. b.inside ≤ close)) e up in
             let leaving = subst (λ (o : Option Bracket). IfSome o (λ b. LeavesFootnote b.start mid new)) e leaves in
-            by i le leaving (subst (λ (o : Option Bracket). IfSome (note_of o) (λ label. KeepsLabel label mid.texts.items new.texts.items)) e keeps)
+            by i le leaving (subst (λ (o : Option Bracket). CountsOf (note_of o) footnotes others) e counts) (subst (λ (o : Option Bracket). IfSome (note_of o) (λ label. KeepsLabel label mid.texts.items new.texts.items)) e keeps)
             (subst (λ (o : Option Bracket). IfSome o (λ b. IfSome (note_of o) (λ label. WritesReference b (normal_form label) (close + 1) mid new))) e writes) (note_of (Some b)) refl (formed ∙ ap (λ b. forms_footnote options footnotes (note_of b)) e)
           where
             s2 : State
             s2 = with_openers ready.openers s
 
-            by : (t.opener.is_inactive ≡ false) × (drop t.nearer bs ≡ b ∷ drop (suc t.nearer) bs) × IsPlaced place t.opener b → b.inside ≤ close → LeavesFootnote b.start mid new → IfSome (note_of (Some b)) (λ label. KeepsLabel label mid.texts.items new.texts.items)
+            by : (t.opener.is_inactive ≡ false) × (drop t.nearer bs ≡ b ∷ drop (suc t.nearer) bs) × IsPlaced place t.opener b → b.inside ≤ close → LeavesFootnote b.start mid new → CountsOf (note_of (Some b)) footnotes others → IfSome (note_of (Some b)) (λ label. KeepsLabel label mid.texts.items new.texts.items)
                 → IfSome (note_of (Some b)) (λ label. WritesReference b (normal_form label) (close + 1) mid new) → (n : Option (List ℕ)) → note_of (Some b) ≡ n → true ≡ forms_footnote options footnotes n → Goal
-            by i le leaving kept written None g h = absurd (true≢false h)
-            by i le leaving kept written (Some note) g h =
+            by i le leaving counted kept written None g h = absurd (true≢false h)
+            by i le leaving counted kept written (Some note) g h =
                 let made = subst (λ (o : Option (List ℕ)). IfSome o (λ label. WritesReference b (normal_form label) (close + 1) mid new)) g written in
                 let owned = subst (λ (o : Option (List ℕ)). IfSome o (λ label. KeepsLabel label mid.texts.items new.texts.items)) g kept in
                 let w = c.within in
@@ -369,6 +390,8 @@ module _ (options : Options) (lookup : Lookup) (references : RefDefs) (footnotes
                       (footnote-formed options.wikilinks place close close t.nearer ready.openers bs b mid.brackets mid.doubled ready.view here i.1 new.brackets new.doubled leaving.none leaving.drops)
                       (record { expansion_left = m.expansion_left; label = m.label; within = m.within });
                   notes = (owned.0, owned.1, owned.2 ∙ ap (λ v. v.items ++ (owned.0 ∷ [])) texts);
+                  examines = seen mine mid flushed rows made.forgets.examined;
+                  uses = rise-one (fold note) footnotes others (subst (λ o. CountsOf o footnotes others) g counted);
                   reads = λ ended.
                       footnote-reads leaf reader read place closer s bs from close old mine mid new flushed rows text same c t.opener b i.2 le (normal_form note) made t.nearer i.1 to.after (comes-any R (decide reader read s closer) to s.asked before after comes);
                 }
@@ -384,9 +407,10 @@ module _ (options : Options) (lookup : Lookup) (references : RefDefs) (footnotes
 
     pub target-closes : (st between : InlineState) (b : Bracket) (taken : Option Bracket) (target : Target) → IsReady st.brackets st.doubled → TakenAs place bs tk taken → taken ≡ Some b → Remembers text place s st → between.brackets ≡ st.brackets → between.doubled ≡ st.doubled
         → TargetDecides R options lookup references leaf text b close st between (Some target) before after → false ≡ forms_footnote options footnotes (footnote_of options (is_cell_of leaf) (is_there close st.label_close) text close taken)
-        → close < target.resume → target.resume ≤ length text → EndsWithin text between.label_close → FormsTarget options b target between new next → between.links ≡ old.links
+        → close < target.resume → target.resume ≤ length text → EndsWithin text between.label_close → FormsTarget options b target between new next → between.links ≡ old.links → Keeps footnotes others
+        → old.delimiters.examined + least_examined (runs_of (siblings_from 0 (drop b.runs old.delimiters.placed.items))) ≤ new.delimiters.examined
         → ((nearer : ℕ) → drop nearer bs ≡ b ∷ drop (suc nearer) bs → reads.place_of leaf (target.end - 1) + 1 ≡ place target.end → (after : State) → ReadsFor (record { result = Forms nearer (Linking (record { linked = shown_link target.link; end = place target.end })); after = after })) → Goal
-    target-closes st between b taken target ready takes e m same_brackets same_doubled decides no_note lt within label formed table reading = go tk refl
+    target-closes st between b taken target ready takes e m same_brackets same_doubled decides no_note lt within label formed table unused examined reading = go tk refl
       where
         s2 : State
         s2 = with_openers ready.openers s
@@ -417,14 +441,16 @@ module _ (options : Options) (lookup : Lookup) (references : RefDefs) (footnotes
                   i.1 (ready.none t f) formed.leaves))
                   (record { expansion_left = sym formed.expansion_left; label = ap (option_map place) (sym formed.label); within = subst (EndsWithin text) (sym formed.label) label });
               notes = (target.link, refl, formed.links ∙ ap (λ v. v.items ++ (target.link ∷ [])) table);
+              examines = (b, i.1, examined);
+              uses = rise-none footnotes others unused;
             }
 
     -- a text
     pub text-closes : (st between : InlineState) (taken : Option Bracket) → IsReady st.brackets st.doubled → TakenAs place bs tk taken → Remembers text place s st → false ≡ forms_footnote options footnotes (footnote_of options (is_cell_of leaf) (is_there close st.label_close) text close taken)
         → LinksTaken R options lookup references leaf text taken close st between None before after
-        → new.brackets ≡ between.brackets → new.doubled ≡ between.doubled → new.expansion_left ≡ between.expansion_left → new.label_close ≡ between.label_close → next.at ≡ close + 1 → next.pending ≡ next.at → new.links ≡ between.links → st.links ≡ old.links
+        → new.brackets ≡ between.brackets → new.doubled ≡ between.doubled → new.expansion_left ≡ between.expansion_left → new.label_close ≡ between.label_close → next.at ≡ close + 1 → next.pending ≡ next.at → new.links ≡ between.links → st.links ≡ old.links → Keeps footnotes others → old.delimiters.examined ≤ new.delimiters.examined
         → ((after : State) → ReadsFor (record { result = StaysText; after = after })) → Goal
-    text-closes st between taken ready takes m no_note links same_brackets same_doubled left label at pending table old_table reading = go taken refl links
+    text-closes st between taken ready takes m no_note links same_brackets same_doubled left label at pending table old_table unused examined reading = go taken refl links
       where
         s2 : State
         s2 = with_openers ready.openers s
@@ -458,6 +484,8 @@ module _ (options : Options) (lookup : Lookup) (references : RefDefs) (footnotes
                     within = subst (EndsWithin text) (sym (label ∙ ap (λ (x : InlineState). x.label_close) same_state)) m.within;
                   });
               notes = table ∙ ap (λ (x : InlineState). x.links) same_state ∙ old_table;
+              examines = examined;
+              uses = rise-none footnotes others unused;
             }
         go (Some b) e l = by l.target refl l.formed tk refl
           where
@@ -487,13 +515,15 @@ module _ (options : Options) (lookup : Lookup) (references : RefDefs) (footnotes
                         within = subst (EndsWithin text) (sym (label ∙ ap (λ (x : InlineState). x.label_close) same_state)) (l.label m.within);
                       });
                   notes = table ∙ ap (λ (x : InlineState). x.links) same_state ∙ l.table ∙ old_table;
+                  examines = examined;
+                  uses = rise-none footnotes others unused;
                 }
 
     -- what `link` did
     pub linked-closes : (st : InlineState) (taken : Option Bracket) → IsReady st.brackets st.doubled → TakenAs place bs tk taken → Remembers text place s st → false ≡ forms_footnote options footnotes (footnote_of options (is_cell_of leaf) (is_there close st.label_close) text close taken)
-        → LinksTaken R options lookup references leaf text taken close st new (Some next) before after → close < next.at → next.at ≤ length text → st.links ≡ old.links
+        → LinksTaken R options lookup references leaf text taken close st new (Some next) before after → close < next.at → next.at ≤ length text → st.links ≡ old.links → Keeps footnotes others
         → (mine : InlineState) → IsFlushed from close old mine → SameRows mine st → IfSome taken (IsTakenFrom st) → Goal
-    linked-closes st taken ready takes m no_note links lt within old_table mine flushed rows stand = go taken refl links
+    linked-closes st taken ready takes m no_note links lt within old_table unused mine flushed rows stand = go taken refl links
       where
         go : (b : Option Bracket) → taken ≡ b → LinksTaken R options lookup references leaf text b close st new (Some next) before after → Goal
         go None e l = absurd (let q = l.0 in let z : ⊥ = cc in z)
@@ -509,11 +539,13 @@ module _ (options : Options) (lookup : Lookup) (references : RefDefs) (footnotes
                   links = ap (λ v. v.items) l.table;
                   slots = ap (λ v. v.items) l.same.slots;
                   runs = ap (λ d. d.placed.items) l.same.delimiters;
+                  examined = ap (λ d. d.examined) l.same.delimiters;
                   quotes = ap (λ q. q.placed.items) l.quotes;
                 } in
                 let placed = (subst (λ (o : Option Bracket). IfSome o (IsTakenFrom st)) e stand).placed in
                 target-closes st l.between b taken target ready takes e m l.same.brackets l.same.doubled (subst (λ (x : Option Target). TargetDecides R options lookup references leaf text b close st l.between x before after) g l.decides) no_note
-                (let q : close < target.resume = omega (arith, lt, at) in q) (let q : target.resume ≤ length text = omega (arith, within, at) in q) (l.label m.within) f (l.table ∙ old_table)
+                (let q : close < target.resume = omega (arith, lt, at) in q) (let q : target.resume ≤ length text = omega (arith, within, at) in q) (l.label m.within) f (l.table ∙ old_table) unused
+                (link-seen mine l.between flushed (rows-on mine st l.between rows between) b f.writes.examined)
                 (λ nearer there ends after comes. link-reads leaf reader read place closer s bs from close old mine l.between new flushed (rows-on mine st l.between rows between) b target (subst (λ o. WritesElement o b target l.between new) (sym r.options_are) f.writes)
                 (subst (λ (x : List Slot). b.slot < length x) (sym between.slots) placed.there) (λ d. subst (λ (x : List Slot). (get_or x b.slot d).kind ≡ kind.Text) (sym between.slots) (placed.text d)) nearer there ends after comes)
 

@@ -61,10 +61,11 @@ pub record SameRows (one two : InlineState) : Type 0 where
   pub links : two.links.items ≡ one.links.items
   pub slots : two.slots.items ≡ one.slots.items
   pub runs : two.delimiters.placed.items ≡ one.delimiters.placed.items
+  pub examined : two.delimiters.examined ≡ one.delimiters.examined
   pub quotes : two.quotes.placed.items ≡ one.quotes.placed.items
 
 pub rows-on : (one two three : InlineState) → SameRows one two → SameRows two three → SameRows one three
-rows-on one two three a b = record { texts = b.texts ∙ a.texts; links = b.links ∙ a.links; slots = b.slots ∙ a.slots; runs = b.runs ∙ a.runs; quotes = b.quotes ∙ a.quotes }
+rows-on one two three a b = record { texts = b.texts ∙ a.texts; links = b.links ∙ a.links; slots = b.slots ∙ a.slots; runs = b.runs ∙ a.runs; examined = b.examined ∙ a.examined; quotes = b.quotes ∙ a.quotes }
 
 pub rows-brackets : (one two : InlineState) → two ≡ record one { brackets = two.brackets } → SameRows one two
 rows-brackets one two e = record {
@@ -72,6 +73,7 @@ rows-brackets one two e = record {
   links = ap (λ (s : InlineState). s.links.items) e;
   slots = ap (λ (s : InlineState). s.slots.items) e;
   runs = ap (λ (s : InlineState). s.delimiters.placed.items) e;
+  examined = ap (λ (s : InlineState). s.delimiters.examined) e;
   quotes = ap (λ (s : InlineState). s.quotes.placed.items) e;
 }
 
@@ -81,6 +83,7 @@ rows-doubled one two e = record {
   links = ap (λ (s : InlineState). s.links.items) e;
   slots = ap (λ (s : InlineState). s.slots.items) e;
   runs = ap (λ (s : InlineState). s.delimiters.placed.items) e;
+  examined = ap (λ (s : InlineState). s.delimiters.examined) e;
   quotes = ap (λ (s : InlineState). s.quotes.placed.items) e;
 }
 
@@ -90,6 +93,7 @@ rows-same one two e = record {
   links = ap (λ (s : InlineState). s.links.items) e;
   slots = ap (λ (s : InlineState). s.slots.items) e;
   runs = ap (λ (s : InlineState). s.delimiters.placed.items) e;
+  examined = ap (λ (s : InlineState). s.delimiters.examined) e;
   quotes = ap (λ (s : InlineState). s.quotes.placed.items) e;
 }
 
@@ -103,6 +107,7 @@ rows-unlinked R options lookup references leaf text (Some b) close old new befor
       links = ap (λ v. v.items) l.table;
       slots = ap (λ v. v.items) l.same.slots;
       runs = ap (λ d. d.placed.items) l.same.delimiters;
+      examined = ap (λ d. d.examined) l.same.delimiters;
       quotes = ap (λ q. q.placed.items) l.quotes;
     }) (rows-same l.between new (formed l.target refl l.formed))
   where
@@ -132,6 +137,7 @@ rows-flushed from close old one two a b = record {
   links = ap (λ (s : InlineState). s.links.items) b.others ∙ sym (ap (λ (s : InlineState). s.links.items) a.others);
   slots = same-pushed from close old.slots.items one.slots.items two.slots.items a.pushes b.pushes;
   runs = ap (λ (s : InlineState). s.delimiters.placed.items) b.others ∙ sym (ap (λ (s : InlineState). s.delimiters.placed.items) a.others);
+  examined = ap (λ (s : InlineState). s.delimiters.examined) b.others ∙ sym (ap (λ (s : InlineState). s.delimiters.examined) a.others);
   quotes = ap (λ (s : InlineState). s.quotes.placed.items) b.others ∙ sym (ap (λ (s : InlineState). s.quotes.placed.items) a.others);
 }
 

@@ -30,8 +30,10 @@ use Rattle.cmark_inline.specs.declared.callback.BrokenLink.{BrokenLink}
 use Rattle.cmark_slots.specs.declared.slot.Slot.{Slot}
 use Rattle.cmark_inline.specs.declared.state.InlineState.{InlineState}
 use Rattle.cmark_inline.specs.declared.step.Cursor.{Cursor}
+use Rattle.cmark_inline.specs.LeastSteps.{Tally}
 use Rattle.cmark_inline.proofs.ComeItems.{flushed, has-room, with_slots}
 use Rattle.cmark_inline.proofs.ComeMarks.{side-by-side, steps, text-like}
+use Rattle.cmark_inline.proofs.LeastCounted.{counted-opening}
 use Rattle.cmark_inline.proofs.MarkupTokens.{no-markup-by}
 use Rattle.cmark_inline.proofs.PendingReads.{stops-there, token-placed}
 use Rattle.cmark_inline.proofs.PendingTexts.{text_slot}
@@ -60,9 +62,9 @@ module _ (leaf : LeafText) (reader : Reader) (read : Leaf) (place : ℕ → ℕ)
       token-placed leaf reader read place r at le (no-markup-by reader.options reader.lookup cell text at (Opens b) t refl)
       ∙ ap (λ y. placed place (longest (text_reader reader.options reader.lookup text) (one_stretch cell text) y)) t
 
-  module _ {F : Type 0} (R : F → BrokenLink → Option (CowStr × CowStr) → F → Type 0) (before : Between) (initial now : F) (here : Cursor) (m : ℕ) (old new : InlineState) (next : Cursor) (h : HasReached R leaf reader read place before initial m old now)
+  module _ {F : Type 0} (R : F → BrokenLink → Option (CowStr × CowStr) → F → Type 0) (before : Between) (tally : Tally) (initial now : F) (here : Cursor) (m : ℕ) (old new : InlineState) (next : Cursor) (h : HasReached R leaf reader read place before tally initial m old now)
       (held : IsHeld reader.options reader.lookup cell text m here.pending here.at) where
-    pub opening-reached : OpensBracket reader.options reader.lookup cell text here old new next → next.at ≤ length text → HasReached R leaf reader read place before initial next.at new now
+    pub opening-reached : OpensBracket reader.options reader.lookup cell text here old new next → next.at ≤ length text → HasReached R leaf reader read place before tally initial next.at new now
     opening-reached a within =
         let size = past-size a.is_image here.at in
         let some = size.0 in
@@ -72,10 +74,10 @@ module _ (leaf : LeafText) (reader : Reader) (read : Leaf) (place : ℕ → ℕ)
         let slot : Slot = text_slot here.at next.at in
         let room = has-room new a.puts.before (slot ∷ []) a.puts.slots in
         let mid : InlineState = with_slots old new a.puts.before room in
-        let f = flushed leaf reader read place r R before initial now m here.pending here.at old new a.puts.before room h held (omega (arith, further, within)) (stops-there reader.options reader.lookup cell text here.at (Opens (bracket a.is_image here.at next.at)) a.token tt) a.puts.text in
+        let f = flushed leaf reader read place r R before tally initial now m here.pending here.at old new a.puts.before room h held (omega (arith, further, within)) (stops-there reader.options reader.lookup cell text here.at (Opens (bracket a.is_image here.at next.at)) a.token tt) a.puts.text in
         let others = a.puts.others in
         let shows : ShowsState reader.options.wikilinks text place here.at f.p.state f.bs old =
-        shows-on reader.options.wikilinks text place here.at here.at f.p.state f.p.state f.bs mid old (omega arith) (record { brackets = refl; doubled = refl; expansion_left = refl; label = refl }) refl refl refl f.shows in
+        shows-on reader.options.wikilinks text place here.at here.at f.p.state f.p.state f.bs mid old (omega arith) (record { examined = refl; brackets = refl; doubled = refl; expansion_left = refl; label = refl }) refl refl refl f.shows in
         let source : place next.at ≡ behind_opening a.is_image (place here.at) =
         ap place (let q : next.at ≡ here.at + (next.at - here.at) = omega (arith, further) in q)
         ∙ steps leaf reader read place r (next.at - here.at) here.at (omega (arith, further, within)) (λ k low high. a.bytes k low (omega (arith, high, further)))
@@ -97,4 +99,5 @@ module _ (leaf : LeafText) (reader : Reader) (read : Leaf) (place : ℕ → ℕ)
           at_is = refl;
           shows = subst (λ (b : Bracket). ShowsState reader.options.wikilinks text place next.at (opened o f.p.state) (b ∷ f.bs) new) same opens.2;
           answered = f.answered;
+          counted = counted-opening reader f.p.here tally mid.delimiters.examined new.delimiters.examined o (ap (λ (s : InlineState). s.delimiters.examined) others) f.counted;
         }

@@ -1,5 +1,5 @@
 -- Behind a closing bracket the pass of the grammar has read what the new state stands for, with what was asked there.
-use Rattle.std.specs.Prelude.{Option, map}
+use Rattle.std.specs.Prelude.{Option, drop, map}
 use Rattle.std.proofs.Common.{◌≡◌, ℕ, suc, ◌+◌, ◌<◌, Bool, false, List, [], ◌∷◌, ◌++◌, length, get_or, Some, refl, sym, ap, ◌∙◌, subst, arith}
 use Rattle.std.proofs.lemmas.List.{length-map}
 use Rattle.cmark_grammar.specs.Answers.{Destination}
@@ -30,6 +30,7 @@ use Rattle.cmark_inline.specs.Closers as closers
 use Rattle.cmark_inline.specs.Closers.{ShowsState, left_of}
 use Rattle.cmark_slots.specs.Standing.{AreEnded}
 use Rattle.cmark_inline.specs.CursorProgress.{HasReached}
+use Rattle.cmark_inline.specs.LeastSteps.{AreCounted, Tally}
 use Rattle.cmark_inline.specs.Decided.{AsksThis, ComesTo, ReadsSame}
 use Rattle.cmark_slots.specs.MarkedSlots.{places_of}
 use Rattle.cmark_inline.specs.Reached.{HasRead, ReadsPlaces, bracket_place, quotes_of, runs_of}
@@ -40,6 +41,7 @@ use Rattle.cmark_inline.specs.declared.callback.BrokenLink.{BrokenLink}
 use Rattle.cmark_slots.specs.declared.quote.PlacedQuote.{PlacedQuote}
 use Rattle.cmark_inline.specs.declared.state.InlineState.{InlineState}
 use Rattle.cmark_inline.specs.declared.step.Cursor.{Cursor}
+use Rattle.cmark_inline.proofs.LeastCounted.{CutsRuns, closed-counted}
 use Rattle.cmark_inline.proofs.MarkupTokens.{no-markup-by}
 use Rattle.cmark_inline.proofs.PendingReads.{flushed-reached, stops-there, token-placed}
 use Rattle.cmark_inline.proofs.PlainChains.{IsHeld}
@@ -90,19 +92,19 @@ module _ (leaf : LeafText) (reader : Reader) (read : Leaf) (place : ℕ → ℕ)
       ∙ ap (λ y. placed place (longest (text_reader reader.options reader.lookup text) (one_stretch cell text) y)) t
       ∙ ap (λ n. Closes (record { is_image = false; start = place at; end = n })) (ap place (let q : at + 1 ≡ suc at = omega arith in q) ∙ r.places.places.next at lt (ap is_content byte))
 
-  module _ {F : Type 0} (R : F → BrokenLink → Option (CowStr × CowStr) → F → Type 0) (before : Between) (initial now later : F) (here : Cursor) (m : ℕ) (old new : InlineState) (next : Cursor) (h : HasReached R leaf reader read place before initial m old now)
+  module _ {F : Type 0} (R : F → BrokenLink → Option (CowStr × CowStr) → F → Type 0) (before : Between) (tally : Tally) (initial now later : F) (here : Cursor) (m : ℕ) (old new : InlineState) (next : Cursor) (h : HasReached R leaf reader read place before tally initial m old now)
       (held : IsHeld reader.options reader.lookup cell text m here.pending here.at) (lt : here.at < length text) (byte : get_or text here.at 0 ≡ 93) where
-    pub closing-reached : (references : RefDefs) (footnotes : FootnoteDefs) → ReadsSame reader.options reader.lookup references footnotes leaf reader read place → Flushes here.pending here.at old
-        → closers.Closes R reader.options reader.lookup references footnotes leaf text here.pending here.at old new next now later → AreEnded leaf old.slots.items
-        → HasReached R leaf reader read place before initial next.at new later × (next.pending ≡ next.at)
-    closing-reached references footnotes same flush closes ended =
+    pub closing-reached : (references : RefDefs) (others : FootnoteDefs) → ReadsSame reader.options reader.lookup references tally.notes leaf reader read place → Flushes here.pending here.at old
+        → closers.Closes R reader.options reader.lookup references tally.notes others leaf text here.pending here.at old new next now later → AreEnded leaf old.slots.items
+        → HasReached R leaf reader read place before (record tally { notes = others }) initial next.at new later × (next.pending ≡ next.at)
+    closing-reached references noted same flush closes ended =
         let closer : items.Bracket = record { is_image = false; start = place here.at; end = suc (place here.at) } in
-        let f = flushed-reached leaf reader read place r R before initial now m here.pending here.at old flush.flushed h held (omega (arith, lt))
+        let f = flushed-reached leaf reader read place r R before tally initial now m here.pending here.at old flush.flushed h held (omega (arith, lt))
         (stops-there reader.options reader.lookup cell text here.at (Closes (bracket false here.at (here.at + 1))) (bracket-closes reader.options reader.lookup cell text here.at lt byte) tt) flush.pushes flush.others in
         let others = flush.others in
         let shows : ShowsState reader.options.wikilinks text place here.at f.p.state f.bs old =
         shows-on reader.options.wikilinks text place here.at here.at f.p.state f.p.state f.bs flush.flushed old (omega arith)
-        (record { brackets = sym (ap (λ (s : InlineState). s.brackets) others); doubled = sym (ap (λ (s : InlineState). s.doubled) others); expansion_left = sym (ap (λ (s : InlineState). s.expansion_left) others); label = sym (ap (λ (s : InlineState). s.label_close) others) })
+        (record { examined = sym (ap (λ (s : InlineState). s.delimiters.examined) others); brackets = sym (ap (λ (s : InlineState). s.brackets) others); doubled = sym (ap (λ (s : InlineState). s.doubled) others); expansion_left = sym (ap (λ (s : InlineState). s.expansion_left) others); label = sym (ap (λ (s : InlineState). s.label_close) others) })
         refl refl refl f.shows in
         let c = closes reader read place closer f.p.state f.bs same (record { within = lt; byte = byte; start = refl; end = refl }) shows in
         let t : token reader read f.p.state.at ≡ Closes closer = ap (token reader read) f.at_is ∙ closing-token here.at lt byte in
@@ -113,6 +115,10 @@ module _ (leaf : LeafText) (reader : Reader) (read : Leaf) (place : ℕ → ℕ)
         let cuts : (nearer : ℕ) → nearer < length f.p.state.openers → (cut : Cut) × (cut_at nearer f.p.here ≡ Some cut) = λ nearer low.
         (let k = cut-row reader.options nearer brackets f.p.here f.has_read.row (places_of flush.flushed.delimiters.placed.items) (map (λ (x : PlacedQuote). x.slot) flush.flushed.quotes.placed.items)
         (runs_of flush.flushed.delimiters.placed.items) (quotes_of flush.flushed.quotes.placed.items) (omega (arith, low, count)) f.has_read.is_row in (k.cut, k.cut_is)) in
+        let runs-cut : (nearer : ℕ) → nearer < length f.p.state.openers → CutsRuns reader.options place nearer f.bs f.p.here old.delimiters.placed.items = λ nearer low.
+        (let k = cut-row reader.options nearer brackets f.p.here f.has_read.row (places_of flush.flushed.delimiters.placed.items) (map (λ (x : PlacedQuote). x.slot) flush.flushed.quotes.placed.items)
+        (runs_of flush.flushed.delimiters.placed.items) (quotes_of flush.flushed.quotes.placed.items) (omega (arith, low, count)) f.has_read.is_row in
+        record { cut = k.cut; cut_is = k.cut_is; place_at = k.place; place_is = k.place_is; runs_behind = k.runs_behind ∙ ap (λ (s : InlineState). drop k.place.runs (runs_of s.delimiters.placed.items)) others }) in
         let fits : Fits (length f.p.state.openers) c.outcome = always-comes R (Fits (length f.p.state.openers)) (decide reader read f.p.state closer) c.outcome now later (decide-fits reader read f.p.state closer) c.comes in
         let state_is : (closed_by f.p closer c.outcome).state ≡ c.outcome.after = closed-state f.p closer c.outcome.result c.outcome.after (length f.p.state.openers) cuts fits in (
           record {
@@ -123,6 +129,8 @@ module _ (leaf : LeafText) (reader : Reader) (read : Leaf) (place : ℕ → ℕ)
             shows = subst (λ s. ShowsState reader.options.wikilinks text place next.at s (left_of c.outcome.result f.bs) new) (sym state_is) c.shows;
             answered = subst (λ (s : State). Answered R s.asked initial later) (sym state_is)
                 (asked-on R (decide reader read f.p.state closer) f.p.state.asked c.outcome initial now later ((decide-recorded reader read).keeps f.p.state closer) c.comes f.answered);
+            counted = closed-counted reader place f.p closer c.outcome.result c.outcome.after f.bs old new tally noted (length f.p.state.openers) runs-cut fits
+                (subst (λ (n : ℕ). AreCounted reader f.p.here tally n) (ap (λ (s : InlineState). s.delimiters.examined) others) f.counted) c.examines c.uses;
           },
           c.pending,
         )

@@ -1,8 +1,9 @@
 -- With the slot of an item the pass of the grammar has come behind that item.
-use Rattle.std.specs.Prelude.{Option, ◌==◌, ◌&&◌, if◌then◌else◌}
+use Rattle.std.specs.Prelude.{Option, ◌==◌, ◌&&◌, is_none, if◌then◌else◌}
 use Rattle.std.proofs.Common.{◌≡◌, ◌⊎◌, inl, inr, ℕ, suc, ◌+◌, ◌-◌, ◌<◌, ◌≤◌, Bool, true, false, List, [], ◌∷◌, ◌++◌, length, drop, get_or, refl, sym, ap, ◌∙◌, subst, arith, eqb-true, true≢false}
 use Rattle.std.proofs.Math.Seq.{drop-cons}
 use Rattle.std.proofs.lemmas.List.{append-nil, get_or_push, length-append, length_push}
+use Rattle.cmark_grammar.specs.Autolinks.{autolink_in}
 use Rattle.cmark_grammar.specs.Columns.{is_blank_byte}
 use Rattle.cmark_grammar.specs.InlineTokens.{from, is_plain, item_at, longest, plain_end, token}
 use Rattle.cmark_grammar.specs.Items.{ItemKind, Plain, Own, Written, Quoted, Delimiters, Code, InlineMath, DisplayMath, Autolink, Html, OwnedHtml, FootnoteReference, SoftBreak, HardBreak, Item, Stands}
@@ -16,6 +17,7 @@ use Rattle.cmark_text_parts.specs.declared.text.CowStr.{CowStr}
 use Rattle.cmark_inline_model.specs.PlacedTokens.{StopsAt, may_open_markup, placed, placed_item, one_stretch, text_reader}
 use Rattle.cmark_inline_model.specs.RowPasses.{has_own_slot}
 use Rattle.cmark_inline.specs.CursorProgress.{HasReached}
+use Rattle.cmark_inline.specs.LeastSteps.{Tally, closers_of, visited_in}
 use Rattle.cmark_inline.specs.Reached.{ReadsPlaces}
 use Rattle.cmark_inline.specs.Sound.{IsSound}
 use Rattle.cmark_inline.specs.Stands as stands
@@ -26,12 +28,15 @@ use Rattle.cmark_slots.specs.declared.slot.Slot.{Slot}
 use Rattle.cmark_slots.specs.declared.slot.SlotKind.{SlotKind}
 use Rattle.cmark_inline.specs.declared.state.InlineState.{InlineState}
 use Rattle.cmark_inline.specs.declared.step.Cursor.{Cursor}
+use Rattle.cmark_inline.specs.declared.step.Sought.{Sought}
 use Rattle.cmark_inline.proofs.ItemSlots.{slot-like}
 use Rattle.cmark_inline.proofs.Keeping.{keeps-pending}
+use Rattle.cmark_inline.proofs.PassedTags.{tag-passes}
 use Rattle.cmark_slots.proofs.Longer.{shown-longer}
 use Rattle.cmark_inline.proofs.PendingReads.{flushed-reached, item-within, stops-there, token-placed}
 use Rattle.cmark_inline.proofs.PlainChains.{IsHeld, before-or-behind}
 use Rattle.cmark_inline.proofs.ReachedItems.{item-reached}
+use Rattle.cmark_inline.proofs.VisitedTokens.{starts-there}
 
 -- a slot that stands for an item is its own
 pub says-own : (cell : Bool) (text : List ℕ) (texts : List CowStr) (start end : ℕ) (x : ItemKind) (k : SlotKind) → Says cell text texts start end x k → has_own_slot x ≡ true
@@ -51,13 +56,22 @@ says-own cell text texts start end SoftBreak k h = refl
 says-own cell text texts start end HardBreak k h = refl
 
 -- at a byte that is no `<` no markup opens that is sought in the source, nor at one behind which neither `!` nor `?` stands
-pub no-markup-at : (text : List ℕ) (at : ℕ) → at < length text → (get_or text at 0 ≡ 60 → opens_markup (drop (at + 1) text) ≡ false) → may_open_markup (drop at text) ≡ false
-no-markup-at text at lt h = ap may_open_markup (drop-cons text at 0 lt) ∙ go (get_or text at 0 == 60) refl
+pub no-markup-at : (emails : Bool) (text : List ℕ) (at : ℕ) → at < length text → (get_or text at 0 ≡ 60 → opens_markup (drop (at + 1) text) ≡ false) → may_open_markup emails (drop at text) ≡ false
+no-markup-at emails text at lt h = ap (may_open_markup emails) (drop-cons text at 0 lt) ∙ go (get_or text at 0 == 60) refl
   where
-    go : (z : Bool) → (get_or text at 0 == 60) ≡ z → ((get_or text at 0 == 60) && opens_markup (drop (suc at) text)) ≡ false
-    go false e = ap (λ z. z && opens_markup (drop (suc at) text)) e
+    none : Bool
+    none = is_none (autolink_in emails (drop (suc at) text))
+
+    never : (z : Bool) → (z && false) ≡ false
+    never true = refl
+    never false = refl
+
+    go : (z : Bool) → (get_or text at 0 == 60) ≡ z → ((get_or text at 0 == 60) && (none && opens_markup (drop (suc at) text))) ≡ false
+    go false e = ap (λ z. z && (none && opens_markup (drop (suc at) text))) e
     go true e =
-        ap (λ z. z && opens_markup (drop (suc at) text)) e ∙ ap (λ n. opens_markup (drop n text)) (let q : suc at ≡ at + 1 = omega arith in q) ∙ h (eqb-true (get_or text at 0) 60 e)
+        ap (λ z. z && (none && opens_markup (drop (suc at) text))) e
+        ∙ ap (λ z. none && z) (ap (λ n. opens_markup (drop n text)) (let q : suc at ≡ at + 1 = omega arith in q) ∙ h (eqb-true (get_or text at 0) 60 e))
+        ∙ never none
 
 -- the state with these slots, which are no more than those of another one
 abbrev pub with_slots : (old new : InlineState) → (front : List Slot) → length front ≤ new.slots.cap → InlineState
@@ -74,7 +88,7 @@ module _ (leaf : LeafText) (reader : Reader) (read : Leaf) (place : ℕ → ℕ)
   cell = is_cell_of leaf
 
   -- an item that is no text is read as it begins
-  pub other-token : (at : ℕ) (x : Item) (resume : ℕ) → at ≤ length text → begins_at reader.options reader.lookup cell text at ≡ Stands x resume → is_plain x.kind ≡ false → may_open_markup (drop at text) ≡ false
+  pub other-token : (at : ℕ) (x : Item) (resume : ℕ) → at ≤ length text → begins_at reader.options reader.lookup cell text at ≡ Stands x resume → is_plain x.kind ≡ false → may_open_markup reader.options.email_autolinks (drop at text) ≡ false
       → token reader read (place at) ≡ Stands (placed_item place x) (place resume)
   unfolding token
   other-token at x resume le t own none =
@@ -82,36 +96,37 @@ module _ (leaf : LeafText) (reader : Reader) (read : Leaf) (place : ℕ → ℕ)
       ∙ ap (λ y. placed place (longest (text_reader reader.options reader.lookup text) (one_stretch cell text) y)) t
       ∙ ap (λ z. placed place (if z then item_at Plain x.start (plain_end (text_reader reader.options reader.lookup text) (one_stretch cell text) (length (from (text_reader reader.options reader.lookup text) (one_stretch cell text) resume)) resume) else Stands x resume)) own
 
-  module _ {F : Type 0} (R : F → BrokenLink → Option (CowStr × CowStr) → F → Type 0) (before : Between) (initial now : F) where
+  module _ {F : Type 0} (R : F → BrokenLink → Option (CowStr × CowStr) → F → Type 0) (before : Between) (tally : Tally) (initial now : F) where
     abbrev Reached : ℕ → InlineState → Type 0
-    Reached at state = HasReached R leaf reader read place before initial at state now
+    Reached at state = HasReached R leaf reader read place before tally initial at state now
 
     -- the text that was pending has its slot
     pub flushed : (m start to : ℕ) (old new : InlineState) (front : List Slot) (le : length front ≤ new.slots.cap) → Reached m old → IsHeld reader.options reader.lookup cell text m start to → to ≤ length text
         → StopsAt (text_reader reader.options reader.lookup text) (one_stretch cell text) to → PushesText start to old.slots.items front → Reached to (with_slots old new front le)
-    flushed m start to old new front le h held within stops pushes = flushed-reached leaf reader read place r R before initial now m start to old (with_slots old new front le) h held within stops pushes refl
+    flushed m start to old new front le h held within stops pushes = flushed-reached leaf reader read place r R before tally initial now m start to old (with_slots old new front le) h held within stops pushes refl
 
-    module _ (here : Cursor) (m : ℕ) (old new : InlineState) (next : Cursor) (sound : IsSound old) (h : Reached m old) (stand : stands.Stands text next.pending new) where
-      pub appends-reached : (a : Appends reader.options reader.lookup cell text here old new next) → IsHeld reader.options reader.lookup cell text m here.pending a.from → Reached next.at new
-      appends-reached a held =
+    module _ (was : Sought) (here : Cursor) (m : ℕ) (old new : InlineState) (next : Cursor) (sound : IsSound old) (h : HasReached R leaf reader read place before (record tally { sought = was }) initial m old now) (stand : stands.Stands text next.pending new) where
+      pub appends-reached : (a : Appends reader.options reader.lookup cell text here old new next) → IsHeld reader.options reader.lookup cell text m here.pending a.from → was.unclosed.passed ≤ tally.sought.unclosed.passed → closers_of a.item.kind + visited_in was ≤ visited_in tally.sought → Reached next.at new
+      appends-reached a held passes visited =
           let front : List Slot = a.slots.before in
           let room = has-room new front (a.slot ∷ []) a.slots.slot_is in
           let mid : InlineState = with_slots old new front room in
           let w = item-within reader.options reader.lookup cell text a.from a.item next.at a.token in
           let further = w.further in
           let within = w.within in
-          let flush : Reached a.from mid =
-          flushed m here.pending a.from old new front room h held (omega (arith, further, within)) (stops-there reader.options reader.lookup cell text a.from (Stands a.item next.at) a.token a.own) a.slots.text in
+          let flush : HasReached R leaf reader read place before (record tally { sought = was }) initial a.from mid now =
+          flushed-reached leaf reader read place r R before (record tally { sought = was }) initial now m here.pending a.from old mid h held (omega (arith, further, within)) (stops-there reader.options reader.lookup cell text a.from (Stands a.item next.at) a.token a.own) a.slots.text refl in
           let n = length_push front a.slot in
           let there : length front < length new.slots.items = (let e = ap length a.slots.slot_is in omega (arith, e, n)) in
           let slot : IsSlot text next.pending a.slot =
           subst (IsSlot text next.pending) (ap (λ l. get_or l (length front) a.slot) a.slots.slot_is ∙ get_or_push front a.slot a.slot (length front) refl) (stand.slots (length front) a.slot there) in
           let some : a.item.start < a.item.end = (let p = slot.part.some in let s = a.is.start in let e = a.is.end in omega (arith, p, s, e)) in
           let inside : a.item.end ≤ length text = (let p = slot.part.within in let e = a.is.end in omega (arith, p, e)) in
-          let none : may_open_markup (drop a.from text) ≡ false = no-markup-at text a.from (omega (arith, further, within)) (no-less a) in
+          let none : may_open_markup reader.options.email_autolinks (drop a.from text) ≡ false = no-markup-at reader.options.email_autolinks text a.from (omega (arith, further, within)) (no-less a) in
           let others = a.others in
-          item-reached leaf reader read place before R initial now a.from next.at mid new flush (omega (arith, further))
-          (record { brackets = ap (λ (s : InlineState). s.brackets) others; doubled = ap (λ (s : InlineState). s.doubled) others; expansion_left = ap (λ (s : InlineState). s.expansion_left) others; label = ap (λ (s : InlineState). s.label_close) others })
+          let lt : a.from < length text = omega (arith, further, within) in
+          item-reached leaf reader read place before R tally initial now was a.from next.at mid new flush (omega (arith, further))
+          (record { examined = ap (λ (s : InlineState). s.delimiters.examined) others; brackets = ap (λ (s : InlineState). s.brackets) others; doubled = ap (λ (s : InlineState). s.doubled) others; expansion_left = ap (λ (s : InlineState). s.expansion_left) others; label = ap (λ (s : InlineState). s.label_close) others })
           (shown-longer leaf old.texts.items new.texts.items a.owned old.links.items new.links.items [] front a.texts (ap (λ (s : InlineState). s.links.items) others ∙ sym (append-nil old.links.items))
           ((keeps-pending old mid refl here.pending a.from a.slots.text).sound sound).named)
           a.item.kind (place a.item.start) (suc (place (a.item.end - 1))) a.slot
@@ -119,6 +134,7 @@ module _ (leaf : LeafText) (reader : Reader) (read : Leaf) (place : ℕ → ℕ)
           (says-own cell text new.texts.items a.slot.start a.slot.end a.item.kind a.slot.kind a.is.says)
           (slot-like leaf reader read place r.places r.cell r.bytes new.texts.items new.links.items a.slot a.item a.from next.at a.token none a.is some inside)
           a.slots.slot_is (ap (λ (s : InlineState). s.delimiters.placed.items) others) (ap (λ (s : InlineState). s.quotes.placed.items) others)
+          (record { html = (let n = tag-passes leaf reader read place r a.from a.item.start a.item.end a.item.kind lt inside (starts-there reader.options reader.lookup cell text a.from lt a.item next.at a.token) (no-less a) in omega (arith, n, passes)); closers = visited })
         where
           no-less : (a : Appends reader.options reader.lookup cell text here old new next) → get_or text a.from 0 ≡ 60 → opens_markup (drop (a.from + 1) text) ≡ false
           no-less a is = go a.there (before-or-behind here.at a.from)

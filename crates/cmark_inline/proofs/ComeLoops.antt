@@ -16,6 +16,7 @@ use Rattle.cmark_inline.specs.Footnoted.{SameFootnotes}
 use Rattle.cmark_inline.specs.declared.callback.BrokenLink.{BrokenLink}
 use Rattle.cmark_inline.specs.declared.state.InlineState.{InlineState}
 use Rattle.cmark_inline.specs.declared.step.Cursor.{Cursor}
+use Rattle.cmark_inline.specs.declared.step.Sought.{Sought}
 use Rattle.cmark_inline.proofs.ComeEnds.{begin-come}
 
 module _ {F : Type 0} (R : F → BrokenLink → Option (CowStr × CowStr) → F → Type 0) (options : Options) (lookup : Lookup) (references : RefDefs) where
@@ -33,11 +34,11 @@ module _ {F : Type 0} (R : F → BrokenLink → Option (CowStr × CowStr) → F 
     bytes = h.bytes;
   }
 
-  pub begin-comes : (footnotes : FootnoteDefs) (leaf : LeafText) (initial : F) (state : InlineState) → IsCleared state → ComesTo R options lookup references footnotes leaf state.expansion_left initial (record { pending = 0; at = 0 }) state initial
-  begin-comes footnotes leaf initial state c = λ reader read place same places. begin-come leaf reader read place places R state.expansion_left initial state c refl
+  pub begin-comes : (sought : Sought) (footnotes : FootnoteDefs) (leaf : LeafText) (initial : F) (state : InlineState) → IsCleared state → ComesTo R options lookup references footnotes leaf state.expansion_left initial sought footnotes (record { pending = 0; at = 0 }) state initial
+  begin-comes sought footnotes leaf initial state c = λ reader read place same places. begin-come leaf reader read place places R state.expansion_left initial sought footnotes state c refl
 
-  pub comes-further : (footnotes notes : FootnoteDefs) (leaf : LeafText) (expansion_left : ℕ) (initial : F) (cursor next : Cursor) (old new : InlineState) (now later : F) → SameFootnotes footnotes notes
-      → ComesTo R options lookup references footnotes leaf expansion_left initial cursor old now → ComesOn R options lookup references notes leaf cursor next old new now later
-      → AreEnded leaf old.slots.items → ComesTo R options lookup references footnotes leaf expansion_left initial next new later
-  comes-further footnotes notes leaf expansion_left initial cursor next old new now later e h k ended = λ reader read place same places.
-      k reader read place (record { expansion_left = expansion_left; asked = [] }) initial (reads-notes footnotes notes leaf reader read place e same) places ended (h reader read place same places)
+  pub comes-further : (footnotes notes others : FootnoteDefs) (leaf : LeafText) (expansion_left : ℕ) (initial : F) (sought found : Sought) (cursor next : Cursor) (old new : InlineState) (now later : F) → SameFootnotes footnotes notes
+      → ComesTo R options lookup references footnotes leaf expansion_left initial sought notes cursor old now → ComesOn R options lookup references notes others leaf sought found cursor next old new now later
+      → AreEnded leaf old.slots.items → ComesTo R options lookup references footnotes leaf expansion_left initial found others next new later
+  comes-further footnotes notes others leaf expansion_left initial sought found cursor next old new now later e h k ended = λ reader read place same places.
+      k reader read place (record { expansion_left = expansion_left; asked = [] }) footnotes initial (reads-notes footnotes notes leaf reader read place e same) places ended (h reader read place same places)

@@ -34,7 +34,9 @@ use Rattle.cmark_references.specs.declared.link.Link.{Link}
 use Rattle.cmark_slots.specs.declared.slot.Slot.{Slot}
 use Rattle.cmark_inline.specs.declared.state.InlineState.{InlineState}
 use Rattle.cmark_inline.specs.declared.step.Cursor.{Cursor}
+use Rattle.cmark_inline.specs.LeastSteps.{Tally}
 use Rattle.cmark_inline.proofs.ComeItems.{flushed, has-room, other-token, with_slots}
+use Rattle.cmark_inline.proofs.LeastCounted.{counted-item}
 use Rattle.cmark_inline.proofs.MarkupTokens.{no-markup-by}
 use Rattle.cmark_inline.proofs.PendingReads.{item-within, stops-there}
 use Rattle.cmark_inline.proofs.PendingTexts.{text_slot}
@@ -112,9 +114,9 @@ module _ (leaf : LeafText) (reader : Reader) (read : Leaf) (place : ℕ → ℕ)
             (bytes-like size (at + 1) texts links (let q : at + 1 + size ≤ length text = omega (arith, within) in q) (λ k low high. all k (let q : at ≤ k = omega (arith, low) in q) (let q : k < at + suc size = omega (arith, high) in q))),
       )
 
-  module _ {F : Type 0} (R : F → BrokenLink → Option (CowStr × CowStr) → F → Type 0) (before : Between) (initial now : F) (here : Cursor) (m : ℕ) (old new : InlineState) (next : Cursor) (h : HasReached R leaf reader read place before initial m old now)
+  module _ {F : Type 0} (R : F → BrokenLink → Option (CowStr × CowStr) → F → Type 0) (before : Between) (tally : Tally) (initial now : F) (here : Cursor) (m : ℕ) (old new : InlineState) (next : Cursor) (h : HasReached R leaf reader read place before tally initial m old now)
       (held : IsHeld reader.options reader.lookup cell text m here.pending here.at) where
-    pub run-reached : AppendsRun reader.options reader.lookup cell text here old new next → HasReached R leaf reader read place before initial next.at new now
+    pub run-reached : AppendsRun reader.options reader.lookup cell text here old new next → HasReached R leaf reader read place before tally initial next.at new now
     run-reached a =
         let x : Item = record { kind = Delimiters (shown_run a.run); start = here.at; end = next.at } in
         let w = item-within reader.options reader.lookup cell text here.at x next.at a.token in
@@ -123,7 +125,7 @@ module _ (leaf : LeafText) (reader : Reader) (read : Leaf) (place : ℕ → ℕ)
         let size = a.size in
         let room = has-room new a.before (byte_slots here.at a.run.run_length) a.slots in
         let mid : InlineState = with_slots old new a.before room in
-        let f = flushed leaf reader read place r R before initial now m here.pending here.at old new a.before room h held (omega (arith, further, within)) (stops-there reader.options reader.lookup cell text here.at (Stands x next.at) a.token refl) a.text_is in
+        let f = flushed leaf reader read place r R before tally initial now m here.pending here.at old new a.before room h held (omega (arith, further, within)) (stops-there reader.options reader.lookup cell text here.at (Stands x next.at) a.token refl) a.text_is in
         let others = a.others in
         let t = other-token leaf reader read place r here.at x next.at (omega (arith, further, within)) a.token refl (no-markup-by reader.options reader.lookup cell text here.at (Stands x next.at) a.token refl) in
         record {
@@ -136,12 +138,13 @@ module _ (leaf : LeafText) (reader : Reader) (read : Leaf) (place : ℕ → ℕ)
               (bytes-like a.run.run_length here.at new.texts.items new.links.items (omega (arith, size, within)) (λ k low high. a.bytes k low (omega (arith, size, high)))) refl a.slots a.placed (ap (λ (s : InlineState). s.quotes.placed.items) others);
           at_is = refl;
           shows = shows-on reader.options.wikilinks text place here.at next.at f.p.state (moved (place next.at) f.p.state) f.bs mid new (omega (arith, further))
-              (record { brackets = ap (λ (s : InlineState). s.brackets) others; doubled = ap (λ (s : InlineState). s.doubled) others; expansion_left = ap (λ (s : InlineState). s.expansion_left) others; label = ap (λ (s : InlineState). s.label_close) others })
+              (record { examined = a.examined; brackets = ap (λ (s : InlineState). s.brackets) others; doubled = ap (λ (s : InlineState). s.doubled) others; expansion_left = ap (λ (s : InlineState). s.expansion_left) others; label = ap (λ (s : InlineState). s.label_close) others })
               refl refl refl f.shows;
           answered = f.answered;
+          counted = counted-item reader f.p.here tally tally.sought mid.delimiters.examined new.delimiters.examined (item (Delimiters (shown_run a.run)) (place here.at) (suc (place (next.at - 1)))) a.examined (record { html = omega arith; closers = omega arith }) f.counted;
         }
 
-    pub quote-reached : AppendsQuote reader.options reader.lookup cell text here old new next → is_content (get_or text here.at 0) ≡ true → next.at ≡ here.at + 1 → HasReached R leaf reader read place before initial next.at new now
+    pub quote-reached : AppendsQuote reader.options reader.lookup cell text here old new next → is_content (get_or text here.at 0) ≡ true → next.at ≡ here.at + 1 → HasReached R leaf reader read place before tally initial next.at new now
     quote-reached a content one =
         let x : Item = record { kind = Quoted (shown_quote a.quote); start = here.at; end = next.at } in
         let w = item-within reader.options reader.lookup cell text here.at x next.at a.token in
@@ -150,7 +153,7 @@ module _ (leaf : LeafText) (reader : Reader) (read : Leaf) (place : ℕ → ℕ)
         let slot : Slot = text_slot here.at next.at in
         let room = has-room new a.before (slot ∷ []) a.slots in
         let mid : InlineState = with_slots old new a.before room in
-        let f = flushed leaf reader read place r R before initial now m here.pending here.at old new a.before room h held (omega (arith, further, within)) (stops-there reader.options reader.lookup cell text here.at (Stands x next.at) a.token refl) a.text_is in
+        let f = flushed leaf reader read place r R before tally initial now m here.pending here.at old new a.before room h held (omega (arith, further, within)) (stops-there reader.options reader.lookup cell text here.at (Stands x next.at) a.token refl) a.text_is in
         let others = a.others in
         let t = other-token leaf reader read place r here.at x next.at (omega (arith, further, within)) a.token refl (no-markup-by reader.options reader.lookup cell text here.at (Stands x next.at) a.token refl) in
         let side = side-by-side here.at next.at further within (λ k low high. ap (λ n. is_content (get_or text n 0)) (let q : k ≡ here.at = omega (arith, low, high, one) in q) ∙ content) in
@@ -164,7 +167,8 @@ module _ (leaf : LeafText) (reader : Reader) (read : Leaf) (place : ℕ → ℕ)
               (text-like here.at next.at side (Quoted (shown_quote a.quote)) (λ y. refl) new.texts.items new.links.items) refl a.slots (ap (λ (s : InlineState). s.delimiters.placed.items) others) a.placed;
           at_is = refl;
           shows = shows-on reader.options.wikilinks text place here.at next.at f.p.state (moved (place next.at) f.p.state) f.bs mid new (omega (arith, further))
-              (record { brackets = ap (λ (s : InlineState). s.brackets) others; doubled = ap (λ (s : InlineState). s.doubled) others; expansion_left = ap (λ (s : InlineState). s.expansion_left) others; label = ap (λ (s : InlineState). s.label_close) others })
+              (record { examined = ap (λ (s : InlineState). s.delimiters.examined) others; brackets = ap (λ (s : InlineState). s.brackets) others; doubled = ap (λ (s : InlineState). s.doubled) others; expansion_left = ap (λ (s : InlineState). s.expansion_left) others; label = ap (λ (s : InlineState). s.label_close) others })
               refl refl refl f.shows;
           answered = f.answered;
+          counted = counted-item reader f.p.here tally tally.sought mid.delimiters.examined new.delimiters.examined (item (Quoted (shown_quote a.quote)) (place here.at) (suc (place (next.at - 1)))) (ap (λ (s : InlineState). s.delimiters.examined) others) (record { html = omega arith; closers = omega arith }) f.counted;
         }

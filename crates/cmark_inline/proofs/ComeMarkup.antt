@@ -1,9 +1,10 @@
 -- With the slot of markup that the source closes, or of a `<` that opens markup which it does not close, the pass of the grammar has come
 -- behind that.
-use Rattle.std.specs.Prelude.{Option}
-use Rattle.std.proofs.Common.{◌≡◌, ◌⊎◌, inl, inr, ℕ, suc, ◌+◌, ◌-◌, ◌<◌, ◌≤◌, ◌==◌, Bool, true, List, [], ◌∷◌, length, drop, get_or, Some, None, refl, sym, ap, ◌∙◌, subst, arith, eqb-true, length-drop}
+use Rattle.std.specs.Prelude.{Option, IfSome, ◌&&◌, is_none, if◌then◌else◌}
+use Rattle.std.proofs.Common.{◌≡◌, ◌⊎◌, inl, inr, ℕ, suc, ◌+◌, ◌-◌, ◌<◌, ◌≤◌, ◌==◌, Bool, true, false, List, [], ◌∷◌, length, drop, get_or, Some, None, refl, sym, ap, ◌∙◌, subst, arith, eqb-true, length-drop}
 use Rattle.std.proofs.Math.Seq.{drop-cons}
 use Rattle.std.proofs.lemmas.Bool.{or_cases}
+use Rattle.cmark_grammar.specs.Autolinks.{autolink_in}
 use Rattle.cmark_grammar.specs.InlineHtml.{behind_markup}
 use Rattle.cmark_grammar.specs.InlineReading.{event_of}
 use Rattle.cmark_grammar.specs.InlineTokens as grammar
@@ -26,6 +27,7 @@ use Rattle.cmark_inline_model.specs.SlotRows.{ItemSlot}
 use Rattle.cmark_inline_model.proofs.PlacedTokens as places
 use Rattle.cmark_inline_model.proofs.PlacedTokens.{from-place}
 use Rattle.cmark_inline.specs.CursorProgress.{HasReached}
+use Rattle.cmark_inline.specs.LeastSteps.{PassesAt, PassesFound, Tally, begins_markup, visited_in}
 use Rattle.cmark_inline.specs.MarkupInSource.{AppendsMarkup, AppendsUnclosed, source_from}
 use Rattle.cmark_inline.specs.Reached.{ReadsPlaces}
 use Rattle.cmark_slots.specs.SlotViews.{shown_slot, shown_slots}
@@ -37,9 +39,11 @@ use Rattle.cmark_slots.specs.declared.slot.SlotKind.{SlotKind}
 use Rattle.cmark_slots.specs.declared.slot.SlotKind.TheVariants as kind
 use Rattle.cmark_inline.specs.declared.state.InlineState.{InlineState}
 use Rattle.cmark_inline.specs.declared.step.Cursor.{Cursor}
+use Rattle.cmark_inline.specs.declared.step.Sought.{Sought}
 use Rattle.cmark_inline.proofs.ComeItems.{flushed, has-room, with_slots}
 use Rattle.cmark_inline.proofs.ComeMarks.{side-by-side, text-like}
-use Rattle.cmark_inline.proofs.MarkupTokens.{less-is, no-link-there}
+use Rattle.cmark_inline.proofs.LeastCounted.{TakesFor}
+use Rattle.cmark_inline.proofs.MarkupTokens.{less-is, no-slash-there}
 use Rattle.cmark_inline.proofs.PendingReads.{stops-markup}
 use Rattle.cmark_inline.proofs.PendingTexts.{text_slot}
 use Rattle.cmark_inline.proofs.PlainChains.{IsHeld}
@@ -61,12 +65,12 @@ module _ (leaf : LeafText) (reader : Reader) (read : Leaf) (place : ℕ → ℕ)
   abbrev cell : Bool
   cell = is_cell_of leaf
 
-  module _ (at : ℕ) (lt : at < length text) (byte : get_or text at 0 ≡ 60) (opens : opens_markup (drop (at + 1) text) ≡ true) where
+  module _ (at : ℕ) (lt : at < length text) (byte : get_or text at 0 ≡ 60) (link : autolink_in reader.options.email_autolinks (drop (at + 1) text) ≡ None) (opens : opens_markup (drop (at + 1) text) ≡ true) where
     front : drop at text ≡ 60 ∷ drop (at + 1) text
     front = drop-cons text at 0 lt ∙ ap (λ b. b ∷ drop (suc at) text) byte ∙ ap (λ n. 60 ∷ drop n text) (let q : suc at ≡ at + 1 = omega arith in q)
 
-    pub opens-there : may_open_markup (drop at text) ≡ true
-    opens-there = ap may_open_markup front ∙ opens
+    pub opens-there : may_open_markup reader.options.email_autolinks (drop at text) ≡ true
+    opens-there = ap (may_open_markup reader.options.email_autolinks) front ∙ ap (λ m. is_none m && opens_markup (drop (at + 1) text)) link ∙ opens
 
     -- the source from there on, up to the end of the leaf
     source-there : grammar.source_from reader read (place at) ≡ source_from leaf at
@@ -89,8 +93,7 @@ module _ (leaf : LeafText) (reader : Reader) (read : Leaf) (place : ℕ → ℕ)
 
     there : grammar.begins_at reader read (place at) ≡ markup_or reader read (place at) (behind_markup (source_from leaf at)) (tag_or_text reader read (place at) (behind_tag no_prefix (from reader read (place at))))
     there =
-        let n = no-link-there (drop (at + 1) text) opens in
-        ap (begins reader read (place at)) (from-place reader read text place r.places at (omega (arith, lt)) ∙ front) ∙ less-is reader read (place at) (drop (at + 1) text) n.0 n.1
+        ap (begins reader read (place at)) (from-place reader read text place r.places at (omega (arith, lt)) ∙ front) ∙ less-is reader read (place at) (drop (at + 1) text) link (no-slash-there (drop (at + 1) text) opens)
         ∙ ap (λ s. markup_or reader read (place at) (behind_markup s) (tag_or_text reader read (place at) (behind_tag no_prefix (from reader read (place at))))) source-there
 
     pub closed-token : (size end : ℕ) → size ≤ length (source_from leaf at) → behind_markup (source_from leaf at) ≡ Some (drop size (source_from leaf at)) → IsParted (length text) place (place at + size) end
@@ -112,36 +115,52 @@ module _ (leaf : LeafText) (reader : Reader) (read : Leaf) (place : ℕ → ℕ)
         ∙ ap (Stands (record { kind = Own; start = place at; end = suc (place at) }))
         (sym (ap place (let q : at + 1 ≡ suc at = omega arith in q) ∙ r.places.places.next at lt (ap is_content byte)))
 
-  module _ {F : Type 0} (R : F → BrokenLink → Option (CowStr × CowStr) → F → Type 0) (before : Between) (initial now : F) (here : Cursor) (m : ℕ) (old new : InlineState) (next : Cursor) (h : HasReached R leaf reader read place before initial m old now)
+  module _ {F : Type 0} (R : F → BrokenLink → Option (CowStr × CowStr) → F → Type 0) (before : Between) (tally : Tally) (initial now : F) (here : Cursor) (m : ℕ) (old new : InlineState) (next : Cursor) (h : HasReached R leaf reader read place before tally initial m old now)
       (held : IsHeld reader.options reader.lookup cell text m here.pending here.at) (further : here.at < next.at) (within : next.at ≤ length text) where
-    slot-reached : (slot : Slot) (x : Item) → may_open_markup (drop here.at text) ≡ true → Puts here.pending here.at slot old.slots.items new.slots.items → new ≡ record old { slots = new.slots }
-        → token reader read (place here.at) ≡ Stands x (place next.at) → (x.kind ≡ Html) ⊎ (x.kind ≡ Own) → IsLike reader.source (shown_slot leaf new.texts.items new.links.items slot) (ItemSlot x) → HasReached R leaf reader read place before initial next.at new now
-    slot-reached slot x opens puts others t own like =
+    slot-reached : (slot : Slot) (x : Item) (found : Sought) → may_open_markup reader.options.email_autolinks (drop here.at text) ≡ true → Puts here.pending here.at slot old.slots.items new.slots.items → new ≡ record old { slots = new.slots }
+        → token reader read (place here.at) ≡ Stands x (place next.at) → (x.kind ≡ Html) ⊎ (x.kind ≡ Own) → IsLike reader.source (shown_slot leaf new.texts.items new.links.items slot) (ItemSlot x) → TakesFor reader.source x tally.sought found → HasReached R leaf reader read place before (record tally { sought = found }) initial next.at new now
+    slot-reached slot x found opens puts others t own like takes =
         let room = has-room new puts.before (slot ∷ []) puts.slot_is in
         let mid : InlineState = with_slots old new puts.before room in
-        let f = flushed leaf reader read place r R before initial now m here.pending here.at old new puts.before room h held (omega (arith, further, within)) (stops-markup reader.options reader.lookup cell text here.at opens) puts.text in
-        item-reached leaf reader read place before R initial now here.at next.at mid new f (omega (arith, further))
-        (record { brackets = ap (λ (s : InlineState). s.brackets) others; doubled = ap (λ (s : InlineState). s.doubled) others; expansion_left = ap (λ (s : InlineState). s.expansion_left) others; label = ap (λ (s : InlineState). s.label_close) others })
+        let f = flushed leaf reader read place r R before tally initial now m here.pending here.at old new puts.before room h held (omega (arith, further, within)) (stops-markup reader.options reader.lookup cell text here.at opens) puts.text in
+        item-reached leaf reader read place before R (record tally { sought = found }) initial now tally.sought here.at next.at mid new f (omega (arith, further))
+        (record { examined = ap (λ (s : InlineState). s.delimiters.examined) others; brackets = ap (λ (s : InlineState). s.brackets) others; doubled = ap (λ (s : InlineState). s.doubled) others; expansion_left = ap (λ (s : InlineState). s.expansion_left) others; label = ap (λ (s : InlineState). s.label_close) others })
         (ap (λ y. shown_slots leaf y new.links.items puts.before) (ap (λ (s : InlineState). s.texts.items) others) ∙ ap (λ y. shown_slots leaf old.texts.items y puts.before) (ap (λ (s : InlineState). s.links.items) others))
-        x.kind x.start x.end slot t (either x own) like puts.slot_is (ap (λ (s : InlineState). s.delimiters.placed.items) others) (ap (λ (s : InlineState). s.quotes.placed.items) others)
+        x.kind x.start x.end slot t (either x own) like puts.slot_is (ap (λ (s : InlineState). s.delimiters.placed.items) others) (ap (λ (s : InlineState). s.quotes.placed.items) others) takes
       where
         either : (x : Item) → (x.kind ≡ Html) ⊎ (x.kind ≡ Own) → has_own_slot x.kind ≡ true
         either x (inl e) = ap has_own_slot e
         either x (inr e) = ap has_own_slot e
 
-    pub unclosed-reached : AppendsUnclosed leaf here old new next → HasReached R leaf reader read place before initial next.at new now
+    pub unclosed-reached : AppendsUnclosed reader.options leaf here old new next → HasReached R leaf reader read place before tally initial next.at new now
     unclosed-reached a =
         let lt : here.at < length text = omega (arith, further, within) in
         let at = a.at in
         let x : Item = record { kind = Own; start = place here.at; end = suc (place here.at) } in
         let side = side-by-side leaf reader read place r here.at next.at further within (λ k low high. ap (λ n. is_content (get_or text n 0)) (let q : k ≡ here.at = omega (arith, low, high, at) in q) ∙ ap is_content a.byte) in
         let like = text-like leaf reader read place r here.at next.at side Own (λ y. refl) new.texts.items new.links.items in
-        slot-reached (text_slot here.at next.at) x (opens-there here.at lt a.byte a.opens) a.slots a.others
-        (unclosed-token here.at lt a.byte a.opens a.closes ∙ ap (λ n. Stands x (place n)) (sym at)) (inr refl)
+        slot-reached (text_slot here.at next.at) x tally.sought (opens-there here.at lt a.byte a.autolink a.opens) a.slots a.others
+        (unclosed-token here.at lt a.byte a.autolink a.opens a.closes ∙ ap (λ n. Stands x (place n)) (sym at)) (inr refl)
         (subst (λ n. IsLike reader.source (shown_slot leaf new.texts.items new.links.items (text_slot here.at next.at)) (ItemSlot (record { kind = Own; start = place here.at; end = suc (place n) }))) (let q : next.at - 1 ≡ here.at = omega (arith, at) in q) like)
+        (record { html = omega arith; closers = omega arith })
 
-    pub markup-reached : AppendsMarkup leaf here old new next → HasReached R leaf reader read place before initial next.at new now
-    markup-reached a =
+    -- what was found was passed, but for the two bytes with which it opens
+    markup-takes : (found : Sought) (start size : ℕ) → size ≤ length (source_from leaf here.at) → behind_markup (source_from leaf here.at) ≡ Some (drop size (source_from leaf here.at)) → tally.sought.unclosed.passed ≤ found.unclosed.passed → visited_in tally.sought ≤ visited_in found
+        → PassesFound (source_from leaf here.at) tally.sought.unclosed found.unclosed → TakesFor reader.source (record { kind = Html; start = start; end = start + size }) tally.sought found
+    markup-takes found start size fits closes grows visited passes =
+        let all : List ℕ = source_from leaf here.at in
+        let p : tally.sought.unclosed.passed + (length all - length (drop size all)) ≤ found.unclosed.passed + 2 =
+        subst (λ (m : Option (List ℕ)). IfSome m (λ rest. tally.sought.unclosed.passed + (length all - length rest) ≤ found.unclosed.passed + 2)) closes passes in
+        let d = length-drop size all in
+        let few : tally.sought.unclosed.passed + size ≤ found.unclosed.passed + 2 = omega (arith, p, d, fits) in
+        record { html = go few (begins_markup (drop start reader.source)); closers = omega (arith, visited) }
+      where
+        go : tally.sought.unclosed.passed + size ≤ found.unclosed.passed + 2 → (z : Bool) → (if z then start + size - start - 2 else 0) + tally.sought.unclosed.passed ≤ found.unclosed.passed
+        go few true = omega (arith, few, grows)
+        go few false = omega (arith, grows)
+
+    pub markup-reached : (found : Sought) → visited_in tally.sought ≤ visited_in found → PassesAt reader.options.email_autolinks leaf here.at tally.sought.unclosed found.unclosed → AppendsMarkup reader.options leaf here old new next → HasReached R leaf reader read place before (record tally { sought = found }) initial next.at new now
+    markup-reached found visited passes a =
         let lt : here.at < length text = omega (arith, further, within) in
         let i = a.is in
         let end : ℕ = place here.at + i.size in
@@ -155,6 +174,7 @@ module _ (leaf : LeafText) (reader : Reader) (read : Leaf) (place : ℕ → ℕ)
         } in
         let like : IsLike reader.source (shown_slot leaf new.texts.items new.links.items (record { kind = kind.SourceHtml (place_of leaf here.at + i.size); start = here.at; end = a.found.end })) (ItemSlot x) =
         record { start = byte; end = ap (λ n. n + i.size) byte; event = ap (λ n. event_of reader.source (item Html n (place_of leaf here.at + i.size)) Html) byte ∙ ap (λ n. event_of reader.source (item Html (place here.at) (n + i.size)) Html) byte; lines = λ q. refl } in
-        slot-reached slot x (opens-there here.at lt a.byte i.opens) a.slots a.others
-        (closed-token here.at lt a.byte i.opens i.size a.found.end i.within i.closes parted ∙ ap (λ n. Stands x (place n)) (sym a.at)) (inl refl)
+        slot-reached slot x found (opens-there here.at lt a.byte a.autolink i.opens) a.slots a.others
+        (closed-token here.at lt a.byte a.autolink i.opens i.size a.found.end i.within i.closes parted ∙ ap (λ n. Stands x (place n)) (sym a.at)) (inl refl)
         (subst (λ (k : SlotKind). IsLike reader.source (shown_slot leaf new.texts.items new.links.items (record { kind = k; start = here.at; end = a.found.end })) (ItemSlot x)) (sym i.kind_is) like)
+        (markup-takes found (place here.at) i.size i.within i.closes passes.grows visited (passes.markup a.byte a.autolink i.opens))

@@ -1,6 +1,6 @@
 -- Behind each special byte but a closing bracket the leaf is read on as the grammar's pass reads it.
 use Rattle.std.specs.Prelude.{Option, codes, is_some, not}
-use Rattle.std.proofs.Common.{◌≡◌, ◌⊎◌, inl, inr, ℕ, suc, ◌+◌, ◌-◌, ◌<◌, ◌≤◌, ◌==◌, Bool, true, false, List, [], ◌∷◌, ◌++◌, length, drop, get_or, Some, None, refl, sym, ap, ◌∙◌, subst, arith, eqb-true, true≢false, length-drop}
+use Rattle.std.proofs.Common.{◌≡◌, ◌⊎◌, inl, inr, ℕ, suc, ◌+◌, ◌-◌, ◌<◌, ◌≤◌, ◌==◌, ◌||◌, Bool, true, false, List, [], ◌∷◌, ◌++◌, length, drop, get_or, Some, None, refl, sym, ap, ◌∙◌, subst, arith, eqb-true, true≢false, length-drop}
 use Rattle.std.proofs.lemmas.Bool.{not-true}
 use Rattle.std.proofs.lemmas.List.{get_or_append_left, get_or_push, length_push}
 use Rattle.cmark_emphasis.specs.Shown.{shown_quote, shown_run}
@@ -26,6 +26,7 @@ use Rattle.cmark_inline_model.specs.PlacedTokens.{may_open_markup}
 use Rattle.cmark_inline.specs.Closers as closers
 use Rattle.cmark_inline.specs.Decided.{ReadsSame}
 use Rattle.cmark_inline.specs.CursorProgress.{HasCome, HasEscaped, HasReached, IsPending}
+use Rattle.cmark_inline.specs.LeastSteps.{PassesAt, Tally, VisitsAt, closers_of, visited_in}
 use Rattle.cmark_inline.specs.MarkupInSource.{AppendsMarkup, AppendsUnclosed, ReadsLess}
 use Rattle.cmark_inline.specs.PlainStretches.{StandUpTo}
 use Rattle.cmark_inline.specs.Reached.{ReadsPlaces}
@@ -42,6 +43,7 @@ use Rattle.cmark_slots.specs.declared.slot.Slot.{Slot}
 use Rattle.cmark_slots.specs.declared.slot.SlotKind.TheVariants as kind
 use Rattle.cmark_inline.specs.declared.state.InlineState.{InlineState}
 use Rattle.cmark_inline.specs.declared.step.Cursor.{Cursor}
+use Rattle.cmark_inline.specs.declared.step.Sought.{Sought}
 use Rattle.cmark_inline.proofs.ComeAutolinks.{autolink-reached}
 use Rattle.cmark_inline.proofs.ComeBrackets.{opening-reached}
 use Rattle.cmark_inline.proofs.ComeClosers.{closing-reached}
@@ -50,6 +52,7 @@ use Rattle.cmark_inline.proofs.ComeMarks.{quote-reached, run-reached}
 use Rattle.cmark_inline.proofs.ComeMarkup.{markup-reached, unclosed-reached}
 use Rattle.cmark_inline.proofs.ComeTexts.{IsFree, escaped-begun, escaped-next, escaped-own, escapes-pending, escapes-stop, held-pending, passes-over-pending, passes-pending, pipe-pending, pipe-stop, tick-there}
 use Rattle.cmark_inline.proofs.ItemSlots.{slot-like}
+use Rattle.cmark_inline.proofs.LeastCounted.{counted-more}
 use Rattle.cmark_inline.proofs.PendingReads.{flushed-reached, item-within}
 use Rattle.cmark_inline.proofs.PlainBytes.{breaks, content-there, ending-there, plain-tick}
 use Rattle.cmark_inline.proofs.PlainChains.{IsHeld, Reaches, before-or-behind, begun-order, held-further}
@@ -57,6 +60,11 @@ use Rattle.cmark_inline.proofs.PlainUpTo.{reaches-to}
 use Rattle.cmark_inline.proofs.ReachedItems.{item-reached}
 use Rattle.cmark_inline.proofs.SpecialSteps.{Kinds, sign-passes, special-kinds}
 use Rattle.cmark_inline.proofs.TokenSteps.{code-begins}
+use Rattle.cmark_inline.proofs.VisitedTokens.{blank-visited, there-visited}
+
+or-true : (z : Bool) → (z || true) ≡ true
+or-true true = refl
+or-true false = refl
 
 -- a special byte is no blank
 pub special-no-blank : (o : Options) (b : ℕ) → is_special o b ≡ true → is_blank_byte b ≡ false
@@ -73,8 +81,9 @@ special-no-blank o b e = not-true (is_blank_byte b) (kinds (special-kinds o b e)
     kinds (inr (inl h)) = here 124 h refl
     kinds (inr (inr (inl h))) = here 126 h refl
     kinds (inr (inr (inr (inl h)))) = here 94 h refl
-    kinds (inr (inr (inr (inr (inl h))))) = sign-passes (λ n. not (is_blank_byte n)) b (codes "${}") (refl, (refl, (refl, tt))) h.1
-    kinds (inr (inr (inr (inr (inr h))))) = sign-passes (λ n. not (is_blank_byte n)) b (codes ".-\"'") (refl, (refl, (refl, (refl, tt)))) h.1
+    kinds (inr (inr (inr (inr (inl h))))) = here 61 h refl
+    kinds (inr (inr (inr (inr (inr (inl h)))))) = sign-passes (λ n. not (is_blank_byte n)) b (codes "${}") (refl, (refl, (refl, tt))) h.1
+    kinds (inr (inr (inr (inr (inr (inr h)))))) = sign-passes (λ n. not (is_blank_byte n)) b (codes ".-\"'") (refl, (refl, (refl, (refl, tt)))) h.1
 
 abbrev tick_kind : ItemKind → Bool
 tick_kind (Code bytes) = true
@@ -94,7 +103,7 @@ module _ (leaf : LeafText) (reader : Reader) (read : Leaf) (place : ℕ → ℕ)
   abbrev cell : Bool
   cell = is_cell_of leaf
 
-  module _ {F : Type 0} (R : F → BrokenLink → Option (CowStr × CowStr) → F → Type 0) (before : Between) (initial now : F) (cursor : Cursor) (old : InlineState) (come : HasCome R leaf reader read place before initial cursor old now) where
+  module _ {F : Type 0} (R : F → BrokenLink → Option (CowStr × CowStr) → F → Type 0) (before : Between) (tally : Tally) (initial now : F) (cursor : Cursor) (old : InlineState) (come : HasCome R leaf reader read place before tally initial cursor old now) where
     abbrev m : ℕ
     m = come.from
 
@@ -184,58 +193,71 @@ module _ (leaf : LeafText) (reader : Reader) (read : Leaf) (place : ℕ → ℕ)
       held-there : is_content (get_or text at 0) ≡ true → (HasEscaped reader.options reader.lookup cell text m start cursor.at → ⊥) → Held at
       held-there content never = goes-on at (reach content) (λ h. absurd (never h))
 
-      nothing-pending : HasReached R leaf reader read place before initial next.at new now → next.pending ≡ next.at → HasCome R leaf reader read place before initial next new now
-      nothing-pending h e = record { from = next.at; reached = h; pending = inl (sym e, e) }
+      nothing-pending : (found : Sought) → HasReached R leaf reader read place before (record tally { sought = found }) initial next.at new now → next.pending ≡ next.at → HasCome R leaf reader read place before (record tally { sought = found }) initial next new now
+      nothing-pending found h e = record { from = next.at; reached = h; pending = inl (sym e, e) }
 
       from-token : (t : Token) → begins_at reader.options reader.lookup cell text at ≡ t → breaks t ≡ false → is_content (get_or text at 0) ≡ true
       from-token t e f = content-there reader.options reader.lookup cell text at lt t e f
 
       -- ## What stands for itself
-      come-passes : Passes reader.options reader.lookup cell text here old new next → HasCome R leaf reader read place before initial next new now
+      come-passes : Passes reader.options reader.lookup cell text here old new next → HasCome R leaf reader read place before tally initial next new now
       come-passes p =
           let never = λ (h : HasEscaped reader.options reader.lookup cell text m start cursor.at). not-plain h at next.at p.token in
           let content = from-token (item_at Plain at next.at) p.token refl in
           record {
             from = m;
-            reached = subst (λ (s : InlineState). HasReached R leaf reader read place before initial m s now) (sym p.same) come.reached;
+            reached = subst (λ (s : InlineState). HasReached R leaf reader read place before tally initial m s now) (sym p.same) come.reached;
             pending = passes-pending reader.options reader.lookup cell text m here old new next (held-there content never) (is-free never) further within p none;
           }
 
-      come-over : PassesOver reader.options reader.lookup cell text here old new next → HasCome R leaf reader read place before initial next new now
+      come-over : PassesOver reader.options reader.lookup cell text here old new next → HasCome R leaf reader read place before tally initial next new now
       come-over p =
           let first = p.plain at (omega arith) further in
           let never = λ (h : HasEscaped reader.options reader.lookup cell text m start cursor.at). not-plain h at (at + 1) first in
           let content = from-token (item_at Plain at (at + 1)) first refl in
           record {
             from = m;
-            reached = subst (λ (s : InlineState). HasReached R leaf reader read place before initial m s now) (sym p.same) come.reached;
+            reached = subst (λ (s : InlineState). HasReached R leaf reader read place before tally initial m s now) (sym p.same) come.reached;
             pending = passes-over-pending reader.options reader.lookup cell text m here old new next (held-there content never) (is-free never) further within p;
           }
 
       -- ## Backslashes
-      come-escapes : Escapes reader.options reader.lookup cell text here old new next → HasCome R leaf reader read place before initial next new now
+      come-escapes : Escapes reader.options reader.lookup cell text here old new next → HasCome R leaf reader read place before tally initial next new now
       come-escapes x =
           let never = λ (h : HasEscaped reader.options reader.lookup cell text m start cursor.at). (let q : 92 ≡ 96 = sym x.byte ∙ tick h in absurd (omega (arith, q))) in
           record {
             from = at;
-            reached = flushed-reached leaf reader read place r R before initial now m start at old new come.reached (held-there (ap is_content x.byte) never) (omega (arith, lt)) (escapes-stop reader.options reader.lookup cell text here old new next x) x.slots x.others;
+            reached = flushed-reached leaf reader read place r R before tally initial now m start at old new come.reached (held-there (ap is_content x.byte) never) (omega (arith, lt)) (escapes-stop reader.options reader.lookup cell text here old new next x) x.slots x.others;
             pending = escapes-pending reader.options reader.lookup cell text here old new next x;
           }
 
-      come-pipe : EscapesPipe reader.options reader.lookup cell text here old new next → HasCome R leaf reader read place before initial next new now
+      come-pipe : EscapesPipe reader.options reader.lookup cell text here old new next → HasCome R leaf reader read place before tally initial next new now
       come-pipe x =
           let never = λ (h : HasEscaped reader.options reader.lookup cell text m start cursor.at). not-plain h next.pending next.at x.token in
           let content = from-token (item_at Plain next.pending next.at) x.token refl in
           record {
             from = at;
-            reached = flushed-reached leaf reader read place r R before initial now m start at old new come.reached (held-there content never) (omega (arith, lt)) (pipe-stop reader.options reader.lookup cell text here old new next x) x.slots x.others;
+            reached = flushed-reached leaf reader read place r R before tally initial now m start at old new come.reached (held-there content never) (omega (arith, lt)) (pipe-stop reader.options reader.lookup cell text here old new next x) x.slots x.others;
             pending = pipe-pending reader.options reader.lookup cell text here old new next x;
           }
 
       -- ## Items
-      come-appends : Appends reader.options reader.lookup cell text here old new next → HasCome R leaf reader read place before initial next new now
-      come-appends a = nothing-pending (appends-reached leaf reader read place r R before initial now here m old new next sound come.reached moves.stands a (by a.there)) a.pending
+      come-appends : (found : Sought) → VisitsAt text at tally.sought found → PassesAt reader.options.email_autolinks leaf at tally.sought.unclosed found.unclosed → Appends reader.options reader.lookup cell text here old new next → HasCome R leaf reader read place before (record tally { sought = found }) initial next new now
+      come-appends found visits passes a =
+          nothing-pending found (appends-reached leaf reader read place r R before (record tally { sought = found }) initial now tally.sought here m old new next sound come.reached moves.stands a (by a.there) passes.grows (visited a.there (before-or-behind at a.from))) a.pending
         where
+          -- it was visited if it is a code span or a formula; a line break is none
+          visited : BeginsThere text here a.from → (at ≤ a.from) ⊎ (a.from < at) → closers_of a.item.kind + visited_in tally.sought ≤ visited_in found
+          visited (inl t) order = there-visited reader.options reader.lookup cell text at lt a.item next.at (ap (begins_at reader.options reader.lookup cell text) (sym t.0) ∙ a.token) tally.sought found visits
+          visited (inr t) (inl le) =
+              let b = a.before in
+              let e : a.from ≡ at = omega (arith, b, le) in
+              blank-visited reader.options reader.lookup cell text a.from (omega (arith, e, lt)) a.item next.at a.token tally.sought found visits.runs visits.signs
+              (ap (λ n. is_blank_byte (get_or text n 0) || not (is_content (get_or text n 0))) e ∙ ap (λ z. is_blank_byte (get_or text at 0) || not z) t.0 ∙ or-true (is_blank_byte (get_or text at 0)))
+          visited (inr t) (inr low) =
+              blank-visited reader.options reader.lookup cell text a.from (omega (arith, low, lt)) a.item next.at a.token tally.sought found visits.runs visits.signs
+              (ap (λ z. z || not (is_content (get_or text a.from 0))) (a.blanks a.from (omega arith) low))
+
           by : BeginsThere text here a.from → Held a.from
           by (inl t) =
               subst Held (sym t.0) (goes-on at (reach t.1)
@@ -249,11 +271,11 @@ module _ (leaf : LeafText) (reader : Reader) (read : Leaf) (place : ℕ → ℕ)
               go (inr low) =
                   absurd (let s = a.behind in true≢false (sym (a.blanks (cursor.at - 1) (omega (arith, low)) (omega (arith, low, order))) ∙ no-blank-before (omega (arith, s, low)) (omega (arith, order, lt))))
 
-      come-autolink : AppendsAutolink reader.options reader.lookup cell text here old new next → HasCome R leaf reader read place before initial next new now
+      come-autolink : AppendsAutolink reader.options reader.lookup cell text here old new next → HasCome R leaf reader read place before tally initial next new now
       come-autolink a =
           let x : Item = record { kind = Autolink (slice text (at + 1) (next.at - 1)); start = at; end = next.at } in
           let never = λ (h : HasEscaped reader.options reader.lookup cell text m start cursor.at). no-other h (Stands x next.at) a.token refl in
-          nothing-pending (autolink-reached leaf reader read place r R before initial now here m old new next sound come.reached (held-there (from-token (Stands x next.at) a.token refl) never) a inside) a.pending
+          nothing-pending tally.sought (autolink-reached leaf reader read place r R before tally initial now here m old new next sound come.reached (held-there (from-token (Stands x next.at) a.token refl) never) a inside) a.pending
         where
           inside : at + 1 < next.at - 1
           inside =
@@ -268,37 +290,39 @@ module _ (leaf : LeafText) (reader : Reader) (read : Leaf) (place : ℕ → ℕ)
               ap (λ (l : List Slot). get_or l (length one) uri) a.slots.slots_are ∙ get_or_append_left (one ++ (uri ∷ [])) (last ∷ []) uri (length one) (omega (arith, n)) ∙ get_or_push one uri uri (length one) refl in
               (subst (IsSlot text next.pending) is (moves.stands.slots (length one) uri there)).part.some
 
-      come-markup : AppendsMarkup leaf here old new next → HasCome R leaf reader read place before initial next new now
-      come-markup a =
+      come-markup : (found : Sought) → VisitsAt text at tally.sought found → PassesAt reader.options.email_autolinks leaf at tally.sought.unclosed found.unclosed → AppendsMarkup reader.options leaf here old new next → HasCome R leaf reader read place before (record tally { sought = found }) initial next new now
+      come-markup found visits passes a =
+          let runs = visits.runs in
+          let signs = visits.signs in
           let never = λ (h : HasEscaped reader.options reader.lookup cell text m start cursor.at). (let q : 60 ≡ 96 = sym a.byte ∙ tick h in absurd (omega (arith, q))) in
-          nothing-pending (markup-reached leaf reader read place r source R before initial now here m old new next come.reached (held-there (ap is_content a.byte) never) further within a) a.pending
+          nothing-pending found (markup-reached leaf reader read place r source R before tally initial now here m old new next come.reached (held-there (ap is_content a.byte) never) further within found (omega (arith, runs, signs)) passes a) a.pending
 
-      come-unclosed : AppendsUnclosed leaf here old new next → HasCome R leaf reader read place before initial next new now
+      come-unclosed : AppendsUnclosed reader.options leaf here old new next → HasCome R leaf reader read place before tally initial next new now
       come-unclosed a =
           let never = λ (h : HasEscaped reader.options reader.lookup cell text m start cursor.at). (let q : 60 ≡ 96 = sym a.byte ∙ tick h in absurd (omega (arith, q))) in
-          nothing-pending (unclosed-reached leaf reader read place r source R before initial now here m old new next come.reached (held-there (ap is_content a.byte) never) further within a) a.pending
+          nothing-pending tally.sought (unclosed-reached leaf reader read place r source R before tally initial now here m old new next come.reached (held-there (ap is_content a.byte) never) further within a) a.pending
 
-      come-run : AppendsRun reader.options reader.lookup cell text here old new next → HasCome R leaf reader read place before initial next new now
+      come-run : AppendsRun reader.options reader.lookup cell text here old new next → HasCome R leaf reader read place before tally initial next new now
       come-run a =
           let never = λ (h : HasEscaped reader.options reader.lookup cell text m start cursor.at). no-other h (item_at (Delimiters (shown_run a.run)) at next.at) a.token refl in
-          nothing-pending (run-reached leaf reader read place r R before initial now here m old new next come.reached (held-there (from-token (item_at (Delimiters (shown_run a.run)) at next.at) a.token refl) never) a) a.pending
+          nothing-pending tally.sought (run-reached leaf reader read place r R before tally initial now here m old new next come.reached (held-there (from-token (item_at (Delimiters (shown_run a.run)) at next.at) a.token refl) never) a) a.pending
 
-      come-quote : AppendsQuote reader.options reader.lookup cell text here old new next → HasCome R leaf reader read place before initial next new now
+      come-quote : AppendsQuote reader.options reader.lookup cell text here old new next → HasCome R leaf reader read place before tally initial next new now
       come-quote a =
           let never = λ (h : HasEscaped reader.options reader.lookup cell text m start cursor.at). no-other h (item_at (Quoted (shown_quote a.quote)) at next.at) a.token refl in
           let content = from-token (item_at (Quoted (shown_quote a.quote)) at next.at) a.token refl in
-          nothing-pending (quote-reached leaf reader read place r R before initial now here m old new next come.reached (held-there content never) a content a.size) a.pending
+          nothing-pending tally.sought (quote-reached leaf reader read place r R before tally initial now here m old new next come.reached (held-there content never) a content a.size) a.pending
 
-      come-opens : OpensBracket reader.options reader.lookup cell text here old new next → HasCome R leaf reader read place before initial next new now
+      come-opens : OpensBracket reader.options reader.lookup cell text here old new next → HasCome R leaf reader read place before tally initial next new now
       come-opens a =
           let never = λ (h : HasEscaped reader.options reader.lookup cell text m start cursor.at). no-other h (Opens (bracket a.is_image at next.at)) a.token refl in
-          nothing-pending (opening-reached leaf reader read place r R before initial now here m old new next come.reached (held-there (from-token (Opens (bracket a.is_image at next.at)) a.token refl) never) a within) a.pending
+          nothing-pending tally.sought (opening-reached leaf reader read place r R before tally initial now here m old new next come.reached (held-there (from-token (Opens (bracket a.is_image at next.at)) a.token refl) never) a within) a.pending
 
       -- the rest of a run of backticks of which the first is escaped
-      come-taken : TakesEscaped reader.options reader.lookup cell text here old new next → HasCome R leaf reader read place before initial next new now
-      come-taken a = nothing-pending (by come.pending) a.pending
+      come-taken : TakesEscaped reader.options reader.lookup cell text here old new next → HasCome R leaf reader read place before tally initial next new now
+      come-taken a = nothing-pending tally.sought (by come.pending) a.pending
         where
-          by : IsPending reader.options reader.lookup cell text m cursor → HasReached R leaf reader read place before initial next.at new now
+          by : IsPending reader.options reader.lookup cell text m cursor → HasReached R leaf reader read place before tally initial next.at new now
           by (inl h) =
               let one = a.escaped.0 in
               let e = h.1 in
@@ -314,43 +338,64 @@ module _ (leaf : LeafText) (reader : Reader) (read : Leaf) (place : ℕ → ℕ)
               let some = t.1 in
               let slot : Slot = record { kind = kind.Text; start = start; end = next.at } in
               let others = a.others in
-              let none : may_open_markup (drop m text) ≡ false = no-markup-at text m (omega (arith, low, some, within)) (λ is. absurd (let q : 92 ≡ 60 = sym h.slash ∙ is in omega (arith, q))) in
+              let none : may_open_markup reader.options.email_autolinks (drop m text) ≡ false = no-markup-at reader.options.email_autolinks text m (omega (arith, low, some, within)) (λ is. absurd (let q : 92 ≡ 60 = sym h.slash ∙ is in omega (arith, q))) in
               let texts : new.texts.items ≡ old.texts.items = ap (λ (s : InlineState). s.texts.items) others in
               let links : new.links.items ≡ old.links.items = ap (λ (s : InlineState). s.links.items) others in
-              item-reached leaf reader read place before R initial now m next.at old new come.reached (omega (arith, low, some))
-              (record { brackets = ap (λ (s : InlineState). s.brackets) others; doubled = ap (λ (s : InlineState). s.doubled) others; expansion_left = ap (λ (s : InlineState). s.expansion_left) others; label = ap (λ (s : InlineState). s.label_close) others })
+              item-reached leaf reader read place before R tally initial now tally.sought m next.at old new come.reached (omega (arith, low, some))
+              (record { examined = ap (λ (s : InlineState). s.delimiters.examined) others; brackets = ap (λ (s : InlineState). s.brackets) others; doubled = ap (λ (s : InlineState). s.doubled) others; expansion_left = ap (λ (s : InlineState). s.expansion_left) others; label = ap (λ (s : InlineState). s.label_close) others })
               (ap (λ y. shown_slots leaf y new.links.items old.slots.items) texts ∙ ap (λ y. shown_slots leaf old.texts.items y old.slots.items) links)
               Own (place start) (suc (place (next.at - 1))) slot (other-token leaf reader read place r m x next.at (omega (arith, low, some, within)) t.0 refl none) refl
               (slot-like leaf reader read place r.places r.cell r.bytes new.texts.items new.links.items slot x m next.at t.0 none (record { start = refl; end = refl; says = tt }) some within)
-              a.slots (ap (λ (s : InlineState). s.delimiters.placed.items) others) (ap (λ (s : InlineState). s.quotes.placed.items) others)
+              a.slots (ap (λ (s : InlineState). s.delimiters.placed.items) others) (ap (λ (s : InlineState). s.quotes.placed.items) others) (record { html = omega arith; closers = omega arith })
 
-      less : ReadsLess reader.options reader.lookup leaf here old new next → HasCome R leaf reader read place before initial next new now
-      less (inl p) = come-passes p
-      less (inr (inl p)) = come-autolink p
-      less (inr (inr (inl p))) = come-appends p
-      less (inr (inr (inr (inl p)))) = come-markup p
-      less (inr (inr (inr (inr p)))) = come-unclosed p
+      -- no fewer were visited, and no less was passed
+      more : (found : Sought) → VisitsAt text at tally.sought found → PassesAt reader.options.email_autolinks leaf at tally.sought.unclosed found.unclosed → HasCome R leaf reader read place before tally initial next new now → HasCome R leaf reader read place before (record tally { sought = found }) initial next new now
+      more found visits passes c =
+          let runs = visits.runs in
+          let signs = visits.signs in
+          let passed = passes.grows in
+          let h = c.reached in
+          record {
+            from = c.from;
+            reached = record {
+              p = h.p;
+              bs = h.bs;
+              has_read = h.has_read;
+              at_is = h.at_is;
+              shows = h.shows;
+              answered = h.answered;
+              counted = counted-more reader h.p.here tally found new.delimiters.examined passed (omega (arith, runs, signs)) h.counted;
+            };
+            pending = c.pending;
+          }
 
-      pub come-special : ReadsSpecial reader.options reader.lookup leaf here old new next → HasCome R leaf reader read place before initial next new now
-      come-special (inl p) = less p
-      come-special (inr (inl p)) = come-escapes p
-      come-special (inr (inr (inl p))) = come-taken p
-      come-special (inr (inr (inr (inl p)))) = come-run p
-      come-special (inr (inr (inr (inr (inl p))))) = come-quote p
-      come-special (inr (inr (inr (inr (inr (inl p)))))) = come-opens p
-      come-special (inr (inr (inr (inr (inr (inr (inl p))))))) = come-over p
-      come-special (inr (inr (inr (inr (inr (inr (inr p))))))) = come-pipe p
+      less : (found : Sought) → VisitsAt text at tally.sought found → PassesAt reader.options.email_autolinks leaf at tally.sought.unclosed found.unclosed → ReadsLess reader.options reader.lookup leaf here old new next → HasCome R leaf reader read place before (record tally { sought = found }) initial next new now
+      less found visits passes (inl p) = more found visits passes (come-passes p)
+      less found visits passes (inr (inl p)) = more found visits passes (come-autolink p)
+      less found visits passes (inr (inr (inl p))) = come-appends found visits passes p
+      less found visits passes (inr (inr (inr (inl p)))) = come-markup found visits passes p
+      less found visits passes (inr (inr (inr (inr p)))) = more found visits passes (come-unclosed p)
+
+      pub come-special : (found : Sought) → VisitsAt text at tally.sought found → PassesAt reader.options.email_autolinks leaf at tally.sought.unclosed found.unclosed → ReadsSpecial reader.options reader.lookup leaf here old new next → HasCome R leaf reader read place before (record tally { sought = found }) initial next new now
+      come-special found visits passes (inl p) = less found visits passes p
+      come-special found visits passes (inr (inl p)) = more found visits passes (come-escapes p)
+      come-special found visits passes (inr (inr (inl p))) = more found visits passes (come-taken p)
+      come-special found visits passes (inr (inr (inr (inl p)))) = more found visits passes (come-run p)
+      come-special found visits passes (inr (inr (inr (inr (inl p))))) = more found visits passes (come-quote p)
+      come-special found visits passes (inr (inr (inr (inr (inr (inl p)))))) = more found visits passes (come-opens p)
+      come-special found visits passes (inr (inr (inr (inr (inr (inr (inl p))))))) = more found visits passes (come-over p)
+      come-special found visits passes (inr (inr (inr (inr (inr (inr (inr p))))))) = more found visits passes (come-pipe p)
 
       -- ## Closing brackets
-      pub come-closing : (later : F) (references : RefDefs) (footnotes : FootnoteDefs) → get_or text at 0 ≡ 93 → ReadsSame reader.options reader.lookup references footnotes leaf reader read place → Flushes start at old
-          → closers.Closes R reader.options reader.lookup references footnotes leaf text start at old new next now later → AreEnded leaf old.slots.items → HasCome R leaf reader read place before initial next new later
-      come-closing later references footnotes byte same_reading flush closes ended =
+      pub come-closing : (later : F) (references : RefDefs) (others : FootnoteDefs) → get_or text at 0 ≡ 93 → ReadsSame reader.options reader.lookup references tally.notes leaf reader read place → Flushes start at old
+          → closers.Closes R reader.options reader.lookup references tally.notes others leaf text start at old new next now later → AreEnded leaf old.slots.items → HasCome R leaf reader read place before (record tally { notes = others }) initial next new later
+      come-closing later references others byte same_reading flush closes ended =
           let never = λ (h : HasEscaped reader.options reader.lookup cell text m start cursor.at). (let q : 93 ≡ 96 = sym byte ∙ tick h in absurd (omega (arith, q))) in
-          let c = closing-reached leaf reader read place r R before initial now later here m old new next come.reached (held-there (ap is_content byte) never) lt byte references footnotes same_reading flush closes ended in
+          let c = closing-reached leaf reader read place r R before tally initial now later here m old new next come.reached (held-there (ap is_content byte) never) lt byte references others same_reading flush closes ended in
           record { from = next.at; reached = c.0; pending = inl (sym c.1, c.1) }
 
     -- where no special byte is left
-    pub come-rest : cursor.at < length text → StandUpTo reader.options reader.lookup cell text cursor.at (length text) → HasCome R leaf reader read place before initial (record { pending = start; at = length text }) old now
+    pub come-rest : cursor.at < length text → StandUpTo reader.options reader.lookup cell text cursor.at (length text) → HasCome R leaf reader read place before tally initial (record { pending = start; at = length text }) old now
     come-rest lt stands =
         let never = λ (h : HasEscaped reader.options reader.lookup cell text m start cursor.at). (let q = escaped-next reader.options reader.lookup cell text m start cursor.at h (length text) (omega (arith, lt)) (omega arith) stands in absurd (omega (arith, q, lt))) in
         let order = come-order in

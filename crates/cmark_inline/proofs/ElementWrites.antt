@@ -2,7 +2,8 @@
 use Rattle.std.proofs.Common.{◌≡◌, ℕ, ◌+◌, ◌-◌, ◌<◌, ◌≤◌, true, false, List, [], ◌∷◌, ◌++◌, length, drop, take, get_or, set, refl, sym, ap, subst, ◌∙◌, arith}
 use Rattle.std.specs.Prelude.{map, max}
 use Rattle.std.proofs.lemmas.List.{append-nil, get_or_default, length-map, map-append, map-set}
-use Rattle.cmark_grammar.specs.Emphasis.{IsEmphasis, Pair}
+use Rattle.cmark_emphasis.specs.Least.{least_examined}
+use Rattle.cmark_grammar.specs.Emphasis.{IsEmphasis, Pair, runs_of}
 use Rattle.cmark_grammar.specs.Options.{Options}
 use Rattle.cmark_grammar.specs.Siblings.{tag_by}
 use Rattle.cmark_grammar.specs.Spans.{Spans}
@@ -81,9 +82,11 @@ pub writes-element : (options : Options) (bracket : Bracket) (target : Target) (
     → new.delimiters.placed.items ≡ take bracket.runs old.delimiters.placed.items → new.quotes.placed.items ≡ take bracket.quotes old.quotes.placed.items
     → ((leaf : LeafText) (pairs : List Pair) (spans : Spans) → IsEmphasis (siblings_from 0 (drop bracket.runs old.delimiters.placed.items)) pairs spans → shown_slots leaf new.texts.items new.links.items new.slots.items
     ≡ dressed_behind options bracket pairs old.delimiters.placed.items old.quotes.placed.items (shown_slots leaf new.texts.items new.links.items (set old.slots.items bracket.slot (begun_as element target.end (get_or old.slots.items bracket.slot no-slot)) ++ (end_slot close target.end ∷ []))))
+    → old.delimiters.examined + least_examined (runs_of (siblings_from 0 (drop bracket.runs old.delimiters.placed.items))) ≤ new.delimiters.examined
     → WritesElement options bracket target old new
-writes-element options bracket target old new element there close text stand behind named can texts links shows runs quotes dressed = record {
-  forgets = record { runs = runs; quotes = quotes };
+writes-element options bracket target old new element there close text stand behind named can texts links shows runs quotes dressed examined = record {
+  forgets = record { runs = runs; quotes = quotes; examined = omega (arith, examined) };
+  examined = examined;
   slots = λ leaf pairs spans d emphasis.
       let slots : List Slot = old.slots.items in
       let at : ℕ = bracket.slot in

@@ -35,6 +35,7 @@ settle-set low slots runs quotes h at s before there text alone =
       quotes_behind = h.quotes_behind;
       runs_are = have-kept slots (set slots at s) low 0 runs le h.sizes (λ k d lt. λ j e from to. let b = r k d lt in get_or-set_other slots at j s e (λ (q : j ≡ at). absurd (omega (arith, q, b, from, before)))) h.runs_are;
       sizes = h.sizes;
+      known = h.known;
       apart = h.apart;
     }
 

@@ -1,5 +1,5 @@
 -- The slots behind an opening bracket that become nothing, and those that are put in their place.
-use Rattle.std.proofs.Common.{◌≡◌, ℕ, suc, ◌+◌, ◌-◌, ◌<◌, Bool, true, false, List, [], ◌∷◌, ◌++◌, length, drop, take, get_or, set, refl, sym, ap, subst, ◌∙◌, arith, append_assoc, append-nil, length-append}
+use Rattle.std.proofs.Common.{◌≡◌, ◌≤◌, ℕ, suc, ◌+◌, ◌-◌, ◌<◌, Bool, true, false, List, [], ◌∷◌, ◌++◌, length, drop, take, get_or, set, refl, sym, ap, subst, ◌∙◌, arith, append_assoc, append-nil, length-append}
 use Rattle.std.specs.Prelude.{if◌then◌else◌, map, nat_lt}
 use Rattle.std.proofs.Math.Seq.{drop-cons, set-append_seam}
 use Rattle.std.proofs.lemmas.Bool.{ltb-true, ltb-false}
@@ -151,11 +151,12 @@ module _ (old new : List Slot) (bracket : Bracket) (reference : Slot) (puts : Pu
 -- the tables of texts and links behind it, and what the slots show
 pub writes-reference : (bracket : Bracket) (name : CowStr) (end : ℕ) (old new : InlineState) → bracket.slot < length old.slots.items → AreNamed (length old.texts.items) (length old.links.items) old.slots.items
     → PutsReference bracket (reference_as bracket (length old.texts.items) end) old.slots.items new.slots.items → new.texts.items ≡ old.texts.items ++ (name ∷ []) → new.links.items ≡ old.links.items
-    → new.delimiters.placed.items ≡ take bracket.runs old.delimiters.placed.items → new.quotes.placed.items ≡ take bracket.quotes old.quotes.placed.items → WritesReference bracket (text_bytes name) end old new
-writes-reference bracket name end old new there named puts texts links runs quotes =
+    → new.delimiters.placed.items ≡ take bracket.runs old.delimiters.placed.items → new.quotes.placed.items ≡ take bracket.quotes old.quotes.placed.items → old.delimiters.examined ≤ new.delimiters.examined
+    → WritesReference bracket (text_bytes name) end old new
+writes-reference bracket name end old new there named puts texts links runs quotes examined =
     let i = put old.slots.items new.slots.items bracket (reference_as bracket (length old.texts.items) end) puts there in
     record {
-      forgets = record { runs = runs; quotes = quotes };
+      forgets = record { runs = runs; quotes = quotes; examined = examined };
       hidden = map (λ (s : Slot). row.NothingSlot) i.0;
       nothing = none i.0;
       slots = λ leaf. ap (shown_slots leaf new.texts.items new.links.items) i.1 ∙ shows leaf i.0;

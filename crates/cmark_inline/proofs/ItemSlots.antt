@@ -74,7 +74,7 @@ module _ (leaf : LeafText) (reader : Reader) (read : Leaf) (place : ℕ → ℕ)
     item-like HardBreak kind.HardBreak b none says = gives HardBreak HardBreak (λ q. refl) (λ i j y. refl)
     item-like x k b none says = absurd says
 
-  pub slot-like : (texts : List CowStr) (links : List Link) (slot : Slot) (item : Item) (at resume : ℕ) → begins_at reader.options reader.lookup (is_cell_of leaf) text at ≡ Stands item resume → may_open_markup (drop at text) ≡ false
+  pub slot-like : (texts : List CowStr) (links : List Link) (slot : Slot) (item : Item) (at resume : ℕ) → begins_at reader.options reader.lookup (is_cell_of leaf) text at ≡ Stands item resume → may_open_markup reader.options.email_autolinks (drop at text) ≡ false
       → IsItem (is_cell_of leaf) text texts item slot → item.start < item.end → item.end ≤ length text → IsLike reader.source (shown_slot leaf texts links slot) (ItemSlot (placed_item place item))
   slot-like texts links slot item at resume token none is some within =
       item-like texts links slot item.start item.end is.start is.end some within item.kind slot.kind

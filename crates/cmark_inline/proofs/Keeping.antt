@@ -5,6 +5,7 @@ use Rattle.std.proofs.lemmas.Bool.{cases_lt}
 use Rattle.std.proofs.lemmas.List.{length_push, length-append, get_or_append_left, get_or-append_right}
 use Rattle.cmark_leaf_text.specs.declared.leaf_text.LeafText.{LeafText}
 use Rattle.cmark_text_parts.specs.declared.text.CowStr.{CowStr}
+use Rattle.cmark_emphasis.specs.Counts.{IsKnown}
 use Rattle.cmark_grammar.specs.Answers.{Lookup}
 use Rattle.cmark_grammar.specs.Options.{Options}
 use Rattle.cmark_leaf_text.specs.Reads.{place_of}
@@ -160,7 +161,7 @@ keeps-quote options lookup is_cell text here old new next a =
     }
 
 module _ (old new : InlineState) (before : List Slot) (start at : ℕ) (run : PlacedRun) (text : List ℕ) (pending : PushesText start at old.slots.items before) (slots : new.slots.items ≡ before ++ byte_slots at run.run.run_length)
-    (placed : new.delimiters.placed.items ≡ old.delimiters.placed.items ++ (run ∷ [])) (others : new ≡ record old { slots = new.slots; delimiters = new.delimiters }) (some : 0 < run.run.run_length) (there : run.slot ≡ length before) (are : AreSlots text at before) where
+    (placed : new.delimiters.placed.items ≡ old.delimiters.placed.items ++ (run ∷ [])) (others : new ≡ record old { slots = new.slots; delimiters = new.delimiters }) (some : 0 < run.run.run_length) (known : IsKnown run.run) (there : run.slot ≡ length before) (are : AreSlots text at before) where
   pub keeps-run : KeepsSound old new
   keeps-run = record {
     sound = λ h. subst IsSound (sym others)
@@ -168,7 +169,7 @@ module _ (old new : InlineState) (before : List Slot) (start at : ℕ) (run : Pl
         (subst (λ l. AreSound (length old.texts.items) (length old.links.items) l (old.delimiters.placed.items ++ (run ∷ [])) old.quotes.placed.items old.brackets.standing.items old.doubled.standing.items) (sym slots)
         (sound-run (length old.texts.items) (length old.links.items) before old.delimiters.placed.items old.quotes.placed.items old.brackets.standing.items old.doubled.standing.items
         (sound-pending (length old.texts.items) (length old.links.items) old.slots.items before old.delimiters.placed.items old.quotes.placed.items old.brackets.standing.items old.doubled.standing.items start at pending h)
-        at run some there (λ k d lt. (are k d lt).before))));
+        at run some known there (λ k d lt. (are k d lt).before))));
     ends = λ leaf e. subst (AreEnded leaf) (sym slots) (ended-bytes leaf before at run.run.run_length (ended-pending leaf old.slots.items before start at pending e));
   }
 
@@ -201,7 +202,7 @@ module _ (old new : InlineState) (others : new ≡ record old { expansion_left =
   spans-ended leaf e = subst (λ (s : InlineState). AreEnded leaf s.slots.items) (sym others) e
 
   pub spans-stand : (text : List ℕ) (place : ℕ) → Stands text place old → Stands text place new
-  spans-stand text place h = subst (Stands text place) (sym others) (record { slots = h.slots; brackets = h.brackets; few = h.few; free = h.free; doubled = h.doubled; doubled_free = h.doubled_free; runs = h.runs })
+  spans-stand text place h = subst (Stands text place) (sym others) (record { slots = h.slots; brackets = h.brackets; few = h.few; free = h.free; doubled = h.doubled; doubled_free = h.doubled_free; runs = h.runs; examined = h.examined })
 
   pub spans-free : (from : ℕ) → HoldNoLink old.slots.items from → HoldNoLink new.slots.items from
   spans-free from h = subst (λ (s : InlineState). HoldNoLink s.slots.items from) (sym others) h

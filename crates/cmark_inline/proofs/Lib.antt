@@ -38,12 +38,14 @@ pub mod Keeping
 pub mod LabelEnds
 pub mod LastCalls
 pub mod LeafPlaces
+pub mod LeastCounted
 pub mod LinkSteps
 pub mod MarkSteps
-pub mod MarkupSteps
 pub mod MarkupTokens
 pub mod NoTails
 pub mod OpenSteps
+pub mod PaidSteps
+pub mod PassedTags
 pub mod PendingReads
 pub mod PendingTexts
 pub mod PlaceEnds
@@ -65,6 +67,8 @@ pub mod TailEnds
 pub mod TargetMakes
 pub mod TargetSteps
 pub mod TokenSteps
+pub mod UsesCounted
+pub mod VisitedTokens
 pub mod WikiSlots
 pub mod WikiSteps
 pub mod Wrapping

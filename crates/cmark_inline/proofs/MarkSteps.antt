@@ -9,7 +9,7 @@ use Rattle.std.proofs.lemmas.Slice.Eq.{bytes_eq-Decides}
 use lib.Utf8.{encode}
 use Rattle.cmark_grammar.specs.Answers.{Lookup}
 use Rattle.cmark_grammar.specs.Dashes.{dashes_of, dash_text}
-use Rattle.cmark_grammar.specs.Flanking.{Flanking, flanking}
+use Rattle.cmark_grammar.specs.Flanking.{Flanking, flanking, is_run_delimiter}
 use Rattle.cmark_grammar.specs.InlineTokens.{first_of, item_at, run_at, run_or, hyphens, quote_at, smart_or, character_before, character_at, before, dollar}
 use Rattle.cmark_grammar.specs.Formulas.{no_braces, braces_behind}
 use Rattle.cmark_grammar.specs.Items.{Plain, Written, Quoted, Delimiters, Token}
@@ -17,7 +17,7 @@ use Rattle.cmark_grammar.specs.Letters.{starts}
 use Rattle.cmark_grammar.specs.Lines.{is_content}
 use Rattle.cmark_grammar.specs.Options.{Options}
 use Rattle.cmark_grammar.specs.Quotes.{quote_beside}
-use Rattle.cmark_inline.specs.Tokens.{whole, reading, begins_at, is_run_delimiter}
+use Rattle.cmark_inline.specs.Tokens.{whole, reading, begins_at}
 use Rattle.cmark_inline.proofs.TokenSteps.{from-is, front, begins-with, unsigned}
 use Rattle.cmark_inline.proofs.ReadingOn.{before-is}
 
@@ -30,7 +30,7 @@ module _ (o : Options) (l : Lookup) (cell : Bool) (text : List ℕ) (at : ℕ) (
 
   -- ## Runs
   run-begins : (b : ℕ) → get_or text at 0 ≡ b → is_run_delimiter b ≡ true → begins_at o l cell text at ≡ run_at (reading o l text) (whole cell text) at b (prefix_len (λ c. c == b) (drop at text))
-  run-begins b is delimiter = go (or_cases (b == 42) ((b == 95) || ((b == 126) || (b == 94))) delimiter)
+  run-begins b is delimiter = go (or_cases (b == 42) ((b == 95) || ((b == 126) || ((b == 94) || (b == 61)))) delimiter)
     where
       Is : ℕ → Type 0
       Is m = begins_at o l cell text at ≡ run_at (reading o l text) (whole cell text) at m (prefix_len (λ c. c == m) (drop at text))
@@ -41,17 +41,21 @@ module _ (o : Options) (l : Lookup) (cell : Bool) (text : List ℕ) (at : ℕ) (
       at-mark : (m : ℕ) → b ≡ m → begins_at o l cell text at ≡ run_at (reading o l text) (whole cell text) at m (prefix_len (λ c. c == m) (m ∷ drop (suc at) text)) → Is b
       at-mark m e h = back m e (h ∙ ap (λ x. run_at (reading o l text) (whole cell text) at m (prefix_len (λ c. c == m) x)) (sym (front o l cell text at m lt (is ∙ e))))
 
-      last : ((b == 126) ≡ true) ⊎ ((b == 94) ≡ true) → Is b
-      last (inl h) = let e = eqb-true b 126 h in at-mark 126 e (begins-with o l cell text at 126 lt (is ∙ e))
-      last (inr h) = let e = eqb-true b 94 h in at-mark 94 e (begins-with o l cell text at 94 lt (is ∙ e))
+      last : ((b == 94) ≡ true) ⊎ ((b == 61) ≡ true) → Is b
+      last (inl h) = let e = eqb-true b 94 h in at-mark 94 e (begins-with o l cell text at 94 lt (is ∙ e))
+      last (inr h) = let e = eqb-true b 61 h in at-mark 61 e (begins-with o l cell text at 61 lt (is ∙ e))
 
-      more : ((b == 95) ≡ true) ⊎ (((b == 126) || (b == 94)) ≡ true) → Is b
+      further : ((b == 126) ≡ true) ⊎ (((b == 94) || (b == 61)) ≡ true) → Is b
+      further (inl h) = let e = eqb-true b 126 h in at-mark 126 e (begins-with o l cell text at 126 lt (is ∙ e))
+      further (inr h) = last (or_cases (b == 94) (b == 61) h)
+
+      more : ((b == 95) ≡ true) ⊎ (((b == 126) || ((b == 94) || (b == 61))) ≡ true) → Is b
       more (inl h) = let e = eqb-true b 95 h in at-mark 95 e (begins-with o l cell text at 95 lt (is ∙ e))
-      more (inr h) = last (or_cases (b == 126) (b == 94) h)
+      more (inr h) = further (or_cases (b == 126) ((b == 94) || (b == 61)) h)
 
-      go : ((b == 42) ≡ true) ⊎ (((b == 95) || ((b == 126) || (b == 94))) ≡ true) → Is b
+      go : ((b == 42) ≡ true) ⊎ (((b == 95) || ((b == 126) || ((b == 94) || (b == 61)))) ≡ true) → Is b
       go (inl h) = let e = eqb-true b 42 h in at-mark 42 e (begins-with o l cell text at 42 lt (is ∙ e))
-      go (inr h) = more (or_cases (b == 95) ((b == 126) || (b == 94)) h)
+      go (inr h) = more (or_cases (b == 95) ((b == 126) || ((b == 94) || (b == 61))) h)
 
   pub run-is : (b end size : ℕ) (before after : Option ℕ) → get_or text at 0 ≡ b → is_run_delimiter b ≡ true
       → end ≡ at + prefix_len (λ c. c == get_or text at 0) (drop at text) → size ≡ end - at
@@ -148,19 +152,23 @@ run-content text at end b is delimiter ends k low high =
     let byte : get_or text k 0 ≡ b =
     ap (λ i. get_or text i 0) (let q : k ≡ at + (k - at) = omega (arith, low) in q) ∙ sym (get_or-drop at text (k - at) 0)
     ∙ eqb-true (get_or (drop at text) (k - at) 0) (get_or text at 0) (prefix_len_passes p (drop at text) (k - at) 0 inside) ∙ is in
-    ap is_content byte ∙ go (or_cases (b == 42) ((b == 95) || ((b == 126) || (b == 94))) delimiter)
+    ap is_content byte ∙ go (or_cases (b == 42) ((b == 95) || ((b == 126) || ((b == 94) || (b == 61)))) delimiter)
   where
-    last : ((b == 126) ≡ true) ⊎ ((b == 94) ≡ true) → is_content b ≡ true
-    last (inl h) = ap is_content (eqb-true b 126 h)
-    last (inr h) = ap is_content (eqb-true b 94 h)
+    last : ((b == 94) ≡ true) ⊎ ((b == 61) ≡ true) → is_content b ≡ true
+    last (inl h) = ap is_content (eqb-true b 94 h)
+    last (inr h) = ap is_content (eqb-true b 61 h)
 
-    more : ((b == 95) ≡ true) ⊎ (((b == 126) || (b == 94)) ≡ true) → is_content b ≡ true
+    further : ((b == 126) ≡ true) ⊎ (((b == 94) || (b == 61)) ≡ true) → is_content b ≡ true
+    further (inl h) = ap is_content (eqb-true b 126 h)
+    further (inr h) = last (or_cases (b == 94) (b == 61) h)
+
+    more : ((b == 95) ≡ true) ⊎ (((b == 126) || ((b == 94) || (b == 61))) ≡ true) → is_content b ≡ true
     more (inl h) = ap is_content (eqb-true b 95 h)
-    more (inr h) = last (or_cases (b == 126) (b == 94) h)
+    more (inr h) = further (or_cases (b == 126) ((b == 94) || (b == 61)) h)
 
-    go : ((b == 42) ≡ true) ⊎ (((b == 95) || ((b == 126) || (b == 94))) ≡ true) → is_content b ≡ true
+    go : ((b == 42) ≡ true) ⊎ (((b == 95) || ((b == 126) || ((b == 94) || (b == 61)))) ≡ true) → is_content b ≡ true
     go (inl h) = ap is_content (eqb-true b 42 h)
-    go (inr h) = more (or_cases (b == 95) ((b == 126) || (b == 94)) h)
+    go (inr h) = more (or_cases (b == 95) ((b == 126) || ((b == 94) || (b == 61))) h)
 
 -- ## Runs, by what the code finds
 module _ (o : Options) (l : Lookup) (cell : Bool) (text : List ℕ) (at : ℕ) (lt : at < length text) (b end size : ℕ) (before after : Option ℕ) (beside : Flanking) where

@@ -1,5 +1,5 @@
 -- Where markup opens that is sought in the source, nothing begins but HTML or a text.
-use Rattle.std.specs.Prelude.{Option, Some, None, ◌==◌, ◌||◌, if◌then◌else◌, take}
+use Rattle.std.specs.Prelude.{Option, Some, None, ◌==◌, ◌||◌, ◌&&◌, is_none, if◌then◌else◌, take}
 use Rattle.std.proofs.Common.{◌≡◌, ◌⊎◌, inl, inr, ℕ, suc, Bool, true, false, List, [], ◌∷◌, drop, refl, sym, ap, ◌∙◌, eqb-true, true≢false}
 use Rattle.std.proofs.lemmas.Bool.{false_from_ne_true, or_cases, and_parts}
 use Rattle.cmark_grammar.specs.Answers.{Lookup}
@@ -9,6 +9,7 @@ use Rattle.cmark_grammar.specs.InlineTokens.{autolink_or, begins, from, item_at,
 use Rattle.cmark_grammar.specs.Items.{ItemKind, Plain, Own, Html, OwnedHtml, Token, Stands, Opens, Closes, Ends}
 use Rattle.cmark_grammar.specs.LeafText.{Leaf}
 use Rattle.cmark_grammar.specs.Letters.{first_is}
+use Rattle.cmark_grammar.specs.LinkDefinitions.{Parsed}
 use Rattle.cmark_grammar.specs.Options.{Options}
 use Rattle.cmark_grammar.specs.Readers.{Reader}
 use Rattle.cmark_grammar.specs.Tags.{behind_tag, no_prefix}
@@ -29,13 +30,17 @@ marks (Opens b) = false
 marks (Closes b) = false
 marks Ends = false
 
-pub no-link-there : (bs : List ℕ) → first_is (λ c. (c == 33) || (c == 63)) bs ≡ true → (autolink_in bs ≡ None) × (first_is (λ c. c == 92) bs ≡ false)
-no-link-there [] e = absurd (true≢false (sym e))
-no-link-there (c ∷ cs) e = go (or_cases (c == 33) (c == 63) e)
+pub no-slash-there : (bs : List ℕ) → first_is (λ c. (c == 33) || (c == 63)) bs ≡ true → first_is (λ c. c == 92) bs ≡ false
+no-slash-there [] e = absurd (true≢false (sym e))
+no-slash-there (c ∷ cs) e = go (or_cases (c == 33) (c == 63) e)
   where
-    go : ((c == 33) ≡ true) ⊎ ((c == 63) ≡ true) → (autolink_in (c ∷ cs) ≡ None) × (first_is (λ d. d == 92) (c ∷ cs) ≡ false)
-    go (inl h) = (ap (λ d. autolink_in (d ∷ cs)) (eqb-true c 33 h), ap (λ d. first_is (λ x. x == 92) (d ∷ cs)) (eqb-true c 33 h))
-    go (inr h) = (ap (λ d. autolink_in (d ∷ cs)) (eqb-true c 63 h), ap (λ d. first_is (λ x. x == 92) (d ∷ cs)) (eqb-true c 63 h))
+    go : ((c == 33) ≡ true) ⊎ ((c == 63) ≡ true) → first_is (λ d. d == 92) (c ∷ cs) ≡ false
+    go (inl h) = ap (λ d. first_is (λ x. x == 92) (d ∷ cs)) (eqb-true c 33 h)
+    go (inr h) = ap (λ d. first_is (λ x. x == 92) (d ∷ cs)) (eqb-true c 63 h)
+
+no-link : (found : Option Parsed) → is_none found ≡ true → found ≡ None
+no-link None e = refl
+no-link (Some f) e = cc
 
 module _ (reader : Reader) (leaf : Leaf) (at : ℕ) where
   tag_marks : (found : Option (List ℕ)) → marks (tag_or_text reader leaf at found) ≡ true
@@ -51,21 +56,23 @@ module _ (reader : Reader) (leaf : Leaf) (at : ℕ) where
   markup_marks (Some rest) t h = refl
 
   -- what is read at a `<` where neither an autolink nor an escape follows
-  pub less-is : (bs : List ℕ) → autolink_in bs ≡ None → first_is (λ c. c == 92) bs ≡ false
+  pub less-is : (bs : List ℕ) → autolink_in reader.options.email_autolinks bs ≡ None → first_is (λ c. c == 92) bs ≡ false
       → less_than reader leaf at bs ≡ markup_or reader leaf at (behind_markup (source_from reader leaf at)) (tag_or_text reader leaf at (behind_tag no_prefix (from reader leaf at)))
   less-is bs link slash =
       let others = markup_or reader leaf at (behind_markup (source_from reader leaf at)) (tag_or_text reader leaf at (behind_tag no_prefix (from reader leaf at))) in
-      ap (λ z. if z then item_at Plain at (suc at) else autolink_or reader leaf at (autolink_in bs) others) slash ∙ ap (λ m. autolink_or reader leaf at m others) link
+      ap (λ z. if z then item_at Plain at (suc at) else autolink_or reader leaf at (autolink_in reader.options.email_autolinks bs) others) slash ∙ ap (λ m. autolink_or reader leaf at m others) link
 
-  begins_marks : (l : List ℕ) → may_open_markup l ≡ true → marks (begins reader leaf at l) ≡ true
+  begins_marks : (l : List ℕ) → may_open_markup reader.options.email_autolinks l ≡ true → marks (begins reader leaf at l) ≡ true
   begins_marks [] e = absurd (true≢false (sym e))
   begins_marks (b ∷ bs) e =
-      let h = and_parts (b == 60) (first_is (λ c. (c == 33) || (c == 63)) bs) e in
-      let n = no-link-there bs h.1 in
-      ap (λ c. marks (begins reader leaf at (c ∷ bs))) (eqb-true b 60 h.0) ∙ ap marks (less-is bs n.0 n.1)
+      let none = is_none (autolink_in reader.options.email_autolinks bs) in
+      let second = first_is (λ c. (c == 33) || (c == 63)) bs in
+      let h = and_parts (b == 60) (none && second) e in
+      let n = and_parts none second h.1 in
+      ap (λ c. marks (begins reader leaf at (c ∷ bs))) (eqb-true b 60 h.0) ∙ ap marks (less-is bs (no-link (autolink_in reader.options.email_autolinks bs) n.0) (no-slash-there bs n.1))
       ∙ markup_marks (behind_markup (source_from reader leaf at)) (tag_or_text reader leaf at (behind_tag no_prefix (from reader leaf at))) (tag_marks (behind_tag no_prefix (from reader leaf at)))
 
-pub no-markup-by : (o : Options) (l : Lookup) (cell : Bool) (text : List ℕ) (at : ℕ) (t : Token) → begins_at o l cell text at ≡ t → marks t ≡ false → may_open_markup (drop at text) ≡ false
+pub no-markup-by : (o : Options) (l : Lookup) (cell : Bool) (text : List ℕ) (at : ℕ) (t : Token) → begins_at o l cell text at ≡ t → marks t ≡ false → may_open_markup o.email_autolinks (drop at text) ≡ false
 no-markup-by o l cell text at t is never =
-    false_from_ne_true (may_open_markup (drop at text)) (λ e.
+    false_from_ne_true (may_open_markup o.email_autolinks (drop at text)) (λ e.
     true≢false (sym (begins_marks (reading o l text) (whole cell text) at (drop at text) e) ∙ ap marks (sym (ap (begins (reading o l text) (whole cell text) at) (from-is o l cell text at)) ∙ is) ∙ never))

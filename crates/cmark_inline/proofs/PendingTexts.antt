@@ -35,7 +35,7 @@ module _ (leaf : LeafText) (reader : Reader) (read : Leaf) (place : ℕ → ℕ)
   abbrev cell : Bool
   cell = is_cell_of leaf
 
-  module _ (at start end to : ℕ) (begins : begins_at reader.options reader.lookup cell text at ≡ item_at Plain start end) (none : may_open_markup (drop at text) ≡ false) (some : start < end) (order : end ≤ to) (within : to ≤ length text)
+  module _ (at start end to : ℕ) (begins : begins_at reader.options reader.lookup cell text at ≡ item_at Plain start end) (none : may_open_markup reader.options.email_autolinks (drop at text) ≡ false) (some : start < end) (order : end ≤ to) (within : to ≤ length text)
       (all : (k : ℕ) → end ≤ k → k < to → StandsForItself reader.options reader.lookup cell text k to) (stops : StopsAt (text_reader reader.options reader.lookup text) (one_stretch cell text) to) (before_end : at ≤ length text) where
     own_bytes : from (text_reader reader.options reader.lookup text) (one_stretch cell text) end ≡ drop end text
     own_bytes = subst (λ c. from (text_reader reader.options reader.lookup text) (one_stretch c text) end ≡ drop end text) r.cell (from-text reader read text place r.places end)

@@ -11,7 +11,7 @@ use Rattle.cmark_grammar.specs.Autolinks.{autolink_in}
 use Rattle.cmark_grammar.specs.CodeSpans.{is_backtick, backticks, code_in}
 use Rattle.cmark_grammar.specs.Columns.{is_blank_byte}
 use Rattle.cmark_grammar.specs.Dashes.{dashes_of, dash_text}
-use Rattle.cmark_grammar.specs.Flanking.{Flanking, flanking}
+use Rattle.cmark_grammar.specs.Flanking.{Flanking, flanking, is_run_delimiter}
 use Rattle.cmark_grammar.specs.Formulas.{is_dollar, Braces, no_braces, braces_behind, inline_in, display_in}
 use Rattle.cmark_grammar.specs.InlineHtml.{behind_markup, takes_lines}
 use Rattle.cmark_grammar.specs.InlineTokens.{as_in, item_at, bracket, is_plain, from, before, size_to, character_before, character_at, break_or, code_or, escaped_backtick, escape_at, entity_or, autolink_or, tag_or_text, source_from, markup_or, less_than, run_or, run_at, formula_or, dollar, dots, hyphens, quote_at, smart_or, begins}
@@ -130,8 +130,8 @@ module _ (o : Options) (l : Lookup) (cell : Bool) (text : List ℕ) (at : ℕ) (
   less_same =
       let tag = tag_or_text r leaf at (behind_tag no_prefix (from r leaf at)) in
       let others = markup_or r leaf at (behind_markup (source_from r leaf at)) tag in
-      when (first_is (λ c. c == 92) bs) (item_at Plain at (suc at)) (autolink_or r leaf at (autolink_in bs) others) (λ e. byte_same)
-      (λ e. autolink_same (autolink_in bs) others (markup_same (behind_markup (source_from r leaf at)) tag (tag_same (behind_tag no_prefix (from r leaf at)))))
+      when (first_is (λ c. c == 92) bs) (item_at Plain at (suc at)) (autolink_or r leaf at (autolink_in r.options.email_autolinks bs) others) (λ e. byte_same)
+      (λ e. autolink_same (autolink_in r.options.email_autolinks bs) others (markup_same (behind_markup (source_from r leaf at)) tag (tag_same (behind_tag no_prefix (from r leaf at)))))
 
   -- the bytes of a run of this byte
   run_bytes : (c : ℕ) → b ≡ c → (j : ℕ) → at ≤ j → j < at + prefix_len (λ d. d == c) (drop at text) → get_or text j 0 ≡ b
@@ -176,7 +176,7 @@ module _ (o : Options) (l : Lookup) (cell : Bool) (text : List ℕ) (at : ℕ) (
       let c9 = if r.options.smart_punctuation then smart_or r leaf at b else plain in
       let c8 = if r.options.math && is_dollar b then dollar r leaf at bs (braces_behind false (before r leaf at) no_braces) else c9 in
       let n = prefix_len (λ c. c == b) (b ∷ bs) in
-      let c7 = if (b == 42) || ((b == 95) || ((b == 126) || (b == 94))) then run_at r leaf at b n else c8 in
+      let c7 = if is_run_delimiter b then run_at r leaf at b n else c8 in
       let c6 = if b == 93 then Closes (bracket false at (suc at)) else c7 in
       let c5 = if b == 91 then Opens (bracket false at (suc at)) else c6 in
       let bang = if first_is (λ c. c == 91) bs then Opens (bracket true at (at + 2)) else plain in
@@ -195,7 +195,7 @@ module _ (o : Options) (l : Lookup) (cell : Bool) (text : List ℕ) (at : ℕ) (
       (λ e4. when (b == 33) bang c5 (λ e. when (first_is (λ c. c == 91) bs) (Opens (bracket true at (at + 2))) plain (λ g. tt) (λ g. byte_same))
       (λ e5. when (b == 91) (Opens (bracket false at (suc at))) c6 (λ e. tt)
       (λ e6. when (b == 93) (Closes (bracket false at (suc at))) c7 (λ e. tt)
-      (λ e7. when ((b == 42) || ((b == 95) || ((b == 126) || (b == 94)))) (run_at r leaf at b n) c8 (λ e. run_same none (flanking r.options b n (character_before r leaf at) (character_at r leaf (at + n))))
+      (λ e7. when (is_run_delimiter b) (run_at r leaf at b n) c8 (λ e. run_same none (flanking r.options b n (character_before r leaf at) (character_at r leaf (at + n))))
       (λ e8. when (r.options.math && is_dollar b) (dollar r leaf at bs (braces_behind false (before r leaf at) no_braces)) c9 (λ e. dollar_same (braces_behind false (before r leaf at) no_braces))
       (λ e9. when r.options.smart_punctuation (smart_or r leaf at b) plain (λ e. smart_same none) (λ e. byte_same))))))))))))
 

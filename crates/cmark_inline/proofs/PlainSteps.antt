@@ -7,7 +7,7 @@ use Rattle.std.proofs.lemmas.List.{get_or-drop}
 use Rattle.std.proofs.lemmas.List.Sums.{prefix_len_passes, prefix_len-le-length, fails_before_first, passes_at_first}
 use Rattle.cmark_grammar.specs.Answers.{Lookup}
 use Rattle.cmark_grammar.specs.Columns.{is_blank_byte}
-use Rattle.cmark_grammar.specs.Flanking.{Flanking, flanking, is_delimiter_run, is_intraword, opens_beside, closes_beside}
+use Rattle.cmark_grammar.specs.Flanking.{Flanking, flanking, is_delimiter_run, is_intraword, opens_beside, closes_beside, is_run_delimiter}
 use Rattle.cmark_grammar.specs.Formulas.{is_dollar, no_braces, braces_behind}
 use Rattle.cmark_grammar.specs.InlineTokens.{item_at, before, break_or, dollar, smart_or, run_at, run_or, character_before, character_at}
 use Rattle.cmark_grammar.specs.Items.{Plain, Token}
@@ -44,6 +44,7 @@ record Others (o : Options) (b : ℕ) : Type 0 where
   always : AllDiffer (codes "\n\r*_&\\[]<!`") b
   tilde : ((o.strikethrough || o.subscript) && (b == 126)) ≡ false
   caret : (o.superscript && (b == 94)) ≡ false
+  equals : (o.highlight && (b == 61)) ≡ false
   math : (o.math ≡ false) ⊎ AllDiffer (codes "${}") b
   smart : (o.smart_punctuation ≡ false) ⊎ AllDiffer (codes ".-\"'") b
 
@@ -52,17 +53,20 @@ others o b e =
     let t = (o.tables && (b == 124)) in
     let w = ((o.strikethrough || o.subscript) && (b == 126)) in
     let c = (o.superscript && (b == 94)) in
+    let q = (o.highlight && (b == 61)) in
     let m = (o.math && is_one_of (codes "${}") b) in
     let s = (o.smart_punctuation && is_one_of (codes ".-\"'") b) in
-    let one = or_parts (is_always_special b) (t || (w || (c || (m || s)))) e in
-    let two = or_parts t (w || (c || (m || s))) one.1 in
-    let three = or_parts w (c || (m || s)) two.1 in
-    let four = or_parts c (m || s) three.1 in
-    let five = or_parts m s four.1 in
+    let one = or_parts (is_always_special b) (t || (w || (c || (q || (m || s))))) e in
+    let two = or_parts t (w || (c || (q || (m || s)))) one.1 in
+    let three = or_parts w (c || (q || (m || s))) two.1 in
+    let four = or_parts c (q || (m || s)) three.1 in
+    let fifth = or_parts q (m || s) four.1 in
+    let five = or_parts m s fifth.1 in
     record {
       always = none-of (codes "\n\r*_&\\[]<!`") b one.0;
       tilde = three.0;
       caret = four.0;
+      equals = fifth.0;
       math = under o.math (codes "${}") b five.0;
       smart = under o.smart_punctuation (codes ".-\"'") b five.1;
     }
@@ -85,8 +89,9 @@ big-is-none o b big = false_from_ne_true (is_special o b) (λ t. kinds (special-
     kinds (inr (inl h)) = here 124 h refl
     kinds (inr (inr (inl h))) = here 126 h refl
     kinds (inr (inr (inr (inl h)))) = here 94 h refl
-    kinds (inr (inr (inr (inr (inl h))))) = high (sign-passes (λ n. nat_lt n 128) b (codes "${}") (refl, (refl, (refl, tt))) h.1)
-    kinds (inr (inr (inr (inr (inr h))))) = high (sign-passes (λ n. nat_lt n 128) b (codes ".-\"'") (refl, (refl, (refl, (refl, tt)))) h.1)
+    kinds (inr (inr (inr (inr (inl h))))) = here 61 h refl
+    kinds (inr (inr (inr (inr (inr (inl h)))))) = high (sign-passes (λ n. nat_lt n 128) b (codes "${}") (refl, (refl, (refl, tt))) h.1)
+    kinds (inr (inr (inr (inr (inr (inr h)))))) = high (sign-passes (λ n. nat_lt n 128) b (codes ".-\"'") (refl, (refl, (refl, (refl, tt)))) h.1)
 
 -- ## No delimiter run
 skip : {A : Type 0} (z : Bool) (x y : A) → z ≡ false → (if z then x else y) ≡ y
@@ -101,10 +106,12 @@ no-run : (o : Options) (b n : ℕ) → Others o b → is_delimiter_run o b n ≡
 no-run o b n h =
     let w : Bool = (b == 126) && ((o.strikethrough || o.subscript) && ((n == 1) || (n == 2))) in
     let c : Bool = (b == 94) && (o.superscript && (n == 1)) in
-    ap (λ z. ((z || (b == 95)) && nat_lt 0 n) || (w || c)) h.always.1.1.0
-    ∙ ap (λ z. (z && nat_lt 0 n) || (w || c)) h.always.1.1.1.0
-    ∙ ap (λ z. z || c) (unread (b == 126) (o.strikethrough || o.subscript) ((n == 1) || (n == 2)) h.tilde)
-    ∙ unread (b == 94) o.superscript (n == 1) h.caret
+    let q : Bool = (b == 61) && (o.highlight && (n == 2)) in
+    ap (λ z. ((z || (b == 95)) && nat_lt 0 n) || (w || (c || q))) h.always.1.1.0
+    ∙ ap (λ z. (z && nat_lt 0 n) || (w || (c || q))) h.always.1.1.1.0
+    ∙ ap (λ z. z || (c || q)) (unread (b == 126) (o.strikethrough || o.subscript) ((n == 1) || (n == 2)) h.tilde)
+    ∙ ap (λ z. z || q) (unread (b == 94) o.superscript (n == 1) h.caret)
+    ∙ unread (b == 61) o.highlight (n == 2) h.equals
 
 no-flanks : (o : Options) (b n : ℕ) (left right : Option ℕ) → is_delimiter_run o b n ≡ false → flanking o b n left right ≡ record { opens = false; closes = false }
 no-flanks o b n left right e = ap by e
@@ -145,7 +152,7 @@ module _ (o : Options) (l : Lookup) (cell : Bool) (text : List ℕ) (at : ℕ) (
       else item_at Plain at (suc at)
 
   abbrev at_marks : Token
-  at_marks = if (b == 42) || ((b == 95) || ((b == 126) || (b == 94))) then run_at r leaf at b (prefix_len (λ c. c == b) (b ∷ bs)) else behind_marks
+  at_marks = if is_run_delimiter b then run_at r leaf at b (prefix_len (λ c. c == b) (b ∷ bs)) else behind_marks
 
   to-marks : Others o b → is_blank_byte b ≡ false → begins_at o l cell text at ≡ at_marks
   to-marks h blank =
@@ -178,12 +185,12 @@ module _ (o : Options) (l : Lookup) (cell : Bool) (text : List ℕ) (at : ℕ) (
   behind-stands h = skip (o.math && is_dollar b) _ _ (by-dollar h.math) ∙ by-smart o.smart_punctuation h.smart
 
   byte-stands : Others o b → is_blank_byte b ≡ false → (begins_at o l cell text at ≡ item_at Plain at (suc at)) ⊎ (begins_at o l cell text at ≡ item_at Plain at (at + prefix_len (λ c. c == b) (drop at text)))
-  byte-stands h blank = go ((b == 42) || ((b == 95) || ((b == 126) || (b == 94)))) refl
+  byte-stands h blank = go (is_run_delimiter b) refl
     where
       n : ℕ
       n = prefix_len (λ c. c == b) (b ∷ bs)
 
-      go : (z : Bool) → ((b == 42) || ((b == 95) || ((b == 126) || (b == 94)))) ≡ z → (begins_at o l cell text at ≡ item_at Plain at (suc at)) ⊎ (begins_at o l cell text at ≡ item_at Plain at (at + prefix_len (λ c. c == b) (drop at text)))
+      go : (z : Bool) → (is_run_delimiter b) ≡ z → (begins_at o l cell text at ≡ item_at Plain at (suc at)) ⊎ (begins_at o l cell text at ≡ item_at Plain at (at + prefix_len (λ c. c == b) (drop at text)))
       go true q =
           inr (to-marks h blank ∙ ap (λ z. if z then run_at r leaf at b n else behind_marks) q ∙ run-plain n h
           ∙ ap (λ x. item_at Plain at (at + prefix_len (λ c. c == b) x)) (sym (front o l cell text at b lt refl)))

@@ -13,7 +13,7 @@ all-bytes a text = sum_by-take-le (λ (b : ℕ). cond (is_closing_bracket b) 1 0
 pub more-bytes : (a b : ℕ) (text : List ℕ) → a ≤ b → closing_brackets (take a text) ≤ closing_brackets (take b text)
 more-bytes a b text le = subst (λ (l : List ℕ). closing_brackets l ≤ closing_brackets (take b text)) (take-take a b text le) (all-bytes a (take b text))
 
-one-more : (a k b : ℕ) (text : List ℕ) → a ≤ k → k < b → k < length text → get_or text k 0 ≡ 93 → closing_brackets (take a text) + 1 ≤ closing_brackets (take b text)
+pub one-more : (a k b : ℕ) (text : List ℕ) → a ≤ k → k < b → k < length text → get_or text k 0 ≡ 93 → closing_brackets (take a text) + 1 ≤ closing_brackets (take b text)
 one-more a k b text le lt within is =
     let l = more-bytes a k text le in
     let m = count_by_more_yes is_closing_bracket text k 0 within (eq-eqb (get_or text k 0) 93 is) in

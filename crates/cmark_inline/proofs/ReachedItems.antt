@@ -1,6 +1,6 @@
 -- With a slot more the pass of the grammar has come to the place behind the item that the slot stands for; the opening brackets stay.
 use Rattle.std.specs.Prelude.{Option, option_map, map}
-use Rattle.std.proofs.Common.{◌≡◌, ℕ, ◌≤◌, Bool, true, List, [], ◌∷◌, ◌++◌, refl, sym, ap, ◌∙◌, subst, arith}
+use Rattle.std.proofs.Common.{◌≡◌, ℕ, ◌+◌, ◌≤◌, Bool, true, List, [], ◌∷◌, ◌++◌, refl, sym, ap, ◌∙◌, subst, arith}
 use Rattle.cmark_grammar.specs.BracketStates.{Opener, State, moved}
 use Rattle.cmark_grammar.specs.InlineTokens.{token}
 use Rattle.cmark_grammar.specs.Items.{ItemKind, Stands}
@@ -31,15 +31,19 @@ use Rattle.cmark_inline.specs.declared.callback.BrokenLink.{BrokenLink}
 use Rattle.cmark_slots.specs.declared.quote.PlacedQuote.{PlacedQuote}
 use Rattle.cmark_slots.specs.declared.slot.Slot.{Slot}
 use Rattle.cmark_inline.specs.declared.state.InlineState.{InlineState}
+use Rattle.cmark_inline.specs.LeastSteps.{Tally}
+use Rattle.cmark_inline.specs.declared.step.Sought.{Sought}
+use Rattle.cmark_inline.proofs.LeastCounted.{TakesFor, counted-item, counted-same}
 use Rattle.cmark_inline.proofs.ReachedSteps.{own-read}
 
 -- ## Opening brackets
--- the stacks of brackets stay as they are, and so does what is left of the reference expansion limit
+-- the stacks of brackets stay as they are, and so does what is left of the reference expansion limit and what was examined
 pub record SameBrackets (old new : InlineState) : Type 0 where
   pub brackets : new.brackets ≡ old.brackets
   pub doubled : new.doubled ≡ old.doubled
   pub expansion_left : new.expansion_left ≡ old.expansion_left
   pub label : new.label_close ≡ old.label_close
+  pub examined : new.delimiters.examined ≡ old.delimiters.examined
 
 placed-up : (place : ℕ → ℕ) (at to : ℕ) (os : List Opener) (bs : List Bracket) → at ≤ to → ArePlaced place at os bs → ArePlaced place to os bs
 placed-up place at to [] [] le h = tt
@@ -86,9 +90,9 @@ module _ (leaf : LeafText) (reader : Reader) (read : Leaf) (place : ℕ → ℕ)
       (subst (λ l. IsReached reader read before p brackets (shown_slots leaf new.texts.items new.links.items new.slots.items) (places_of l) (places old.quotes.placed.items) (runs_of l) (quotes_of old.quotes.placed.items)) (sym runs)
       (subst (λ l. IsReached reader read before p brackets l (places_of old.delimiters.placed.items) (places old.quotes.placed.items) (runs_of old.delimiters.placed.items) (quotes_of old.quotes.placed.items)) (sym slots) h))
 
-  module _ {F : Type 0} (R : F → BrokenLink → Option (CowStr × CowStr) → F → Type 0) (initial now : F) where
+  module _ {F : Type 0} (R : F → BrokenLink → Option (CowStr × CowStr) → F → Type 0) (tally : Tally) (initial now : F) where
     abbrev Reached : ℕ → InlineState → Type 0
-    Reached at state = HasReached R leaf reader read place before initial at state now
+    Reached at state = HasReached R leaf reader read place before tally initial at state now
 
     pub same-reached : (at : ℕ) (old new : InlineState) → shown_slots leaf new.texts.items new.links.items new.slots.items ≡ shown_slots leaf old.texts.items old.links.items old.slots.items
         → new.delimiters.placed.items ≡ old.delimiters.placed.items → new.quotes.placed.items ≡ old.quotes.placed.items → SameBrackets old new → Reached at old → Reached at new
@@ -99,18 +103,20 @@ module _ (leaf : LeafText) (reader : Reader) (read : Leaf) (place : ℕ → ℕ)
       at_is = h.at_is;
       shows = shows-on reader.options.wikilinks (text_of leaf) place at at h.p.state h.p.state h.bs old new (omega arith) e refl refl refl h.shows;
       answered = h.answered;
+      counted = counted-same reader h.p.here tally old.delimiters.examined new.delimiters.examined e.examined h.counted;
     }
 
-    pub item-reached : (at resume : ℕ) (old new : InlineState) → Reached at old → at ≤ resume → SameBrackets old new
+    pub item-reached : (was : Sought) (at resume : ℕ) (old new : InlineState) → HasReached R leaf reader read place before (record tally { sought = was }) initial at old now → at ≤ resume → SameBrackets old new
         → shown_slots leaf new.texts.items new.links.items old.slots.items ≡ shown_slots leaf old.texts.items old.links.items old.slots.items
         → (kind : ItemKind) (start end : ℕ) (slot : Slot) → token reader read (place at) ≡ Stands (item kind start end) (place resume) → has_own_slot kind ≡ true
         → IsLike reader.source (shown_slot leaf new.texts.items new.links.items slot) (ItemSlot (item kind start end))
-        → new.slots.items ≡ old.slots.items ++ (slot ∷ []) → new.delimiters.placed.items ≡ old.delimiters.placed.items → new.quotes.placed.items ≡ old.quotes.placed.items → Reached resume new
-    item-reached at resume old new h le e same kind start end slot t own like slots runs quotes = record {
+        → new.slots.items ≡ old.slots.items ++ (slot ∷ []) → new.delimiters.placed.items ≡ old.delimiters.placed.items → new.quotes.placed.items ≡ old.quotes.placed.items → TakesFor reader.source (item kind start end) was tally.sought → Reached resume new
+    item-reached was at resume old new h le e same kind start end slot t own like slots runs quotes found = record {
       p = pass (moved (place resume) h.p.state) (join h.p.here (Single (item kind start end) Nil));
       bs = h.bs;
       has_read = own-read leaf reader read place before h.p h.bs old new h.has_read same kind start end (place resume) slot (ap (token reader read) h.at_is ∙ t) own like slots runs quotes;
       at_is = refl;
       shows = shows-on reader.options.wikilinks (text_of leaf) place at resume h.p.state (moved (place resume) h.p.state) h.bs old new le e refl refl refl h.shows;
       answered = h.answered;
+      counted = counted-item reader h.p.here (record tally { sought = was }) tally.sought old.delimiters.examined new.delimiters.examined (item kind start end) e.examined found h.counted;
     }

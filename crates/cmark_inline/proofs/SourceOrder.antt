@@ -36,7 +36,7 @@ module _ (source : List ℕ) where
           omega (arith, b, o, r)
 
   -- a later byte stands behind an earlier one
-  place-before : (first from : ℕ) (ss : List Stretch) (a b : ℕ) → AreStretches source first from ss → first ≤ a → a < b → b < first + length (joined source ss) → place_in ss a < place_in ss b
+  pub place-before : (first from : ℕ) (ss : List Stretch) (a b : ℕ) → AreStretches source first from ss → first ≤ a → a < b → b < first + length (joined source ss) → place_in ss a < place_in ss b
   place-before first from [] a b all le ab lt = absurd (omega (arith, le, ab, lt))
   place-before first from (x ∷ ss) a b all le ab lt = go (λ l m. place-before (first + size_of x) x.end ss a b all.1 l ab m) (nat_lt a (x.at + size_of x)) (nat_lt b (x.at + size_of x)) refl refl
     where

@@ -1,21 +1,16 @@
 -- Places of the source and of a leaf's text.
-use Rattle.std.specs.Prelude.{if◌then◌else◌, nat_lt, None}
-use Rattle.std.proofs.Common.{◌≡◌, ◌⊎◌, inl, inr, ℕ, ◌+◌, ◌-◌, ◌≤◌, ◌<◌, Bool, true, false, List, [], ◌∷◌, length, drop, take, get_or, refl, sym, ap, ◌∙◌, subst, arith, drop-drop}
+use Rattle.std.specs.Prelude.{if◌then◌else◌, nat_lt}
+use Rattle.std.proofs.Common.{◌≡◌, ◌⊎◌, inl, inr, ℕ, ◌+◌, ◌-◌, ◌≤◌, ◌<◌, Bool, true, false, List, [], ◌∷◌, length, drop, take, get_or, refl, sym, ap, ◌∙◌, subst, arith, drop-drop, get_or-drop, length-drop}
 use Rattle.std.specs.Str.{IsCharBoundary}
 use Rattle.std.proofs.lemmas.Bool.{lt-ltb, le-ltb, ltb-true, ltb-false}
 use Rattle.std.proofs.lemmas.List.{drop-take}
 use Rattle.std.proofs.lemmas.Str.{IsCharBoundary-end}
-use Rattle.cmark_grammar.specs.InlineHtml.{behind_markup}
 use Rattle.cmark_leaf_text.specs.declared.leaf_text.LeafText.{LeafText}
 use Rattle.cmark_leaf_text.specs.declared.stretch.Stretch.{Stretch}
 use Rattle.cmark_leaf_text.specs.Reads.{IsRead, IsFirstFrom, IsPart, text_of, source_of, place_of}
 use Rattle.cmark_leaf_text.specs.Stretches.{AreStretches, joined, place_in, size_of}
 use Rattle.cmark_leaf_text.proofs.StretchSteps.{size-joined, slice-length, byte-in-slice, placed, place-order, part-there}
-use Rattle.cmark_inline.specs.MarkupInSource.{source_from, opens_as, NoneCloses, AreUnclosed}
-use Rattle.cmark_inline.specs.declared.markup.MarkupKind.{MarkupKind}
-use Rattle.cmark_inline.specs.declared.markup.MarkupKind.TheVariants as markup
-use Rattle.cmark_inline.specs.declared.markup.Unclosed.{Unclosed}
-use Rattle.cmark_inline.proofs.MarkupSteps.{stays-unclosed}
+use Rattle.cmark_inline.specs.MarkupInSource.{source_from}
 
 -- a stretch begins with a byte of the text, or the byte before it stands next to it in the source
 begins-or-touches : (source : List ℕ) (first from : ℕ) (ss : List Stretch) (at : ℕ) → AreStretches source first from ss → first ≤ at → at < first + length (joined source ss)
@@ -69,6 +64,19 @@ begins-or-touches source first from (x ∷ ss) at all le lt = go (λ l m. begins
         let g = ltb-false at (x.at + size_of x) e in
         behind g (more (let q : first + size_of x ≤ at = omega (arith, p, g) in q) (let q : at < (first + size_of x) + length (joined source ss) = omega (arith, lt, n) in q))
 
+-- a place of bytes, where they are read from an earlier one on
+pub drop-to : (bytes : List ℕ) (ahead end : ℕ) → ahead ≤ end → drop (end - ahead) (drop ahead bytes) ≡ drop end bytes
+drop-to bytes ahead end le = drop-drop (end - ahead) ahead bytes ∙ ap (λ k. drop k bytes) (let q : ahead + (end - ahead) ≡ end = omega (arith, le) in q)
+
+pub edge-to : (bytes : List ℕ) (ahead end : ℕ) → ahead ≤ end → IsCharBoundary bytes end → IsCharBoundary (drop ahead bytes) (end - ahead)
+edge-to bytes ahead end le h =
+    let n = length-drop ahead bytes in
+    let within = h.0 in
+    let same : get_or (drop ahead bytes) (end - ahead) 0 ≡ get_or bytes end 0 = get_or-drop ahead bytes (end - ahead) 0 ∙ ap (λ k. get_or bytes k 0) (let q : ahead + (end - ahead) ≡ end = omega (arith, le) in q) in (
+      (let q : end - ahead ≤ length (drop ahead bytes) = omega (arith, n, within, le) in q),
+      (λ lt big. subst (λ b. 192 ≤ b) (sym same) (h.1 (let q : end < length bytes = omega (arith, lt, n, le) in q) (subst (λ b. 128 ≤ b) same big))),
+    )
+
 module _ (leaf : LeafText) (read : IsRead leaf) where
   abbrev text : List ℕ
   text = text_of leaf
@@ -104,7 +112,7 @@ module _ (leaf : LeafText) (read : IsRead leaf) where
           from-source lt big (subst (IsCharBoundary source) (let q : place ≡ place_in ss end = omega (arith, next, a, b) in q) edge)
 
   -- a later byte stands behind the earlier one in the source
-  order : (a b : ℕ) → a ≤ b → b < length text → place_in ss a ≤ place_in ss b
+  pub order : (a b : ℕ) → a ≤ b → b < length text → place_in ss a ≤ place_in ss b
   order a b le lt = place-order source 0 0 ss a b read.stretches (omega arith) le (counted b lt)
 
   -- where a place behind a byte of the text is asked for, it is behind that byte in the text
@@ -167,19 +175,26 @@ module _ (leaf : LeafText) (read : IsRead leaf) where
       ∙ sym (drop-take (q - p) (stop - q) (drop p source))
       ∙ ap (λ n. drop (q - p) (take n (drop p source))) (let h : (q - p) + (stop - q) ≡ stop - p = omega (arith, o, l) in h)
 
-  -- what was sought in vain is not closed further on
-  pub none-closes : (kind : MarkupKind) (at : ℕ) → opens_as kind (source_from leaf at) ≡ true → behind_markup (source_from leaf at) ≡ None → NoneCloses kind leaf at
-  none-closes kind at opens none = λ k le lt again.
-      let later = source-later at k le lt in
-      ap behind_markup later ∙ stays-unclosed kind (place_of leaf k - place_of leaf at) (source_from leaf at) opens none (ap (opens_as kind) (sym later) ∙ again)
+  -- the source from a byte of the text on is that from the first byte on, behind what stands between them
+  pub source-ahead : (at : ℕ) → at < length text → source_from leaf at ≡ drop (place_of leaf at - place_of leaf 0) (source_from leaf 0)
+  source-ahead at lt = source-later 0 at (omega arith) lt
 
-none-on : (kind : MarkupKind) (leaf : LeafText) (a b : ℕ) → a ≤ b → NoneCloses kind leaf a → NoneCloses kind leaf b
-none-on kind leaf a b le h = λ k l lt opens. h k (let q : a ≤ k = omega (arith, le, l) in q) lt opens
-
-pub unclosed-on : (leaf : LeafText) (a b : ℕ) (unclosed : Unclosed) → a ≤ b → AreUnclosed leaf a unclosed → AreUnclosed leaf b unclosed
-unclosed-on leaf a b unclosed le h = record {
-  comment = λ e. none-on markup.Comment leaf a b le (h.comment e);
-  processing = λ e. none-on markup.Processing leaf a b le (h.processing e);
-  declaration = λ e. none-on markup.Declaration leaf a b le (h.declaration e);
-  cdata = λ e. none-on markup.Cdata leaf a b le (h.cdata e);
-}
+  -- a byte of the text that begins a character begins one there
+  pub edge-ahead : (at : ℕ) → at < length text → IsCharBoundary text at → IsCharBoundary (source_from leaf 0) (place_of leaf at - place_of leaf 0)
+  edge-ahead at lt h =
+      let stop : ℕ = place_in ss (length text - 1) + 1 in
+      let p : ℕ = place_in ss 0 in
+      let q : ℕ = place_in ss at in
+      let o = order 0 at (omega arith) lt in
+      let l = order at (length text - 1) (omega (arith, lt)) (omega (arith, lt)) in
+      let there = placed source 0 0 ss at read.stretches (omega arith) (counted at lt) in
+      let last = (placed source 0 0 ss (length text - 1) read.stretches (omega arith) (counted (length text - 1) (omega (arith, lt)))).within in
+      let w : stop ≤ length source = omega (arith, last) in
+      let n = slice-length source p stop w in
+      let byte : get_or (source_from leaf 0) (q - p) 0 ≡ get_or text at 0 =
+      byte-in-slice source p stop (q - p) (omega (arith, o, l)) w
+      ∙ ap (λ k. get_or source k 0) (let e : p + (q - p) ≡ q = omega (arith, o) in e)
+      ∙ sym (ap (λ k. get_or text k 0) (let e : at ≡ at - 0 = omega arith in e) ∙ there.byte) in (
+        (let e : q - p ≤ length (source_from leaf 0) = omega (arith, n, o, l) in e),
+        (λ within big. subst (λ b. 192 ≤ b) (sym byte) (h.1 lt (subst (λ b. 128 ≤ b) byte big))),
+      )

@@ -1,5 +1,5 @@
 -- Which bytes are special, and what begins at brackets and at bytes that stand for themselves.
-use Rattle.std.specs.Prelude.{Option, if◌then◌else◌, codes}
+use Rattle.std.specs.Prelude.{Option, if◌then◌else◌, codes, nat_lt}
 use Rattle.std.specs.List.{prefix_len}
 use Rattle.std.proofs.Common.{◌≡◌, ◌⊎◌, inl, inr, ℕ, suc, ◌+◌, ◌-◌, ◌<◌, ◌≤◌, ◌==◌, ◌||◌, ◌&&◌, Bool, true, false, List, [], ◌∷◌, length, drop, get_or, refl, sym, ap, ◌∙◌, arith, eqb-true, length-drop, true≢false}
 use Rattle.std.proofs.lemmas.Bool.{or_cases, and_parts}
@@ -7,14 +7,15 @@ use Rattle.std.proofs.lemmas.List.{get_or-drop}
 use Rattle.std.proofs.lemmas.List.Sums.{prefix_len_passes, prefix_len-le-length}
 use Rattle.cmark_grammar.specs.Answers.{Lookup}
 use Rattle.cmark_grammar.specs.Columns.{is_blank_byte}
-use Rattle.cmark_grammar.specs.Flanking.{Flanking, flanking}
+use Rattle.cmark_grammar.specs.Flanking.{Flanking, closes_beside, flanking, is_delimiter_run, is_intraword, is_run_delimiter, opens_beside}
+use Rattle.cmark_emphasis.specs.Counts.{is_run_of}
 use Rattle.cmark_grammar.specs.Formulas.{no_braces, braces_behind}
 use Rattle.cmark_grammar.specs.InlineTokens.{item_at, bracket, before, dollar}
 use Rattle.cmark_grammar.specs.Items.{Plain, Token, Opens, Closes}
 use Rattle.cmark_grammar.specs.Letters.{first_is}
 use Rattle.cmark_grammar.specs.Options.{Options}
 use Rattle.cmark_grammar.specs.SpecialBytes.{is_one_of, is_always_special, is_special}
-use Rattle.cmark_inline.specs.Tokens.{whole, reading, begins_at, is_run_delimiter, is_other}
+use Rattle.cmark_inline.specs.Tokens.{whole, reading, begins_at, is_other}
 use Rattle.cmark_inline.proofs.TokenSteps.{begins-with, unsigned}
 
 -- ## Special bytes
@@ -24,34 +25,39 @@ Kinds o b =
     ⊎ (((b == 124) ≡ true)
     ⊎ (((b == 126) ≡ true)
     ⊎ (((b == 94) ≡ true)
+    ⊎ (((b == 61) ≡ true)
     ⊎ (((o.math ≡ true) × (is_one_of (codes "${}") b ≡ true))
-    ⊎ ((o.smart_punctuation ≡ true) × (is_one_of (codes ".-\"'") b ≡ true))))))
+    ⊎ ((o.smart_punctuation ≡ true) × (is_one_of (codes ".-\"'") b ≡ true)))))))
 
 pub special-kinds : (o : Options) (b : ℕ) → is_special o b ≡ true → Kinds o b
 special-kinds o b e = first (or_cases (is_always_special b) _ e)
   where
     last : (x : Bool) → (x ≡ true) → (o.smart_punctuation && is_one_of (codes ".-\"'") b) ≡ x → Kinds o b
-    last x e f = inr (inr (inr (inr (inr (and_parts o.smart_punctuation (is_one_of (codes ".-\"'") b) (f ∙ e))))))
+    last x e f = inr (inr (inr (inr (inr (inr (and_parts o.smart_punctuation (is_one_of (codes ".-\"'") b) (f ∙ e)))))))
 
-    fifth : ((o.math && is_one_of (codes "${}") b) ≡ true) ⊎ ((o.smart_punctuation && is_one_of (codes ".-\"'") b) ≡ true) → Kinds o b
-    fifth (inl h) = inr (inr (inr (inr (inl (and_parts o.math (is_one_of (codes "${}") b) h)))))
-    fifth (inr h) = last true refl h
+    sixth : ((o.math && is_one_of (codes "${}") b) ≡ true) ⊎ ((o.smart_punctuation && is_one_of (codes ".-\"'") b) ≡ true) → Kinds o b
+    sixth (inl h) = inr (inr (inr (inr (inr (inl (and_parts o.math (is_one_of (codes "${}") b) h))))))
+    sixth (inr h) = last true refl h
 
-    fourth : ((o.superscript && (b == 94)) ≡ true) ⊎ (((o.math && is_one_of (codes "${}") b) || (o.smart_punctuation && is_one_of (codes ".-\"'") b)) ≡ true) → Kinds o b
+    fifth : ((o.highlight && (b == 61)) ≡ true) ⊎ (((o.math && is_one_of (codes "${}") b) || (o.smart_punctuation && is_one_of (codes ".-\"'") b)) ≡ true) → Kinds o b
+    fifth (inl h) = inr (inr (inr (inr (inl (and_parts o.highlight (b == 61) h).1))))
+    fifth (inr h) = sixth (or_cases (o.math && is_one_of (codes "${}") b) (o.smart_punctuation && is_one_of (codes ".-\"'") b) h)
+
+    fourth : ((o.superscript && (b == 94)) ≡ true) ⊎ (((o.highlight && (b == 61)) || ((o.math && is_one_of (codes "${}") b) || (o.smart_punctuation && is_one_of (codes ".-\"'") b))) ≡ true) → Kinds o b
     fourth (inl h) = inr (inr (inr (inl (and_parts o.superscript (b == 94) h).1)))
-    fourth (inr h) = fifth (or_cases (o.math && is_one_of (codes "${}") b) (o.smart_punctuation && is_one_of (codes ".-\"'") b) h)
+    fourth (inr h) = fifth (or_cases (o.highlight && (b == 61)) ((o.math && is_one_of (codes "${}") b) || (o.smart_punctuation && is_one_of (codes ".-\"'") b)) h)
 
-    third : (((o.strikethrough || o.subscript) && (b == 126)) ≡ true) ⊎ (((o.superscript && (b == 94)) || ((o.math && is_one_of (codes "${}") b) || (o.smart_punctuation && is_one_of (codes ".-\"'") b))) ≡ true) → Kinds o b
+    third : (((o.strikethrough || o.subscript) && (b == 126)) ≡ true) ⊎ (((o.superscript && (b == 94)) || ((o.highlight && (b == 61)) || ((o.math && is_one_of (codes "${}") b) || (o.smart_punctuation && is_one_of (codes ".-\"'") b)))) ≡ true) → Kinds o b
     third (inl h) = inr (inr (inl (and_parts (o.strikethrough || o.subscript) (b == 126) h).1))
-    third (inr h) = fourth (or_cases (o.superscript && (b == 94)) ((o.math && is_one_of (codes "${}") b) || (o.smart_punctuation && is_one_of (codes ".-\"'") b)) h)
+    third (inr h) = fourth (or_cases (o.superscript && (b == 94)) ((o.highlight && (b == 61)) || ((o.math && is_one_of (codes "${}") b) || (o.smart_punctuation && is_one_of (codes ".-\"'") b))) h)
 
-    second : ((o.tables && (b == 124)) ≡ true) ⊎ ((((o.strikethrough || o.subscript) && (b == 126)) || ((o.superscript && (b == 94)) || ((o.math && is_one_of (codes "${}") b) || (o.smart_punctuation && is_one_of (codes ".-\"'") b)))) ≡ true) → Kinds o b
+    second : ((o.tables && (b == 124)) ≡ true) ⊎ ((((o.strikethrough || o.subscript) && (b == 126)) || ((o.superscript && (b == 94)) || ((o.highlight && (b == 61)) || ((o.math && is_one_of (codes "${}") b) || (o.smart_punctuation && is_one_of (codes ".-\"'") b))))) ≡ true) → Kinds o b
     second (inl h) = inr (inl (and_parts o.tables (b == 124) h).1)
-    second (inr h) = third (or_cases ((o.strikethrough || o.subscript) && (b == 126)) ((o.superscript && (b == 94)) || ((o.math && is_one_of (codes "${}") b) || (o.smart_punctuation && is_one_of (codes ".-\"'") b))) h)
+    second (inr h) = third (or_cases ((o.strikethrough || o.subscript) && (b == 126)) ((o.superscript && (b == 94)) || ((o.highlight && (b == 61)) || ((o.math && is_one_of (codes "${}") b) || (o.smart_punctuation && is_one_of (codes ".-\"'") b)))) h)
 
-    first : (is_always_special b ≡ true) ⊎ (((o.tables && (b == 124)) || (((o.strikethrough || o.subscript) && (b == 126)) || ((o.superscript && (b == 94)) || ((o.math && is_one_of (codes "${}") b) || (o.smart_punctuation && is_one_of (codes ".-\"'") b))))) ≡ true) → Kinds o b
+    first : (is_always_special b ≡ true) ⊎ (((o.tables && (b == 124)) || (((o.strikethrough || o.subscript) && (b == 126)) || ((o.superscript && (b == 94)) || ((o.highlight && (b == 61)) || ((o.math && is_one_of (codes "${}") b) || (o.smart_punctuation && is_one_of (codes ".-\"'") b)))))) ≡ true) → Kinds o b
     first (inl h) = inl h
-    first (inr h) = second (or_cases (o.tables && (b == 124)) (((o.strikethrough || o.subscript) && (b == 126)) || ((o.superscript && (b == 94)) || ((o.math && is_one_of (codes "${}") b) || (o.smart_punctuation && is_one_of (codes ".-\"'") b)))) h)
+    first (inr h) = second (or_cases (o.tables && (b == 124)) (((o.strikethrough || o.subscript) && (b == 126)) || ((o.superscript && (b == 94)) || ((o.highlight && (b == 61)) || ((o.math && is_one_of (codes "${}") b) || (o.smart_punctuation && is_one_of (codes ".-\"'") b))))) h)
 
 -- a dot, a hyphen or a quote is special with typographic punctuation alone
 pub smart-special : (o : Options) (b : ℕ) → (b ≡ 46) ⊎ ((b ≡ 45) ⊎ ((b ≡ 34) ⊎ (b ≡ 39))) → is_special o b ≡ true → o.smart_punctuation ≡ true
@@ -60,19 +66,20 @@ smart-special o b is e = go is
     no : {A : Type 0} → false ≡ true → A
     no h = absurd (true≢false (sym h))
 
-    by : (n : ℕ) → is_always_special n ≡ false → (n == 124) ≡ false → (n == 126) ≡ false → (n == 94) ≡ false → is_one_of (codes "${}") n ≡ false → Kinds o n → o.smart_punctuation ≡ true
-    by n p q r s t (inl h) = no (sym p ∙ h)
-    by n p q r s t (inr (inl h)) = no (sym q ∙ h)
-    by n p q r s t (inr (inr (inl h))) = no (sym r ∙ h)
-    by n p q r s t (inr (inr (inr (inl h)))) = no (sym s ∙ h)
-    by n p q r s t (inr (inr (inr (inr (inl h))))) = no (sym t ∙ h.1)
-    by n p q r s t (inr (inr (inr (inr (inr h))))) = h.0
+    by : (n : ℕ) → is_always_special n ≡ false → (n == 124) ≡ false → (n == 126) ≡ false → (n == 94) ≡ false → (n == 61) ≡ false → is_one_of (codes "${}") n ≡ false → Kinds o n → o.smart_punctuation ≡ true
+    by n p q r s u t (inl h) = no (sym p ∙ h)
+    by n p q r s u t (inr (inl h)) = no (sym q ∙ h)
+    by n p q r s u t (inr (inr (inl h))) = no (sym r ∙ h)
+    by n p q r s u t (inr (inr (inr (inl h)))) = no (sym s ∙ h)
+    by n p q r s u t (inr (inr (inr (inr (inl h))))) = no (sym u ∙ h)
+    by n p q r s u t (inr (inr (inr (inr (inr (inl h)))))) = no (sym t ∙ h.1)
+    by n p q r s u t (inr (inr (inr (inr (inr (inr h)))))) = h.0
 
     go : (b ≡ 46) ⊎ ((b ≡ 45) ⊎ ((b ≡ 34) ⊎ (b ≡ 39))) → o.smart_punctuation ≡ true
-    go (inl h) = by 46 refl refl refl refl refl (special-kinds o 46 (sym (ap (is_special o) h) ∙ e))
-    go (inr (inl h)) = by 45 refl refl refl refl refl (special-kinds o 45 (sym (ap (is_special o) h) ∙ e))
-    go (inr (inr (inl h))) = by 34 refl refl refl refl refl (special-kinds o 34 (sym (ap (is_special o) h) ∙ e))
-    go (inr (inr (inr h))) = by 39 refl refl refl refl refl (special-kinds o 39 (sym (ap (is_special o) h) ∙ e))
+    go (inl h) = by 46 refl refl refl refl refl refl (special-kinds o 46 (sym (ap (is_special o) h) ∙ e))
+    go (inr (inl h)) = by 45 refl refl refl refl refl refl (special-kinds o 45 (sym (ap (is_special o) h) ∙ e))
+    go (inr (inr (inl h))) = by 34 refl refl refl refl refl refl (special-kinds o 34 (sym (ap (is_special o) h) ∙ e))
+    go (inr (inr (inr h))) = by 39 refl refl refl refl refl refl (special-kinds o 39 (sym (ap (is_special o) h) ∙ e))
 
 -- a dollar sign is special with formulas alone
 pub math-special : (o : Options) (b : ℕ) → b ≡ 36 → is_special o b ≡ true → o.math ≡ true
@@ -86,8 +93,9 @@ math-special o b is e = by (special-kinds o 36 (sym (ap (is_special o) is) ∙ e
     by (inr (inl h)) = no h
     by (inr (inr (inl h))) = no h
     by (inr (inr (inr (inl h)))) = no h
-    by (inr (inr (inr (inr (inl h))))) = h.0
-    by (inr (inr (inr (inr (inr h))))) = no h.1
+    by (inr (inr (inr (inr (inl h))))) = no h
+    by (inr (inr (inr (inr (inr (inl h)))))) = h.0
+    by (inr (inr (inr (inr (inr (inr h)))))) = no h.1
 
 -- the bytes at which a call of its own begins
 abbrev pub has_call : ℕ → Bool
@@ -121,8 +129,9 @@ other-special o b uncalled e = or_cases (is_run_delimiter b) (is_other b) (other
     known (inr (inl h)) = here 124 h refl
     known (inr (inr (inl h))) = here 126 h refl
     known (inr (inr (inr (inl h)))) = here 94 h refl
-    known (inr (inr (inr (inr (inl h))))) = sign-passes is_known b (codes "${}") (refl, (refl, (refl, tt))) h.1
-    known (inr (inr (inr (inr (inr h))))) = sign-passes is_known b (codes ".-\"'") (refl, (refl, (refl, (refl, tt)))) h.1
+    known (inr (inr (inr (inr (inl h))))) = here 61 h refl
+    known (inr (inr (inr (inr (inr (inl h)))))) = sign-passes is_known b (codes "${}") (refl, (refl, (refl, tt))) h.1
+    known (inr (inr (inr (inr (inr (inr h)))))) = sign-passes is_known b (codes ".-\"'") (refl, (refl, (refl, (refl, tt)))) h.1
 
     others : (has_call b ≡ true) ⊎ ((is_run_delimiter b || is_other b) ≡ true) → (is_run_delimiter b || is_other b) ≡ true
     others (inl h) = absurd (true≢false (sym h ∙ uncalled))
@@ -219,3 +228,36 @@ others-flank o b size before after e = go (or_cases (b == 124) ((b == 123) || (b
     go : ((b == 124) ≡ true) ⊎ (((b == 123) || (b == 125)) ≡ true) → flanking o b size before after ≡ none
     go (inl h) = at-byte 124 h refl
     go (inr h) = more (or_cases (b == 123) (b == 125) h)
+
+-- a run that can open or close is one that delimiter runs are
+pub flanks-known : (o : Options) (b size : ℕ) (before after : Option ℕ) (flanks : Flanking) → flanks ≡ flanking o b size before after → (flanks.opens || flanks.closes) ≡ true → is_run_of b size ≡ true
+flanks-known o b size before after flanks is e = go (or_cases flanks.opens flanks.closes e)
+  where
+    at-byte : (n : ℕ) → (b == n) ≡ true → is_run_of n size ≡ true → is_run_of b size ≡ true
+    at-byte n h q = ap (λ m. is_run_of m size) (eqb-true b n h) ∙ q
+
+    marks : ((b == 42) ≡ true) ⊎ ((b == 95) ≡ true) → is_run_of b size ≡ true
+    marks (inl h) = at-byte 42 h refl
+    marks (inr h) = at-byte 95 h refl
+
+    last : (y : Bool) → (((b == 94) && y) ≡ true) ⊎ (((b == 61) && (o.highlight && (size == 2))) ≡ true) → is_run_of b size ≡ true
+    last y (inl h) = at-byte 94 (and_parts (b == 94) y h).0 refl
+    last y (inr h) = let two = and_parts (b == 61) (o.highlight && (size == 2)) h in at-byte 61 two.0 (and_parts o.highlight (size == 2) two.1).1
+
+    others : (x y : Bool) → (((b == 126) && x) ≡ true) ⊎ ((((b == 94) && y) || ((b == 61) && (o.highlight && (size == 2)))) ≡ true) → is_run_of b size ≡ true
+    others x y (inl h) = at-byte 126 (and_parts (b == 126) x h).0 refl
+    others x y (inr h) = last y (or_cases ((b == 94) && y) ((b == 61) && (o.highlight && (size == 2))) h)
+
+    run : (x y : Bool) → ((((b == 42) || (b == 95)) && nat_lt 0 size) ≡ true) ⊎ ((((b == 126) && x) || (((b == 94) && y) || ((b == 61) && (o.highlight && (size == 2))))) ≡ true) → is_run_of b size ≡ true
+    run x y (inl h) = marks (or_cases (b == 42) (b == 95) (and_parts ((b == 42) || (b == 95)) (nat_lt 0 size) h).0)
+    run x y (inr h) = others x y (or_cases ((b == 126) && x) (((b == 94) && y) || ((b == 61) && (o.highlight && (size == 2)))) h)
+
+    known : is_delimiter_run o b size ≡ true → is_run_of b size ≡ true
+    known h =
+        let x = (o.strikethrough || o.subscript) && ((size == 1) || (size == 2)) in
+        let y = o.superscript && (size == 1) in
+        run x y (or_cases (((b == 42) || (b == 95)) && nat_lt 0 size) (((b == 126) && x) || (((b == 94) && y) || ((b == 61) && (o.highlight && (size == 2))))) h)
+
+    go : (flanks.opens ≡ true) ⊎ (flanks.closes ≡ true) → is_run_of b size ≡ true
+    go (inl h) = known (and_parts (is_delimiter_run o b size) (opens_beside (is_intraword o b size) before after) (sym (ap (λ (f : Flanking). f.opens) is) ∙ h)).0
+    go (inr h) = known (and_parts (is_delimiter_run o b size) (closes_beside (is_intraword o b size) before after) (sym (ap (λ (f : Flanking). f.closes) is) ∙ h)).0

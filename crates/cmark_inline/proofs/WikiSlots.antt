@@ -101,7 +101,7 @@ writes-shown options text doubled close wikilink old new parts index made shown 
 pub writes-taken : (options : Options) (text : List ℕ) (doubled : Bracket) (close : ℕ) (wikilink : Wikilink) (old new : InlineState) (left : Brackets) → WritesShown options text doubled close wikilink (record old { doubled = left }) new
     → WritesShown options text doubled close wikilink old new
 writes-taken options text doubled close wikilink old new left w = record {
-  forgets = record { runs = w.forgets.runs; quotes = w.forgets.quotes };
+  forgets = record { runs = w.forgets.runs; quotes = w.forgets.quotes; examined = w.forgets.examined };
   shown = w.shown;
   at = w.at;
   shows = w.shows;

@@ -1,8 +1,10 @@
 -- What a closing bracket comes to, in the states of the code and of the grammar.
-use Rattle.std.specs.Prelude.{◌≡◌, ◌≤◌, ◌<◌, ℕ, suc, ◌-◌, Bool, true, false, List, [], ◌∷◌, ◌++◌, drop, length, min, take, Option, Some, None}
+use Rattle.std.specs.Prelude.{◌≡◌, ◌≤◌, ◌<◌, ℕ, suc, ◌+◌, ◌-◌, Bool, true, false, List, [], ◌∷◌, ◌++◌, drop, length, min, take, Option, Some, None}
 use Rattle.cmark_grammar.specs.Answers.{Lookup}
 use Rattle.cmark_grammar.specs.BracketDecisions.{decide}
 use Rattle.cmark_grammar.specs.BracketStates.{Opener, State, opened, Result, StaysText, Forms, Outcome}
+use Rattle.cmark_emphasis.specs.Least.{least_examined}
+use Rattle.cmark_grammar.specs.Emphasis.{runs_of}
 use Rattle.cmark_grammar.specs.InlineTokens.{token}
 use Rattle.cmark_grammar.specs.Items as items
 use Rattle.cmark_grammar.specs.LeafReading.{Between}
@@ -21,10 +23,12 @@ use Rattle.cmark_references.specs.Links.{shown_link}
 use Rattle.cmark_inline.specs.Decided.{ReadsSame, IsCloser, Remembers, ComesTo, EndsWithin, TargetDecides}
 use Rattle.cmark_slots.specs.Doubled.{DropsBehind}
 use Rattle.cmark_inline.specs.Reached.{HasRead, ReadsPlaces}
+use Rattle.cmark_slots.specs.MarkedSlots.{siblings_from}
 use Rattle.cmark_slots.specs.Standing.{AreEnded}
 use Rattle.cmark_slots.specs.Slots.{PushesText}
 use Rattle.cmark_inline.specs.Stands.{SameSpans}
 use Rattle.cmark_inline.specs.FormedSlots.{WritesElement}
+use Rattle.cmark_inline.specs.Uses.{RiseBy, uses_by}
 use Rattle.cmark_slots.specs.declared.bracket.Bracket.{Bracket}
 use Rattle.cmark_slots.specs.declared.bracket.Brackets.{Brackets}
 use Rattle.cmark_inline.specs.declared.callback.BrokenLink.{BrokenLink}
@@ -157,6 +161,15 @@ Notes (Forms nearer (Footnote label end)) old new = (text : CowStr) × (text_byt
 Notes (Forms nearer (Wiki name display end)) old new = Unit {0}
 Notes StaysText old new = new.links ≡ old.links
 
+-- the count of examined open runs does not fall; for a link or an image it grows by what the searches among the runs behind its opening
+-- bracket examine at least
+abbrev pub Examines : Result → List Bracket → (old new : InlineState) → Type 0
+Examines (Forms nearer (Linking target)) bs old new =
+    (b : Bracket) × (drop nearer bs ≡ b ∷ drop (suc nearer) bs) × (old.delimiters.examined + least_examined (runs_of (siblings_from 0 (drop b.runs old.delimiters.placed.items))) ≤ new.delimiters.examined)
+Examines (Forms nearer (Footnote label end)) bs old new = old.delimiters.examined ≤ new.delimiters.examined
+Examines (Forms nearer (Wiki name display end)) bs old new = old.delimiters.examined ≤ new.delimiters.examined
+Examines StaysText bs old new = old.delimiters.examined ≤ new.delimiters.examined
+
 -- where the grammar's pass has read what the state stands for whose last slot is the text before the closing bracket, if there is one, it
 -- has read what the new state stands for once it has come to this with the bracket
 abbrev pub ReadsOn : LeafText → Reader → Leaf → (place : ℕ → ℕ) → (pending at : ℕ) → (closer : items.Bracket) → State → List Bracket → Outcome → (old new : InlineState) → Type 0
@@ -166,19 +179,21 @@ ReadsOn leaf reader read place pending at closer s bs outcome old new =
     → HasRead leaf reader read place before p bs flushed → HasRead leaf reader read place before (closed_by p closer outcome) (left_of outcome.result bs) new
 
 -- a closing bracket comes to what the grammar says for the answer that the callback gave, and asks what it says; the slots that are
--- written stand for it
+-- written stand for it. If it forms a footnote reference, a use is counted
 pub record ClosesAs {F : Type 0} (R : F → BrokenLink → Option (CowStr × CowStr) → F → Type 0) (wikilinks : Bool) (leaf : LeafText) (text : List ℕ) (reader : Reader) (read : Leaf) (place : ℕ → ℕ) (from close : ℕ) (closer : items.Bracket) (s : State)
-    (bs : List Bracket) (next : Cursor) (old new : InlineState) (before after : F) : Type 0 where
+    (bs : List Bracket) (next : Cursor) (footnotes others : FootnoteDefs) (old new : InlineState) (before after : F) : Type 0 where
   pub outcome : Outcome
   pub comes : ComesTo R (decide reader read s closer) outcome before after
   pub at : outcome.after.at ≡ place next.at
   pub pending : next.pending ≡ next.at
   pub shows : ShowsState wikilinks text place next.at outcome.after (left_of outcome.result bs) new
   pub notes : Notes outcome.result old new
+  pub examines : Examines outcome.result bs old new
+  pub uses : RiseBy (λ folded. uses_by folded outcome.result) footnotes others
   pub reads : AreEnded leaf old.slots.items → ReadsOn leaf reader read place from close closer s bs outcome old new
 
-abbrev pub Closes : {F : Type 0} → (F → BrokenLink → Option (CowStr × CowStr) → F → Type 0) → Options → Lookup → RefDefs → FootnoteDefs → LeafText → (text : List ℕ) → (pending at : ℕ) → (old new : InlineState) → (next : Cursor) → (before after : F) → Type 0
-Closes R options lookup references footnotes leaf text pending at old new next before after =
+abbrev pub Closes : {F : Type 0} → (F → BrokenLink → Option (CowStr × CowStr) → F → Type 0) → Options → Lookup → RefDefs → (footnotes others : FootnoteDefs) → LeafText → (text : List ℕ) → (pending at : ℕ) → (old new : InlineState) → (next : Cursor) → (before after : F) → Type 0
+Closes R options lookup references footnotes others leaf text pending at old new next before after =
     (reader : Reader) (read : Leaf) (place : ℕ → ℕ) (closer : items.Bracket) (s : State) (bs : List Bracket)
     → ReadsSame options lookup references footnotes leaf reader read place → IsCloser text place at closer → ShowsState options.wikilinks text place at s bs old
-    → ClosesAs R options.wikilinks leaf text reader read place pending at closer s bs next old new before after
+    → ClosesAs R options.wikilinks leaf text reader read place pending at closer s bs next footnotes others old new before after

@@ -17,6 +17,7 @@ use Rattle.cmark_text_parts.specs.declared.text.CowStr.{CowStr}
 use Rattle.cmark_inline_model.specs.BracketPass.{Pass}
 use Rattle.cmark_inline.specs.Closers.{ShowsState}
 use Rattle.cmark_inline.specs.Decided.{ReadsSame}
+use Rattle.cmark_inline.specs.LeastSteps.{AreCounted, Tally}
 use Rattle.cmark_inline.specs.Reached.{HasRead, ReadsPlaces}
 use Rattle.cmark_inline.specs.Resolved.{Answered}
 use Rattle.cmark_slots.specs.Standing.{AreEnded}
@@ -25,6 +26,7 @@ use Rattle.cmark_slots.specs.declared.bracket.Bracket.{Bracket}
 use Rattle.cmark_inline.specs.declared.callback.BrokenLink.{BrokenLink}
 use Rattle.cmark_inline.specs.declared.state.InlineState.{InlineState}
 use Rattle.cmark_inline.specs.declared.step.Cursor.{Cursor}
+use Rattle.cmark_inline.specs.declared.step.Sought.{Sought}
 
 -- ## The text that is pending
 module _ (options : Options) (lookup : Lookup) (is_cell : Bool) (text : List ℕ) where
@@ -60,8 +62,9 @@ module _ (options : Options) (lookup : Lookup) (is_cell : Bool) (text : List ℕ
       ⊎ HasEscaped at cursor.pending cursor.at)
 
 -- ## What is read
-module _ {F : Type 0} (R : F → BrokenLink → Option (CowStr × CowStr) → F → Type 0) (leaf : LeafText) (reader : Reader) (read : Leaf) (place : ℕ → ℕ) (before : Between) where
-  -- a pass of the grammar has come to a place, and has read what this state stands for, with the answers that the callback gave
+module _ {F : Type 0} (R : F → BrokenLink → Option (CowStr × CowStr) → F → Type 0) (leaf : LeafText) (reader : Reader) (read : Leaf) (place : ℕ → ℕ) (before : Between) (tally : Tally) where
+  -- a pass of the grammar has come to a place, and has read what this state stands for, with the answers that the callback gave; the
+  -- steps that its parts ask for are counted
   pub record HasReached (initial : F) (at : ℕ) (state : InlineState) (now : F) : Type 0 where
     pub p : Pass
     pub bs : List Bracket
@@ -69,6 +72,7 @@ module _ {F : Type 0} (R : F → BrokenLink → Option (CowStr × CowStr) → F 
     pub at_is : p.state.at ≡ place at
     pub shows : ShowsState reader.options.wikilinks (text_of leaf) place at p.state bs state
     pub answered : Answered R p.state.asked initial now
+    pub counted : AreCounted reader p.here tally state.delimiters.examined
 
   -- and the text from there on up to a cursor is pending
   pub record HasCome (initial : F) (cursor : Cursor) (state : InlineState) (now : F) : Type 0 where
@@ -78,16 +82,17 @@ module _ {F : Type 0} (R : F → BrokenLink → Option (CowStr × CowStr) → F 
 
 -- where a leaf is read up to a cursor as the grammar reads it, it is so up to the next one: for each reading with the same options,
 -- entities, definitions and footnotes, where HTML and texts of the source end in the source where their slots end
-abbrev pub ComesOn : {F : Type 0} → (F → BrokenLink → Option (CowStr × CowStr) → F → Type 0) → Options → Lookup → RefDefs → FootnoteDefs → LeafText → (cursor next : Cursor) → (old new : InlineState) → (now later : F) → Type 0
-ComesOn {F} R options lookup references footnotes leaf cursor next old new now later =
-    (reader : Reader) (read : Leaf) (place : ℕ → ℕ) (before : Between) (initial : F) → ReadsSame options lookup references footnotes leaf reader read place → ReadsPlaces leaf reader read place
-    → AreEnded leaf old.slots.items → HasCome R leaf reader read place before initial cursor old now → HasCome R leaf reader read place before initial next new later
+abbrev pub ComesOn : {F : Type 0} → (F → BrokenLink → Option (CowStr × CowStr) → F → Type 0) → Options → Lookup → RefDefs → (notes others : FootnoteDefs) → LeafText → (sought found : Sought) → (cursor next : Cursor) → (old new : InlineState) → (now later : F) → Type 0
+ComesOn {F} R options lookup references notes others leaf sought found cursor next old new now later =
+    (reader : Reader) (read : Leaf) (place : ℕ → ℕ) (before : Between) (begun : FootnoteDefs) (initial : F) → ReadsSame options lookup references notes leaf reader read place → ReadsPlaces leaf reader read place
+    → AreEnded leaf old.slots.items → HasCome R leaf reader read place before (record { sought = sought; begun = begun; notes = notes }) initial cursor old now
+    → HasCome R leaf reader read place before (record { sought = found; begun = begun; notes = others }) initial next new later
 
 -- so far it is read from its begin on, with so much left of the reference expansion limit there and nothing asked
-abbrev pub ComesTo : {F : Type 0} → (F → BrokenLink → Option (CowStr × CowStr) → F → Type 0) → Options → Lookup → RefDefs → FootnoteDefs → LeafText → (expansion_left : ℕ) → (initial : F) → Cursor → InlineState → (now : F) → Type 0
-ComesTo R options lookup references footnotes leaf expansion_left initial cursor state now =
-    (reader : Reader) (read : Leaf) (place : ℕ → ℕ) → ReadsSame options lookup references footnotes leaf reader read place → ReadsPlaces leaf reader read place
-    → HasCome R leaf reader read place (record { expansion_left = expansion_left; asked = [] }) initial cursor state now
+abbrev pub ComesTo : {F : Type 0} → (F → BrokenLink → Option (CowStr × CowStr) → F → Type 0) → Options → Lookup → RefDefs → FootnoteDefs → LeafText → (expansion_left : ℕ) → (initial : F) → Sought → (notes : FootnoteDefs) → Cursor → InlineState → (now : F) → Type 0
+ComesTo R options lookup references begun leaf expansion_left initial sought notes cursor state now =
+    (reader : Reader) (read : Leaf) (place : ℕ → ℕ) → ReadsSame options lookup references begun leaf reader read place → ReadsPlaces leaf reader read place
+    → HasCome R leaf reader read place (record { expansion_left = expansion_left; asked = [] }) (record { sought = sought; begun = begun; notes = notes }) initial cursor state now
 
 -- ## The begin of a leaf
 

@@ -1,6 +1,7 @@
 -- Which slots are written where brackets form something, in slots of the model.
-use Rattle.std.specs.Prelude.{◌≡◌, ℕ, suc, ◌+◌, ◌-◌, List, [], ◌∷◌, ◌++◌, drop, get_or, length, map, take}
-use Rattle.cmark_grammar.specs.Emphasis.{IsEmphasis, Pair}
+use Rattle.std.specs.Prelude.{◌≡◌, ℕ, suc, ◌+◌, ◌-◌, ◌≤◌, List, [], ◌∷◌, ◌++◌, drop, get_or, length, map, take}
+use Rattle.cmark_emphasis.specs.Least.{least_examined}
+use Rattle.cmark_grammar.specs.Emphasis.{IsEmphasis, Pair, runs_of}
 use Rattle.cmark_grammar.specs.Options.{Options}
 use Rattle.cmark_grammar.specs.Siblings.{tag_by}
 use Rattle.cmark_grammar.specs.Spans.{Spans}
@@ -33,14 +34,17 @@ end_slot close end = record { kind = kind.End; start = close; end = end }
 abbrev pub wrapped : (at : ℕ) → (begin : row.Slot) → List row.Slot → List row.Slot
 wrapped at begin slots = take at slots ++ (begin ∷ (drop (suc at) slots ++ (row.EndSlot ∷ [])))
 
--- the runs and the quotes behind an opening bracket are forgotten
+-- the runs and the quotes behind an opening bracket are forgotten; the count of examined open runs does not fall
 pub record Forgets (bracket : Bracket) (old new : InlineState) : Type 0 where
   pub runs : new.delimiters.placed.items ≡ take bracket.runs old.delimiters.placed.items
   pub quotes : new.quotes.placed.items ≡ take bracket.quotes old.quotes.placed.items
+  pub examined : old.delimiters.examined ≤ new.delimiters.examined
 
--- a link or an image with this target begins in the slot of its bracket, around the slots behind that, which are dressed
+-- a link or an image with this target begins in the slot of its bracket, around the slots behind that, which are dressed; the count grows by
+-- what the searches among its runs examine at least
 pub record WritesElement (options : Options) (bracket : Bracket) (target : Target) (old new : InlineState) : Type 0 where
   pub forgets : Forgets bracket old new
+  pub examined : old.delimiters.examined + least_examined (runs_of (siblings_from 0 (drop bracket.runs old.delimiters.placed.items))) ≤ new.delimiters.examined
   pub slots : (leaf : LeafText) (pairs : List Pair) (spans : Spans) (d : Slot) → IsEmphasis (siblings_from 0 (drop bracket.runs old.delimiters.placed.items)) pairs spans
       → shown_slots leaf new.texts.items new.links.items new.slots.items
       ≡ wrapped bracket.slot (row.BeginSlot (tag_by bracket.is_image (shown_link target.link)) (first_of leaf (get_or old.slots.items bracket.slot d)) (place_of leaf (target.end - 1) + 1))

@@ -1,14 +1,17 @@
 pub mod Asking
 pub mod BracketViews
 pub mod Closers
+pub mod Counted
 pub mod CursorProgress
 pub mod Decided
 pub mod Footnoted
 pub mod FormedSlots
 pub mod Hiding
 pub mod LeafViews
+pub mod LeastSteps
 pub mod Linked
 pub mod MarkupInSource
+pub mod Paid
 pub mod PlainStretches
 pub mod Reached
 pub mod ReadsOn
@@ -17,4 +20,5 @@ pub mod Sound
 pub mod SpecialReads
 pub mod Stands
 pub mod Tokens
+pub mod Uses
 pub mod Wikilinks

@@ -6,6 +6,7 @@ use Rattle.cmark_grammar.specs.LinkType as link
 use Rattle.cmark_text_parts.specs.declared.kind.LinkType.{LinkType}
 use Rattle.cmark_grammar.specs.Answers.{Lookup}
 use Rattle.cmark_grammar.specs.Options.{Options}
+use Rattle.cmark_grammar.specs.Siblings.{address_type}
 use Rattle.cmark_grammar.specs.Tokens.{slice, title_lines}
 use Rattle.cmark_grammar.specs.Unescaped.{unescaped}
 use Rattle.cmark_references.specs.declared.definitions.LinkDef.{LinkDef}
@@ -147,9 +148,9 @@ pub record FindsInline (lookup : Lookup) (is_cell : Bool) (text : List ℕ) (at 
   pub target : IfSome found (IsTarget text at)
   pub resume : IfSome found (λ (target : Target). target.resume ≡ target.end)
 
--- an autolink (CommonMark 6.5): its destination are the bytes between the angle brackets
+-- an autolink (CommonMark 6.5): its destination are the bytes between the angle brackets, and its type is by them
 pub record IsAutolink (text : List ℕ) (at end : ℕ) (parts : Link) : Type 0 where
-  pub form : shown_link_type parts.link_type ≡ link.Autolink
+  pub form : shown_link_type parts.link_type ≡ address_type (slice text (at + 1) (end - 1))
   pub destination : text_bytes parts.dest_url ≡ slice text (at + 1) (end - 1)
   pub title : text_bytes parts.title ≡ []
   pub id : text_bytes parts.id ≡ []

@@ -1,17 +1,15 @@
 -- Inline HTML that is found in the text of a leaf, or in its source.
-use Rattle.std.specs.Prelude.{◌≡◌, ◌⊎◌, ℕ, ◌+◌, ◌-◌, ◌≤◌, ◌<◌, Bool, true, false, ◌&&◌, List, length, drop, slice_index, codes, Some, None}
+use Rattle.std.specs.Prelude.{◌≡◌, ◌⊎◌, ℕ, ◌+◌, ◌-◌, ◌≤◌, ◌<◌, true, false, List, length, drop, slice_index, Some, None}
 use Rattle.cmark_grammar.specs.Answers.{Lookup}
 use Rattle.cmark_grammar.specs.Autolinks.{autolink_in}
 use Rattle.cmark_grammar.specs.InlineHtml.{behind_inline_html, behind_markup}
-use Rattle.cmark_grammar.specs.Letters.{first_is, is_letter, starts}
 use Rattle.cmark_grammar.specs.Options.{Options}
 use Rattle.cmark_grammar.specs.Tokens.{slice}
+use Rattle.cmark_scan_parts.specs.Guards.{AreMarks}
 use Rattle.cmark_leaf_text.specs.declared.leaf_text.LeafText.{LeafText}
 use Rattle.cmark_leaf_text.specs.Reads.{IsFirstFrom, is_cell_of, text_of, source_of, place_of}
 use Rattle.cmark_inline.specs.Tokens.{Passes, Puts, Appends, AppendsAutolink, opens_markup, read_on}
 use Rattle.cmark_inline.specs.declared.markup.FoundHtml.{FoundHtml}
-use Rattle.cmark_inline.specs.declared.markup.MarkupKind.{MarkupKind}
-use Rattle.cmark_inline.specs.declared.markup.MarkupKind.TheVariants as markup
 use Rattle.cmark_inline.specs.declared.markup.Unclosed.{Unclosed}
 use Rattle.cmark_slots.specs.declared.slot.SlotKind.TheVariants as kind
 use Rattle.cmark_inline.specs.declared.state.InlineState.{InlineState}
@@ -20,13 +18,6 @@ use Rattle.cmark_inline.specs.declared.step.Cursor.{Cursor}
 -- the source from a byte of the leaf on, up to the end of its last line
 abbrev pub source_from : LeafText → ℕ → List ℕ
 source_from leaf at = slice (source_of leaf) (place_of leaf at) (place_of leaf (length (text_of leaf) - 1) + 1)
-
--- the bytes that open markup, and those behind it
-abbrev pub opens_as : MarkupKind → List ℕ → Bool
-opens_as markup.Comment bs = starts (codes "<!--") bs
-opens_as markup.Processing bs = starts (codes "<?") bs
-opens_as markup.Declaration bs = starts (codes "<!") bs && first_is is_letter (drop 2 bs)
-opens_as markup.Cdata bs = starts (codes "<![CDATA[") bs
 
 -- a tag of the leaf's text
 pub record IsTag (leaf : LeafText) (at : ℕ) (found : FoundHtml) : Type 0 where
@@ -52,23 +43,17 @@ pub record FindsNone (leaf : LeafText) (at : ℕ) : Type 0 where
   pub tag : opens_markup (drop (at + 1) (text_of leaf)) ≡ false → behind_inline_html (drop at (text_of leaf)) ≡ None
   pub markup : opens_markup (drop (at + 1) (text_of leaf)) ≡ true → behind_markup (source_from leaf at) ≡ None
 
--- no markup of this kind is closed in the leaf that opens at this byte or behind it
-abbrev pub NoneCloses : MarkupKind → LeafText → (at : ℕ) → Type 0
-NoneCloses kind leaf at = (k : ℕ) → at ≤ k → k < length (text_of leaf) → opens_as kind (source_from leaf k) ≡ true → behind_markup (source_from leaf k) ≡ None
-
--- what is noted as sought in vain is not closed
-pub record AreUnclosed (leaf : LeafText) (at : ℕ) (unclosed : Unclosed) : Type 0 where
-  pub comment : unclosed.comment ≡ true → NoneCloses markup.Comment leaf at
-  pub processing : unclosed.processing ≡ true → NoneCloses markup.Processing leaf at
-  pub declaration : unclosed.declaration ≡ true → NoneCloses markup.Declaration leaf at
-  pub cdata : unclosed.cdata ≡ true → NoneCloses markup.Cdata leaf at
+-- the marks of what was sought are true where markup begins at this byte of the text or behind it: places are counted in the source from
+-- the leaf's first byte on
+abbrev pub AreUnclosed : LeafText → (at : ℕ) → Unclosed → Type 0
+AreUnclosed leaf at unclosed = (k : ℕ) → at ≤ k → k < length (text_of leaf) → AreMarks (source_from leaf 0) (place_of leaf k - place_of leaf 0 + 2) unclosed.guard
 
 -- ## What begins at a `<`
 
 -- the text that was pending, and then a slot for markup that the source closes
-pub record AppendsMarkup (leaf : LeafText) (here : Cursor) (old new : InlineState) (next : Cursor) : Type 0 where
+pub record AppendsMarkup (options : Options) (leaf : LeafText) (here : Cursor) (old new : InlineState) (next : Cursor) : Type 0 where
   pub byte : slice_index (text_of leaf) here.at ≡ 60
-  pub autolink : autolink_in (drop (here.at + 1) (text_of leaf)) ≡ None
+  pub autolink : autolink_in options.email_autolinks (drop (here.at + 1) (text_of leaf)) ≡ None
   pub found : FoundHtml
   pub is : IsInSource leaf here.at found
   pub at : next.at ≡ read_on (text_of leaf) found.end
@@ -77,9 +62,9 @@ pub record AppendsMarkup (leaf : LeafText) (here : Cursor) (old new : InlineStat
   pub others : new ≡ record old { slots = new.slots }
 
 -- the text that was pending, and then the `<` as a text of its own, where markup opens that the source does not close
-pub record AppendsUnclosed (leaf : LeafText) (here : Cursor) (old new : InlineState) (next : Cursor) : Type 0 where
+pub record AppendsUnclosed (options : Options) (leaf : LeafText) (here : Cursor) (old new : InlineState) (next : Cursor) : Type 0 where
   pub byte : slice_index (text_of leaf) here.at ≡ 60
-  pub autolink : autolink_in (drop (here.at + 1) (text_of leaf)) ≡ None
+  pub autolink : autolink_in options.email_autolinks (drop (here.at + 1) (text_of leaf)) ≡ None
   pub opens : opens_markup (drop (here.at + 1) (text_of leaf)) ≡ true
   pub closes : behind_markup (source_from leaf here.at) ≡ None
   pub at : next.at ≡ here.at + 1
@@ -92,5 +77,5 @@ ReadsLess options lookup leaf here old new next =
     Passes options lookup (is_cell_of leaf) (text_of leaf) here old new next
     ⊎ (AppendsAutolink options lookup (is_cell_of leaf) (text_of leaf) here old new next
     ⊎ (Appends options lookup (is_cell_of leaf) (text_of leaf) here old new next
-    ⊎ (AppendsMarkup leaf here old new next
-    ⊎ AppendsUnclosed leaf here old new next)))
+    ⊎ (AppendsMarkup options leaf here old new next
+    ⊎ AppendsUnclosed options leaf here old new next)))

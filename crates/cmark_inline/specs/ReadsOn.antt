@@ -6,8 +6,9 @@ use Rattle.cmark_inline.specs.Stands.{Moves}
 use Rattle.cmark_inline.specs.declared.state.InlineState.{InlineState}
 use Rattle.cmark_inline.specs.declared.step.Cursor.{Cursor}
 
--- what is left of the reference expansion limit stays; where memory is not refused, slots stay sound, and the text was read further
+-- what is left of the reference expansion limit stays, and so does what was counted; where memory is not refused, slots stay sound, and the text was read further
 pub record ReadsOn (text : List ℕ) (here : Cursor) (old new : InlineState) (result : Result Cursor AllocError) : Type 0 where
   pub expansion_left : new.expansion_left ≡ old.expansion_left
+  pub steps : new.steps ≡ old.steps
   pub keeps : OnOk result (KeepsSound old new)
   pub moves : IfOk result (Moves text here.at new)

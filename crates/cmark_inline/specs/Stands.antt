@@ -1,5 +1,5 @@
 -- What holds while the text of a leaf is read.
-use Rattle.std.specs.Prelude.{◌≡◌, ℕ, ◌≤◌, ◌<◌, List, length, slice_index}
+use Rattle.std.specs.Prelude.{◌≡◌, ℕ, ◌+◌, ◌*◌, ◌≤◌, ◌<◌, List, length, slice_index}
 use Rattle.std.specs.Str.{IsCharBoundary}
 use Rattle.cmark_inline.specs.declared.reference.LinkReference.{LinkReference}
 use Rattle.cmark_inline.specs.declared.link.Target.{Target}
@@ -8,7 +8,8 @@ use Rattle.cmark_inline.specs.declared.step.Cursor.{Cursor}
 use Rattle.cmark_slots.specs.Slots.{AreBrackets, AreFree, AreSlots, PushesText, bytes_of}
 
 -- all slots and brackets, the doubled ones too, stand before this place of the text, there are no more slots than bytes before it,
--- no link begins behind a bracket that may form one, and there is a slot for each byte of the delimiter runs
+-- no link begins behind a bracket that may form one, there is a slot for each byte of the delimiter runs, and of the open runs that may be
+-- examined for each run, fifteen at most, those of the runs that are not resolved were not
 pub record Stands (text : List ℕ) (at : ℕ) (state : InlineState) : Type 0 where
   pub slots : AreSlots text at state.slots.items
   pub brackets : AreBrackets text at state.brackets.standing.items
@@ -17,6 +18,7 @@ pub record Stands (text : List ℕ) (at : ℕ) (state : InlineState) : Type 0 wh
   pub doubled : AreBrackets text at state.doubled.standing.items
   pub doubled_free : AreFree state.slots.items state.doubled.standing.items state.doubled.inactive_below
   pub runs : bytes_of state.delimiters.placed.items ≤ length state.slots.items
+  pub examined : state.delimiters.examined + 15 * length state.delimiters.placed.items ≤ 15 * at
 
 -- a place that is reached, and the one from which on the text stands in no slot, cut no character
 pub record IsCursor (text : List ℕ) (cursor : Cursor) : Type 0 where

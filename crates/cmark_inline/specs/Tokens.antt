@@ -197,9 +197,6 @@ pub record AppendsQuote (options : Options) (lookup : Lookup) (is_cell : Bool) (
   pub placed : new.quotes.placed.items ≡ old.quotes.placed.items ++ (record { slot = length before; quote = quote } ∷ [])
   pub others : new ≡ record old { slots = new.slots; quotes = new.quotes }
 
-abbrev pub is_run_delimiter : ℕ → Bool
-is_run_delimiter b = (b == 42) || ((b == 95) || ((b == 126) || (b == 94)))
-
 -- the text that was pending, and then a slot for each byte of the delimiter run that begins at the place that was reached
 pub record AppendsRun (options : Options) (lookup : Lookup) (is_cell : Bool) (text : List ℕ) (here : Cursor) (old new : InlineState) (next : Cursor) : Type 0 where
   pub run : Run
@@ -211,6 +208,7 @@ pub record AppendsRun (options : Options) (lookup : Lookup) (is_cell : Bool) (te
   pub text_is : PushesText here.pending here.at old.slots.items before
   pub slots : new.slots.items ≡ before ++ byte_slots here.at run.run_length
   pub placed : new.delimiters.placed.items ≡ old.delimiters.placed.items ++ (record { slot = length before; run = run } ∷ [])
+  pub examined : new.delimiters.examined ≡ old.delimiters.examined
   pub others : new ≡ record old { slots = new.slots; delimiters = new.delimiters }
 
 -- ## Opening brackets

@@ -1,6 +1,6 @@
 //! What is asked of the caller for references without a definition.
 
-ghost use Rattle.std.specs.Prelude.{◌≡◌, ℕ, List, IfOk, Option, None};
+ghost use Rattle.std.specs.Prelude.{◌≡◌, ⊤, ℕ, List, IfOk, Option, None};
 ghost use Rattle.std.specs.DynBox.{dyn_box_with};
 ghost use Rattle.cmark_text_parts.specs.Shown.{text_bytes};
 ghost use Rattle.cmark_inline.specs.Linked.{IsQuestion};
@@ -44,6 +44,9 @@ impl<'a> BrokenLink<'a> {
 
 /// What the caller says of references without a definition.
 pub trait BrokenLinkCallback<'input> {
+    // Holds of the callbacks that may be asked.
+    ghost ready: { Self → Type 0 } = { λ _. ⊤ };
+
     ghost answers: { Self → Question → Option (CowStr × CowStr) → Self → Type 0 };
 
     /// Where such a reference leads and its title; `None` where it is no link.
@@ -51,7 +54,47 @@ pub trait BrokenLinkCallback<'input> {
         &mut self,
         link: BrokenLink<'input>,
     ) -> Option<(CowStr<'input>, CowStr<'input>)>
-        ensures { answers self.old link.entry result self.new };
+        requires { ready self.old }
+        ensures again { ready self.new }
+        ensures answers { answers self.old link.entry result self.new };
+}
+
+/// A closure, which may be called whatever it is asked. Each question is one call of it.
+///
+/// ```text
+/// let pages = FnCallback::new(|link| match link.reference.as_str() {
+///     "start" => Some((CowStr::Borrowed("/index.html"), CowStr::Borrowed(""))),
+///     _ => None,
+/// });
+/// ```
+#[derive(Drop)]
+pub struct FnCallback<F>(pub F);
+
+impl<F> FnCallback<F> {
+    /// A callback that asks this closure. The types of its parameter and its result need not be written.
+    pub fn new<'input>(closure: F) -> FnCallback<F>
+    where
+        F: FnMut(BrokenLink<'input>) -> Option<(CowStr<'input>, CowStr<'input>)>,
+        ensures { result.0 ≡ closure }
+    {
+        FnCallback(closure)
+    }
+}
+
+impl<
+    'input,
+    F: FnMut(BrokenLink<'input>) -> Option<(CowStr<'input>, CowStr<'input>)>,
+> BrokenLinkCallback<'input> for FnCallback<F> {
+    ghost ready = { λ callback. F.IsAlwaysCallable callback.0 };
+
+    ghost answers = { λ before link answer after. F.step before.0 link answer after.0 };
+
+    fn handle_broken_link(
+        &mut self,
+        link: BrokenLink<'input>,
+    ) -> Option<(CowStr<'input>, CowStr<'input>)> {
+        (self.0)(link)
+    }
 }
 
 /// No such reference is a link.

@@ -1,11 +1,13 @@
 //! Closing brackets, and the links and images that they form (CommonMark 6.3 and 6.4).
 
-ghost use Rattle.std.specs.Prelude.{◌≡◌, ◌<◌, length, IfOk, OnOk, false, ◌+◌, IfSome, None, Bool, ℕ, List, ◌++◌, ◌∷◌, [], ◌≤◌, drop, take};
+ghost use Rattle.std.specs.Prelude.{◌≡◌, ◌<◌, length, IfOk, OnOk, false, ◌+◌, ◌*◌, ◌^◌, IfSome, None, Bool, ℕ, List, ◌++◌, ◌∷◌, [], ◌≤◌, drop, take};
 ghost use Rattle.cmark_leaf_text.specs.Reads.{IsRead, text_of, IsPart};
 ghost use Rattle.cmark_text_parts.specs.Shown.{shown_options};
+ghost use Rattle.cmark_emphasis.specs.Least.{least_examined};
 ghost use Rattle.cmark_inline.specs.Asking.{AsksOnce};
 ghost use Rattle.cmark_inline.specs.Closers.{Closes, DeactivatesBehind, LinksTaken, LeavesElement};
 ghost use Rattle.cmark_inline.specs.Footnoted.{SameFootnotes};
+ghost use Rattle.cmark_inline.specs.Uses.{RiseUpTo};
 ghost use Rattle.cmark_slots.specs.Standing.{AreEnded, CanSettle, IsSettled};
 ghost use Rattle.cmark_inline.specs.Sound.{IsSound, IsTakenFrom};
 ghost use Rattle.cmark_inline.specs.Stands.{IsAtByte, Moves, Stands, Flushes, IsTarget};
@@ -19,7 +21,7 @@ ghost use Rattle.cmark_inline.specs.Decided.{EndsWithin, TargetDecides};
 ghost use Rattle.cmark_inline.specs.FormedSlots.{WritesElement, dressed_behind, end_slot};
 ghost use Rattle.cmark_grammar.specs.Spans.{Spans};
 ghost use Rattle.cmark_text_parts.specs.declared.text.CowStr.{CowStr as Texts};
-ghost use Rattle.cmark_grammar.specs.Emphasis.{IsEmphasis, Pair};
+ghost use Rattle.cmark_grammar.specs.Emphasis.{IsEmphasis, Pair, runs_of};
 ghost use Rattle.cmark_slots.specs.MarkedSlots.{siblings_from};
 ghost use Rattle.cmark_slots.specs.SlotViews.{shown_slots};
 ghost use Rattle.cmark_references.specs.declared.link.Link.{Link as Links};
@@ -54,14 +56,18 @@ impl<'a> InlineState<'a> {
         requires read { IsRead leaf.now }
         requires same { text.now ≡ text_of leaf.now }
         requires sound { IsSound self.old }
+        requires ready { F.ready callback.old }
         ensures sound { OnOk result (IsSound self.new) }
         ensures ends { OnOk result (AreEnded leaf.now self.old.slots.items → AreEnded leaf.now self.new.slots.items) }
+        ensures ready { F.ready callback.new }
         ensures asks { AsksOnce F.answers callback.old callback.new }
         ensures spent { self.old.expansion_left ≡ 0 → (callback.new ≡ callback.old) × (self.new.expansion_left ≡ 0) }
+        ensures steps { self.new.steps ≡ self.old.steps }
         ensures moves { IfOk result (Moves text.now here.at self.new) }
         ensures footnotes { SameFootnotes footnotes.old footnotes.new }
+        ensures rise { RiseUpTo 1 footnotes.old footnotes.new }
         ensures flushes { OnOk result (Flushes here.pending here.at self.old) }
-        ensures closes { IfOk result (λ next. Closes F.answers (shown_options reader.now.options) (E.replacement reader.now.entities.now) reader.now.references.now footnotes.old leaf.now text.now here.pending here.at self.old self.new next callback.old callback.new) }
+        ensures closes { IfOk result (λ next. Closes F.answers (shown_options reader.now.options) (E.replacement reader.now.entities.now) reader.now.references.now footnotes.old footnotes.new leaf.now text.now here.pending here.at self.old self.new next callback.old callback.new) }
     {
         self.flush(text, here, here.at)?;
         let behind_it = behind(text, here.at);
@@ -105,10 +111,13 @@ impl<'a> InlineState<'a> {
         requires same { text.now ≡ text_of leaf.now }
         requires sound { IsSound self.old }
         requires taken { IfSome taken (IsTakenFrom self.old) }
+        requires ready { F.ready callback.old }
         ensures sound { OnOk result (IsSound self.new) }
         ensures ends { OnOk result ((leaf : LeafTexts) → AreEnded leaf self.old.slots.items → AreEnded leaf self.new.slots.items) }
+        ensures ready { F.ready callback.new }
         ensures asks { AsksOnce F.answers callback.old callback.new }
         ensures spent { self.old.expansion_left ≡ 0 → (callback.new ≡ callback.old) × (self.new.expansion_left ≡ 0) }
+        ensures steps { self.new.steps ≡ self.old.steps }
         ensures stands { IfOk result (λ next. next ≡ None → Stands text.now close self.new) }
         ensures moves { IfOk result (λ next. IfSome next (Moves text.now close self.new)) }
         ensures links { IfOk result (λ next. LinksTaken F.answers (shown_options reader.now.options) (E.replacement reader.now.entities.now) reader.now.references.now leaf.now text.now taken close self.old self.new next callback.old callback.new) }
@@ -157,6 +166,8 @@ impl<'a> InlineState<'a> {
         requires close { IsPart text.now close (close + 1) }
         requires read { IsRead leaf.now }
         requires same { text.now ≡ text_of leaf.now }
+        requires ready { F.ready callback.old }
+        ensures ready { F.ready callback.new }
         ensures asks { AsksOnce F.answers callback.old callback.new }
         ensures spent { self.old.expansion_left ≡ 0 → (callback.new ≡ callback.old) × (self.new.expansion_left ≡ 0) }
         ensures others { self.new ≡ record self.old { expansion_left = self.new.expansion_left; label_close = self.new.label_close } }
@@ -202,6 +213,7 @@ impl<'a> InlineState<'a> {
         ensures sound { OnOk result (IsSound self.new) }
         ensures ends { OnOk result ((leaf : LeafTexts) → AreEnded leaf self.old.slots.items → AreEnded leaf self.new.slots.items) }
         ensures expansion_left { self.new.expansion_left ≡ self.old.expansion_left }
+        ensures steps { self.new.steps ≡ self.old.steps }
         ensures stands { OnOk result (Stands text.now target.entry.resume self.new) }
         ensures kept { OnOk result (self.new.links.items ≡ self.old.links.items ++ (target.entry.link ∷ [])) }
         ensures link { OnOk result (bracket.is_image ≡ false → HoldNoLink self.new.slots.items (bracket.slot + 1)) }
@@ -244,12 +256,16 @@ impl<'a> InlineState<'a> {
         requires runs_there { bracket.runs ≤ length self.old.delimiters.placed.items }
         requires quotes_there { bracket.quotes ≤ length self.old.quotes.placed.items }
         requires settles { CanSettle (bracket.slot + 1) self.old.slots.items (drop bracket.runs self.old.delimiters.placed.items) (drop bracket.quotes self.old.quotes.placed.items) }
+        requires room { self.old.delimiters.examined < 2 ^ 127 }
+        ensures examined { OnOk result (self.new.delimiters.examined + 15 * length self.new.delimiters.placed.items ≤ self.old.delimiters.examined + 15 * length self.old.delimiters.placed.items) }
+        ensures least { OnOk result (self.old.delimiters.examined + least_examined (runs_of (siblings_from 0 (drop bracket.runs self.old.delimiters.placed.items))) ≤ self.new.delimiters.examined) }
         ensures table { self.new.links ≡ self.old.links }
         ensures texts { self.new.texts ≡ self.old.texts }
         ensures settled { OnOk result (IsSettled (bracket.slot + 1) self.old.slots.items self.new.slots.items) }
         ensures placed { OnOk result (self.new.delimiters.placed.items ≡ take bracket.runs self.old.delimiters.placed.items) }
         ensures quotes { OnOk result (self.new.quotes.placed.items ≡ take bracket.quotes self.old.quotes.placed.items) }
         ensures expansion_left { self.new.expansion_left ≡ self.old.expansion_left }
+        ensures steps { self.new.steps ≡ self.old.steps }
         ensures label { self.new.label_close ≡ self.old.label_close }
         ensures brackets { self.new.brackets ≡ self.old.brackets }
         ensures doubled { self.new.doubled ≡ self.old.doubled }

@@ -1,18 +1,19 @@
 //! Footnote references (this profile's own).
 
-ghost use Rattle.std.specs.Prelude.{◌≡◌, false, ◌<◌, ◌≤◌, ◌+◌, ◌++◌, ◌∷◌, ℕ, List, [], drop, length, is_some, IfOk, OnOk, IfSome, None, Some, option_copied, option_map};
+ghost use Rattle.std.specs.Prelude.{◌≡◌, false, ◌<◌, ◌≤◌, ◌+◌, ◌++◌, ◌∷◌, ℕ, List, [], drop, length, is_some, IfOk, OnErr, OnOk, IfSome, None, Some, option_copied, option_map};
 ghost use Rattle.std.specs.Str.{IsCharBoundary};
 ghost use Rattle.cmark_links.specs.Shown.{shown_label};
 ghost use Rattle.cmark_grammar.specs.BracketDecisions.{is_there};
 ghost use Rattle.cmark_grammar.specs.Labels.{fold, normal_form};
 ghost use Rattle.cmark_grammar.specs.LinkTails.{reference_label_in};
 ghost use Rattle.cmark_grammar.specs.Tokens.{slice};
-ghost use Rattle.cmark_references.specs.Footnotes.{Counts};
+ghost use Rattle.cmark_references.specs.Footnotes.{Counts, Keeps};
 ghost use Rattle.cmark_leaf_text.specs.Reads.{IsPart, is_cell_of};
 ghost use Rattle.cmark_text_parts.specs.Shown.{shown_options, text_bytes};
 ghost use Rattle.cmark_inline.specs.Closers.{LeavesFootnote};
 ghost use Rattle.cmark_inline.specs.Footnoted.{CountsOf, KeepsLabel, PutsReference, SameFootnotes, fits_footnote, footnote_behind, footnote_label, footnote_of, forms_footnote, is_accepted, is_footnote_label, reference_as, reference_slot, reference_start, unless_footnote, with_mark};
 ghost use Rattle.cmark_inline.specs.Hiding.{WritesReference};
+ghost use Rattle.cmark_inline.specs.Uses.{RiseUpTo};
 ghost use Rattle.cmark_slots.specs.Standing.{AreEnded};
 ghost use Rattle.cmark_inline.specs.Sound.{IsSound, IsTakenFrom};
 ghost use Rattle.cmark_leaf_text.specs.declared.leaf_text.LeafText.{LeafText as LeafTexts};
@@ -102,6 +103,7 @@ fn count(options: Options, footnotes: &mut FootnoteDefs, label: &str) -> Result<
     ensures value { IfOk result (λ accepted. accepted ≡ is_accepted (shown_options options) footnotes.old label.now) }
     ensures counts { OnOk result (Counts (fold label.now) footnotes.old footnotes.new) }
     ensures same { SameFootnotes footnotes.old footnotes.new }
+    ensures refused { OnErr result (Keeps footnotes.old footnotes.new) }
 {
     let is_defined = footnotes.count_use(label)?;
     Ok(is_defined || !options.has_gfm_footnotes())
@@ -133,6 +135,7 @@ fn referred_footnote<'a>(
     ensures off { (shown_options options).footnotes ≡ false → (footnotes.new ≡ footnotes.old) × IfOk result (λ name. name ≡ None) }
     ensures counts { OnOk result (CountsOf (footnote_of (shown_options options) (is_cell_of leaf.now) closes_label text.now close (Some bracket)) footnotes.old footnotes.new) }
     ensures same { SameFootnotes footnotes.old footnotes.new }
+    ensures rise { RiseUpTo 1 footnotes.old footnotes.new }
 {
     if !options.contains(Options::ENABLE_FOOTNOTES) {
         return Ok(None);
@@ -217,9 +220,11 @@ impl<'a> InlineState<'a> {
         ensures off { (shown_options options).footnotes ≡ false → (self.new ≡ self.old) × (footnotes.new ≡ footnotes.old) }
         ensures counts { OnOk result (CountsOf (footnote_of (shown_options options) (is_cell_of leaf.now) (is_there close self.old.label_close) text.now close taken) footnotes.old footnotes.new) }
         ensures same { SameFootnotes footnotes.old footnotes.new }
+        ensures rise { RiseUpTo 1 footnotes.old footnotes.new }
         ensures leaves { IfOk result (λ next. IfSome next (λ next. IfSome taken (λ bracket. LeavesFootnote bracket.start self.old self.new))) }
         ensures label_close { self.new.label_close ≡ self.old.label_close }
         ensures expansion_left { self.new.expansion_left ≡ self.old.expansion_left }
+        ensures steps { self.new.steps ≡ self.old.steps }
         ensures label { IfOk result (λ next. IfSome next (λ next. IfSome (footnote_of (shown_options options) (is_cell_of leaf.now) (is_there close self.old.label_close) text.now close taken) (λ label. KeepsLabel label self.old.texts.items self.new.texts.items))) }
         ensures writes { IfOk result (λ next. IfSome next (λ next. IfSome taken (λ bracket. IfSome (footnote_of (shown_options options) (is_cell_of leaf.now) (is_there close self.old.label_close) text.now close taken) (λ label. WritesReference bracket (normal_form label) (close + 1) self.old self.new)))) }
     {
@@ -274,6 +279,7 @@ impl<'a> InlineState<'a> {
         ensures sound { OnOk result (IsSound self.new) }
         ensures ends { OnOk result ((leaf : LeafTexts) → AreEnded leaf self.old.slots.items → AreEnded leaf self.new.slots.items) }
         ensures expansion_left { self.new.expansion_left ≡ self.old.expansion_left }
+        ensures steps { self.new.steps ≡ self.old.steps }
         ensures leaves { OnOk result (LeavesFootnote bracket.start self.old self.new) }
         ensures label_close { self.new.label_close ≡ self.old.label_close }
         ensures stands { OnOk result (Stands text.now (close + 1) self.new) }

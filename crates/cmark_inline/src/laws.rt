@@ -1,10 +1,14 @@
 //! Theorems over the text of a leaf and the grammar's leaf, each the contract of a function that does nothing.
 
 ghost use Rattle.std.specs.Prelude.{◌≡◌, ◌<◌, ◌≤◌, ◌-◌, ℕ, suc, false, List, drop, length};
+ghost use Rattle.cmark_grammar.specs.Event.{Ranged};
 ghost use Rattle.cmark_grammar.specs.InlineTokens.{item_at, token};
 ghost use Rattle.cmark_grammar.specs.Items.{Item, Plain, Stands};
+ghost use Rattle.cmark_grammar.specs.LeafReading.{Between, ReadsLeaf};
 ghost use Rattle.cmark_grammar.specs.LeafText.{InTurn, Leaf, begin_of};
+ghost use Rattle.cmark_grammar.specs.Questions.{Exchange, IsNext};
 ghost use Rattle.cmark_grammar.specs.Readers.{Reader};
+ghost use Rattle.cmark_inline_model.specs.GivenAnswers.{answers_of};
 ghost use Rattle.cmark_inline_model.specs.LeafModel.{HaveLineEnds};
 ghost use Rattle.cmark_inline_model.specs.LikeSlots.{IsLike};
 ghost use Rattle.cmark_inline_model.specs.PlacedTokens.{AreLeafPlaces, HaveWholeEndings, StopsAt, may_open_markup, one_stretch, placed_item, text_reader};
@@ -21,6 +25,11 @@ ghost use Rattle.cmark_inline.specs.Tokens.{IsItem, begins_at};
 ghost use Rattle.cmark_references.specs.declared.link.Link.{Link};
 ghost use Rattle.cmark_slots.specs.declared.slot.Slot.{Slot};
 ghost use Rattle.cmark_slots.specs.declared.slot.SlotKind.TheVariants as kind;
+
+pub use cmark_inline_model::laws::{
+    no_link_holds_a_link, questions_are_few, references_keep_the_limit,
+    references_lead_to_their_definitions,
+};
 
 /// A leaf's text, whose lines end with whole line endings, has the places of the grammar's leaf of the same stretches (`places`), and each
 /// byte stands where the text says (`bytes`).
@@ -45,7 +54,7 @@ pub fn a_leaf_begins_and_ends_with_its_bytes()
 pub fn a_slot_is_like_its_item_in_the_source()
     ensures { (leaf : LeafText) (reader : Reader) (read : Leaf) (place : ℕ → ℕ) → ReadsPlaces leaf reader read place
         → (texts : List CowStr) (links : List Link) (slot : Slot) (item : Item) (at resume : ℕ)
-        → begins_at reader.options reader.lookup (is_cell_of leaf) (text_of leaf) at ≡ Stands item resume → may_open_markup (drop at (text_of leaf)) ≡ false
+        → begins_at reader.options reader.lookup (is_cell_of leaf) (text_of leaf) at ≡ Stands item resume → may_open_markup reader.options.email_autolinks (drop at (text_of leaf)) ≡ false
         → IsItem (is_cell_of leaf) (text_of leaf) texts item slot → item.start < item.end → item.end ≤ length (text_of leaf)
         → IsLike reader.source (shown_slot leaf texts links slot) (ItemSlot (placed_item place item)) }
 {}
@@ -54,14 +63,22 @@ pub fn a_slot_is_like_its_item_in_the_source()
 /// perhaps behind a backslash, up to one where none begin.
 pub fn a_pending_text_is_one_item_in_the_source()
     ensures token { (leaf : LeafText) (reader : Reader) (read : Leaf) (place : ℕ → ℕ) → ReadsPlaces leaf reader read place → (at start end to : ℕ)
-        → begins_at reader.options reader.lookup (is_cell_of leaf) (text_of leaf) at ≡ item_at Plain start end → may_open_markup (drop at (text_of leaf)) ≡ false
+        → begins_at reader.options reader.lookup (is_cell_of leaf) (text_of leaf) at ≡ item_at Plain start end → may_open_markup reader.options.email_autolinks (drop at (text_of leaf)) ≡ false
         → start < end → end ≤ to → to ≤ length (text_of leaf) → ((k : ℕ) → end ≤ k → k < to → StandsForItself reader.options reader.lookup (is_cell_of leaf) (text_of leaf) k to)
         → StopsAt (text_reader reader.options reader.lookup (text_of leaf)) (one_stretch (is_cell_of leaf) (text_of leaf)) to → at ≤ length (text_of leaf)
         → token reader read (place at) ≡ Stands (placed_item place (record { kind = Plain; start = start; end = to })) (place to) }
     ensures slot { (leaf : LeafText) (reader : Reader) (read : Leaf) (place : ℕ → ℕ) → ReadsPlaces leaf reader read place → (at start end to : ℕ)
-        → begins_at reader.options reader.lookup (is_cell_of leaf) (text_of leaf) at ≡ item_at Plain start end → may_open_markup (drop at (text_of leaf)) ≡ false
+        → begins_at reader.options reader.lookup (is_cell_of leaf) (text_of leaf) at ≡ item_at Plain start end → may_open_markup reader.options.email_autolinks (drop at (text_of leaf)) ≡ false
         → start < end → end ≤ to → to ≤ length (text_of leaf) → ((k : ℕ) → end ≤ k → k < to → StandsForItself reader.options reader.lookup (is_cell_of leaf) (text_of leaf) k to)
         → StopsAt (text_reader reader.options reader.lookup (text_of leaf)) (one_stretch (is_cell_of leaf) (text_of leaf)) to → at ≤ length (text_of leaf)
         → (texts : List CowStr) (links : List Link)
         → IsLike reader.source (shown_slot leaf texts links (record { kind = kind.Text; start = start; end = to })) (ItemSlot (placed_item place (record { kind = Plain; start = start; end = to }))) }
+{}
+
+/// A leaf has one reading: what it is read as with the same reader, which knows the text, the options, what entity names stand for, the
+/// definitions and the footnotes, with as much left of the reference expansion limit, and with the same answers in turn, are the same spans,
+/// the same events and ranges, and the same is left behind it.
+pub fn one_spans()
+    ensures { (reader : Reader) (leaf : Leaf) (before one other : Between) (asked others : List Exchange) (first second : List Ranged) → answers_of asked ≡ answers_of others
+        → (h : ReadsLeaf reader (IsNext asked) leaf before first one) → (k : ReadsLeaf reader (IsNext others) leaf before second other) → (h.spans ≡ k.spans) × (first ≡ second) × (one ≡ other) }
 {}

@@ -21,10 +21,14 @@ mod span;
 mod special;
 mod state;
 mod step;
+mod steps;
 mod text;
 mod wikilink;
 
-pub use callback::{BrokenLink, BrokenLinkCallback, DefaultBrokenLinkCallback, OwnedLinkCallback};
+pub use callback::{
+    BrokenLink, BrokenLinkCallback, DefaultBrokenLinkCallback, FnCallback, OwnedLinkCallback,
+};
 pub use read::Reader;
 pub use special::{SpecialBytes, special_bytes};
-pub use state::InlineState;
+pub use state::{InlineState, LEAST_REFERENCE_EXPANSION_LIMIT};
+pub use steps::Steps;

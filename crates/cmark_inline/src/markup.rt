@@ -1,38 +1,32 @@
 //! Inline HTML where it stands (CommonMark 6.6): tags in the text of a leaf, and markup, which is all else, in the source.
 
-ghost use Rattle.std.specs.Prelude.{◌≡◌, ◌<◌, ◌+◌, ℕ, length, drop, true, false, Some, None, IfSome};
+ghost use Rattle.std.specs.Prelude.{◌≡◌, ◌<◌, ◌≤◌, ◌+◌, ◌^◌, ℕ, length, drop, true, false, Some, None, IfSome, MatchOption, option_map};
 ghost use Rattle.std.specs.Str.{IsCharBoundary};
 ghost use Rattle.cmark_grammar.specs.InlineHtml.{behind_inline_html, behind_markup};
-ghost use Rattle.cmark_grammar.specs.Letters.{starts};
+ghost use Rattle.cmark_scan_parts.specs.Guards.{may_pass};
 ghost use Rattle.cmark_leaf_text.specs.Reads.{IsRead, IsPart, source_of, text_of};
-ghost use Rattle.cmark_inline.specs.MarkupInSource.{AreUnclosed, FindsNone, IsFound, IsInSource, NoneCloses, opens_as, source_from};
+ghost use Rattle.cmark_inline.specs.MarkupInSource.{AreUnclosed, FindsNone, IsFound, IsInSource, source_from};
+ghost use Rattle.cmark_inline.specs.Counted.{extent_of};
+ghost use Rattle.cmark_inline.specs.LeastSteps.{PassesFound};
+ghost use Rattle.cmark_inline.specs.Paid.{MarkupPaid};
 ghost use Rattle.cmark_slots.specs.Slots.{IsContent, begins_link};
 ghost use Rattle.cmark_inline.specs.Tokens.{opens_markup};
-ghost use Rattle.cmark_inline.specs.declared.markup.MarkupKind.TheVariants as kind;
 ghost use Rattle.cmark_slots.specs.declared.slot.SlotKind.TheVariants as slot_kind;
 ghost use Rattle.cmark_leaf_text.specs.declared.leaf_text.LeafText.{LeafText as Leaf};
 
 use crate::place::{is_followed_by, part_end};
-use cmark_finds::inline_html;
+use cmark_finds::{inline_html, inline_markup};
 use cmark_leaf_text::LeafText;
+use cmark_scan_parts::HtmlScanGuard;
 use cmark_slots::slot::SlotKind;
 
-/// Which markup a `<` opens.
-#[derive(Clone, Copy)]
-pub enum MarkupKind {
-    Comment,
-    Processing,
-    Declaration,
-    Cdata,
-}
-
-/// Of which markup no closer follows the place that is reached, up to the end of the leaf.
+/// What searches for markup in a leaf remember. Places are counted in the source, from the leaf's first byte on.
 #[derive(Clone, Copy)]
 pub struct Unclosed {
-    pub comment: bool,
-    pub processing: bool,
-    pub declaration: bool,
-    pub cdata: bool,
+    /// The marks of kinds that are not closed.
+    guard: HtmlScanGuard,
+    /// How many bytes of the source were passed.
+    pub passed: u128,
 }
 
 /// Inline HTML that was found.
@@ -44,55 +38,15 @@ pub struct FoundHtml {
     pub end: usize,
 }
 
-impl MarkupKind {
-    // The markup that these bytes open.
-    fn of(bytes: &[u8]) -> Option<MarkupKind>
-        ensures opens { IfSome result (λ kind. opens_as kind bytes.now ≡ true) }
-        ensures none { result ≡ None → behind_markup bytes.now ≡ None }
-    {
-        if starts(bytes, b"<?") {
-            return Some(MarkupKind::Processing);
-        }
-        if starts(bytes, b"<!--") {
-            return Some(MarkupKind::Comment);
-        }
-        if starts(bytes, b"<![CDATA[") {
-            return Some(MarkupKind::Cdata);
-        }
-        if opens_declaration(bytes) {
-            return Some(MarkupKind::Declaration);
-        }
-        None
-    }
-}
-
-// Whether these bytes stand in front.
-fn starts(bytes: &[u8], prefix: &[u8]) -> bool
-    ensures { result ≡ starts prefix.now bytes.now }
-{
-    bytes.starts_with(prefix)
-}
-
-// Whether a declaration opens: a letter stands behind `<!`.
-fn opens_declaration(bytes: &[u8]) -> bool
-    ensures { result ≡ opens_as kind.Declaration bytes.now }
-{
-    match bytes {
-        [b'<', b'!', letter, ..] => letter.is_ascii_alphabetic(),
-        _ => false,
-    }
-}
-
 impl Unclosed {
     /// None was sought.
     pub fn none() -> Unclosed
-        ensures { (leaf : Leaf) (at : ℕ) → AreUnclosed leaf at result }
+        ensures kept { (leaf : Leaf) (at : ℕ) → AreUnclosed leaf at result }
+        ensures paid { (leaf : Leaf) → length (text_of leaf) ≤ extent_of leaf → MarkupPaid leaf 0 result }
     {
         Unclosed {
-            comment: false,
-            processing: false,
-            declaration: false,
-            cdata: false,
+            guard: HtmlScanGuard::default(),
+            passed: 0,
         }
     }
 
@@ -104,6 +58,7 @@ impl Unclosed {
         requires same { text.now ≡ text_of leaf.now }
         requires part { IsPart text.now at (at + 1) }
         requires kept { AreUnclosed leaf.now at self.old }
+        requires paid { MarkupPaid leaf.now at self.old }
         ensures part { IfSome result (λ found. IsPart text.now at found.end) }
         ensures content { IfSome result (λ found. IsContent text.now found.kind) }
         ensures kind { IfSome result (λ found. begins_link found.kind ≡ false) }
@@ -111,6 +66,9 @@ impl Unclosed {
         ensures is { IfSome result (IsFound leaf.now at) }
         ensures none { result ≡ None → FindsNone leaf.now at }
         ensures kept { AreUnclosed leaf.now at self.new }
+        ensures paid { MatchOption result (MarkupPaid leaf.now (at + 1) self.new) (λ found. MarkupPaid leaf.now found.end self.new) }
+        ensures grows { self.old.passed ≤ self.new.passed }
+        ensures passes { opens_markup (drop (at + 1) text.now) ≡ true → PassesFound (source_from leaf.now at) self.old self.new }
     {
         if !opens_in_source(text, at) {
             return tag(text, at);
@@ -118,13 +76,14 @@ impl Unclosed {
         self.in_source(leaf, text, at)
     }
 
-    // The markup whose `<` stands at this place.
+    // The markup whose `<` stands at this place, as the source reads from there on.
     fn in_source(&mut self, leaf: &LeafText<'_>, text: &str, at: usize) -> Option<FoundHtml>
         requires read { IsRead leaf.now }
         requires same { text.now ≡ text_of leaf.now }
         requires part { IsPart text.now at (at + 1) }
         requires opens { opens_markup (drop (at + 1) text.now) ≡ true }
         requires kept { AreUnclosed leaf.now at self.old }
+        requires paid { MarkupPaid leaf.now at self.old }
         ensures part { IfSome result (λ found. IsPart text.now at found.end) }
         ensures content { IfSome result (λ found. IsContent text.now found.kind) }
         ensures kind { IfSome result (λ found. begins_link found.kind ≡ false) }
@@ -132,41 +91,42 @@ impl Unclosed {
         ensures is { IfSome result (IsInSource leaf.now at) }
         ensures none { result ≡ None → behind_markup (source_from leaf.now at) ≡ None }
         ensures kept { AreUnclosed leaf.now at self.new }
+        ensures paid { MatchOption result (MarkupPaid leaf.now (at + 1) self.new) (λ found. MarkupPaid leaf.now found.end self.new) }
+        ensures grows { self.old.passed ≤ self.new.passed }
+        ensures passes { PassesFound (source_from leaf.now at) self.old self.new }
     {
-        let source = leaf.source_between(at, text.len());
-        let kind = MarkupKind::of(source.as_bytes())?;
-        if self.has(kind) {
-            return None;
-        }
-        let found = source_html(leaf, text, at);
-        if found.is_none() {
-            self.note(kind);
-        }
-        found
+        let size = self.size_in_source(leaf, text, at)?;
+        let source_end = leaf.place(at) + size;
+        let end = part_end(text, at, leaf.first_from(source_end))?;
+        Some(FoundHtml {
+            kind: SlotKind::SourceHtml(source_end),
+            end,
+        })
     }
 
-    // Whether no such markup is closed from the place on that is reached.
-    fn has(&self, kind: MarkupKind) -> bool
-        ensures { (leaf : Leaf) (at : ℕ) → AreUnclosed leaf at self.now → result ≡ true → NoneCloses kind leaf at }
+    // How many bytes of the source the markup takes whose `<` stands at this place.
+    fn size_in_source(&mut self, leaf: &LeafText<'_>, text: &str, at: usize) -> Option<usize>
+        requires read { IsRead leaf.now }
+        requires same { text.now ≡ text_of leaf.now }
+        requires part { IsPart text.now at (at + 1) }
+        requires kept { AreUnclosed leaf.now at self.old }
+        requires room { self.old.passed < 2 ^ 127 }
+        ensures value { option_map (λ size. drop size (source_from leaf.now at)) result ≡ behind_markup (source_from leaf.now at) }
+        ensures some { IfSome result (λ size. 0 < size) }
+        ensures within { IfSome result (λ size. size ≤ length (source_from leaf.now at)) }
+        ensures ends { IfSome result (IsCharBoundary (source_from leaf.now at)) }
+        ensures kept { AreUnclosed leaf.now at self.new }
+        ensures pays { MatchOption result (self.new.passed + may_pass (extent_of leaf.now) (extent_of leaf.now) self.new.guard ≤ self.old.passed + 7 + may_pass (extent_of leaf.now) (extent_of leaf.now) self.old.guard)
+            (λ size. (self.new.passed ≤ self.old.passed + size) × (self.new.guard ≡ self.old.guard)) }
+        ensures least { IfSome result (λ size. self.new.passed + 2 ≡ self.old.passed + size) }
+        ensures grows { self.old.passed ≤ self.new.passed }
     {
-        match kind {
-            MarkupKind::Comment => self.comment,
-            MarkupKind::Processing => self.processing,
-            MarkupKind::Declaration => self.declaration,
-            MarkupKind::Cdata => self.cdata,
-        }
-    }
-
-    // No such markup is closed from the place on that is reached.
-    fn note(&mut self, kind: MarkupKind)
-        ensures { (leaf : Leaf) (at : ℕ) → AreUnclosed leaf at self.old → NoneCloses kind leaf at → AreUnclosed leaf at self.new }
-    {
-        match kind {
-            MarkupKind::Comment => self.comment = true,
-            MarkupKind::Processing => self.processing = true,
-            MarkupKind::Declaration => self.declaration = true,
-            MarkupKind::Cdata => self.cdata = true,
-        }
+        let source = leaf.source_between(0, text.len());
+        let ahead = leaf.place(at) - leaf.place(0);
+        let found = inline_markup(source, ahead, &mut self.guard);
+        self.passed += found.passed as u128;
+        let end = found.end?;
+        Some(end - ahead)
     }
 }
 
@@ -191,30 +151,6 @@ fn tag(text: &str, at: usize) -> Option<FoundHtml>
     let end = inline_html(text, at)?;
     Some(FoundHtml {
         kind: SlotKind::InlineHtml,
-        end,
-    })
-}
-
-// The markup whose `<` stands at this place, as the source reads from there on.
-fn source_html(leaf: &LeafText<'_>, text: &str, at: usize) -> Option<FoundHtml>
-    requires read { IsRead leaf.now }
-    requires same { text.now ≡ text_of leaf.now }
-    requires part { IsPart text.now at (at + 1) }
-    requires opens { opens_markup (drop (at + 1) text.now) ≡ true }
-    requires markup { behind_inline_html (source_from leaf.now at) ≡ behind_markup (source_from leaf.now at) }
-    ensures part { IfSome result (λ found. IsPart text.now at found.end) }
-    ensures content { IfSome result (λ found. IsContent text.now found.kind) }
-    ensures kind { IfSome result (λ found. begins_link found.kind ≡ false) }
-    ensures edge { IfSome result (λ found. (end : ℕ) → found.kind ≡ slot_kind.SourceHtml end → IsCharBoundary (source_of leaf.now) end) }
-    ensures is { IfSome result (IsInSource leaf.now at) }
-    ensures none { result ≡ None → behind_markup (source_from leaf.now at) ≡ None }
-{
-    let source = leaf.source_between(at, text.len());
-    let size = inline_html(source, 0)?;
-    let source_end = leaf.place(at) + size;
-    let end = part_end(text, at, leaf.first_from(source_end))?;
-    Some(FoundHtml {
-        kind: SlotKind::SourceHtml(source_end),
         end,
     })
 }

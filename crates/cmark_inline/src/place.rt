@@ -12,13 +12,16 @@ ghost use Rattle.cmark_grammar.specs.Letters.{first_is, starts};
 ghost use Rattle.cmark_grammar.specs.LinkDefinitions.{behind_blanks};
 ghost use Rattle.cmark_grammar.specs.Tokens.{is_punctuation};
 ghost use Rattle.cmark_leaf_text.specs.Reads.{IsPart};
+ghost use Rattle.cmark_text_parts.specs.Shown.{shown_options};
 ghost use Rattle.cmark_inline.specs.Stands.{IsCursor, Moves};
 ghost use Rattle.cmark_inline.specs.Tokens.{read_on, shown_autolink};
 ghost use Rattle.cmark_inline.specs.declared.state.InlineState.{InlineState};
 
 use crate::step::Cursor;
+use bitflags::Flags;
 use cmark_scan_parts::bytes::is_blank;
 use cmark_scan_parts::scan_autolink;
+use cmark_text::Options;
 
 // The place behind the run of the byte at this place.
 pub(crate) fn run_end(text: &str, at: usize) -> usize
@@ -165,6 +168,7 @@ fn words_from(text: &str, at: usize) -> usize
 pub(crate) fn onto_words(text: &str, next: Cursor) -> Cursor
     requires boundary { IsCharBoundary text.now next.pending }
     requires same { next.pending ≡ next.at }
+    ensures order { next.at ≤ result.at }
     ensures pending { result.pending ≡ result.at }
     ensures at { result.at ≡ read_on text.now next.at }
     ensures moves { (from : ℕ) (state : InlineState) → Moves text.now from state next → Moves text.now from state result }
@@ -176,17 +180,18 @@ pub(crate) fn onto_words(text: &str, next: Cursor) -> Cursor
     }
 }
 
-// The place behind the autolink whose `<` stands at this place (CommonMark 6.5).
+// The place after the autolink whose `<` is at this place (CommonMark 6.5). With the option for them its address may be an email address.
 #[tactic(auto, using(std::proofs::lemmas::Str::lead_after_ascii))]
-pub(crate) fn autolink_end(text: &str, at: usize) -> Option<usize>
+pub(crate) fn autolink_end(options: Options, text: &str, at: usize) -> Option<usize>
     requires place { IsCharBoundary text.now at }
     requires within { at < length text.now }
     requires ascii { slice_index text.now at < 128 }
-    ensures value { option_map (shown_autolink text.now at) result ≡ autolink_in (drop (at + 1) text.now) }
+    ensures value { option_map (shown_autolink text.now at) result ≡ autolink_in (shown_options options).email_autolinks (drop (at + 1) text.now) }
     ensures whole { IfSome result (IsPart text.now at) }
     ensures inside { IfSome result (λ end. IsPart text.now (at + 1) (end - 1)) }
 {
-    let end = scan_autolink(text, at + 1)?.end;
+    let emails = options.contains(Options::ENABLE_EMAIL_AUTOLINKS);
+    let end = scan_autolink(emails, text, at + 1)?.end;
     if end > at + 2 && text.is_char_boundary(end - 1) {
         Some(end)
     } else {

@@ -165,6 +165,8 @@ impl<'a> InlineState<'a> {
         requires part { IsPart text.now start link_reference.end }
         requires read { IsRead leaf.now }
         requires same { text.now ≡ text_of leaf.now }
+        requires ready { F.ready callback.old }
+        ensures ready { F.ready callback.new }
         ensures asks { AsksOnce F.answers callback.old callback.new }
         ensures refers { IfOk result (λ found. Refers F.answers (definition reader.now.references.now (fold (as_label (is_cell_of leaf.now) link_reference.entry.label.now))) link_reference.entry.link_type (normal_form (as_label (is_cell_of leaf.now) link_reference.entry.label.now))
             (place_of leaf.now start) (place_of leaf.now (link_reference.entry.end - 1) + 1) callback.old callback.new (option_map target_link found)) }
@@ -219,6 +221,8 @@ fn referred<'a, F: BrokenLinkCallback<'a>>(
 ) -> Result<Option<Link<'a>>, AllocError>
     requires read { IsRead leaf.now }
     requires part { IsPart (text_of leaf.now) start link_reference.end }
+    requires ready { F.ready callback.old }
+    ensures ready { F.ready callback.new }
     ensures asks { AsksOnce F.answers callback.old callback.new }
     ensures refers { IfOk result (Refers F.answers (definition references.now (fold (as_label (is_cell_of leaf.now) link_reference.entry.label.now))) link_reference.entry.link_type (normal_form (as_label (is_cell_of leaf.now) link_reference.entry.label.now))
         (place_of leaf.now start) (place_of leaf.now (link_reference.entry.end - 1) + 1) callback.old callback.new) }
@@ -274,6 +278,8 @@ fn ask<'a, F: BrokenLinkCallback<'a>>(
 ) -> Result<Option<Destination<'a>>, AllocError>
     requires read { IsRead leaf.now }
     requires part { IsPart (text_of leaf.now) start link_reference.end }
+    requires ready { F.ready callback.old }
+    ensures ready { F.ready callback.new }
     ensures asks { AsksOnce F.answers callback.old callback.new }
     ensures answers { IfOk result (λ found. Answers F.answers link_reference.entry.link_type (link_text label.now) (place_of leaf.now start) (place_of leaf.now (link_reference.entry.end - 1) + 1) callback.old callback.new found) }
 {

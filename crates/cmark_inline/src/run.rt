@@ -1,13 +1,14 @@
 //! Delimiter runs where they stand (CommonMark 6.2).
 
 ghost use Rattle.std.specs.Prelude.{◌≡◌, ◌⊎◌, true, ◌<◌, ◌≤◌, ◌+◌, ◌-◌, ◌++◌, ℕ, Bool, length, slice_index, IfOk, OnOk};
+ghost use Rattle.cmark_grammar.specs.Flanking.{is_run_delimiter};
 ghost use Rattle.cmark_grammar.specs.Answers.{Lookup};
 ghost use Rattle.cmark_text_parts.specs.Shown.{shown_options};
 ghost use Rattle.cmark_leaf_text.specs.Reads.{IsPart};
 ghost use Rattle.cmark_inline.specs.ReadsOn.{ReadsOn};
 ghost use Rattle.cmark_inline.specs.Stands.{IsAtByte, Stands};
 ghost use Rattle.cmark_slots.specs.Slots.{AreSlots, NoNewLink, byte_slots};
-ghost use Rattle.cmark_inline.specs.Tokens.{AppendsRun, Passes, PassesOver, is_run_delimiter, is_other};
+ghost use Rattle.cmark_inline.specs.Tokens.{AppendsRun, Passes, PassesOver, is_other};
 
 use crate::place::{character_at, character_before, run_end};
 use crate::state::InlineState;
@@ -65,6 +66,7 @@ impl<'a> InlineState<'a> {
         requires part { IsPart text.now start end }
         requires ascii { (k : ℕ) → start ≤ k → k < end → slice_index text.now k < 128 }
         ensures expansion_left { self.new.expansion_left ≡ self.old.expansion_left }
+        ensures steps { self.new.steps ≡ self.old.steps }
         ensures slots { OnOk result (AreSlots text.now end self.new.slots.items) }
         ensures brackets { OnOk result (self.new.brackets ≡ self.old.brackets) }
         ensures delimiters { OnOk result (self.new.delimiters ≡ self.old.delimiters) }

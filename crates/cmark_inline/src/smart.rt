@@ -60,6 +60,7 @@ impl<'a> InlineState<'a> {
     pub(crate) fn quote(&mut self, text: &str, here: Cursor) -> Result<Cursor, AllocError>
         requires byte { IsAtByte text.now here self.old }
         ensures expansion_left { self.new.expansion_left ≡ self.old.expansion_left }
+        ensures steps { self.new.steps ≡ self.old.steps }
         ensures moves { IfOk result (Moves text.now here.at self.new) }
         ensures token { (options : Options) (lookup : Lookup) (is_cell : Bool) → options.smart_punctuation ≡ true → (slice_index text.now here.at ≡ 34) ⊎ (slice_index text.now here.at ≡ 39) → IfOk result (AppendsQuote options lookup is_cell text.now here self.old self.new) }
     {

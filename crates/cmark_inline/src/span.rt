@@ -1,8 +1,11 @@
 //! Code spans, autolinks and inline HTML (CommonMark 6.1, 6.5 and 6.6).
 
-ghost use Rattle.std.specs.Prelude.{◌≡◌, ◌⊎◌, ◌+◌, ◌-◌, ◌++◌, ◌∷◌, [], length, slice_index, Bool, IfOk, OnOk};
+ghost use Rattle.std.specs.Prelude.{◌≡◌, ◌⊎◌, ◌+◌, ◌-◌, ◌++◌, ◌∷◌, ◌<◌, ◌≤◌, [], drop, length, slice_index, Bool, true, is_some, IfOk, OnOk};
 ghost use Rattle.cmark_grammar.specs.Answers.{Lookup};
-ghost use Rattle.cmark_grammar.specs.Options.{Options};
+ghost use Rattle.cmark_grammar.specs.CodeSpans.{code_in};
+ghost use Rattle.cmark_grammar.specs.Options.{Options as OptionsRead};
+ghost use Rattle.cmark_grammar.specs.Siblings.{address_type};
+ghost use Rattle.cmark_text_parts.specs.Shown.{shown_link_type, shown_options};
 ghost use Rattle.cmark_finds.specs.Backticks.{AreRunsOf};
 ghost use Rattle.cmark_leaf_text.specs.Reads.{IsRead, IsPart, text_of};
 ghost use Rattle.cmark_inline.specs.Linked.{IsAutolink};
@@ -10,7 +13,9 @@ ghost use Rattle.cmark_references.specs.declared.link.Link.{Link as Links};
 ghost use Rattle.cmark_inline.specs.ReadsOn.{ReadsOn};
 ghost use Rattle.cmark_inline.specs.Stands.{IsAtByte, IsCursor, Moves, Stands};
 ghost use Rattle.cmark_inline.specs.Tokens.{Appends, PutsAutolink, TakesEscaped};
+ghost use Rattle.cmark_inline.specs.LeastSteps.{PassesAt};
 ghost use Rattle.cmark_inline.specs.MarkupInSource.{AreUnclosed, ReadsLess};
+ghost use Rattle.cmark_inline.specs.Paid.{MarkupPaid, RunsPaid};
 ghost use Rattle.cmark_slots.specs.Standing.{AreEnded};
 ghost use Rattle.cmark_inline.specs.Sound.{IsSound};
 
@@ -21,10 +26,22 @@ use crate::step::Cursor;
 use cmark_finds::BacktickRuns;
 use cmark_leaf_text::LeafText;
 use cmark_references::Link;
+use cmark_scan_parts::has_scheme;
 use cmark_slots::slot::{Element, Slot, SlotKind};
 use cmark_slots::text::text_between;
-use cmark_text::{CowStr, LinkType};
+use cmark_text::{CowStr, LinkType, Options};
 use std::alloc::AllocError;
+
+// The type of the link that an address makes: a URI if a scheme begins it, and else an email address.
+fn address_type(address: &str) -> LinkType
+    ensures { shown_link_type result ≡ address_type address.now }
+{
+    if has_scheme(address.as_bytes()) {
+        LinkType::Autolink
+    } else {
+        LinkType::Email
+    }
+}
 
 impl<'a> InlineState<'a> {
     // A run of backticks: a code span (CommonMark 6.1), or text. `runs` are those of this text.
@@ -35,10 +52,14 @@ impl<'a> InlineState<'a> {
         here: Cursor,
     ) -> Result<Cursor, AllocError>
         requires runs { AreRunsOf text.now runs.old }
+        requires paid { RunsPaid text.now here.at runs.old }
         requires byte { IsAtByte text.now here self.old }
         ensures runs { AreRunsOf text.now runs.new }
+        ensures paid { IfOk result (λ next. RunsPaid text.now next.at runs.new) }
+        ensures grows { runs.old.visited ≤ runs.new.visited }
+        ensures least { OnOk result (is_some (code_in (drop here.at text.now)) ≡ true → runs.old.visited < runs.new.visited) }
         ensures reads_on { ReadsOn text.now here self.old self.new result }
-        ensures token { (options : Options) (lookup : Lookup) (is_cell : Bool) → slice_index text.now here.at ≡ 96 → IfOk result (λ next. Appends options lookup is_cell text.now here self.old self.new next ⊎ TakesEscaped options lookup is_cell text.now here self.old self.new next) }
+        ensures token { (options : OptionsRead) (lookup : Lookup) (is_cell : Bool) → slice_index text.now here.at ≡ 96 → IfOk result (λ next. Appends options lookup is_cell text.now here self.old self.new next ⊎ TakesEscaped options lookup is_cell text.now here self.old self.new next) }
     {
         if let Some(span) = runs.code_span(text, here.at)? {
             let slot = Slot {
@@ -62,6 +83,7 @@ impl<'a> InlineState<'a> {
     pub(crate) fn less_than(
         &mut self,
         unclosed: &mut Unclosed,
+        options: Options,
         leaf: &LeafText<'a>,
         text: &str,
         here: Cursor,
@@ -70,17 +92,21 @@ impl<'a> InlineState<'a> {
         requires read { IsRead leaf.now }
         requires same { text.now ≡ text_of leaf.now }
         requires kept { AreUnclosed leaf.now here.at unclosed.old }
+        requires paid { MarkupPaid leaf.now here.at unclosed.old }
         ensures expansion_left { self.new.expansion_left ≡ self.old.expansion_left }
+        ensures steps { self.new.steps ≡ self.old.steps }
         ensures sound { IsSound self.old → OnOk result (IsSound self.new) }
         ensures ends { OnOk result (AreEnded leaf.now self.old.slots.items → AreEnded leaf.now self.new.slots.items) }
         ensures moves { IfOk result (Moves text.now here.at self.new) }
         ensures kept { AreUnclosed leaf.now here.at unclosed.new }
-        ensures token { (options : Options) (lookup : Lookup) → slice_index text.now here.at ≡ 60 → IfOk result (ReadsLess options lookup leaf.now here self.old self.new) }
+        ensures paid { IfOk result (λ next. MarkupPaid leaf.now next.at unclosed.new) }
+        ensures passes { OnOk result (PassesAt (shown_options options).email_autolinks leaf.now here.at unclosed.old unclosed.new) }
+        ensures token { (lookup : Lookup) → slice_index text.now here.at ≡ 60 → IfOk result (ReadsLess (shown_options options) lookup leaf.now here self.old self.new) }
     {
         if is_followed_by(text, here.at, b'\\') {
             return Ok(pass(text, here));
         }
-        if let Some(end) = autolink_end(text, here.at) {
+        if let Some(end) = autolink_end(options, text, here.at) {
             return self.autolink(leaf, text, here, end);
         }
         if let Some(found) = unclosed.inline_html(leaf, text, here.at) {
@@ -99,7 +125,7 @@ impl<'a> InlineState<'a> {
         self.put(text, here, here.at, slot)
     }
 
-    // An autolink, whose text and destination is its URI.
+    // An autolink, whose text and destination is its address.
     fn autolink(
         &mut self,
         leaf: &LeafText<'a>,
@@ -118,6 +144,7 @@ impl<'a> InlineState<'a> {
         ensures others { OnOk result (self.new ≡ record self.old { slots = self.new.slots; links = self.new.links }) }
         ensures link { IfOk result (λ next. (parts : Links) × IsAutolink text.now here.at end parts × (self.new.links.items ≡ self.old.links.items ++ (parts ∷ []))) }
         ensures expansion_left { self.new.expansion_left ≡ self.old.expansion_left }
+        ensures steps { self.new.steps ≡ self.old.steps }
         ensures moves { IfOk result (Moves text.now here.at self.new) }
     {
         let dest_url = text_between(self.alloc, leaf, here.at + 1, end - 1)?;
@@ -127,18 +154,18 @@ impl<'a> InlineState<'a> {
             end,
         };
         self.links.push(Link {
-            link_type: LinkType::Autolink,
+            link_type: address_type(&text[here.at + 1..end - 1]),
             dest_url,
             title: CowStr::Borrowed(""),
             id: CowStr::Borrowed(""),
         })?;
         let next = self.put(text, here, here.at, slot)?;
-        let uri = Slot {
+        let address = Slot {
             kind: SlotKind::Text,
             start: here.at + 1,
             end: end - 1,
         };
-        self.add(text, end, uri)?;
+        self.add(text, end, address)?;
         let last = Slot {
             kind: SlotKind::End,
             start: end - 1,

@@ -1,10 +1,12 @@
 //! The state of the inline pass.
 
-ghost use Rattle.std.specs.Prelude.{◌≡◌, ℕ, List, [], max};
+ghost use Rattle.std.specs.Prelude.{◌≡◌, ℕ, false, List, [], max};
+ghost use Rattle.cmark_inline.specs.Counted.{total};
 ghost use Rattle.cmark_inline.specs.CursorProgress.{IsCleared};
 ghost use Rattle.cmark_inline.specs.Sound.{IsSound};
 ghost use Rattle.cmark_inline.specs.Stands.{Stands};
 
+use crate::steps::Steps;
 use cmark_references::Link;
 use cmark_slots::bracket::Brackets;
 use cmark_slots::delimiter::Delimiters;
@@ -14,7 +16,7 @@ use cmark_text::CowStr;
 use std::alloc::Global;
 
 /// The least reference expansion limit, for short sources.
-const LEAST_REFERENCE_EXPANSION_LIMIT: usize = 100_000;
+pub const LEAST_REFERENCE_EXPANSION_LIMIT: usize = 100_000;
 
 /// The spans of one leaf after the other. Its memory is used again.
 #[derive(Drop)]
@@ -33,6 +35,10 @@ pub struct InlineState<'a> {
     pub links: Vec<Link<'a>>,
     pub(crate) expansion_left: usize,
     pub(crate) label_close: Option<usize>,
+    /// What the searches have taken so far.
+    pub(crate) steps: Steps,
+    /// Whether memory was refused.
+    pub(crate) failed: bool,
 }
 
 impl<'a> InlineState<'a> {
@@ -40,6 +46,18 @@ impl<'a> InlineState<'a> {
     pub fn new(alloc: Global, source_len: usize) -> InlineState<'a>
         ensures expansion_left { result.expansion_left ≡ max source_len 100000 }
         ensures slots { result.slots.items ≡ [] }
+        ensures steps { total result.steps ≡ 0 }
+        ensures live { result.failed ≡ false }
+    {
+        InlineState::with_limit(alloc, source_len.max(LEAST_REFERENCE_EXPANSION_LIMIT))
+    }
+
+    /// A state for leaves whose references may take so many bytes of destinations and titles.
+    pub fn with_limit(alloc: Global, limit: usize) -> InlineState<'a>
+        ensures expansion_left { result.expansion_left ≡ limit }
+        ensures slots { result.slots.items ≡ [] }
+        ensures steps { total result.steps ≡ 0 }
+        ensures live { result.failed ≡ false }
     {
         InlineState {
             alloc,
@@ -50,9 +68,22 @@ impl<'a> InlineState<'a> {
             quotes: Quotes::new(alloc),
             texts: Vec::new(alloc),
             links: Vec::new(alloc),
-            expansion_left: source_len.max(LEAST_REFERENCE_EXPANSION_LIMIT),
+            expansion_left: limit,
             label_close: None,
+            steps: Steps {
+                html: 0,
+                openers: 0,
+                closers: 0,
+            },
+            failed: false,
         }
+    }
+
+    /// What the searches in the leaves so far have taken.
+    pub fn steps(&self) -> Steps
+        ensures { result ≡ self.now.steps }
+    {
+        self.steps
     }
 
     pub(crate) fn clear(&mut self)
@@ -61,6 +92,7 @@ impl<'a> InlineState<'a> {
         ensures slots { self.new.slots.items ≡ [] }
         ensures cleared { IsCleared self.new }
         ensures expansion_left { self.new.expansion_left ≡ self.old.expansion_left }
+        ensures steps { self.new.steps ≡ self.old.steps }
     {
         self.slots.clear();
         self.brackets.clear();

@@ -1,24 +1,28 @@
 //! One pass over a leaf's text, from special byte to special byte.
 
-ghost use Rattle.std.specs.Prelude.{◌≡◌, ◌==◌, true, false, ◌<◌, ◌≤◌, ◌+◌, ◌++◌, ◌∷◌, ℕ, [], drop, length, take, slice_index, IfOk, IsOk, OnOk};
+ghost use Rattle.std.specs.Prelude.{◌≡◌, ◌==◌, true, false, ◌<◌, ◌≤◌, ◌+◌, ◌*◌, ◌++◌, ◌∷◌, ℕ, [], drop, length, take, slice_index, Err, IfOk, IsOk, OnErr, OnOk, alloc_error};
 ghost use Rattle.std.specs.Str.{IsCharBoundary};
 ghost use Rattle.cmark_finds.specs.Backticks.{AreRunsOf};
 ghost use Rattle.cmark_finds.specs.Dollars.{AreDollarsOf};
-ghost use Rattle.cmark_leaf_text.specs.Reads.{IsRead, text_of};
+ghost use Rattle.cmark_leaf_text.specs.Reads.{IsRead, source_of, text_of};
 ghost use Rattle.cmark_inline.specs.Asking.{AsksBetween, AsksUpTo, closing_brackets};
+ghost use Rattle.cmark_inline.specs.Counted.{Counts, total};
 ghost use Rattle.cmark_inline.specs.CursorProgress.{ComesOn};
 ghost use Rattle.cmark_inline.specs.PlainStretches.{IsSetOf};
 ghost use Rattle.cmark_inline.specs.Resolved.{Resolves};
 ghost use Rattle.cmark_inline.specs.Stands.{IsAtByte, IsCursor, Moves, Stands};
 ghost use Rattle.cmark_slots.specs.Slots.{AreSlots, IsSlot, PushesText, begins_link};
 ghost use Rattle.cmark_inline.specs.Footnoted.{SameFootnotes};
+ghost use Rattle.cmark_inline.specs.LeastSteps.{CountsLeast, CountsUses, PassesAt, VisitsAt};
 ghost use Rattle.cmark_inline.specs.MarkupInSource.{AreUnclosed};
+ghost use Rattle.cmark_inline.specs.Paid.{ArePaid, HasRoom};
 ghost use Rattle.cmark_slots.specs.MarkedSlots.{AreWhole, EndWithin};
 ghost use Rattle.cmark_slots.specs.Standing.{AreEnded};
 ghost use Rattle.cmark_inline.specs.Sound.{IsSound};
 ghost use Rattle.cmark_slots.specs.SlotViews.{CanBeGiven};
 ghost use Rattle.cmark_inline.specs.SpecialReads.{ReadsSpecial};
 ghost use Rattle.cmark_inline.specs.Tokens.{Puts, read_on};
+ghost use Rattle.cmark_inline.specs.Uses.{RiseBetween, RiseUpTo};
 ghost use Rattle.cmark_grammar.specs.SpecialBytes.{is_special};
 ghost use Rattle.cmark_search.specs.Sets.{in_rows};
 ghost use Rattle.cmark_text_parts.specs.Shown.{shown_options};
@@ -54,8 +58,9 @@ pub struct Sought {
 }
 
 impl<'a> InlineState<'a> {
-    /// Reads the text of a leaf: its slots are then those of the leaf, and the texts and links those that they name. A use is counted of each footnote of `footnotes` that it refers to.
-    /// A leaf without a byte, as an empty cell, takes no memory.
+    /// Reads the text of a leaf: its slots are then those of the leaf, and the texts and links those that they name.
+    /// Each footnote reference that is formed adds one to the use count of its footnote in `footnotes`. No other count changes. If memory is refused, the references before stay counted.
+    /// A leaf without a byte, as an empty cell, takes no memory. Once memory was refused, it is refused ever after.
     #[inline(always)]
     pub fn resolve<E: EntityLookup, F: BrokenLinkCallback<'a>>(
         &mut self,
@@ -64,7 +69,10 @@ impl<'a> InlineState<'a> {
         footnotes: &mut FootnoteDefs,
         callback: &mut F,
     ) -> Result<(), AllocError>
-        requires { IsRead leaf.now }
+        requires read { IsRead leaf.now }
+        requires counted { total self.old.steps ≤ 128 * length (source_of leaf.now) }
+        requires ready { F.ready callback.old }
+        ensures ready { F.ready callback.new }
         ensures asks { AsksUpTo F.answers (closing_brackets (text_of leaf.now)) callback.old callback.new }
         ensures spent { self.old.expansion_left ≡ 0 → callback.new ≡ callback.old }
         ensures few { OnOk result (length self.new.slots.items ≤ length (text_of leaf.now)) }
@@ -72,6 +80,49 @@ impl<'a> InlineState<'a> {
         ensures left { OnOk result (CanBeGiven leaf.now self.new.texts.items self.new.links.items self.new.slots.items) }
         ensures whole { OnOk result (AreWhole self.new.slots.items × EndWithin self.new.slots.items) }
         ensures footnotes { SameFootnotes footnotes.old footnotes.new }
+        ensures rise { RiseUpTo (closing_brackets (text_of leaf.now)) footnotes.old footnotes.new }
+        ensures uses { IsSetOf (shown_options reader.now.options) reader.now.special.now → OnOk result (CountsUses F.answers (shown_options reader.now.options) (E.replacement reader.now.entities.now) reader.now.references.now leaf.now self.old.expansion_left footnotes.old footnotes.new callback.old callback.new) }
+        ensures succeeds { self.old.failed ≡ false → text_of leaf.now ≡ [] → IsOk result }
+        ensures counts { Counts leaf.now self.old.steps self.new.steps }
+        ensures least { IsSetOf (shown_options reader.now.options) reader.now.special.now → OnOk result (CountsLeast F.answers (shown_options reader.now.options) (E.replacement reader.now.entities.now) reader.now.references.now footnotes.old leaf.now self.old.expansion_left self.old.steps self.new.steps callback.old callback.new) }
+        ensures live { OnOk result (self.new.failed ≡ false) }
+        ensures failed { OnErr result (self.new.failed ≡ true) }
+        ensures refused { self.old.failed ≡ true → (result ≡ Err alloc_error) × (self.new ≡ self.old) × (footnotes.new ≡ footnotes.old) × (callback.new ≡ callback.old) }
+        ensures reads { IsSetOf (shown_options reader.now.options) reader.now.special.now → OnOk result (Resolves F.answers (shown_options reader.now.options) (E.replacement reader.now.entities.now) reader.now.references.now footnotes.old leaf.now self.old.expansion_left self.new callback.old callback.new) }
+    {
+        if self.failed {
+            return Err(AllocError);
+        }
+        let done = self.read_leaf(leaf, reader, footnotes, callback);
+        self.failed = done.is_err();
+        done
+    }
+
+    // The same, whatever was refused before.
+    #[inline(always)]
+    fn read_leaf<E: EntityLookup, F: BrokenLinkCallback<'a>>(
+        &mut self,
+        leaf: &LeafText<'a>,
+        reader: &Reader<'_, 'a, E>,
+        footnotes: &mut FootnoteDefs,
+        callback: &mut F,
+    ) -> Result<(), AllocError>
+        requires read { IsRead leaf.now }
+        requires room { HasRoom self.old.steps }
+        requires ready { F.ready callback.old }
+        ensures counts { OnOk result (Counts leaf.now self.old.steps self.new.steps) }
+        ensures least { IsSetOf (shown_options reader.now.options) reader.now.special.now → OnOk result (CountsLeast F.answers (shown_options reader.now.options) (E.replacement reader.now.entities.now) reader.now.references.now footnotes.old leaf.now self.old.expansion_left self.old.steps self.new.steps callback.old callback.new) }
+        ensures refused { OnErr result (self.new.steps ≡ self.old.steps) }
+        ensures ready { F.ready callback.new }
+        ensures asks { AsksUpTo F.answers (closing_brackets (text_of leaf.now)) callback.old callback.new }
+        ensures spent { self.old.expansion_left ≡ 0 → callback.new ≡ callback.old }
+        ensures few { OnOk result (length self.new.slots.items ≤ length (text_of leaf.now)) }
+        ensures slots { OnOk result (AreSlots (text_of leaf.now) (length (text_of leaf.now)) self.new.slots.items) }
+        ensures left { OnOk result (CanBeGiven leaf.now self.new.texts.items self.new.links.items self.new.slots.items) }
+        ensures whole { OnOk result (AreWhole self.new.slots.items × EndWithin self.new.slots.items) }
+        ensures footnotes { SameFootnotes footnotes.old footnotes.new }
+        ensures rise { RiseUpTo (closing_brackets (text_of leaf.now)) footnotes.old footnotes.new }
+        ensures uses { IsSetOf (shown_options reader.now.options) reader.now.special.now → OnOk result (CountsUses F.answers (shown_options reader.now.options) (E.replacement reader.now.entities.now) reader.now.references.now leaf.now self.old.expansion_left footnotes.old footnotes.new callback.old callback.new) }
         ensures succeeds { text_of leaf.now ≡ [] → IsOk result }
         ensures reads { IsSetOf (shown_options reader.now.options) reader.now.special.now → OnOk result (Resolves F.answers (shown_options reader.now.options) (E.replacement reader.now.entities.now) reader.now.references.now footnotes.old leaf.now self.old.expansion_left self.new callback.old callback.new) }
     {
@@ -99,6 +150,7 @@ impl<'a> InlineState<'a> {
         self.flush(text, cursor, text.len())?;
         self.quotes.resolve(0, &mut self.slots)?;
         self.delimiters.resolve(0, reader.options, &mut self.slots)?;
+        self.steps.count(&sought, self.delimiters.examined);
         Ok(())
     }
 
@@ -125,18 +177,25 @@ impl<'a> InlineState<'a> {
         requires same { text.now ≡ text_of leaf.now }
         requires ahead { take (length text.now) ahead.now ≡ text.now }
         requires kept { AreUnclosed leaf.now cursor.at sought.old.unclosed }
+        requires paid { ArePaid leaf.now cursor.at sought.old }
         requires sound { IsSound self.old }
+        requires ready { F.ready callback.old }
         ensures sound { OnOk result (IsSound self.new) }
         ensures ends { OnOk result (AreEnded leaf.now self.old.slots.items → AreEnded leaf.now self.new.slots.items) }
         ensures runs { AreRunsOf text.now sought.new.runs }
         ensures dollars { AreDollarsOf text.now sought.new.dollars }
         ensures kept { IfOk result (λ next. AreUnclosed leaf.now next.at sought.new.unclosed) }
+        ensures paid { IfOk result (λ next. ArePaid leaf.now next.at sought.new) }
+        ensures ready { F.ready callback.new }
         ensures asks { AsksBetween F.answers text.now cursor.at (length text.now) callback.old callback.new }
         ensures asks_here { IfOk result (λ next. AsksBetween F.answers text.now cursor.at next.at callback.old callback.new) }
         ensures spent { self.old.expansion_left ≡ 0 → (callback.new ≡ callback.old) × (self.new.expansion_left ≡ 0) }
+        ensures steps { self.new.steps ≡ self.old.steps }
         ensures moves { IfOk result (Moves text.now cursor.at self.new) }
         ensures footnotes { SameFootnotes footnotes.old footnotes.new }
-        ensures come { IsSetOf (shown_options reader.now.options) reader.now.special.now → IfOk result (λ next. ComesOn F.answers (shown_options reader.now.options) (E.replacement reader.now.entities.now) reader.now.references.now footnotes.old leaf.now cursor next self.old self.new callback.old callback.new) }
+        ensures rise { RiseBetween text.now cursor.at (length text.now) footnotes.old footnotes.new }
+        ensures rise_here { IfOk result (λ next. RiseBetween text.now cursor.at next.at footnotes.old footnotes.new) }
+        ensures come { IsSetOf (shown_options reader.now.options) reader.now.special.now → IfOk result (λ next. ComesOn F.answers (shown_options reader.now.options) (E.replacement reader.now.entities.now) reader.now.references.now footnotes.old footnotes.new leaf.now sought.old sought.new cursor next self.old self.new callback.old callback.new) }
         ensures rest { cursor.at + position_or_len (in_rows reader.now.special.now) (drop cursor.at text.now) ≡ length text.now → IfOk result (λ next. (next.pending ≡ cursor.pending) × (next.at ≡ length text.now) × (self.new ≡ self.old)) }
         ensures token { (at : ℕ) → at ≡ cursor.at + position_or_len (in_rows reader.now.special.now) (drop cursor.at text.now) → at < length text.now → is_special (shown_options reader.now.options) (slice_index text.now at) ≡ true → (slice_index text.now at == 93) ≡ false → IfOk result (ReadsSpecial (shown_options reader.now.options) (E.replacement reader.now.entities.now) leaf.now (record { pending = cursor.pending; at = at }) self.old self.new) }
     {
@@ -173,10 +232,15 @@ impl<'a> InlineState<'a> {
         requires read { IsRead leaf.now }
         requires same { text.now ≡ text_of leaf.now }
         requires kept { AreUnclosed leaf.now here.at sought.old.unclosed }
+        requires paid { ArePaid leaf.now here.at sought.old }
         ensures runs { AreRunsOf text.now sought.new.runs }
         ensures dollars { AreDollarsOf text.now sought.new.dollars }
         ensures kept { AreUnclosed leaf.now here.at sought.new.unclosed }
+        ensures paid { IfOk result (λ next. ArePaid leaf.now next.at sought.new) }
         ensures expansion_left { self.new.expansion_left ≡ self.old.expansion_left }
+        ensures steps { self.new.steps ≡ self.old.steps }
+        ensures visits { OnOk result (VisitsAt text.now here.at sought.old sought.new) }
+        ensures passes { OnOk result (PassesAt (shown_options reader.now.options).email_autolinks leaf.now here.at sought.old.unclosed sought.new.unclosed) }
         ensures sound { IsSound self.old → OnOk result (IsSound self.new) }
         ensures ends { OnOk result (AreEnded leaf.now self.old.slots.items → AreEnded leaf.now self.new.slots.items) }
         ensures moves { IfOk result (Moves text.now here.at self.new) }
@@ -187,7 +251,7 @@ impl<'a> InlineState<'a> {
             b'\\' => self.backslash(leaf.is_cell(), text, here),
             b'&' => self.entity(text, reader.entities, here),
             b'`' => self.backticks(&mut sought.runs, text, here),
-            b'<' => self.less_than(&mut sought.unclosed, leaf, text, here),
+            b'<' => self.less_than(&mut sought.unclosed, reader.options, leaf, text, here),
             b'!' => self.exclamation(reader.options, text, here),
             b'$' => self.dollar(&mut sought.dollars, text, here),
             b'[' => {
@@ -290,6 +354,7 @@ impl<'a> InlineState<'a> {
         requires kind { begins_link slot.kind ≡ false }
         ensures expansion_left { self.new.expansion_left ≡ self.old.expansion_left }
         ensures moves { IfOk result (Moves text.now here.at self.new) }
+        ensures order { IfOk result (λ next. slot.end ≤ next.at) }
         ensures at { IfOk result (λ next. (next.pending ≡ next.at) × (next.at ≡ read_on text.now slot.end)) }
         ensures slots { OnOk result (Puts here.pending text_end slot self.old.slots.items self.new.slots.items) }
         ensures others { self.new ≡ record self.old { slots = self.new.slots } }

@@ -138,6 +138,7 @@ impl<'a> InlineState<'a> {
         ensures others { IfOk result (λ next. next ≡ None → self.new ≡ record self.old { doubled = self.new.doubled }) }
         ensures off { (shown_options options).wikilinks ≡ false → self.new ≡ self.old }
         ensures expansion_left { self.new.expansion_left ≡ self.old.expansion_left }
+        ensures steps { self.new.steps ≡ self.old.steps }
         ensures tries { IfOk result (λ next. next ≡ None → TriesDoubled ((shown_options options).wikilinks && first_is (λ b. b == 93) (drop (close + 1) text.now)) self.old.doubled self.new.doubled) }
         ensures leaves { IfOk result (λ next. IfSome next (λ next. IfSome (nearest self.old.doubled) (λ tried. LeavesWikilink tried.0.start self.old self.new))) }
         ensures label_close { self.new.label_close ≡ self.old.label_close }
@@ -183,6 +184,7 @@ impl<'a> InlineState<'a> {
         ensures sound { OnOk result (IsSound self.new) }
         ensures ends { OnOk result ((leaf : LeafTexts) → AreEnded leaf self.old.slots.items → EndsIn leaf close (Some wikilink.entry.source_end) → AreEnded leaf self.new.slots.items) }
         ensures expansion_left { self.new.expansion_left ≡ self.old.expansion_left }
+        ensures steps { self.new.steps ≡ self.old.steps }
         ensures stands { OnOk result (Stands text.now (close + 2) self.new) }
         ensures parts { OnOk result ((parts : Links) × IsNamed wikilink.entry parts × (self.new.links.items ≡ self.old.links.items ++ (parts ∷ []))) }
         ensures link { OnOk result (doubled.is_image ≡ false → HoldNoLink self.new.slots.items (doubled.slot + 1)) }

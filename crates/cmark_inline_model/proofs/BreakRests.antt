@@ -1,18 +1,14 @@
--- A line break takes bytes that end no line, and behind them a line ending: one byte, or a carriage return and a line feed.
+-- A line break takes ASCII bytes that end no line, and behind them a line ending: one byte, or a carriage return and a line feed.
 use Rattle.std.specs.Prelude.{option_map}
-use Rattle.std.proofs.Common.{◌≡◌, ◌⊎◌, inl, inr, ⊎_elim, ℕ, suc, ◌+◌, ◌≤◌, Bool, true, false, ◌==◌, if◌then◌else◌, List, [], ◌∷◌, length, drop, take_while, get_or, Option, None, Some, refl, sym, ap, subst, ◌∙◌, arith, eqb-true, length-drop, drop-drop}
+use Rattle.std.proofs.Common.{◌≡◌, ◌⊎◌, inl, inr, ⊎_elim, ℕ, suc, ◌+◌, ◌<◌, ◌≤◌, Bool, true, false, ◌==◌, if◌then◌else◌, List, [], ◌∷◌, length, drop, take_while, get_or, Option, None, Some, refl, sym, ap, subst, ◌∙◌, arith, eqb-true, length-drop, drop-drop}
 use Rattle.std.proofs.lemmas.List.{get_or-drop}
 use Rattle.cmark_grammar.specs.Columns.{is_blank_byte}
 use Rattle.cmark_grammar.specs.Letters.{and_then}
 use Rattle.cmark_grammar.specs.LineBreaks.{LineBreak, hard_break, blank_break, ends_with_two_spaces, backslash_break_in, blank_break_in}
 use Rattle.cmark_grammar.specs.LinkDefinitions.{behind_blanks}
-use Rattle.cmark_grammar.specs.Lines.{is_content}
 use Rattle.cmark_grammar.specs.Tags.{behind_line_feed, behind_ending}
 use Rattle.cmark_grammar.proofs.RowEdges.{Front}
-use Rattle.cmark_inline_model.proofs.WordBytes.{or-either, Leads, while-leads}
-
-abbrev Content : ℕ → Type 0
-Content b = is_content b ≡ true
+use Rattle.cmark_inline_model.proofs.WordBytes.{or-either, IsWord, Leads, while-leads, word-is}
 
 -- one more byte than `more` of a line ending
 abbrev IsEnding : List ℕ → (at more : ℕ) → Type 0
@@ -21,11 +17,12 @@ IsEnding l at more = (more ≡ 0) ⊎ ((more ≡ 1) × (get_or l at 0 ≡ 13) ×
 pub record TakesBreak (l : List ℕ) (found : LineBreak) : Type 0 where
   pub blanks : ℕ
   pub more : ℕ
-  pub leads : Leads Content blanks l
+  pub leads : Leads IsWord blanks l
   pub begins : found.before ≤ blanks
   pub behind : found.behind ≡ drop (blanks + suc more) l
   pub fits : blanks + suc more ≤ length l
   pub ending : IsEnding l blanks more
+  pub ascii : get_or l (blanks + more) 0 < 128
 
 abbrev pub BreakTaken : List ℕ → Option LineBreak → Type 0
 BreakTaken l None = Unit {0}
@@ -36,6 +33,7 @@ record TakesEnding (l r : List ℕ) : Type 0 where
   behind : r ≡ drop (suc more) l
   fits : suc more ≤ length l
   ending : IsEnding l 0 more
+  ascii : get_or l more 0 < 128
 
 abbrev EndingTaken : List ℕ → Option (List ℕ) → Type 0
 EndingTaken l None = Unit {0}
@@ -46,20 +44,20 @@ when P true x y h k = h refl
 when P false x y h k = k refl
 
 return_taken : (b : ℕ) (bs : List ℕ) → b ≡ 13 → TakesEnding (b ∷ bs) (behind_line_feed bs)
-return_taken b [] e = record { more = 0; behind = refl; fits = omega arith; ending = inl refl }
+return_taken b [] e = record { more = 0; behind = refl; fits = omega arith; ending = inl refl; ascii = omega arith }
 return_taken b (c ∷ bs) e =
-    when (TakesEnding (b ∷ (c ∷ bs))) (c == 10) bs (c ∷ bs) (λ f. record { more = 1; behind = refl; fits = omega arith; ending = inr (refl, e, eqb-true c 10 f) })
-    (λ f. record { more = 0; behind = refl; fits = omega arith; ending = inl refl })
+    when (TakesEnding (b ∷ (c ∷ bs))) (c == 10) bs (c ∷ bs) (λ f. (let z = eqb-true c 10 f in record { more = 1; behind = refl; fits = omega arith; ending = inr (refl, e, z); ascii = (let q : c < 128 = omega arith in q) }))
+    (λ f. record { more = 0; behind = refl; fits = omega arith; ending = inl refl; ascii = (let q : b < 128 = omega arith in q) })
 
 ending_taken : (l : List ℕ) → EndingTaken l (behind_ending l)
 ending_taken [] = tt
 ending_taken (b ∷ bs) =
     when (EndingTaken (b ∷ bs)) (b == 10) (Some bs) (if b == 13 then Some (behind_line_feed bs) else None)
-    (λ e. record { more = 0; behind = refl; fits = omega arith; ending = inl refl })
+    (λ e. (let z = eqb-true b 10 e in record { more = 0; behind = refl; fits = omega arith; ending = inl refl; ascii = (let q : b < 128 = omega arith in q) }))
     (λ e. when (EndingTaken (b ∷ bs)) (b == 13) (Some (behind_line_feed bs)) None (λ f. return_taken b bs (eqb-true b 13 f)) (λ f. tt))
 
 -- a line ending behind some bytes
-behind_bytes : (found : LineBreak) (n : ℕ) (l r : List ℕ) → Leads Content n l → found.before ≤ n → found.behind ≡ r → TakesEnding (drop n l) r → TakesBreak l found
+behind_bytes : (found : LineBreak) (n : ℕ) (l r : List ℕ) → Leads IsWord n l → found.before ≤ n → found.behind ≡ r → TakesEnding (drop n l) r → TakesBreak l found
 behind_bytes found n l r h b e k =
     let d = length-drop n l in
     let f = k.fits in
@@ -76,11 +74,11 @@ behind_bytes found n l r h b e k =
             ap (λ j. get_or l j 0) (let q : n ≡ n + 0 = omega arith in q) ∙ sym (get_or-drop n l 0 0) ∙ two.1,
             ap (λ j. get_or l j 0) (let q : suc n ≡ n + 1 = omega arith in q) ∙ sym (get_or-drop n l 1 0) ∙ two.2,
           )) k.ending;
+      ascii = subst (λ c. c < 128) (get_or-drop n l k.more 0) k.ascii;
     }
 
-blank_content : (b : ℕ) → is_blank_byte b ≡ true → Content b
-blank_content b e =
-    ⊎_elim (λ f. subst (λ c. is_content c ≡ true) (sym (eqb-true b 32 f)) refl) (λ f. subst (λ c. is_content c ≡ true) (sym (eqb-true b 9 f)) refl) (or-either (b == 32) (b == 9) e)
+pub blank_word : (b : ℕ) → is_blank_byte b ≡ true → IsWord b
+blank_word b e = ⊎_elim (λ f. word-is b 32 refl (omega arith) f) (λ f. word-is b 9 refl (omega arith) f) (or-either (b == 32) (b == 9) e)
 
 pub blank-taken : (l : List ℕ) → BreakTaken l (blank_break_in l)
 blank-taken l = go (behind_ending (behind_blanks l)) (ending_taken (behind_blanks l))
@@ -88,8 +86,8 @@ blank-taken l = go (behind_ending (behind_blanks l)) (ending_taken (behind_blank
     blanks : List ℕ
     blanks = take_while is_blank_byte l
 
-    leads : Leads Content (length blanks) l
-    leads = while-leads Content is_blank_byte blank_content l
+    leads : Leads IsWord (length blanks) l
+    leads = while-leads IsWord is_blank_byte blank_word l
 
     go : (o : Option (List ℕ)) → EndingTaken (behind_blanks l) o → BreakTaken l (option_map (blank_break blanks) o)
     go None k = tt
@@ -101,12 +99,12 @@ blank-taken l = go (behind_ending (behind_blanks l)) (ending_taken (behind_blank
 pub backslash-taken : (l : List ℕ) → BreakTaken l (backslash_break_in l)
 backslash-taken [] = tt
 backslash-taken (b ∷ bs) =
-    when (λ o. BreakTaken (b ∷ bs) (option_map hard_break (and_then o behind_ending))) (b == 92) (Some bs) None (λ e. go (subst (λ c. is_content c ≡ true) (sym (eqb-true b 92 e)) refl) (behind_ending bs) (ending_taken bs)) (λ e. tt)
+    when (λ o. BreakTaken (b ∷ bs) (option_map hard_break (and_then o behind_ending))) (b == 92) (Some bs) None (λ e. go (word-is b 92 refl (omega arith) e) (behind_ending bs) (ending_taken bs)) (λ e. tt)
   where
-    go : Content b → (o : Option (List ℕ)) → EndingTaken bs o → BreakTaken (b ∷ bs) (option_map hard_break o)
+    go : IsWord b → (o : Option (List ℕ)) → EndingTaken bs o → BreakTaken (b ∷ bs) (option_map hard_break o)
     go c None k = tt
     go c (Some r) k = behind_bytes (hard_break r) 1 (b ∷ bs) r (record { front = (c, none bs); fits = omega arith }) (omega arith) refl k
       where
-        none : (l : List ℕ) → Front Content 0 l
+        none : (l : List ℕ) → Front IsWord 0 l
         none [] = tt
         none (x ∷ l) = tt

@@ -35,7 +35,7 @@ module _ (reader : Reader) (leaf : Leaf) where
   asked_is s closer asked o (ToInline label os taken tail h t found e) = ap (λ (x : Outcome). x.after.asked) e
   asked_is s closer asked o (ToReference label os taken named link_type found h t n some l e) = ap (λ (x : Outcome). x.after.asked) e
   asked_is s closer asked o (ToFootnote label os taken name h t on e) = ap (λ (x : Outcome). x.after.asked) e
-  asked_is s closer asked o (ToWiki label os first far h t on next e) = ap (λ (x : Outcome). x.after.asked) e
+  asked_is s closer asked o (ToWiki label os first far h t on next touched e) = ap (λ (x : Outcome). x.after.asked) e
 
   pub decide-recorded : IsRecorded (decide reader leaf)
   decide-recorded = record { keeps = λ s closer. go s closer (decide reader leaf s closer) (decide-shape reader leaf s closer) }
@@ -63,7 +63,7 @@ module _ (reader : Reader) (leaf : Leaf) where
   shape_fits s closer asked o (ToReference label os taken named link_type found h t n some l e) =
       subst (Fits (length s.openers)) (sym e) (taken_fits s os taken (behind_link taken.opener.bracket.is_image) h t (link_length taken.opener.bracket.is_image))
   shape_fits s closer asked o (ToFootnote label os taken name h t on e) = subst (Fits (length s.openers)) (sym e) (taken_fits s os taken (map dropped) h t (λ l. length-map l dropped))
-  shape_fits s closer asked o (ToWiki label os first far h t on next e) =
+  shape_fits s closer asked o (ToWiki label os first far h t on next touched e) =
       subst (Fits (length s.openers)) (sym e) (taken_fits s os first (λ l. map undoubled (map inactive l)) h t (λ l. length-map (map inactive l) undoubled ∙ length-map l inactive))
 
   pub decide-fits : (s : State) (closer : Bracket) → Always (Fits (length s.openers)) (decide reader leaf s closer)
@@ -110,7 +110,7 @@ module _ (reader : Reader) (leaf : Leaf) where
       (taken_apart s os taken _ (behind_link taken.opener.bracket.is_image) h t (link-persist taken.opener.bracket.is_image) (no_link_behind taken.opener.bracket.is_image))
   shape_apart s closer asked o (ToFootnote label os taken name h t on e) =
       subst (KeepsApart s.openers) (sym e) (taken_apart s os taken (Footnote name closer.end) (map dropped) h t dropped-persist (λ x. cc))
-  shape_apart s closer asked o (ToWiki label os first far h t on next e) =
+  shape_apart s closer asked o (ToWiki label os first far h t on next touched e) =
       let change : List Opener → List Opener = λ l. map undoubled (map inactive l) in
       subst (KeepsApart s.openers) (sym e)
       (taken_apart s os first _ change h t (λ l. persist-then l (map inactive l) (change l) (inactive-persist l) (undoubled-persist (map inactive l)))
@@ -142,7 +142,7 @@ module _ (reader : Reader) (leaf : Leaf) where
       (subst (λ c. Spends s.expansion_left c (s.expansion_left - length found.url - length found.title)) (sym (lead_costs s named link_type found closer n asked l))
       (some_left s.expansion_left some, minus_twice s.expansion_left (length found.url) (length found.title)))
   shape_pays s closer asked o (ToFootnote label os taken name h t on e) = subst (Pays s.expansion_left) (sym e) refl
-  shape_pays s closer asked o (ToWiki label os first far h t on next e) = subst (Pays s.expansion_left) (sym e) refl
+  shape_pays s closer asked o (ToWiki label os first far h t on next touched e) = subst (Pays s.expansion_left) (sym e) refl
 
   pub decide-pays : KeepsLimit (decide reader leaf)
   decide-pays = record { pays = λ s closer. always-by s closer (Pays s.expansion_left) (shape_pays s closer) }

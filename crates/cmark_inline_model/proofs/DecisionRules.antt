@@ -97,7 +97,7 @@ module _ (reader : Reader) (leaf : Leaf) where
       (by_answer reader asked named.link_type (linked link_type found (normal_form named.label)) n.form
       (record { undefined = d; exchange = exchange q (Some found); earlier = earlier; later = []; put = put; written_so = w; about = r; answer = refl })))
   shape_rightly s closer asked o (ToFootnote label os taken name h t on e) = subst Rightly (sym e) on
-  shape_rightly s closer asked o (ToWiki label os first far h t on next e) = subst Rightly (sym e) on
+  shape_rightly s closer asked o (ToWiki label os first far h t on next touched e) = subst Rightly (sym e) on
 
   pub forms-rightly : FormsOnly (IsFormedRightly reader) (decide reader leaf)
   forms-rightly = record { forms = λ s closer. always-by reader leaf s closer Rightly (shape_rightly s closer) }

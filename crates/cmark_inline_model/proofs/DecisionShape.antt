@@ -19,7 +19,9 @@ use Rattle.cmark_grammar.specs.Readers.{Reader}
 use Rattle.cmark_grammar.proofs.ShorterRests.{LeavesBelow, ParsedBelow, reference_label-shorter, collapsed-shorter}
 use Rattle.cmark_inline_model.specs.ReferenceExpansion.{cost_as}
 use Rattle.cmark_inline_model.specs.LinkRules.{IsReferenceForm, IsQuestion}
-use Rattle.cmark_inline_model.proofs.Openers.{Alike, alike-then, used-alike, tried-alike, IsTaken, AreTaken, taken-alike, nearest-taken, doubled-taken, IsFar, doubled-far}
+use Rattle.cmark_inline_model.proofs.FindRests.{IsBehind, ParsedBehind}
+use Rattle.cmark_inline_model.proofs.LinkRests.{LeavesBehind, collapsed-behind, reference_label-behind}
+use Rattle.cmark_inline_model.proofs.Openers.{Alike, alike-then, used-alike, tried-alike, IsTaken, AreTaken, taken-alike, nearest-taken, doubled-taken, IsFar, doubled-far, IsTouched, AreTouched, doubled-touched, touched-alike}
 
 -- the same state but for its label, its questions and its opening brackets
 abbrev pub with_all : State → Option ℕ → List Exchange → List Opener → State
@@ -30,9 +32,9 @@ abbrev pub exchange : Question → Option Destination → Exchange
 exchange q answer = record { question = q; answer = answer }
 
 module _ (reader : Reader) (leaf : Leaf) where
-  -- behind the closing bracket, or what is behind some text behind it
+  -- behind the closing bracket, or what is behind some text behind it, which ends with an ASCII byte
   abbrev pub IsPlace : Bracket → ℕ → Type 0
-  IsPlace closer p = (p ≡ closer.end) ⊎ ((rest : List ℕ) × (length rest ≤ length (behind reader leaf closer.end)) × (p ≡ place reader leaf rest))
+  IsPlace closer p = (p ≡ closer.end) ⊎ ((rest : List ℕ) × (length rest ≤ length (behind reader leaf closer.end)) × (p ≡ place reader leaf rest) × IsBehind (behind reader leaf closer.end) rest)
 
   -- a reference that may stand behind this closing bracket
   pub record IsNamed (closer : Bracket) (named : Named) : Type 0 where
@@ -73,7 +75,7 @@ module _ (reader : Reader) (leaf : Leaf) where
     ToFootnote : (label : Option ℕ) (os : List Opener) (taken : Taken) (name : List ℕ) → Alike s.openers os → Takes s.openers taken → reader.options.footnotes ≡ true
         → o ≡ forms reader leaf taken (Footnote name closer.end) closer.end (map dropped) (with_all s label asked os) → Shape s closer asked o
     ToWiki : (label : Option ℕ) (os : List Opener) (first : Taken) → 1 ≤ first.nearer → Alike s.openers os → Takes s.openers first → reader.options.wikilinks ≡ true
-        → first_is (λ b. b == 93) (behind reader leaf closer.end) ≡ true → o ≡ wikilink reader leaf first closer (with_all s label asked os) → Shape s closer asked o
+        → first_is (λ b. b == 93) (behind reader leaf closer.end) ≡ true → IsTouched s.openers first → o ≡ wikilink reader leaf first closer (with_all s label asked os) → Shape s closer asked o
 
   abbrev pub DecisionShape : State → Bracket → Decision → Type 0
   DecisionShape s closer (Settled o) = Shape s closer s.asked o
@@ -116,9 +118,9 @@ module _ (reader : Reader) (leaf : Leaf) where
           either s closer (s.expansion_left == 0) (Settled (stays reader leaf closer t)) (defined_or_asked reader leaf (reader.definition (fold named.label)) named taken closer t)
           (λ e. stay_shape label os h) (λ e. defined_shape (reader.definition (fold named.label)) label os named refl h named_is e)
 
-      own_named : (label : List ℕ) (o : Option (List ℕ)) → LeavesBelow (suc (length (behind reader leaf closer.end))) o → IsNamed closer (collapsed_or_shortcut reader leaf label closer.end o)
-      own_named label None h = record { ends = inl refl; passes = inl refl; order = inl refl; form = tt; costs = λ size. (refl, refl) }
-      own_named label (Some rest) h = record { ends = inl refl; passes = inr (rest, omega arith, refl); order = inr refl; form = tt; costs = λ size. (refl, refl) }
+      own_named : (label : List ℕ) (o : Option (List ℕ)) → LeavesBelow (suc (length (behind reader leaf closer.end))) o → LeavesBehind (behind reader leaf closer.end) o → IsNamed closer (collapsed_or_shortcut reader leaf label closer.end o)
+      own_named label None h k = record { ends = inl refl; passes = inl refl; order = inl refl; form = tt; costs = λ size. (refl, refl) }
+      own_named label (Some rest) h k = record { ends = inl refl; passes = inr (rest, omega arith, refl, k); order = inr refl; form = tt; costs = λ size. (refl, refl) }
 
       footnote_shape : (name : List ℕ) (os : List Opener) (label : Option ℕ) → Alike s.openers os → reader.options.footnotes ≡ true → DecisionShape s closer (footnote_reference reader leaf name taken closer (with_all s label s.asked os))
       footnote_shape name os label h on =
@@ -143,16 +145,16 @@ module _ (reader : Reader) (leaf : Leaf) where
           (if is_bracketed_label bytes then refers reader leaf named taken closer t else Settled (stays reader leaf closer t))
           (λ e. footnote_shape (as_label reader leaf (drop 1 bytes)) os label h (footnotes_on bytes e))
           (λ e. either s closer (is_bracketed_label bytes) (refers reader leaf named taken closer t) (Settled (stays reader leaf closer t))
-          (λ f. refers_shape label os named h (own_named (as_label reader leaf bytes) (behind_collapsed (behind reader leaf closer.end)) (collapsed-shorter (behind reader leaf closer.end))))
+          (λ f. refers_shape label os named h (own_named (as_label reader leaf bytes) (behind_collapsed (behind reader leaf closer.end)) (collapsed-shorter (behind reader leaf closer.end)) (collapsed-behind (behind reader leaf closer.end))))
           (λ f. stay_shape label os h))
 
-      reference_shape : (found : Option Parsed) (label : Option ℕ) (os : List Opener) → ParsedBelow (length (behind reader leaf closer.end)) found → Alike s.openers os
+      reference_shape : (found : Option Parsed) (label : Option ℕ) (os : List Opener) → ParsedBelow (length (behind reader leaf closer.end)) found → ParsedBehind (behind reader leaf closer.end) found → Alike s.openers os
           → DecisionShape s closer (reference_or reader leaf found taken closer (with_all s label s.asked os))
-      reference_shape (Some found) label os f h =
+      reference_shape (Some found) label os f k h =
           let end = place reader leaf found.behind in
           refers_shape (Some (end - 1)) os (record { label = as_label reader leaf found.bytes; link_type = Reference; end = end; resume = end }) h
-          (record { ends = inr (found.behind, omega arith, refl); passes = inr (found.behind, omega arith, refl); order = inl refl; form = tt; costs = λ size. (refl, refl) })
-      reference_shape None label os f h =
+          (record { ends = inr (found.behind, omega arith, refl, k); passes = inr (found.behind, omega arith, refl, k); order = inl refl; form = tt; costs = λ size. (refl, refl) })
+      reference_shape None label os f k h =
           let t = with_all s label s.asked os in
           let bytes = between reader leaf taken.opener.bracket.end closer.start in
           either s closer (is_there closer.start label) (Settled (stays reader leaf closer t)) (by_own_label reader leaf bytes taken closer t) (λ e. stay_shape label os h) (λ e. own_shape bytes label os h)
@@ -165,12 +167,21 @@ module _ (reader : Reader) (leaf : Leaf) where
           by true = tt
           by false = h
 
+      unless_behind : (found : Option Parsed) → ParsedBehind (behind reader leaf closer.end) found → ParsedBehind (behind reader leaf closer.end) (unless_footnote reader leaf found)
+      unless_behind None h = tt
+      unless_behind (Some found) h = by (is_footnote_label reader leaf found.bytes)
+        where
+          by : (b : Bool) → ParsedBehind (behind reader leaf closer.end) (if b then None else Some found)
+          by true = tt
+          by false = h
+
       link_shape : (tail : Option LinkTail) (label : Option ℕ) (os : List Opener) → link_tail_in (behind reader leaf closer.end) ≡ tail → Alike s.openers os
           → DecisionShape s closer (link_or reader leaf tail taken closer (with_all s label s.asked os))
       link_shape (Some tail) label os e h = ToInline label os taken tail h takes e refl
       link_shape None label os e h =
           reference_shape (unless_footnote reader leaf (reference_label_in (behind reader leaf closer.end))) label os
-          (unless_below (length (behind reader leaf closer.end)) (reference_label_in (behind reader leaf closer.end)) (reference_label-shorter (behind reader leaf closer.end))) h
+          (unless_below (length (behind reader leaf closer.end)) (reference_label_in (behind reader leaf closer.end)) (reference_label-shorter (behind reader leaf closer.end)))
+          (unless_behind (reference_label_in (behind reader leaf closer.end)) (reference_label-behind (behind reader leaf closer.end))) h
 
     with_taken_shape : (taken : Option Taken) (label : Option ℕ) (os : List Opener) → AreTaken s.openers taken → Alike s.openers os → DecisionShape s closer (with_taken reader leaf taken closer (with_all s label s.asked os))
     with_taken_shape None label os h k = stay_shape label os k
@@ -184,14 +195,14 @@ module _ (reader : Reader) (leaf : Leaf) where
     or_false false b e = refl
 
     wiki_shape : (first taken : Option Taken) (label : Option ℕ) (os : List Opener) → reader.options.wikilinks ≡ true → first_is (λ b. b == 93) (behind reader leaf closer.end) ≡ true
-        → IsFar first → AreTaken os first → AreTaken s.openers taken → Alike s.openers os → DecisionShape s closer (wikilink_or reader leaf first taken closer (with_all s label s.asked os))
-    wiki_shape None taken label os on next far f h k = with_taken_shape taken label os h k
-    wiki_shape (Some first) taken label os on next far f h k =
+        → IsFar first → AreTouched os first → AreTaken os first → AreTaken s.openers taken → Alike s.openers os → DecisionShape s closer (wikilink_or reader leaf first taken closer (with_all s label s.asked os))
+    wiki_shape None taken label os on next far double f h k = with_taken_shape taken label os h k
+    wiki_shape (Some first) taken label os on next far double f h k =
         let t = with_all s label s.asked os in
         let refused = first.opener.is_inactive || (length (name_in (wiki_text reader leaf first closer)) == 0) in
         either s closer refused (with_taken reader leaf taken closer (with_all s label s.asked (tried first.nearer os))) (Settled (wikilink reader leaf first closer t))
         (λ e. with_taken_shape taken label (tried first.nearer os) h (alike-then s.openers os (tried first.nearer os) k (tried-alike first.nearer os)))
-        (λ e. ToWiki label os first far k (record { is_taken = taken-alike s.openers os first k f; active = or_false first.opener.is_inactive (length (name_in (wiki_text reader leaf first closer)) == 0) e }) on next refl)
+        (λ e. ToWiki label os first far k (record { is_taken = taken-alike s.openers os first k f; active = or_false first.opener.is_inactive (length (name_in (wiki_text reader leaf first closer)) == 0) e }) on next (touched-alike s.openers os first k double) refl)
 
   pub decide-shape : (s : State) (closer : Bracket) → DecisionShape s closer (decide reader leaf s closer)
   unfolding decide
@@ -201,7 +212,7 @@ module _ (reader : Reader) (leaf : Leaf) where
       let near = nearest s.openers in
       let next = first_is (λ b. b == 93) (behind reader leaf closer.end) in
       either s closer (reader.options.wikilinks && next) (wikilink_or reader leaf (doubled os) near closer t) (with_taken reader leaf near closer t)
-      (λ e. wiki_shape s closer (doubled os) near s.label_close os (left reader.options.wikilinks next e) (right reader.options.wikilinks next e) (doubled-far os) (doubled-taken os) (nearest-taken s.openers) (used-alike s.openers))
+      (λ e. wiki_shape s closer (doubled os) near s.label_close os (left reader.options.wikilinks next e) (right reader.options.wikilinks next e) (doubled-far os) (doubled-touched os) (doubled-taken os) (nearest-taken s.openers) (used-alike s.openers))
       (λ e. with_taken_shape s closer near s.label_close os (nearest-taken s.openers) (used-alike s.openers))
     where
       left : (a b : Bool) → (a && b) ≡ true → a ≡ true

@@ -49,27 +49,19 @@ use Rattle.cmark_inline_model.proofs.WikiGaps.{decide-far, reading-gaps}
 -- ## Runs have their bytes
 
 run-some : (options : Options) (delimiter size : ℕ) → is_delimiter_run options delimiter size ≡ true → 0 < size
-run-some options delimiter zero e = absurd (stars ((delimiter == 42) || (delimiter == 95)) (delimiter == 126) (options.strikethrough || options.subscript) (delimiter == 94) options.superscript e)
+run-some options delimiter zero e = absurd (true≢false (sym e ∙ none))
   where
-    stars : (a b c d f : Bool) → ((a && false) || ((b && (c && false)) || (d && (f && false)))) ≡ true → ⊥
-    stars true true true true true e = cc
-    stars true true true true false e = cc
-    stars true true true false f e = cc
-    stars true true false true true e = cc
-    stars true true false true false e = cc
-    stars true true false false f e = cc
-    stars true false c true true e = cc
-    stars true false c true false e = cc
-    stars true false c false f e = cc
-    stars false true true true true e = cc
-    stars false true true true false e = cc
-    stars false true true false f e = cc
-    stars false true false true true e = cc
-    stars false true false true false e = cc
-    stars false true false false f e = cc
-    stars false false c true true e = cc
-    stars false false c true false e = cc
-    stars false false c false f e = cc
+    off : (a b : Bool) → b ≡ false → (a && b) ≡ false
+    off true b e = e
+    off false b e = refl
+
+    four : (a b c d : Bool) → a ≡ false → b ≡ false → c ≡ false → d ≡ false → (a || (b || (c || d))) ≡ false
+    four a b c d e f g h = ap (λ x. x || (b || (c || d))) e ∙ ap (λ x. x || (c || d)) f ∙ ap (λ x. x || d) g ∙ h
+
+    none : is_delimiter_run options delimiter 0 ≡ false
+    none =
+        four _ _ _ _ (off ((delimiter == 42) || (delimiter == 95)) false refl) (off (delimiter == 126) _ (off (options.strikethrough || options.subscript) false refl))
+        (off (delimiter == 94) _ (off options.superscript false refl)) (off (delimiter == 61) _ (off options.highlight false refl))
 run-some options delimiter (suc size) e = omega arith
 
 abbrev ExactItem : Item → Type 0

@@ -1,9 +1,9 @@
--- Code spans, formulas, autolinks and tags end behind a byte that ends no line, and a line break ends behind its line ending.
+-- Code spans, formulas, autolinks, tags, and what stands behind a link's bracket end behind an ASCII byte that ends no line, and markup that is sought in the source behind an ASCII byte.
 use Rattle.std.specs.Prelude.{option_map, ◌&&◌, not}
 use Rattle.std.specs.List.{prefix_len}
 use Rattle.std.proofs.Common.{◌≡◌, ◌⊎◌, inl, inr, ⊎_elim, ℕ, zero, suc, ◌+◌, ◌<◌, ◌≤◌, Bool, true, false, ◌==◌, ◌||◌, if◌then◌else◌, List, [], ◌∷◌, length, drop, get_or, Option, None, Some, refl, sym, ap, subst, ◌∙◌, arith, eqb-true, length-drop, drop-drop}
 use Rattle.std.proofs.lemmas.List.{get_or-drop}
-use Rattle.cmark_grammar.specs.Autolinks.{closed_by, has_scheme, is_uri_byte, autolink_in}
+use Rattle.cmark_grammar.specs.Autolinks.{closed_by, has_address, is_uri_byte, autolink_in}
 use Rattle.cmark_grammar.specs.CodeSpans.{is_backtick, backticks, up_to_run, behind_run, code_in}
 use Rattle.cmark_grammar.specs.Columns.{is_blank_byte}
 use Rattle.cmark_grammar.specs.Formulas.{is_dollar, is_ink, Braces, context_of, behind_byte, closes_formula, formula_to, inline_in, display_in}
@@ -12,20 +12,21 @@ use Rattle.cmark_grammar.specs.Lines.{is_content}
 use Rattle.cmark_grammar.specs.LinkDefinitions.{Parsed, put, escapes_next}
 use Rattle.cmark_grammar.specs.Tags.{is_name_byte, is_attribute_start, is_attribute_byte, is_value_byte, is_space_byte, behind_line_feed, behind_ending, behind_tag_name, behind_attribute_name, behind_bare_value, behind_greater, behind_open_end, behind_closing_tag, without_prefix, on_next_line, behind_space, prefix_behind, behind_quotation_mark, behind_value, behind_assigned, behind_attribute, behind_attributes, behind_open_tag, behind_tag_start, behind_tag, no_prefix}
 use Rattle.cmark_grammar.proofs.RowEdges.{Front}
-use Rattle.cmark_inline_model.proofs.WordBytes.{and-left, and-right, Leads, prefix-leads}
+use Rattle.cmark_inline_model.proofs.WordBytes.{and-left, and-right, IsWord, Leads, prefix-leads, word-is}
 
 -- what stands behind some bytes
 abbrev pub IsRest : (bs r : List ℕ) → Type 0
 IsRest bs r = (k : ℕ) × (r ≡ drop k bs)
 
--- and the last of them ends no line
+-- and the last of them is ASCII, and ends no line
 pub record IsBehind (bs r : List ℕ) : Type 0 where
   pub place : ℕ
   pub inside : place < length bs
   pub content : is_content (get_or bs place 0) ≡ true
+  pub ascii : get_or bs place 0 < 128
   pub rest : r ≡ drop (suc place) bs
 
-onward : (bs s r : List ℕ) → IsRest bs s → IsRest s r → IsRest bs r
+pub onward : (bs s r : List ℕ) → IsRest bs s → IsRest s r → IsRest bs r
 onward bs s r h i = (h.0 + i.0, i.1 ∙ ap (drop i.0) h.1 ∙ drop-drop i.0 h.0 bs)
 
 pub behind-rest : (bs s r : List ℕ) → IsRest bs s → IsBehind s r → IsBehind bs r
@@ -33,32 +34,38 @@ behind-rest bs s r h i =
     let n = ap length h.1 in let l = length-drop h.0 bs in record {
       place = h.0 + i.place;
       inside = let lt = i.inside in omega arith;
-      content = ap is_content (sym (get_or-drop h.0 bs i.place 0) ∙ ap (λ (l : List ℕ). get_or l i.place 0) (sym h.1)) ∙ i.content;
+      content = ap is_content (byte h i) ∙ i.content;
+      ascii = subst (λ c. c < 128) (sym (byte h i)) i.ascii;
       rest = i.rest ∙ ap (drop (suc i.place)) h.1 ∙ drop-drop (suc i.place) h.0 bs ∙ ap (λ n. drop n bs) (let e : h.0 + suc i.place ≡ suc (h.0 + i.place) = omega arith in e);
     }
+  where
+    byte : (h : IsRest bs s) (i : IsBehind s r) → get_or bs (h.0 + i.place) 0 ≡ get_or s i.place 0
+    byte h i = sym (get_or-drop h.0 bs i.place 0) ∙ ap (λ (l : List ℕ). get_or l i.place 0) (sym h.1)
 
-byte_behind : (b c : ℕ) (bs : List ℕ) → is_content c ≡ true → (b == c) ≡ true → IsBehind (b ∷ bs) bs
-byte_behind b c bs k e = record { place = 0; inside = omega arith; content = subst (λ x. is_content x ≡ true) (sym (eqb-true b c e)) k; rest = refl }
+pub byte_behind : (b c : ℕ) (bs : List ℕ) → is_content c ≡ true → c < 128 → (b == c) ≡ true → IsBehind (b ∷ bs) bs
+byte_behind b c bs k a e =
+    let same = eqb-true b c e in
+    record { place = 0; inside = omega arith; content = subst (λ x. is_content x ≡ true) (sym same) k; ascii = subst (λ x. x < 128) (sym same) a; rest = refl }
 
 -- what was answered came from one of the branches, or from the part in front
-branch : {A : Type 0} (z : Bool) (x y : Option A) (r : A) → (if z then x else y) ≡ Some r → ((z ≡ true) × (x ≡ Some r)) ⊎ (y ≡ Some r)
+pub branch : {A : Type 0} (z : Bool) (x y : Option A) (r : A) → (if z then x else y) ≡ Some r → ((z ≡ true) × (x ≡ Some r)) ⊎ (y ≡ Some r)
 branch true x y r e = inl (refl, e)
 branch false x y r e = inr e
 
-after : {A B : Type 0} (o : Option A) (next : A → Option B) (r : B) → and_then o next ≡ Some r → (x : A) × (o ≡ Some x) × (next x ≡ Some r)
+pub after : {A B : Type 0} (o : Option A) (next : A → Option B) (r : B) → and_then o next ≡ Some r → (x : A) × (o ≡ Some x) × (next x ≡ Some r)
 after None next r e = cc
 after (Some x) next r e = (x, refl, e)
 
-same : (x r : List ℕ) → Some x ≡ Some r → r ≡ x
+pub same : (x r : List ℕ) → Some x ≡ Some r → r ≡ x
 same x r e = cc
 
 -- ## Tags
 
-if-rest : (p : ℕ → Bool) (bs r : List ℕ) → behind_if p bs ≡ Some r → IsRest bs r
+pub if-rest : (p : ℕ → Bool) (bs r : List ℕ) → behind_if p bs ≡ Some r → IsRest bs r
 if-rest p [] r e = cc
 if-rest p (b ∷ bs) r e = ⊎_elim (λ s. (1, same bs r s.1)) (λ n. cc) (branch (p b) (Some bs) None r e)
 
-all-rest : (p : ℕ → Bool) (bs : List ℕ) → IsRest bs (behind_all p bs)
+pub all-rest : (p : ℕ → Bool) (bs : List ℕ) → IsRest bs (behind_all p bs)
 all-rest p bs = (_, refl)
 
 then-all : (p q : ℕ → Bool) (bs r : List ℕ) → and_then (behind_if p bs) (λ rest. Some (behind_all q rest)) ≡ Some r → IsRest bs r
@@ -74,7 +81,7 @@ feed-rest (b ∷ bs) = go (b == 10)
     go true = (1, refl)
     go false = (0, refl)
 
-ending-rest : (bs r : List ℕ) → behind_ending bs ≡ Some r → IsRest bs r
+pub ending-rest : (bs r : List ℕ) → behind_ending bs ≡ Some r → IsRest bs r
 ending-rest [] r e = cc
 ending-rest (b ∷ bs) r e =
     ⊎_elim (λ s. (1, same bs r s.1))
@@ -131,7 +138,7 @@ module _ (prefix : List ℕ → ℕ) where
 
 greater-behind : (bs r : List ℕ) → behind_greater bs ≡ Some r → IsBehind bs r
 greater-behind [] r e = cc
-greater-behind (b ∷ bs) r e = ⊎_elim (λ f. subst (IsBehind (b ∷ bs)) (sym (same bs r f.1)) (byte_behind b 62 bs refl f.0)) (λ n. cc) (branch (b == 62) (Some bs) None r e)
+greater-behind (b ∷ bs) r e = ⊎_elim (λ f. subst (IsBehind (b ∷ bs)) (sym (same bs r f.1)) (byte_behind b 62 bs refl (omega arith) f.0)) (λ n. cc) (branch (b == 62) (Some bs) None r e)
 
 open_end-behind : (bs r : List ℕ) → behind_open_end bs ≡ Some r → IsBehind bs r
 open_end-behind [] r e = cc
@@ -171,7 +178,7 @@ abbrev RunRest : (size : ℕ) → List ℕ → Option Parsed → Type 0
 RunRest size bs None = Unit {0}
 RunRest size bs (Some found) = IsRest bs found.behind × (backticks found.behind ≡ size)
 
-when : {A : Type 0} (P : A → Type 0) (b : Bool) (x y : A) → (b ≡ true → P x) → (b ≡ false → P y) → P (if b then x else y)
+pub when : {A : Type 0} (P : A → Type 0) (b : Bool) (x y : A) → (b ≡ true → P x) → (b ≡ false → P y) → P (if b then x else y)
 when P true x y h k = h refl
 when P false x y h k = k refl
 
@@ -194,19 +201,18 @@ front_last Q m [] h f = absurd (omega arith)
 front_last Q zero (b ∷ l) h f = f.0
 front_last Q (suc m) (b ∷ l) h f = front_last Q m l (omega arith) f.1
 
-abbrev Content : ℕ → Type 0
-Content b = is_content b ≡ true
+backtick_word : (b : ℕ) → is_backtick b ≡ true → IsWord b
+backtick_word b e = word-is b 96 refl (omega arith) e
 
-backtick_content : (b : ℕ) → is_backtick b ≡ true → Content b
-backtick_content b e = subst (λ x. is_content x ≡ true) (sym (eqb-true b 96 e)) refl
-
-leads_behind : (n : ℕ) (l : List ℕ) → 0 < n → Leads Content n l → IsBehind l (drop n l)
+pub leads_behind : (n : ℕ) (l : List ℕ) → 0 < n → Leads IsWord n l → IsBehind l (drop n l)
 leads_behind zero l some h = absurd (omega arith)
-leads_behind (suc m) l some h = record { place = m; inside = h.fits; content = front_last Content m l h.fits h.front; rest = refl }
+leads_behind (suc m) l some h =
+    let w = front_last IsWord m l h.fits h.front in
+    record { place = m; inside = h.fits; content = w.content; ascii = w.ascii; rest = refl }
 
 run_behind : (bs l : List ℕ) (n : ℕ) → 0 < n → IsRest bs l → backticks l ≡ n → IsBehind bs (drop n l)
 run_behind bs l n some h e =
-    behind-rest bs l (drop n l) h (leads_behind n l some (subst (λ k. Leads Content k l) e (prefix-leads is_backtick Content backtick_content l)))
+    behind-rest bs l (drop n l) h (leads_behind n l some (subst (λ k. Leads IsWord k l) e (prefix-leads is_backtick IsWord backtick_word l)))
 
 pub code-behind : (bs : List ℕ) → ParsedBehind bs (code_in bs)
 code-behind bs = go (backticks bs == 0) refl
@@ -230,9 +236,9 @@ put_behind b bs None h = tt
 put_behind b bs (Some found) h = behind-rest (b ∷ bs) bs found.behind (1, refl) h
 
 dollar_behind : (b : ℕ) (bs : List ℕ) → is_dollar b ≡ true → IsBehind (b ∷ bs) bs
-dollar_behind b bs e = byte_behind b 36 bs refl e
+dollar_behind b bs e = byte_behind b 36 bs refl (omega arith) e
 
-first_behind : (bs : List ℕ) → first_is is_dollar bs ≡ true → IsBehind bs (drop 1 bs)
+pub first_behind : (bs : List ℕ) → first_is is_dollar bs ≡ true → IsBehind bs (drop 1 bs)
 first_behind [] e = cc
 first_behind (c ∷ bs) e = dollar_behind c bs e
 
@@ -262,12 +268,12 @@ display-behind braces bs = formula_behind true (context_of braces) false 36 brac
 
 first_here : (l : List ℕ) → first_is (λ b. b == 62) l ≡ true → IsBehind l (drop 1 l)
 first_here [] e = cc
-first_here (b ∷ l) e = byte_behind b 62 l refl e
+first_here (b ∷ l) e = byte_behind b 62 l refl (omega arith) e
 
 closed_behind : (size : ℕ) (bs : List ℕ) → ParsedBehind bs (closed_by 62 size bs)
 closed_behind size bs =
     when (ParsedBehind bs) (first_is (λ b. b == 62) (drop size bs)) (Some (record { bytes = _; behind = drop (suc size) bs })) None
     (λ e. subst (IsBehind bs) (drop-drop 1 size bs ∙ ap (λ n. drop n bs) (let q : size + 1 ≡ suc size = omega arith in q)) (behind-rest bs (drop size bs) (drop 1 (drop size bs)) (size, refl) (first_here (drop size bs) e))) (λ e. tt)
 
-pub autolink-behind : (bs : List ℕ) → ParsedBehind bs (autolink_in bs)
-autolink-behind bs = when (ParsedBehind bs) (has_scheme bs) (closed_by 62 (prefix_len is_uri_byte bs) bs) None (λ e. closed_behind (prefix_len is_uri_byte bs) bs) (λ e. tt)
+pub autolink-behind : (emails : Bool) (bs : List ℕ) → ParsedBehind bs (autolink_in emails bs)
+autolink-behind emails bs = when (ParsedBehind bs) (has_address emails bs) (closed_by 62 (prefix_len is_uri_byte bs) bs) None (λ e. closed_behind (prefix_len is_uri_byte bs) bs) (λ e. tt)

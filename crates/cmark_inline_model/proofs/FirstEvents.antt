@@ -44,8 +44,8 @@ and_none : (a b : Bool) → b ≡ false → (a && b) ≡ false
 and_none true b e = e
 and_none false b e = refl
 
-or_none : (a b c : Bool) → a ≡ false → b ≡ false → c ≡ false → (a || (b || c)) ≡ false
-or_none a b c e f g = ap (λ x. x || (b || c)) e ∙ ap (λ x. x || c) f ∙ g
+or_none : (a b c d : Bool) → a ≡ false → b ≡ false → c ≡ false → d ≡ false → (a || (b || (c || d))) ≡ false
+or_none a b c d e f g h = ap (λ x. x || (b || (c || d))) e ∙ ap (λ x. x || (c || d)) f ∙ ap (λ x. x || d) g ∙ h
 
 run_size : (options : Options) (delimiter size : ℕ) → is_delimiter_run options delimiter size ≡ true → 0 < size
 run_size options delimiter (suc size) e = omega arith
@@ -53,8 +53,8 @@ run_size options delimiter zero e = absurd (true≢false (sym e ∙ none))
   where
     none : is_delimiter_run options delimiter 0 ≡ false
     none =
-        or_none _ _ _ (and_none ((delimiter == 42) || (delimiter == 95)) false refl) (and_none (delimiter == 126) _ (and_none (options.strikethrough || options.subscript) false refl))
-        (and_none (delimiter == 94) _ (and_none options.superscript false refl))
+        or_none _ _ _ _ (and_none ((delimiter == 42) || (delimiter == 95)) false refl) (and_none (delimiter == 126) _ (and_none (options.strikethrough || options.subscript) false refl))
+        (and_none (delimiter == 94) _ (and_none options.superscript false refl)) (and_none (delimiter == 61) _ (and_none options.highlight false refl))
 
 read_size : (options : Options) (kind : ItemKind) → IsRead options kind → HasSize kind
 read_size options (Delimiters run) h = run_size options run.delimiter run.run_length h

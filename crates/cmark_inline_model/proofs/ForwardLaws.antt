@@ -52,7 +52,7 @@ module _ (reader : Reader) (leaf : Leaf) (size : ℕ) (turn : InTurn 0 leaf.stre
       order (inl q) y = omega arith
       order (inr q) y = omega arith
   shape_reaches s closer w asked o (ToFootnote label os taken name h t on e) = subst (Reaches closer.end end) (sym e) (record { behind = (omega arith, omega arith); within = w })
-  shape_reaches s closer w asked o (ToWiki label os first far h t on next e) =
+  shape_reaches s closer w asked o (ToWiki label os first far h t on next touched e) =
       let some = first-size (λ b. b == 93) (behind reader leaf closer.end) next in
       let f = some-fit reader.source leaf.stretches size turn closer.end some in
       subst (Reaches closer.end end) (sym e) (record { behind = (omega arith, omega arith); within = omega arith })

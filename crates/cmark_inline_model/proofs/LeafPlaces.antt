@@ -114,7 +114,7 @@ none_from source from (s ∷ (t ∷ more)) size at h e =
     omega arith
 
 -- as many bytes as are left stand between a place and the end
-fits_from : (source : List ℕ) (from : ℕ) (s : Stretch) (more : List Stretch) (size at : ℕ) → InTurn from (s ∷ more) size → at ≤ end_of (s ∷ more) → length (bytes_from source (s ∷ more) at) + max at s.start ≤ end_of (s ∷ more)
+pub fits_from : (source : List ℕ) (from : ℕ) (s : Stretch) (more : List Stretch) (size at : ℕ) → InTurn from (s ∷ more) size → at ≤ end_of (s ∷ more) → length (bytes_from source (s ∷ more) at) + max at s.start ≤ end_of (s ∷ more)
 fits_from source from s [] size at h e = let l = length-append (slice source (max at s.start) s.end) [] in let a = slice_size source (max at s.start) s.end in let x = h.1 in omega arith
 fits_from source from s (t ∷ more) size at h e =
     let l = length-append (slice source (max at s.start) s.end) (bytes_from source (t ∷ more) at) in

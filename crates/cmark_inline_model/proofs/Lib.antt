@@ -1,3 +1,4 @@
+mod Addresses
 pub mod QuestionsBelow
 pub mod QuestionsInTurn
 pub mod Backwards
@@ -20,9 +21,11 @@ pub mod DocumentExamples1
 pub mod DocumentExamples2
 pub mod DocumentLaws
 pub mod DocumentLeaves
+pub mod EventCounts
 pub mod FindRests
 pub mod FirstEvents
 pub mod ForwardLaws
+pub mod GivenAnswers
 pub mod KindViews
 pub mod LeafCuts
 pub mod LeafEndings
@@ -32,6 +35,7 @@ pub mod LeafExamples3
 pub mod LeafExamples4
 pub mod LeafExamples5
 pub mod LeafFronts
+pub mod LeafExtents
 pub mod LeafGaps
 pub mod LeafLaws
 pub mod LeafLines
@@ -42,6 +46,7 @@ pub mod LeafRules
 pub mod LeafSteps
 pub mod LeafStretches
 pub mod LinkNesting
+pub mod LinkRests
 pub mod LinkSpans
 pub mod NotRead
 pub mod Openers
@@ -58,6 +63,7 @@ pub mod RangeExamples
 pub mod ReadingBalanced
 pub mod ReadingBelow
 pub mod ReadingDocuments
+pub mod ReadingEdges
 pub mod ReadingLaws
 pub mod ReadingLinkLaws
 pub mod ReadingOrders
@@ -78,13 +84,16 @@ pub mod LikeSlots
 pub mod SlotMarks
 pub mod SlotQuotes
 pub mod SlotSpans
+pub mod SourceEdges
 pub mod SpanCosts
+pub mod SpanEdges
 pub mod SpanElements
 pub mod SpanItems
 pub mod SpanKinds
 pub mod SpanRanges
 pub mod SpentEvents
 pub mod SpentLaws
+pub mod TextEdges
 pub mod TextLaws
 pub mod TightSpans
 pub mod TogetherTokens
@@ -98,3 +107,6 @@ pub mod WalkLaws
 pub mod WikiGaps
 pub mod WordBytes
 pub mod TextPlaces
+pub mod WithoutTokens
+pub mod WithoutEmphasis
+pub mod WithoutReadings

@@ -1,25 +1,27 @@
 -- Links and images of a leaf's parts, of its spans, and of its events.
 use Rattle.std.specs.Prelude.{zero, suc, ◌&&◌, ◌||◌, not, ◌<◌, if◌then◌else◌}
-use Rattle.std.proofs.Common.{◌≡◌, ℕ, Bool, true, false, List, [], ◌∷◌, ◌++◌, Some, None, refl, sym, ap, subst, arith, append_assoc}
+use Rattle.std.proofs.Common.{◌≡◌, inl, inr, ℕ, Bool, true, false, List, [], ◌∷◌, ◌++◌, Some, None, refl, sym, ap, subst, arith, append_assoc}
+use Rattle.cmark_grammar.specs.Autolinks.{has_scheme}
 use Rattle.cmark_grammar.specs.BracketDecisions.{linked}
 use Rattle.cmark_grammar.specs.Event.{Start, End, Ranged}
 use Rattle.cmark_grammar.specs.InlineReading.{event_of, inline_events, over}
 use Rattle.cmark_grammar.specs.Items.{ItemKind, Plain, Own, Written, Quoted, Delimiters, Code, InlineMath, DisplayMath, Autolink as AutolinkItem, Html, OwnedHtml, FootnoteReference, SoftBreak, HardBreak, Item}
-use Rattle.cmark_grammar.specs.LinkType.{Autolink, WikiLink}
+use Rattle.cmark_grammar.specs.LinkType.{Autolink, Email, WikiLink}
 use Rattle.cmark_grammar.specs.Options.{Options}
 use Rattle.cmark_grammar.specs.Parts.{Parts, Nil as NoParts, Single as SinglePart, Form, Closing, Opening, Linking, Footnote, Wiki}
 use Rattle.cmark_grammar.specs.Questions.{Exchange}
 use Rattle.cmark_grammar.specs.Readers.{Reader}
-use Rattle.cmark_grammar.specs.Siblings.{Inline, Nil, Single, Around, tag_by, footnote_then, name_text, display_from}
+use Rattle.cmark_grammar.specs.Siblings.{Inline, Nil, Single, Around, tag_by, footnote_then, name_text, display_from, address_type, address_link}
 use Rattle.cmark_grammar.specs.SiblingsModel.{dress, siblings_of, spans_in}
-use Rattle.cmark_grammar.specs.Spans.{SpanKind, Emphasis, Strong, SingleTilde, DoubleTilde, Caret, span_tag}
+use Rattle.cmark_grammar.specs.Spans.{SpanKind, Emphasis, Strong, SingleTilde, DoubleTilde, Caret, DoubleEquals, span_tag}
 use Rattle.cmark_grammar.specs.Tag as tag
 use Rattle.cmark_grammar.specs.Tag.{Tag, Linked, Link, Image}
 use Rattle.cmark_grammar.specs.TagEnd.{end_of}
 use Rattle.cmark_inline_model.specs.FormedParts.{AllFormed}
-use Rattle.cmark_inline_model.specs.LinkRules.{IsLed, IsFormedRightly}
+use Rattle.cmark_inline_model.specs.LinkRules.{IsLed, LeadsBy, IsFormedRightly}
 use Rattle.cmark_inline_model.specs.NestedLinks.{holds_link, HasLinksApart}
-use Rattle.cmark_inline_model.specs.ReadingLinks.{LinkEvent, Begins, Finishes, Neither, of_tag, of_end, link_event, MayBegin, ApartBy, LinksApart, LedBy, AreLed}
+use Rattle.cmark_inline_model.specs.OptionRules.{AllItems, IsLinkGiven, IsRead}
+use Rattle.cmark_inline_model.specs.ReadingLinks.{LinkEvent, Begins, Finishes, Neither, of_tag, of_end, link_event, IsOfAutolink, MayBegin, ApartBy, LinksApart, LedBy, AreLed}
 use Rattle.cmark_inline_model.proofs.SpanElements.{AllElements, dress-elements, item-elements, display-elements}
 
 -- ## Tags
@@ -50,6 +52,7 @@ tag-view tag.Strong = NoLink refl refl
 tag-view tag.Strikethrough = NoLink refl refl
 tag-view tag.Superscript = NoLink refl refl
 tag-view tag.Subscript = NoLink refl refl
+tag-view tag.Highlight = NoLink refl refl
 tag-view (tag.Link linked) = ALink false linked refl refl
 tag-view (tag.Image linked) = ALink true linked refl refl
 tag-view (tag.MetadataBlock kind) = NoLink refl refl
@@ -73,6 +76,7 @@ span-neither options DoubleTilde t e = go options.strikethrough e
     go true e = let f : t ≡ tag.Strikethrough = cc in ap of_tag f
     go false e = cc
 span-neither options Caret t e = let f : t ≡ tag.Superscript = cc in ap of_tag f
+span-neither options DoubleEquals t e = let f : t ≡ tag.Highlight = cc in ap of_tag f
 
 pub item-neither : (source : List ℕ) (x : Item) (kind : ItemKind) → link_event (event_of source x kind) ≡ Neither
 item-neither source x Plain = refl
@@ -94,10 +98,17 @@ item-neither source x HardBreak = refl
 
 -- a link, if it is one, is an autolink
 abbrev IsAuto : LinkEvent → Type 0
-IsAuto (Begins false linked) = linked.link_type ≡ Autolink
+IsAuto (Begins false linked) = IsOfAutolink linked.link_type
 IsAuto (Begins true linked) = Unit {0}
 IsAuto (Finishes is_image) = Unit {0}
 IsAuto Neither = Unit {0}
+
+address_auto : (address : List ℕ) → IsOfAutolink (address_type address)
+address_auto address = go (has_scheme address)
+  where
+    go : (z : Bool) → IsOfAutolink (if z then Autolink else Email)
+    go true = inl refl
+    go false = inr refl
 
 abbrev AreAutos : Inline → Type 0
 AreAutos spans = AllElements (λ t inside. IsAuto (of_tag t)) spans
@@ -143,7 +154,7 @@ module _ (options : Options) where
 
   siblings_autos : (parts : Parts) → holds_link parts ≡ false → AreAutos (siblings_of options parts)
   siblings_autos NoParts e = tt
-  siblings_autos (SinglePart x after) e = item-elements (λ t inside. IsAuto (of_tag t)) x (siblings_of options after) (λ uri text. refl) (siblings_autos after e)
+  siblings_autos (SinglePart x after) e = item-elements (λ t inside. IsAuto (of_tag t)) x (siblings_of options after) (λ address text e. address_auto address) (siblings_autos after e)
   siblings_autos (Form opener inside closer (Linking target) after) e =
       let others = or_right (not opener.is_image) (holds_link inside || holds_link after) e in (
         image_auto opener.is_image target.linked (or_left (not opener.is_image) (holds_link inside || holds_link after) e),
@@ -179,7 +190,7 @@ module _ (options : Options) where
 
   siblings_apart : (parts : Parts) → HasLinksApart parts → AreApart (siblings_of options parts)
   siblings_apart NoParts h = tt
-  siblings_apart (SinglePart x after) h = item-elements (λ t inside. HoldsApart (of_tag t) inside) x (siblings_of options after) (λ uri text. tt) (siblings_apart after h)
+  siblings_apart (SinglePart x after) h = item-elements (λ t inside. HoldsApart (of_tag t) inside) x (siblings_of options after) (λ address text e. tt) (siblings_apart after h)
   siblings_apart (Form opener inside closer (Linking target) after) h = (
     image_apart opener.is_image target.linked (dress options (siblings_of options inside)) (λ e. dress_autos (siblings_of options inside) (siblings_autos inside (and_false (not opener.is_image) (holds_link inside) e h.0))),
     dress_apart (siblings_of options inside) (siblings_apart inside h.1),
@@ -222,7 +233,7 @@ module _ (source : List ℕ) where
       more : List Ranged
       more = last ∷ (inline_events source after ++ rest)
 
-      may : (linked : Linked) (n : ℕ) → (0 < n → linked.link_type ≡ Autolink) → MayBegin n linked
+      may : (linked : Linked) (n : ℕ) → (0 < n → IsOfAutolink linked.link_type) → MayBegin n linked
       may linked zero f = tt
       may linked (suc n) f = f (omega arith)
 
@@ -257,6 +268,13 @@ module _ (reader : Reader) (asked : List Exchange) where
       ended (NoLink e f) = subst (LedBy reader asked) (sym f) tt
       ended (ALink is_image linked e f) = subst (LedBy reader asked) (sym f) tt
 
+  address_led : (address : List ℕ) → IsLinkGiven reader.options (address_type address) → IsLed reader asked (address_link address)
+  address_led address = go (has_scheme address)
+    where
+      go : (z : Bool) → IsLinkGiven reader.options (if z then Autolink else Email) → LeadsBy (if z then Autolink else Email) reader asked (address_link address)
+      go true given = (refl, refl)
+      go false given = (given, refl, refl)
+
   tag_led : (is_image : Bool) (linked : Linked) → IsLed reader asked linked → LedBy reader asked (of_tag (tag_by is_image linked))
   tag_led true linked h = h
   tag_led false linked h = h
@@ -270,21 +288,22 @@ module _ (reader : Reader) (asked : List Exchange) where
     dress_led siblings h =
         dress-elements (λ t inside. LedBy reader asked (of_tag t)) options (λ kind t inside e. subst (LedBy reader asked) (sym (span-neither options kind t e)) tt) siblings h
 
-    siblings_led : (parts : Parts) → AllFormed (IsFormedRightly reader asked) parts → AreLedSpans (siblings_of options parts)
-    siblings_led NoParts h = tt
-    siblings_led (SinglePart x after) h = item-elements (λ t inside. LedBy reader asked (of_tag t)) x (siblings_of options after) (λ uri text. (refl, refl)) (siblings_led after h)
-    siblings_led (Form opener inside closer (Linking target) after) h =
-        (tag_led opener.is_image target.linked h.0, dress_led (siblings_of options inside) (siblings_led inside h.1), siblings_led after h.2)
-    siblings_led (Form opener inside closer (Footnote label end) after) h = footnote_led opener.is_image opener.start label end (siblings_of options after) (siblings_led after h.2)
-    siblings_led (Form opener inside closer (Wiki name None end) after) h = (tag_led opener.is_image (wiki_linked name false) (h.0, refl, refl), tt, siblings_led after h.2)
-    siblings_led (Form opener inside closer (Wiki name (Some place) end) after) h =
+    siblings_led : (parts : Parts) → AllItems (IsRead reader.options) parts → AllFormed (IsFormedRightly reader asked) parts → AreLedSpans (siblings_of options parts)
+    siblings_led NoParts k h = tt
+    siblings_led (SinglePart x after) k h =
+        item-elements (λ t inside. LedBy reader asked (of_tag t)) x (siblings_of options after) (λ address text e. address_led address (subst (IsRead reader.options) e k.0)) (siblings_led after k.1 h)
+    siblings_led (Form opener inside closer (Linking target) after) k h =
+        (tag_led opener.is_image target.linked h.0, dress_led (siblings_of options inside) (siblings_led inside k.0 h.1), siblings_led after k.1 h.2)
+    siblings_led (Form opener inside closer (Footnote label end) after) k h = footnote_led opener.is_image opener.start label end (siblings_of options after) (siblings_led after k.1 h.2)
+    siblings_led (Form opener inside closer (Wiki name None end) after) k h = (tag_led opener.is_image (wiki_linked name false) (h.0, refl, refl), tt, siblings_led after k.1 h.2)
+    siblings_led (Form opener inside closer (Wiki name (Some place) end) after) k h =
         let inner = siblings_of options inside in (
           tag_led opener.is_image (wiki_linked name true) (h.0, refl, refl),
-          dress_led (display_from place closer.start inner) (display-elements (λ t inside. LedBy reader asked (of_tag t)) place closer.start inner (siblings_led inside h.1)),
-          siblings_led after h.2,
+          dress_led (display_from place closer.start inner) (display-elements (λ t inside. LedBy reader asked (of_tag t)) place closer.start inner (siblings_led inside k.0 h.1)),
+          siblings_led after k.1 h.2,
         )
-    siblings_led (Closing closer after) h = siblings_led after h
-    siblings_led (Opening opener after) h = siblings_led after h
+    siblings_led (Closing closer after) k h = siblings_led after k h
+    siblings_led (Opening opener after) k h = siblings_led after k h
 
-    pub spans-led : (parts : Parts) → AllFormed (IsFormedRightly reader asked) parts → AreLedSpans (spans_in options parts)
-    spans-led parts h = dress_led (siblings_of options parts) (siblings_led parts h)
+    pub spans-led : (parts : Parts) → AllItems (IsRead reader.options) parts → AllFormed (IsFormedRightly reader asked) parts → AreLedSpans (spans_in options parts)
+    spans-led parts k h = dress_led (siblings_of options parts) (siblings_led parts k h)

@@ -1,8 +1,9 @@
 -- Opening brackets that a closing one uses up, tries or takes.
-use Rattle.std.specs.Prelude.{zero, suc, ◌&&◌, ◌||◌, not, if◌then◌else◌, drop, map}
-use Rattle.std.proofs.Common.{◌≡◌, ◌+◌, ◌≤◌, ℕ, Bool, true, false, List, [], ◌∷◌, length, Option, Some, None, refl, sym, ap, subst, arith, ◌∙◌}
+use Rattle.std.specs.Prelude.{zero, suc, ◌==◌, ◌&&◌, ◌||◌, not, if◌then◌else◌, drop, map}
+use Rattle.std.proofs.Common.{◌≡◌, ◌+◌, ◌≤◌, ℕ, Bool, true, false, List, [], ◌∷◌, length, Option, Some, None, refl, sym, ap, subst, arith, ◌∙◌, eqb-true}
 use Rattle.std.proofs.lemmas.List.{length-drop}
 use Rattle.cmark_grammar.specs.BracketStates.{Opener}
+use Rattle.cmark_grammar.specs.Items.{Bracket}
 use Rattle.cmark_grammar.specs.OpenBrackets.{Taken, one_nearer, nearest, used_up, touches, doubled_behind, doubled, undoubled, tried, inactive, behind_link, dropped}
 use Rattle.cmark_inline_model.specs.NestedLinks.{Persist, OpenNoLink}
 use Rattle.cmark_inline_model.proofs.LinkNesting.{persist-same}
@@ -116,6 +117,71 @@ doubled_behind_far second (first ∷ os) = go (first.doubles && touches second f
 pub doubled-far : (os : List Opener) → IsFar (doubled os)
 doubled-far [] = tt
 doubled-far (o ∷ os) = doubled_behind_far o os
+
+-- the second bracket of a doubled one stands directly behind the first, and opens no image
+pub record IsTouched (os : List Opener) (taken : Taken) : Type 0 where
+  pub n : ℕ
+  pub second : Opener
+  pub before : List Opener
+  pub there : drop n os ≡ second ∷ before
+  pub link : second.bracket.is_image ≡ false
+  pub start : second.bracket.start ≡ taken.opener.bracket.end
+
+abbrev pub AreTouched : List Opener → Option Taken → Type 0
+AreTouched os None = Unit {0}
+AreTouched os (Some taken) = IsTouched os taken
+
+one_nearer_touched : (o : Opener) (os : List Opener) (taken : Option Taken) → AreTouched os taken → AreTouched (o ∷ os) (one_nearer taken)
+one_nearer_touched o os None h = tt
+one_nearer_touched o os (Some taken) h = record { n = suc h.n; second = h.second; before = h.before; there = h.there; link = h.link; start = h.start }
+
+doubled_behind_touched : (second : Opener) (os : List Opener) → AreTouched (second ∷ os) (doubled_behind second os)
+doubled_behind_touched second [] = tt
+doubled_behind_touched second (first ∷ os) = go (first.doubles && touches second first) refl (doubled_behind_touched first os)
+  where
+    last-true : (a b : Bool) → (a && b) ≡ true → b ≡ true
+    last-true true b e = e
+    last-true false b e = cc
+
+    first-true : (a b : Bool) → (a && b) ≡ true → a ≡ true
+    first-true true b e = refl
+    first-true false b e = cc
+
+    not-false : (a : Bool) → not a ≡ true → a ≡ false
+    not-false true e = cc
+    not-false false e = refl
+
+    go : (b : Bool) → (first.doubles && touches second first) ≡ b → AreTouched (first ∷ os) (doubled_behind first os)
+        → AreTouched (second ∷ (first ∷ os)) (if b then Some (record { nearer = 1; opener = first }) else one_nearer (doubled_behind first os))
+    go true e h =
+        let t = last-true first.doubles (touches second first) e in
+        record {
+          n = 0;
+          second = second;
+          before = first ∷ os;
+          there = refl;
+          link = not-false second.bracket.is_image (first-true (not second.bracket.is_image) (second.bracket.start == first.bracket.end) t);
+          start = eqb-true second.bracket.start first.bracket.end (last-true (not second.bracket.is_image) (second.bracket.start == first.bracket.end) t);
+        }
+    go false e h = one_nearer_touched second (first ∷ os) (doubled_behind first os) h
+
+pub doubled-touched : (os : List Opener) → AreTouched os (doubled os)
+doubled-touched [] = tt
+doubled-touched (o ∷ os) = doubled_behind_touched o os
+
+pub touched-alike : (a b : List Opener) (taken : Taken) → Alike a b → IsTouched b taken → IsTouched a taken
+touched-alike a b taken h k = go (drop k.n a) refl (subst (Alike (drop k.n a)) k.there (alike-drop k.n a b h))
+  where
+    go : (l : List Opener) → drop k.n a ≡ l → Alike l (k.second ∷ k.before) → IsTouched a taken
+    go [] e f = absurd (let d : ⊥ = cc in d)
+    go (o ∷ more) e f = record {
+      n = k.n;
+      second = o;
+      before = more;
+      there = e;
+      link = ap (λ (x : Bracket). x.is_image) (sym f.0) ∙ k.link;
+      start = ap (λ (x : Bracket). x.start) (sym f.0) ∙ k.start;
+    }
 
 -- ## What is left of those before the taken one
 

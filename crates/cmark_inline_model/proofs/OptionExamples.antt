@@ -28,6 +28,12 @@ subscript = record no_options { subscript = true }
 abbrev superscript : Options
 superscript = record no_options { superscript = true }
 
+abbrev highlight : Options
+highlight = record no_options { highlight = true }
+
+abbrev strikethrough_highlight : Options
+strikethrough_highlight = record no_options { strikethrough = true; highlight = true }
+
 abbrev strikethrough_superscript : Options
 strikethrough_superscript = record no_options { strikethrough = true; superscript = true }
 
@@ -79,6 +85,37 @@ superscripts = refl
 no_superscript : html_with no_options (codes "x^2^") ≡ codes "x^2^"
 unfolding caseless encode chars token decide ucd_category is_unicode_white_space is_unicode_punctuation agrees pair_of rest_of_opener rest_of_closer kinds_of deactivates closed
 no_superscript = refl
+
+highlighted : html_with highlight (codes "==a==") ≡ codes "<mark>a</mark>"
+unfolding caseless encode chars token decide ucd_category is_unicode_white_space is_unicode_punctuation agrees pair_of rest_of_opener rest_of_closer kinds_of deactivates closed
+highlighted = refl
+
+no_highlight : html_with no_options (codes "==a==") ≡ codes "==a=="
+unfolding caseless encode chars token decide ucd_category is_unicode_white_space is_unicode_punctuation agrees pair_of rest_of_opener rest_of_closer kinds_of deactivates closed
+no_highlight = refl
+
+-- no other number is a run
+three_equals : html_with highlight (codes "a === b =c= ====d====") ≡ codes "a === b =c= ====d===="
+unfolding caseless encode chars token decide ucd_category is_unicode_white_space is_unicode_punctuation agrees pair_of rest_of_opener rest_of_closer kinds_of deactivates closed
+three_equals = refl
+
+highlight_closes_emphasis : html_with highlight (codes "==a *b== c*") ≡ codes "<mark>a *b</mark> c*"
+unfolding caseless encode chars token decide ucd_category is_unicode_white_space is_unicode_punctuation agrees pair_of rest_of_opener rest_of_closer kinds_of deactivates closed
+highlight_closes_emphasis = refl
+
+-- a closing tilde that finds none closes no equals signs
+equals_stay_open : html_with strikethrough_highlight (codes "==a b~ c==") ≡ codes "<mark>a b~ c</mark>"
+unfolding caseless encode chars token decide ucd_category is_unicode_white_space is_unicode_punctuation agrees pair_of rest_of_opener rest_of_closer kinds_of deactivates closed
+equals_stay_open = refl
+
+-- and closing equals signs that find none close no tilde
+tildes_stay_open : html_with strikethrough_highlight (codes "~a b== c~") ≡ codes "<del>a b== c</del>"
+unfolding caseless encode chars token decide ucd_category is_unicode_white_space is_unicode_punctuation agrees pair_of rest_of_opener rest_of_closer kinds_of deactivates closed
+tildes_stay_open = refl
+
+highlight_in_struck : html_with strikethrough_highlight (codes "~a ==b== c~") ≡ codes "<del>a <mark>b</mark> c</del>"
+unfolding caseless encode chars token decide ucd_category is_unicode_white_space is_unicode_punctuation agrees pair_of rest_of_opener rest_of_closer kinds_of deactivates closed
+highlight_in_struck = refl
 
 smart_quotes_and_dashes : html_with smart (codes "\"a\" -- 'b'...")
     ≡ (226 ∷ 128 ∷ 156 ∷ []) ++ (codes "a" ++ ((226 ∷ 128 ∷ 157 ∷ []) ++ (codes " " ++ ((226 ∷ 128 ∷ 147 ∷ []) ++ (codes " " ++ ((226 ∷ 128 ∷ 152 ∷ []) ++ (codes "b" ++ ((226 ∷ 128 ∷ 153 ∷ 226 ∷ 128 ∷ 166 ∷ [])))))))))

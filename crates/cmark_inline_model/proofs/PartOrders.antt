@@ -2,7 +2,7 @@
 use Rattle.std.specs.Prelude.{suc, ◌-◌, ◌==◌, nat_le, max, get_or, drop, take, if◌then◌else◌}
 use Rattle.std.specs.List.{prefix_len}
 use Rattle.std.proofs.Common.{◌≡◌, inl, inr, ℕ, ◌+◌, ◌<◌, ◌≤◌, Bool, true, false, List, [], ◌∷◌, length, Some, None, refl, sym, ap, ◌∙◌, subst, arith, length-drop, eqb-true, true≢false}
-use Rattle.cmark_grammar.specs.Autolinks.{autolink_in, has_scheme, is_uri_byte}
+use Rattle.cmark_grammar.specs.Autolinks.{autolink_in, has_address, is_uri_byte}
 use Rattle.cmark_grammar.specs.BracketDecisions.{decide}
 use Rattle.cmark_grammar.specs.BracketReading.{Reads}
 use Rattle.cmark_grammar.specs.BracketStates.{State}
@@ -30,9 +30,13 @@ use Rattle.cmark_inline_model.proofs.WikiGaps.{HaveGaps}
 
 -- ## Items fill their bytes
 
-autolink_behind : (bs : List ℕ) (found : Parsed) → autolink_in bs ≡ Some found → length found.behind < length bs
-autolink_behind [] found e = cc
-autolink_behind (b ∷ bs) found e = scheme (has_scheme (b ∷ bs)) e
+autolink_behind : (emails : Bool) (bs : List ℕ) (found : Parsed) → autolink_in emails bs ≡ Some found → length found.behind < length bs
+autolink_behind emails [] found e = by (has_address emails []) e
+  where
+    by : (x : Bool) → (if x then None else None) ≡ Some found → length found.behind < 0
+    by true f = cc
+    by false f = cc
+autolink_behind emails (b ∷ bs) found e = scheme (has_address emails (b ∷ bs)) e
   where
     size : ℕ
     size = prefix_len is_uri_byte (b ∷ bs)
@@ -50,11 +54,11 @@ abbrev pub FillsItem : Item → Type 0
 FillsItem x = Fills x.kind x.start x.end
 
 module _ (reader : Reader) (leaf : Leaf) (size : ℕ) (turn : InTurn 0 leaf.stretches size) where
-  autolink_fills : (at b : ℕ) (bs : List ℕ) (found : Parsed) → from reader leaf at ≡ b ∷ bs → autolink_in bs ≡ Some found → at + 2 ≤ place_of reader leaf found.behind
+  autolink_fills : (at b : ℕ) (bs : List ℕ) (found : Parsed) → from reader leaf at ≡ b ∷ bs → autolink_in reader.options.email_autolinks bs ≡ Some found → at + 2 ≤ place_of reader leaf found.behind
   autolink_fills at b bs found here e =
       let l = ap length here in
       let n = next-size reader.source leaf.stretches size turn at in
-      let k = autolink_behind bs found e in
+      let k = autolink_behind reader.options.email_autolinks bs found e in
       let p = place-behind reader.source leaf.stretches size turn (length found.behind) (suc at) (omega arith) in
       omega arith
 

@@ -1,5 +1,5 @@
 -- What begins at a place of a leaf is what begins in its text, in the places of the source.
-use Rattle.std.specs.Prelude.{suc, zero, ◌-◌, ◌==◌, ◌&&◌, ◌||◌, not, nat_lt, if◌then◌else◌, get_or, drop, take, codes, chars, reverse, min, max}
+use Rattle.std.specs.Prelude.{suc, zero, ◌-◌, ◌==◌, ◌&&◌, ◌||◌, not, nat_lt, if◌then◌else◌, is_none, get_or, drop, take, codes, chars, reverse, min, max}
 use Rattle.std.specs.List.{prefix_len}
 use Rattle.std.proofs.Common.{◌≡◌, ◌⊎◌, inl, inr, ⊎_elim, ◌<◌, ◌≤◌, ◌+◌, ℕ, Bool, true, false, List, [], ◌∷◌, length, Option, Some, None, refl, sym, ap, ◌∙◌, subst, arith, length-drop, drop-drop, eqb-true, true≢false}
 use Rattle.std.proofs.Math.Seq.{drop-cons, take-length}
@@ -10,7 +10,7 @@ use Rattle.cmark_grammar.specs.Autolinks.{autolink_in}
 use Rattle.cmark_grammar.specs.CodeSpans.{is_backtick, backticks, code_in, code_text}
 use Rattle.cmark_grammar.specs.Columns.{is_blank_byte}
 use Rattle.cmark_grammar.specs.Dashes.{dashes_of, dash_text}
-use Rattle.cmark_grammar.specs.Flanking.{Flanking, flanking}
+use Rattle.cmark_grammar.specs.Flanking.{Flanking, flanking, is_run_delimiter}
 use Rattle.cmark_grammar.specs.Formulas.{is_dollar, no_braces, braces_behind, inline_in, display_in}
 use Rattle.cmark_grammar.specs.InlineHtml.{behind_markup, behind_opened, opened_in}
 use Rattle.cmark_grammar.specs.InlineTokens.{item_at, bracket, as_in, first_of, from, before, place_of, size_to, character_before, character_at, line_begins, read_on, break_to, break_or, code_or, escaped_backtick, escape_at, entity_or, autolink_or, tag_kind, tag_or_text, source_from, markup_or, less_than, run_or, run_at, formula_or, dollar, dots, hyphens, quote_at, smart_or, begins, begins_at}
@@ -282,7 +282,7 @@ module _ (reader : Reader) (leaf : Leaf) (text : List ℕ) (place : ℕ → ℕ)
     break_is (Some found) other other0 t p =
         ap (λ n. break_to reader leaf (place k) found (place k + n)) size_here
         ∙ item_is (if found.is_hard then HardBreak else SoftBreak) (place k + found.before) (place k + n) (read_on reader leaf (place k + n)) (k + found.before) (k + n) (read_on one alone (k + n))
-        (sym (fewer-steps found.before t.blanks k (b ∷ bs) t.begins here t.leads)) end_is
+        (sym (fewer-steps found.before t.blanks k (b ∷ bs) t.begins here blank_leads)) end_is
         (ap (read_on reader leaf) end_is ∙ read-on (suc (place last)) (k + n) (subst (IsParted (length text) place (suc (place last))) (let q : suc last ≡ k + n = omega arith in q) (at-behind last last_in)))
         ∙ ap (λ n. placed place (break_to one alone k found (k + n))) (sym size_own)
       where
@@ -298,6 +298,9 @@ module _ (reader : Reader) (leaf : Leaf) (text : List ℕ) (place : ℕ → ℕ)
         size_own : size_to one alone k found.behind ≡ n
         size_own = ap (λ l. length l - length found.behind) from_own ∙ behind_size
 
+        blank_leads : Leads Content t.blanks (b ∷ bs)
+        blank_leads = record { front = front-map IsWord Content (λ c w. w.content) t.blanks (b ∷ bs) t.leads.front; fits = t.leads.fits }
+
         last : ℕ
         last = (k + n) - 1
 
@@ -305,7 +308,7 @@ module _ (reader : Reader) (leaf : Leaf) (text : List ℕ) (place : ℕ → ℕ)
         last_in = let w = t.fits in let e = ap length here in let d = length-drop k text in omega arith
 
         blanks_at : place (k + t.blanks) ≡ place k + t.blanks
-        blanks_at = steps t.blanks k (b ∷ bs) here t.leads
+        blanks_at = steps t.blanks k (b ∷ bs) here blank_leads
 
         byte_at : (i : ℕ) → get_or text (k + i) 0 ≡ get_or (b ∷ bs) i 0
         byte_at i = sym (get_or-drop k text i 0) ∙ ap (λ l. get_or l i 0) here
@@ -368,18 +371,20 @@ module _ (reader : Reader) (leaf : Leaf) (text : List ℕ) (place : ℕ → ℕ)
         (λ g. byte_is Plain w.content)))
 
     -- no markup opens there
-    module _ (none : may_open_markup (b ∷ bs) ≡ false) where
-      no_second : (b == 60) ≡ true → first_is (λ c. (c == 33) || (c == 63)) bs ≡ false
-      no_second e = subst (λ z. (z && first_is (λ c. (c == 33) || (c == 63)) bs) ≡ false) e none
+    module _ (none : may_open_markup reader.options.email_autolinks (b ∷ bs) ≡ false) where
+      no_second : (b == 60) ≡ true → autolink_in reader.options.email_autolinks bs ≡ None → first_is (λ c. (c == 33) || (c == 63)) bs ≡ false
+      no_second e link =
+          subst (λ m. (is_none m && first_is (λ c. (c == 33) || (c == 63)) bs) ≡ false) link
+          (subst (λ z. (z && (is_none (autolink_in reader.options.email_autolinks bs) && first_is (λ c. (c == 33) || (c == 63)) bs)) ≡ false) e none)
 
       parts_of : (l : List ℕ) → first_is (λ c. (c == 33) || (c == 63)) l ≡ false → (first_is (λ c. c == 33) l ≡ false) × (first_is (λ c. c == 63) l ≡ false)
       parts_of [] e = (refl, refl)
       parts_of (d ∷ l) e = or_parts (d == 33) (d == 63) e
 
-      no_source : (b == 60) ≡ true → behind_markup (source_from reader leaf (place k)) ≡ None
-      no_source e =
+      no_source : (b == 60) ≡ true → autolink_in reader.options.email_autolinks bs ≡ None → behind_markup (source_from reader leaf (place k)) ≡ None
+      no_source e link =
           let c : is_content (get_or text k 0) ≡ true = ap is_content (inside k b bs here).1 ∙ subst (λ x. is_content x ≡ true) (sym (eqb-true b 60 e)) refl in
-          let p = parts_of bs (no_second e) in
+          let p = parts_of bs (no_second e link) in
           no_markup (source_from reader leaf (place k))
           (λ t. true≢false (sym (second_of_source k 33 lt c t) ∙ ap (first_is (λ d. d == 33)) next_here ∙ p.0))
           (λ t. true≢false (sym (second_of_source k 63 lt c t) ∙ ap (first_is (λ d. d == 63)) next_here ∙ p.1))
@@ -389,9 +394,9 @@ module _ (reader : Reader) (leaf : Leaf) (text : List ℕ) (place : ℕ → ℕ)
           (let d = length-drop k text in ap (λ n. take n (drop k text)) (let e : end_of alone.stretches - k ≡ length (drop k text) = omega arith in e))
           ∙ take-length (drop k text) ∙ here
 
-      pub no-own : (b == 60) ≡ true → behind_markup (source_from one alone k) ≡ None
-      no-own e =
-          let p = parts_of bs (no_second e) in
+      pub no-own : (b == 60) ≡ true → autolink_in reader.options.email_autolinks bs ≡ None → behind_markup (source_from one alone k) ≡ None
+      no-own e link =
+          let p = parts_of bs (no_second e link) in
           no_markup (source_from one alone k)
           (λ t. true≢false (sym (second 33 bs (sym (ap (take 2) own_source) ∙ t)) ∙ p.0))
           (λ t. true≢false (sym (second 63 bs (sym (ap (take 2) own_source) ∙ t)) ∙ p.1))
@@ -419,14 +424,14 @@ module _ (reader : Reader) (leaf : Leaf) (text : List ℕ) (place : ℕ → ℕ)
           let tag0 = tag_or_text one alone k (behind_tag no_prefix (from one alone k)) in
           let others = markup_or reader leaf (place k) (behind_markup (source_from reader leaf (place k))) tag in
           let others0 = markup_or one alone k (behind_markup (source_from one alone k)) tag0 in
-          either (first_is (λ c. c == 92) bs) (item_at Plain (place k) (suc (place k))) (autolink_or reader leaf (place k) (autolink_in bs) others) (item_at Plain k (suc k)) (autolink_or one alone k (autolink_in bs) others0)
+          either (first_is (λ c. c == 92) bs) (item_at Plain (place k) (suc (place k))) (autolink_or reader leaf (place k) (autolink_in reader.options.email_autolinks bs) others) (item_at Plain k (suc k)) (autolink_or one alone k (autolink_in reader.options.email_autolinks bs) others0)
           (λ f. byte_is Plain w.content)
-          (λ f. autolink_is (autolink_in bs) others others0 (autolink-behind bs)
-          (λ n. ap (λ o. markup_or reader leaf (place k) o tag) (no_source e)
+          (λ f. autolink_is (autolink_in reader.options.email_autolinks bs) others others0 (autolink-behind reader.options.email_autolinks bs)
+          (λ n. ap (λ o. markup_or reader leaf (place k) o tag) (no_source e n)
           ∙ ap (λ l. tag_or_text reader leaf (place k) (behind_tag no_prefix l)) from_here
           ∙ tag_is w (behind_tag no_prefix (b ∷ bs)) refl
           ∙ ap (λ l. placed place (tag_or_text one alone k (behind_tag no_prefix l))) (sym from_own)
-          ∙ ap (λ o. placed place (markup_or one alone k o tag0)) (sym (no-own e))))
+          ∙ ap (λ o. placed place (markup_or one alone k o tag0)) (sym (no-own e n))))
 
       -- ## Runs, formulas, and what smart punctuation reads
       character_before_is : character_before reader leaf (place k) ≡ character_before one alone k
@@ -532,8 +537,8 @@ module _ (reader : Reader) (leaf : Leaf) (text : List ℕ) (place : ℕ → ℕ)
           let d8 = if reader.options.math && is_dollar b then dollar one alone k bs (braces_behind false (before one alone k) no_braces) else d9 in
           let run = run_at reader leaf at b (prefix_len (λ c. c == b) (b ∷ bs)) in
           let run0 = run_at one alone k b (prefix_len (λ c. c == b) (b ∷ bs)) in
-          let c7 = if (b == 42) || ((b == 95) || ((b == 126) || (b == 94))) then run else c8 in
-          let d7 = if (b == 42) || ((b == 95) || ((b == 126) || (b == 94))) then run0 else d8 in
+          let c7 = if is_run_delimiter b then run else c8 in
+          let d7 = if is_run_delimiter b then run0 else d8 in
           let c6 = if b == 93 then Closes (bracket false at (suc at)) else c7 in
           let d6 = if b == 93 then Closes (bracket false k (suc k)) else d7 in
           let c5 = if b == 91 then Opens (bracket false at (suc at)) else c6 in
@@ -571,7 +576,7 @@ module _ (reader : Reader) (leaf : Leaf) (text : List ℕ) (place : ℕ → ℕ)
           (λ e5. either (b == 91) (Opens (bracket false at (suc at))) c6 (Opens (bracket false k (suc k))) d6
           (λ e. ap (λ x. Opens (bracket false at x)) (sym (next_place c)))
           (λ e6. either (b == 93) (Closes (bracket false at (suc at))) c7 (Closes (bracket false k (suc k))) d7 (λ e. ap (λ x. Closes (bracket false at x)) (sym (next_place c)))
-          (λ e7. either ((b == 42) || ((b == 95) || ((b == 126) || (b == 94)))) run c8 run0 d8 (λ e. run_is c)
+          (λ e7. either (is_run_delimiter b) run c8 run0 d8 (λ e. run_is c)
           (λ e8. either (reader.options.math && is_dollar b) (dollar reader leaf at bs (braces_behind false (before reader leaf at) no_braces)) c9
           (dollar one alone k bs (braces_behind false (before one alone k) no_braces)) d9 (λ e. dollar_is c)
           (λ e9. either reader.options.smart_punctuation (smart_or reader leaf at b) plain (smart_or one alone k b) plain0 (λ e. smart_is c) (λ e. byte_is Plain c))))))))))))
@@ -580,9 +585,9 @@ module _ (reader : Reader) (leaf : Leaf) (text : List ℕ) (place : ℕ → ℕ)
           opens_is is_image n w = ap (λ x. Opens (bracket is_image (place k) x)) (sym (steps n k (b ∷ bs) here (content-leads n (b ∷ bs) w)))
 
   -- what begins there, but for markup that is sought in the source
-  pub begins-at : (k : ℕ) → k ≤ length text → may_open_markup (drop k text) ≡ false → begins_at reader leaf (place k) ≡ placed place (begins_at one alone k)
+  pub begins-at : (k : ℕ) → k ≤ length text → may_open_markup reader.options.email_autolinks (drop k text) ≡ false → begins_at reader leaf (place k) ≡ placed place (begins_at one alone k)
   begins-at k le none = ap (begins reader leaf (place k)) (from-place k le) ∙ go (drop k text) refl ∙ ap (λ l. placed place (begins one alone k l)) (sym (from-text k))
     where
       go : (l : List ℕ) → drop k text ≡ l → begins reader leaf (place k) l ≡ placed place (begins one alone k l)
       go [] e = refl
-      go (b ∷ bs) e = begins_is k b bs e (ap may_open_markup (sym e) ∙ none)
+      go (b ∷ bs) e = begins_is k b bs e (ap (may_open_markup reader.options.email_autolinks) (sym e) ∙ none)

@@ -126,10 +126,10 @@ module _ (reader : Reader) (leaf : Leaf) (text : List ℕ) (place : ℕ → ℕ)
       stops : StopsAt one alone (length text)
       stops more = ap (λ l. goes_on one alone (begins one alone (length text) l) (length text) more) (from-text reader leaf text place h (length text) ∙ none_left)
 
-  no_markup : may_open_markup (drop 0 text) ≡ false
-  no_markup = go (may_open_markup (drop 0 text)) refl
+  no_markup : may_open_markup reader.options.email_autolinks (drop 0 text) ≡ false
+  no_markup = go (may_open_markup reader.options.email_autolinks (drop 0 text)) refl
     where
-      go : (z : Bool) → may_open_markup (drop 0 text) ≡ z → may_open_markup (drop 0 text) ≡ false
+      go : (z : Bool) → may_open_markup reader.options.email_autolinks (drop 0 text) ≡ z → may_open_markup reader.options.email_autolinks (drop 0 text) ≡ false
       go false e = e
       go true e =
           let s = stands 0 some in

@@ -1,5 +1,5 @@
 -- Bytes that stand for themselves without a gap are one text, in the leaf as in its text.
-use Rattle.std.specs.Prelude.{suc, zero, ◌-◌, ◌==◌, ◌&&◌, ◌||◌, not, nat_lt, if◌then◌else◌, drop, take, codes}
+use Rattle.std.specs.Prelude.{suc, zero, ◌-◌, ◌==◌, ◌&&◌, ◌||◌, not, nat_lt, if◌then◌else◌, is_none, drop, take, codes}
 use Rattle.std.specs.List.{prefix_len}
 use Rattle.std.proofs.Common.{◌≡◌, ◌⊎◌, inl, inr, ◌<◌, ◌≤◌, ◌+◌, ℕ, Bool, true, false, List, [], ◌∷◌, length, Option, Some, None, refl, sym, ap, ◌∙◌, subst, arith, eqb-true, true≢false}
 use Rattle.std.proofs.lemmas.Bool.{ltb-true, ltb-false, eq-eqb, false_from_ne_true}
@@ -7,7 +7,7 @@ use Rattle.cmark_grammar.specs.Autolinks.{autolink_in}
 use Rattle.cmark_grammar.specs.CodeSpans.{is_backtick, backticks, code_in}
 use Rattle.cmark_grammar.specs.Columns.{is_blank_byte}
 use Rattle.cmark_grammar.specs.Dashes.{dashes_of, dash_text}
-use Rattle.cmark_grammar.specs.Flanking.{Flanking, flanking}
+use Rattle.cmark_grammar.specs.Flanking.{Flanking, flanking, is_run_delimiter}
 use Rattle.cmark_grammar.specs.Formulas.{is_dollar, Braces, no_braces, braces_behind, inline_in, display_in}
 use Rattle.cmark_grammar.specs.InlineHtml.{behind_markup, takes_lines}
 use Rattle.cmark_grammar.specs.InlineTokens.{item_at, bracket, is_plain, from, before, size_to, read_on, character_before, character_at, break_or, code_or, escaped_backtick, escape_at, entity_or, autolink_or, tag_or_text, source_from, markup_or, less_than, run_or, run_at, formula_or, dollar, dots, hyphens, quote_at, smart_or, begins, begins_at, goes_on, plain_end, longest, token}
@@ -96,8 +96,8 @@ module _ (reader : Reader) (leaf : Leaf) where
   less_than_shaped at bs =
       let tag = tag_or_text reader leaf at (behind_tag no_prefix (from reader leaf at)) in
       let others = markup_or reader leaf at (behind_markup (source_from reader leaf at)) tag in
-      when (first_is (λ c. c == 92) bs) (item_at Plain at (suc at)) (autolink_or reader leaf at (autolink_in bs) others) (λ e. refl)
-      (autolink_shaped at (autolink_in bs) others (markup_shaped at (behind_markup (source_from reader leaf at)) tag (tag_shaped at (behind_tag no_prefix (from reader leaf at)))))
+      when (first_is (λ c. c == 92) bs) (item_at Plain at (suc at)) (autolink_or reader leaf at (autolink_in reader.options.email_autolinks bs) others) (λ e. refl)
+      (autolink_shaped at (autolink_in reader.options.email_autolinks bs) others (markup_shaped at (behind_markup (source_from reader leaf at)) tag (tag_shaped at (behind_tag no_prefix (from reader leaf at)))))
 
   run_shaped : (at delimiter size : ℕ) (beside : Flanking) → Shaped (run_or reader leaf at delimiter size beside)
   run_shaped at delimiter size beside =
@@ -125,7 +125,7 @@ module _ (reader : Reader) (leaf : Leaf) where
       let c9 = if reader.options.smart_punctuation then smart_or reader leaf at b else plain in
       let c8 = if reader.options.math && is_dollar b then dollar reader leaf at bs (braces_behind false (before reader leaf at) no_braces) else c9 in
       let n = prefix_len (λ c. c == b) (b ∷ bs) in
-      let c7 = if (b == 42) || ((b == 95) || ((b == 126) || (b == 94))) then run_at reader leaf at b n else c8 in
+      let c7 = if is_run_delimiter b then run_at reader leaf at b n else c8 in
       let c6 = if b == 93 then Closes (bracket false at (suc at)) else c7 in
       let c5 = if b == 91 then Opens (bracket false at (suc at)) else c6 in
       let bang = if first_is (λ c. c == 91) bs then Opens (bracket true at (at + 2)) else plain in
@@ -142,7 +142,7 @@ module _ (reader : Reader) (leaf : Leaf) where
       (when (b == 33) bang c5 (when (first_is (λ c. c == 91) bs) (Opens (bracket true at (at + 2))) plain tt (λ e. refl))
       (when (b == 91) (Opens (bracket false at (suc at))) c6 tt
       (when (b == 93) (Closes (bracket false at (suc at))) c7 tt
-      (when ((b == 42) || ((b == 95) || ((b == 126) || (b == 94)))) (run_at reader leaf at b n) c8 (run_shaped at b n (flanking reader.options b n (character_before reader leaf at) (character_at reader leaf (at + n))))
+      (when (is_run_delimiter b) (run_at reader leaf at b n) c8 (run_shaped at b n (flanking reader.options b n (character_before reader leaf at) (character_at reader leaf (at + n))))
       (when (reader.options.math && is_dollar b) (dollar reader leaf at bs (braces_behind false (before reader leaf at) no_braces)) c9 (dollar_shaped at bs (braces_behind false (before reader leaf at) no_braces))
       (when reader.options.smart_punctuation (smart_or reader leaf at b) plain (smart_shaped at b) (λ e. refl)))))))))))
 
@@ -156,7 +156,7 @@ module _ (reader : Reader) (leaf : Leaf) where
   less_than_not : (at : ℕ) (bs : List ℕ) → first_is (λ c. (c == 33) || (c == 63)) bs ≡ true → NotPlain (less_than reader leaf at bs)
   less_than_not at [] e = absurd (true≢false (sym e))
   less_than_not at (c ∷ bs) e =
-      subst (λ z. NotPlain (if z then item_at Plain at (suc at) else autolink_or reader leaf at (autolink_in (c ∷ bs)) others)) (sym slash) (link (autolink_in (c ∷ bs)))
+      subst (λ z. NotPlain (if z then item_at Plain at (suc at) else autolink_or reader leaf at (autolink_in reader.options.email_autolinks (c ∷ bs)) others)) (sym slash) (link (autolink_in reader.options.email_autolinks (c ∷ bs)))
     where
       others : Token
       others = markup_or reader leaf at (behind_markup (source_from reader leaf at)) (tag_or_text reader leaf at (behind_tag no_prefix (from reader leaf at)))
@@ -184,11 +184,12 @@ module _ (reader : Reader) (leaf : Leaf) where
       link None = markup (behind_markup (source_from reader leaf at))
       link (Some found) = refl
 
-  pub markup-not : (at : ℕ) (l : List ℕ) → may_open_markup l ≡ true → NotPlain (begins reader leaf at l)
+  pub markup-not : (at : ℕ) (l : List ℕ) → may_open_markup reader.options.email_autolinks l ≡ true → NotPlain (begins reader leaf at l)
   markup-not at [] e = tt
   markup-not at (b ∷ bs) e =
       let second = first_is (λ c. (c == 33) || (c == 63)) bs in
-      subst (λ c. NotPlain (begins reader leaf at (c ∷ bs))) (sym (eqb-true b 60 (and-left (b == 60) second e))) (less_than_not at bs (and-right (b == 60) second e))
+      let none = is_none (autolink_in reader.options.email_autolinks bs) in
+      subst (λ c. NotPlain (begins reader leaf at (c ∷ bs))) (sym (eqb-true b 60 (and-left (b == 60) (none && second) e))) (less_than_not at bs (and-right none second (and-right (b == 60) (none && second) e)))
 
   pub goes-stop : (t : Token) (item_end : ℕ) (more : ℕ → ℕ) → NotPlain t → goes_on reader leaf t item_end more ≡ item_end
   goes-stop (Stands item resume) item_end more h = ap (λ z. if z && (item.start == item_end) then more resume else item_end) h
@@ -264,9 +265,9 @@ module _ (reader : Reader) (leaf : Leaf) (text : List ℕ) (place : ℕ → ℕ)
   placed_goes Ends k le o s p = record { same = λ more more0 g. refl; ends = λ more0 f g. f }
 
   begins_goes : (k : ℕ) → k ≤ length text → GoesOn (begins_at reader leaf (place k)) (begins_at one alone k) k
-  begins_goes k le = by (may_open_markup (drop k text)) refl
+  begins_goes k le = by (may_open_markup reader.options.email_autolinks (drop k text)) refl
     where
-      by : (b : Bool) → may_open_markup (drop k text) ≡ b → GoesOn (begins_at reader leaf (place k)) (begins_at one alone k) k
+      by : (b : Bool) → may_open_markup reader.options.email_autolinks (drop k text) ≡ b → GoesOn (begins_at reader leaf (place k)) (begins_at one alone k) k
       by true e =
           let n = subst (λ l. NotPlain reader leaf (begins reader leaf (place k) l)) (sym (from-place reader leaf text place h k le)) (markup-not reader leaf (place k) (drop k text) e) in
           let m = subst (λ l. NotPlain one alone (begins one alone k l)) (sym (from-text reader leaf text place h k)) (markup-not one alone k (drop k text) e) in record {
@@ -307,7 +308,7 @@ module _ (reader : Reader) (leaf : Leaf) (text : List ℕ) (place : ℕ → ℕ)
   longest_is Ends k o s p = refl
 
   -- the token there, but for markup that is sought in the source
-  pub token-at : (k : ℕ) → k ≤ length text → may_open_markup (drop k text) ≡ false → token reader leaf (place k) ≡ placed place (token one alone k)
+  pub token-at : (k : ℕ) → k ≤ length text → may_open_markup reader.options.email_autolinks (drop k text) ≡ false → token reader leaf (place k) ≡ placed place (token one alone k)
   unfolding token
   token-at k le none =
       let q = begins-at reader leaf text place h k le none in

@@ -63,7 +63,7 @@ module _ (reader : Reader) (Says : Saying) where
       formed-hold (token reader leaf) (decide reader leaf) Says (IsFormedRightly reader) (rightly-more reader) (decide-recorded reader leaf) (forms-rightly reader leaf) all (grown.0 ++ rest)
       (entering leaf before) parts h.3.last last h.3.reads.reads in
       subst (AreLed reader all) (sym f)
-      (events-led reader all reader.source (spans_in reader.options parts) h.1 (spans-led reader all reader.options parts formed) (all-led all rest others h.2 after h.1 e n h.4))
+      (events-led reader all reader.source (spans_in reader.options parts) h.1 (spans-led reader all reader.options parts (leaf-items reader leaf Says (entering leaf before) parts h.3.last h.3.reads.reads) formed) (all-led all rest others h.2 after h.1 e n h.4))
 
   -- ## Options
 

@@ -104,7 +104,7 @@ module _ (reader : Reader) where
   shape_display leaf s closer asked o (ToInline label os taken tail h t found e) = subst (λ (x : Outcome). DisplayResult closer x.result) (sym e) tt
   shape_display leaf s closer asked o (ToReference label os taken named link_type found h t n some l e) = subst (λ (x : Outcome). DisplayResult closer x.result) (sym e) tt
   shape_display leaf s closer asked o (ToFootnote label os taken name h t on e) = subst (λ (x : Outcome). DisplayResult closer x.result) (sym e) tt
-  shape_display leaf s closer asked o (ToWiki label os first far h t on next e) = subst (λ (x : Outcome). DisplayResult closer x.result) (sym e) (display_by leaf closer first (name_in (wiki_text reader leaf first closer)) (suc closer.end) on)
+  shape_display leaf s closer asked o (ToWiki label os first far h t on next touched e) = subst (λ (x : Outcome). DisplayResult closer x.result) (sym e) (display_by leaf closer first (name_in (wiki_text reader leaf first closer)) (suc closer.end) on)
 
 module _ (reader : Reader) (leaf : Leaf) (size : ℕ) (turn : InTurn 0 leaf.stretches size) (within : size ≤ length reader.source) (lines : HaveLineEnds reader.source leaf.stretches) where
   abbrev pub Place : ℕ → Type 0
@@ -134,7 +134,7 @@ module _ (reader : Reader) (leaf : Leaf) (size : ℕ) (turn : InTurn 0 leaf.stre
       subst (λ (x : Outcome). Place x.after.at) (sym e) (rest-place reader leaf size turn within lines closer.end tail.behind w (omega arith))
   shape_place s closer w asked o (ToReference label os taken named link_type found h t n some l e) = subst (λ (x : Outcome). Place x.after.at) (sym e) (behind_place closer named.resume w n.passes)
   shape_place s closer w asked o (ToFootnote label os taken name h t on e) = subst (λ (x : Outcome). Place x.after.at) (sym e) w
-  shape_place s closer w asked o (ToWiki label os first far h t on next e) = subst (λ (x : Outcome). Place x.after.at) (sym e) (second closer w next)
+  shape_place s closer w asked o (ToWiki label os first far h t on next touched e) = subst (λ (x : Outcome). Place x.after.at) (sym e) (second closer w next)
 
   record Comes (closer : Bracket) (o : Outcome) : Type 0 where
     pub reached : Place o.after.at

@@ -16,7 +16,7 @@ use Rattle.cmark_grammar.specs.Parts.{Parts, Nil, Single, Form, Closing, Opening
 use Rattle.cmark_grammar.specs.Questions.{Exchange, AnyAnswer, IsNext}
 use Rattle.cmark_grammar.specs.Quotes.{Quote, quote_characters}
 use Rattle.cmark_grammar.specs.Readers.{Reader}
-use Rattle.cmark_grammar.specs.Siblings.{item, quotes_of, tag_by, uri_link}
+use Rattle.cmark_grammar.specs.Siblings.{item, quotes_of, tag_by, address_link}
 use Rattle.cmark_grammar.specs.SiblingsModel.{dress, siblings_of, spans_in}
 use Rattle.cmark_grammar.specs.Spans.{Spans}
 use Rattle.cmark_grammar.specs.Tag.{Link}
@@ -139,13 +139,13 @@ module _ (reader : Reader) (leaf : Leaf) (before : Between) where
 
     -- an autolink, with the slots of its begin, its text and its end
     pub reached-autolink : (uri : List ℕ) (start end resume : ℕ) (slot : Slot) → token reader leaf p.state.at ≡ Stands (item (Autolink uri) start end) resume → IsLike reader.source slot (ItemSlot (item Own (suc start) (end - 1)))
-        → IsReached reader leaf before (pass (moved resume p.state) (join p.here (Single (item (Autolink uri) start end) Nil))) bs (slots ++ (BeginSlot (Link (uri_link uri)) start end ∷ (slot ∷ (EndSlot ∷ [])))) bytes quotes runs quoted_are
+        → IsReached reader leaf before (pass (moved resume p.state) (join p.here (Single (item (Autolink uri) start end) Nil))) bs (slots ++ (BeginSlot (Link (address_link uri)) start end ∷ (slot ∷ (EndSlot ∷ [])))) bytes quotes runs quoted_are
     reached-autolink uri start end resume slot t s =
         let x = item (Autolink uri) start end in
-        let more = BeginSlot (Link (uri_link uri)) start end ∷ (slot ∷ (EndSlot ∷ [])) in
+        let more = BeginSlot (Link (address_link uri)) start end ∷ (slot ∷ (EndSlot ∷ [])) in
         let inner = ItemSlot (item Own (suc start) (end - 1)) ∷ [] in
         let r = reached-item x resume more [] [] t
-        (record { row = BeginSlot (Link (uri_link uri)) start end ∷ (inner ++ (EndSlot ∷ [])); laid = (inner, [], refl, refl, (refl, refl, refl)); like = (refl, (s, (refl, refl))) }) in
+        (record { row = BeginSlot (Link (address_link uri)) start end ∷ (inner ++ (EndSlot ∷ [])); laid = (inner, [], refl, refl, (refl, refl, refl)); like = (refl, (s, (refl, refl))) }) in
         let q = pass (moved resume p.state) (join p.here (Single x Nil)) in
         let l = slots ++ more in
         subst (λ y. IsReached reader leaf before q bs l y quotes runs quoted_are) (append-nil bytes)

@@ -2,6 +2,7 @@
 use Rattle.std.specs.Prelude.{suc, zero, ◌==◌, ◌&&◌, ◌||◌, not, if◌then◌else◌, drop}
 use Rattle.std.specs.List.{prefix_len}
 use Rattle.std.proofs.Common.{◌≡◌, ℕ, ◌+◌, Bool, true, false, List, [], ◌∷◌, length, Option, Some, None, refl, ap, ◌∙◌}
+use Rattle.cmark_grammar.specs.Flanking.{is_run_delimiter}
 use Rattle.cmark_grammar.specs.Autolinks.{autolink_in}
 use Rattle.cmark_grammar.specs.CodeSpans.{is_backtick, backticks, code_in}
 use Rattle.cmark_grammar.specs.Columns.{is_blank_byte}
@@ -65,8 +66,8 @@ module _ (reader : Reader) (leaf : Leaf) where
       let markup = behind_markup (source_from reader leaf at) in
       let x = markup_or (silent reader) leaf at markup (tag_or_text (silent reader) leaf at tag) in
       let y = markup_or reader leaf at markup (tag_or_text reader leaf at tag) in
-      if-same (first_is (λ c. c == 92) bs) (item_at Plain at (suc at)) (autolink_or (silent reader) leaf at (autolink_in bs) x) (item_at Plain at (suc at)) (autolink_or reader leaf at (autolink_in bs) y)
-      refl (autolink_same at (autolink_in bs) x y (markup_same at markup (tag_or_text (silent reader) leaf at tag) (tag_or_text reader leaf at tag) (tag_same at tag)))
+      if-same (first_is (λ c. c == 92) bs) (item_at Plain at (suc at)) (autolink_or (silent reader) leaf at (autolink_in reader.options.email_autolinks bs) x) (item_at Plain at (suc at)) (autolink_or reader leaf at (autolink_in reader.options.email_autolinks bs) y)
+      refl (autolink_same at (autolink_in reader.options.email_autolinks bs) x y (markup_same at markup (tag_or_text (silent reader) leaf at tag) (tag_or_text reader leaf at tag) (tag_same at tag)))
 
   formula_same : (kind : List ℕ → ItemKind) (at : ℕ) (found : Option Parsed) → formula_or (silent reader) leaf kind at found ≡ formula_or reader leaf kind at found
   formula_same kind at None = refl
@@ -84,7 +85,7 @@ module _ (reader : Reader) (leaf : Leaf) where
       let plain = item_at Plain at (suc at) in
       let braces = braces_behind false (before reader leaf at) no_braces in
       let last : Token = if reader.options.smart_punctuation then smart_or reader leaf at b else plain in
-      let runs : Token → Token = λ t. if (b == 42) || ((b == 95) || ((b == 126) || (b == 94))) then run_at reader leaf at b (prefix_len (λ c. c == b) (b ∷ bs)) else t in
+      let runs : Token → Token = λ t. if is_run_delimiter b then run_at reader leaf at b (prefix_len (λ c. c == b) (b ∷ bs)) else t in
       let bang : Token = if first_is (λ c. c == 91) bs then Opens (bracket true at (at + 2)) else plain in
       let brackets : Token → Token = λ t. if b == 33 then bang else (if b == 91 then Opens (bracket false at (suc at)) else (if b == 93 then Closes (bracket false at (suc at)) else runs t)) in
       let math : Reader → Token = λ r. if reader.options.math && is_dollar b then dollar r leaf at bs braces else last in

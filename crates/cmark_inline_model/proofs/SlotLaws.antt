@@ -11,7 +11,7 @@ use Rattle.cmark_grammar.specs.Quotes.{quote_characters}
 use Rattle.cmark_grammar.specs.Siblings.{Inline, Nil, Single, Around, quotes_of, with_quotes, runs_from, run_bytes, gaps_of, dressed, dressed_all, IsDressed}
 use Rattle.cmark_grammar.specs.SpanEntries.{entries_of}
 use Rattle.cmark_grammar.specs.Spans as spans
-use Rattle.cmark_grammar.specs.Spans.{SpanKind, Emphasis, Strong, SingleTilde, DoubleTilde, Caret, Spans, TakePlaces, span_tag, span_width}
+use Rattle.cmark_grammar.specs.Spans.{SpanKind, Emphasis, Strong, SingleTilde, DoubleTilde, Caret, DoubleEquals, Spans, TakePlaces, span_tag, span_width}
 use Rattle.cmark_grammar.specs.Tag.{Tag}
 use Rattle.cmark_grammar.specs.TagEnd.{end_of}
 use Rattle.cmark_inline_model.specs.SlotRows.{Slot, ItemSlot, BeginSlot, EndSlot, NothingSlot, seen, slots_of, LaysOut}
@@ -106,6 +106,7 @@ opening-wide Strong = refl
 opening-wide SingleTilde = refl
 opening-wide DoubleTilde = refl
 opening-wide Caret = refl
+opening-wide DoubleEquals = refl
 
 closing-wide : (k : SpanKind) → length (closing k) ≡ span_width k
 closing-wide Emphasis = refl
@@ -113,6 +114,7 @@ closing-wide Strong = refl
 closing-wide SingleTilde = refl
 closing-wide DoubleTilde = refl
 closing-wide Caret = refl
+closing-wide DoubleEquals = refl
 
 length-places : (at : ℕ) (cells : List Cell) → length (places_from at cells) ≡ length cells
 length-places at [] = refl

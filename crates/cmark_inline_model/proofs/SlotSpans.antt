@@ -4,7 +4,7 @@ use Rattle.cmark_grammar.specs.Items.{Own, Item}
 use Rattle.cmark_grammar.specs.Options.{Options}
 use Rattle.cmark_grammar.specs.Siblings.{Inline, Nil, append, item, element, dressed}
 use Rattle.cmark_grammar.specs.Spans as spans
-use Rattle.cmark_grammar.specs.Spans.{SpanKind, Emphasis, Strong, SingleTilde, DoubleTilde, Caret, Span, Spans, span_tag, span_width, TakePlaces}
+use Rattle.cmark_grammar.specs.Spans.{SpanKind, Emphasis, Strong, SingleTilde, DoubleTilde, Caret, DoubleEquals, Span, Spans, span_tag, span_width, TakePlaces}
 use Rattle.cmark_grammar.specs.Tag.{Tag}
 use Rattle.cmark_inline_model.specs.SlotRows.{Slot, ItemSlot, BeginSlot, EndSlot, NothingSlot, seen, slots_of, Mark, Begins, Ends, Blank, opening, closing, marks_of, AreTight}
 use Rattle.cmark_inline_model.proofs.SlotMarks.{Cell, closed_by, nothings, MarksMake, nil_marks, single_marks, around_marks, wide_marks}
@@ -185,6 +185,7 @@ module _ (options : Options) (gaps : List Inline) (bytes : List Item) (cells : L
   around-dressed SingleTilde start end inside after n m mid tight st en k l = thin-dressed (record { kind = SingleTilde; start = start; end = end }) inside after n m mid refl refl refl st en k l
   around-dressed DoubleTilde start end inside after n m mid tight st en k l = wide-dressed (record { kind = DoubleTilde; start = start; end = end }) inside after n m mid refl refl refl (tight refl) st en k l
   around-dressed Caret start end inside after n m mid tight st en k l = thin-dressed (record { kind = Caret; start = start; end = end }) inside after n m mid refl refl refl st en k l
+  around-dressed DoubleEquals start end inside after n m mid tight st en k l = wide-dressed (record { kind = DoubleEquals; start = start; end = end }) inside after n m mid refl refl refl (tight refl) st en k l
 
   pub all-dressed : (sp : Spans) (n m : ℕ) → AreTight IsEmpty sp → TakePlaces n sp m → Dressed n sp m
   all-dressed spans.Nil n m tight h = record { count = 0; places = (let e : n + 0 ≡ m = omega (arith, h) in e); out = []; marks = nil_marks options; seen_is = refl }

@@ -1,24 +1,25 @@
 -- What the references of a leaf cost: in its spans and events no more than in its parts, and in the same order.
 use Rattle.std.specs.Prelude.{zero, suc, ◌-◌, ◌==◌, nat_le, if◌then◌else◌, max, get_or, drop}
 use Rattle.std.proofs.Common.{◌≡◌, ℕ, ◌+◌, ◌<◌, ◌≤◌, Bool, true, false, List, [], ◌∷◌, ◌++◌, length, Option, Some, None, refl, sym, ap, subst, arith, ◌∙◌, append_assoc, append-nil}
+use Rattle.cmark_grammar.specs.Autolinks.{has_scheme}
 use Rattle.cmark_grammar.specs.BracketDecisions.{linked as leading}
 use Rattle.cmark_grammar.specs.Emphasis.{StandFrom, places_taken}
 use Rattle.cmark_grammar.specs.EmphasisModel.{spans_of}
 use Rattle.cmark_grammar.specs.Event.{Start, End, Ranged}
 use Rattle.cmark_grammar.specs.InlineReading.{inline_events, over}
 use Rattle.cmark_grammar.specs.Items.{ItemKind, Own, Item}
-use Rattle.cmark_grammar.specs.LinkType.{WikiLink}
+use Rattle.cmark_grammar.specs.LinkType.{Autolink, Email, WikiLink}
 use Rattle.cmark_grammar.specs.Options.{Options}
 use Rattle.cmark_grammar.specs.Parts.{Parts, Nil as NoParts, Single as SinglePart, Form, Closing, Opening, Linking, Footnote, Wiki}
 use Rattle.cmark_grammar.specs.Quotes.{quote_characters}
-use Rattle.cmark_grammar.specs.Siblings.{Inline, Nil, Single, Around, append, item, quotes_of, quote_as, with_characters, with_quotes, run_then, runs_from, run_bytes, put_gap, no_gaps, gap_then, gaps_of, no_item, element, dressed, item_then, footnote_then, tag_by, wiki_tag, from_place, display_from, uri_link}
+use Rattle.cmark_grammar.specs.Siblings.{Inline, Nil, Single, Around, append, item, quotes_of, quote_as, with_characters, with_quotes, run_then, runs_from, run_bytes, put_gap, no_gaps, gap_then, gaps_of, no_item, element, dressed, item_then, footnote_then, tag_by, wiki_tag, from_place, display_from, address_link}
 use Rattle.cmark_grammar.specs.SiblingsModel.{dress, siblings_of, spans_in}
 use Rattle.cmark_grammar.specs.Spans as spans
-use Rattle.cmark_grammar.specs.Spans.{SpanKind, Emphasis, Strong, SingleTilde, DoubleTilde, Caret, span_tag, span_width, Spans, TakePlaces}
+use Rattle.cmark_grammar.specs.Spans.{SpanKind, Emphasis, Strong, SingleTilde, DoubleTilde, Caret, DoubleEquals, span_tag, span_width, Spans, TakePlaces}
 use Rattle.cmark_grammar.specs.Tag.{Tag, Linked}
 use Rattle.cmark_grammar.specs.TagEnd.{end_of}
 use Rattle.cmark_grammar.proofs.SpanPlaces.{places}
-use Rattle.cmark_inline_model.specs.ReferenceExpansion.{costs}
+use Rattle.cmark_inline_model.specs.ReferenceExpansion.{cost_as, costs}
 use Rattle.cmark_inline_model.specs.ReadingLinks.{LinkEvent, Begins, Finishes, Neither, of_tag, own_cost, costs_by, reference_costs}
 use Rattle.cmark_inline_model.proofs.CostLists.{Fewer, fewer-same, fewer-then, fewer-behind, fewer-both}
 use Rattle.cmark_inline_model.proofs.KindViews.{KindView, AQuote, ARun, AnAutolink, AText, kind-view}
@@ -81,6 +82,7 @@ width-some Strong = omega arith
 width-some SingleTilde = omega arith
 width-some DoubleTilde = omega arith
 width-some Caret = omega arith
+width-some DoubleEquals = omega arith
 
 -- ## What elements are priced at
 
@@ -88,7 +90,7 @@ width-some Caret = omega arith
 pub record IsPriced (priced : Tag → (end : ℕ) → List ℕ) (price : Linked → (end : ℕ) → List ℕ) : Type 0 where
   pub span : (options : Options) (kind : SpanKind) (tag : Tag) (end : ℕ) → span_tag options kind ≡ Some tag → priced tag end ≡ []
   pub linked : (is_image : Bool) (linked : Linked) (end : ℕ) → priced (tag_by is_image linked) end ≡ price linked end
-  pub autolink : (uri : List ℕ) (end : ℕ) → price (uri_link uri) end ≡ []
+  pub autolink : (uri : List ℕ) (end : ℕ) → price (address_link uri) end ≡ []
   pub wiki : (name : List ℕ) (has_pothole : Bool) (end : ℕ) → price (leading (WikiLink has_pothole) (record { url = name; title = [] }) []) end ≡ []
 
 module _ (priced : Tag → (end : ℕ) → List ℕ) (price : Linked → (end : ℕ) → List ℕ) (is_priced : IsPriced priced price) where
@@ -260,7 +262,7 @@ module _ (priced : Tag → (end : ℕ) → List ℕ) (price : Linked → (end : 
         go : (kind : ItemKind) → KindView kind → priced_in (item_then kind x after) ≡ priced_in after
         go _ (AQuote quote) = refl
         go _ (ARun run) = refl
-        go _ (AnAutolink uri) = ap (λ l. l ++ priced_in after) (is_priced.linked false (uri_link uri) x.end ∙ is_priced.autolink uri x.end)
+        go _ (AnAutolink uri) = ap (λ l. l ++ priced_in after) (is_priced.linked false (address_link uri) x.end ∙ is_priced.autolink uri x.end)
         go _ (AText kind t) = ap priced_in (t.item x after)
 
     from_costs : (place : ℕ) (siblings : Inline) → Fewer (priced_in (from_place place siblings)) (priced_in siblings)
@@ -328,11 +330,19 @@ own_priced tag end = begun_cost (of_tag tag)
 abbrev pub own_price : Linked → (end : ℕ) → List ℕ
 own_price linked end = own_cost linked
 
+-- an autolink costs nothing
+pub address-free : (address : List ℕ) → own_cost (address_link address) ≡ []
+address-free address = go (has_scheme address)
+  where
+    go : (z : Bool) → cost_as (if z then Autolink else Email) (length address + 0) ≡ []
+    go true = refl
+    go false = refl
+
 pub own_is_priced : IsPriced own_priced own_price
 own_is_priced = record {
   span = λ options kind tag end e. ap begun_cost (span-neither options kind tag e);
   linked = by;
-  autolink = λ uri end. refl;
+  autolink = λ uri end. address-free uri;
   wiki = λ name has_pothole end. refl;
 }
   where

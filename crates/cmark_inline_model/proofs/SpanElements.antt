@@ -2,10 +2,10 @@
 use Rattle.std.specs.Prelude.{zero, suc, ◌-◌, ◌==◌, nat_le, if◌then◌else◌, max, get_or, drop, encode_utf8}
 use Rattle.std.proofs.Common.{◌≡◌, ℕ, ◌+◌, Bool, true, false, List, [], ◌∷◌, Option, Some, None, refl, sym, subst}
 use Rattle.cmark_grammar.specs.EmphasisModel.{spans_of}
-use Rattle.cmark_grammar.specs.Items.{ItemKind, Own, Written, Item}
+use Rattle.cmark_grammar.specs.Items.{ItemKind, Autolink, Own, Written, Item}
 use Rattle.cmark_grammar.specs.Options.{Options}
 use Rattle.cmark_grammar.specs.Quotes.{quote_characters}
-use Rattle.cmark_grammar.specs.Siblings.{Inline, Nil, Single, Around, append, item, quotes_of, quote_as, with_characters, with_quotes, runs_from, run_bytes, put_gap, no_gaps, gap_then, gaps_of, no_item, element, dressed, item_then, uri_link, from_place, display_from}
+use Rattle.cmark_grammar.specs.Siblings.{Inline, Nil, Single, Around, append, item, quotes_of, quote_as, with_characters, with_quotes, runs_from, run_bytes, put_gap, no_gaps, gap_then, gaps_of, no_item, element, dressed, item_then, address_link, from_place, display_from}
 use Rattle.cmark_grammar.specs.SiblingsModel.{dress}
 use Rattle.cmark_grammar.specs.Spans as spans
 use Rattle.cmark_grammar.specs.Spans.{SpanKind, span_tag, span_width, Spans}
@@ -110,14 +110,14 @@ module _ (Holds : Tag → Inline → Type 0) where
 
   -- ## Items and displays
 
-  pub item-elements : (x : Item) (after : Inline) → ((uri : List ℕ) (text : Item) → Holds (Link (uri_link uri)) (Single text Nil)) → AllElements after → AllElements (item_then x.kind x after)
-  item-elements x after holds h = go x.kind (kind-view x.kind)
+  pub item-elements : (x : Item) (after : Inline) → ((address : List ℕ) (text : Item) → x.kind ≡ Autolink address → Holds (Link (address_link address)) (Single text Nil)) → AllElements after → AllElements (item_then x.kind x after)
+  item-elements x after holds h = go x.kind refl (kind-view x.kind)
     where
-      go : (kind : ItemKind) → KindView kind → AllElements (item_then kind x after)
-      go _ (AQuote quote) = h
-      go _ (ARun run) = h
-      go _ (AnAutolink uri) = (holds uri (item Own (suc x.start) (x.end - 1)), tt, h)
-      go _ (AText kind t) = subst AllElements (sym (t.item x after)) h
+      go : (kind : ItemKind) → x.kind ≡ kind → KindView kind → AllElements (item_then kind x after)
+      go _ e (AQuote quote) = h
+      go _ e (ARun run) = h
+      go _ e (AnAutolink uri) = (holds uri (item Own (suc x.start) (x.end - 1)) e, tt, h)
+      go _ e (AText kind t) = subst AllElements (sym (t.item x after)) h
 
   from_holds : (place : ℕ) (siblings : Inline) → AllElements siblings → AllElements (from_place place siblings)
   from_holds place Nil h = tt

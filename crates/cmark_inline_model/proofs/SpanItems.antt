@@ -2,7 +2,7 @@
 use Rattle.std.specs.Prelude.{zero, suc, ◌-◌, ◌==◌, ◌&&◌, ◌||◌, nat_le, if◌then◌else◌, max, get_or, drop}
 use Rattle.std.proofs.Common.{◌≡◌, ℕ, ◌+◌, Bool, true, false, List, [], ◌∷◌, ◌++◌, Option, Some, None, refl, sym, subst, ◌∙◌, eqb-true, append_assoc}
 use Rattle.cmark_grammar.specs.BracketDecisions.{linked}
-use Rattle.cmark_grammar.specs.Emphasis.{emphasis_kinds, tilde_kinds, caret_kinds, kinds_of}
+use Rattle.cmark_grammar.specs.Emphasis.{emphasis_kinds, tilde_kinds, caret_kinds, equals_kinds, kinds_of}
 use Rattle.cmark_grammar.specs.EmphasisModel.{spans_of}
 use Rattle.cmark_grammar.specs.Event.{Start, End, Ranged}
 use Rattle.cmark_grammar.specs.Flanking.{is_delimiter_run}
@@ -17,13 +17,13 @@ use Rattle.cmark_grammar.specs.Readers.{Reader}
 use Rattle.cmark_grammar.specs.Siblings.{Inline, Nil, Single, Around, append, item, quotes_of, quote_as, with_characters, with_quotes, run_then, runs_from, run_bytes, run_bytes_then, bytes_then, put_gap, no_gaps, gap_then, gaps_of, no_item, element, dressed, item_then, tag_by, from_place, display_from, footnote_then}
 use Rattle.cmark_grammar.specs.SiblingsModel.{dress, siblings_of, spans_in}
 use Rattle.cmark_grammar.specs.Spans as spans
-use Rattle.cmark_grammar.specs.Spans.{SpanKind, Emphasis, Strong, SingleTilde, DoubleTilde, Caret, span_tag, span_width, Spans}
+use Rattle.cmark_grammar.specs.Spans.{SpanKind, Emphasis, Strong, SingleTilde, DoubleTilde, Caret, DoubleEquals, span_tag, span_width, Spans}
 use Rattle.cmark_grammar.specs.Tag as tag
 use Rattle.cmark_grammar.specs.Tag.{Tag, Linked}
 use Rattle.cmark_grammar.specs.TagEnd.{end_of}
 use Rattle.cmark_inline_model.specs.FormedParts.{AllFormed}
-use Rattle.cmark_inline_model.specs.LinkRules.{IsFormedRightly}
-use Rattle.cmark_inline_model.specs.OptionRules.{IsRead, AllItems, IsTagGiven, IsEndGiven, IsGiven, AreGiven}
+use Rattle.cmark_inline_model.specs.LinkRules.{IsFormedRightly, LeadsBy}
+use Rattle.cmark_inline_model.specs.OptionRules.{IsRead, AllItems, IsLinkGiven, IsTagGiven, IsEndGiven, IsGiven, AreGiven}
 use Rattle.cmark_inline_model.proofs.KindViews.{KindView, AQuote, ARun, AnAutolink, AText, kind-view}
 use Rattle.cmark_inline_model.proofs.SpanElements.{quoted_then, other_then}
 use Rattle.cmark_inline_model.proofs.SpanKinds.{AllKinds, AllSpans, OfDelimiter, OfRuns, spans-hold}
@@ -115,13 +115,14 @@ module _ (options : Options) where
 
   -- ## Elements of delimiter runs
 
-  -- one tilde is an element where strikethrough or subscript is read, a caret where superscript is
+  -- one tilde is an element where strikethrough or subscript is read, a caret where superscript is, two equals signs where highlight is
   abbrev KindRead : SpanKind → Type 0
   KindRead Emphasis = Unit {0}
   KindRead Strong = Unit {0}
   KindRead SingleTilde = (options.strikethrough || options.subscript) ≡ true
   KindRead DoubleTilde = Unit {0}
   KindRead Caret = options.superscript ≡ true
+  KindRead DoubleEquals = options.highlight ≡ true
 
   tag_read : (kind : SpanKind) (t : Tag) → KindRead kind → span_tag options kind ≡ Some t → IsTagGiven options t
   tag_read Emphasis t h e = subst (IsTagGiven options) (some_is e) tt
@@ -137,6 +138,7 @@ module _ (options : Options) where
       go true f i = subst (IsTagGiven options) (some_is i) f
       go false f i = absurd (let d : ⊥ = cc in d)
   tag_read Caret t h e = subst (IsTagGiven options) (some_is e) h
+  tag_read DoubleEquals t h e = subst (IsTagGiven options) (some_is e) h
 
   emphasis_kinds_read : (count : ℕ) → AllKinds KindRead (emphasis_kinds count)
   emphasis_kinds_read zero = tt
@@ -152,6 +154,11 @@ module _ (options : Options) where
   caret_kinds_read on zero = tt
   caret_kinds_read on (suc count) = (on, caret_kinds_read on count)
 
+  equals_kinds_read : options.highlight ≡ true → (count : ℕ) → AllKinds KindRead (equals_kinds count)
+  equals_kinds_read on zero = tt
+  equals_kinds_read on (suc zero) = (tt, tt)
+  equals_kinds_read on (suc (suc count)) = (on, equals_kinds_read on count)
+
   tilde_on : (size : ℕ) → is_delimiter_run options 126 size ≡ true → (options.strikethrough || options.subscript) ≡ true
   tilde_on size e = go (options.strikethrough || options.subscript) e
     where
@@ -162,18 +169,26 @@ module _ (options : Options) where
   caret_on : (size : ℕ) → is_delimiter_run options 94 size ≡ true → options.superscript ≡ true
   caret_on size e = go options.superscript e
     where
-      go : (b : Bool) → (b && (size == 1)) ≡ true → b ≡ true
+      go : (b : Bool) → ((b && (size == 1)) || false) ≡ true → b ≡ true
+      go true e = refl
+      go false e = e
+
+  equals_on : (size : ℕ) → is_delimiter_run options 61 size ≡ true → options.highlight ≡ true
+  equals_on size e = go options.highlight e
+    where
+      go : (b : Bool) → (b && (size == 2)) ≡ true → b ≡ true
       go true e = refl
       go false e = e
 
   delimiter_read : (delimiter size : ℕ) → is_delimiter_run options delimiter size ≡ true → OfDelimiter KindRead delimiter
   unfolding kinds_of
-  delimiter_read delimiter size e count = go (delimiter == 126) refl (delimiter == 94) refl
+  delimiter_read delimiter size e count = go (delimiter == 126) refl (delimiter == 94) refl (delimiter == 61) refl
     where
-      go : (a : Bool) → (delimiter == 126) ≡ a → (b : Bool) → (delimiter == 94) ≡ b → AllKinds KindRead (if a then tilde_kinds count else if b then caret_kinds count else emphasis_kinds count)
-      go true f b g = tilde_kinds_read (tilde_on size (subst (λ m. is_delimiter_run options m size ≡ true) (eqb-true delimiter 126 f) e)) count
-      go false f true g = caret_kinds_read (caret_on size (subst (λ m. is_delimiter_run options m size ≡ true) (eqb-true delimiter 94 g) e)) count
-      go false f false g = emphasis_kinds_read count
+      go : (a : Bool) → (delimiter == 126) ≡ a → (b : Bool) → (delimiter == 94) ≡ b → (c : Bool) → (delimiter == 61) ≡ c → AllKinds KindRead (if a then tilde_kinds count else if b then caret_kinds count else if c then equals_kinds count else emphasis_kinds count)
+      go true f b g c i = tilde_kinds_read (tilde_on size (subst (λ m. is_delimiter_run options m size ≡ true) (eqb-true delimiter 126 f) e)) count
+      go false f true g c i = caret_kinds_read (caret_on size (subst (λ m. is_delimiter_run options m size ≡ true) (eqb-true delimiter 94 g) e)) count
+      go false f false g true i = equals_kinds_read (equals_on size (subst (λ m. is_delimiter_run options m size ≡ true) (eqb-true delimiter 61 i) e)) count
+      go false f false g false i = emphasis_kinds_read count
 
   marks_read : (siblings : Inline) (n : ℕ) → AreRead siblings → OfRuns KindRead (runs_from siblings n)
   marks_read Nil n h = tt
@@ -212,13 +227,13 @@ module _ (options : Options) where
       (dressed_read (gaps_of quoted) (run_bytes quoted) (spans_of (runs_from quoted 0)) kinds gaps (runs_read quoted))
 
   item_read : (x : Item) (after : Inline) → IsRead options x.kind → AreRead after → AreRead (item_then x.kind x after)
-  item_read x after h k = go x.kind (kind-view x.kind)
+  item_read x after h k = go x.kind h (kind-view x.kind)
     where
-      go : (kind : ItemKind) → KindView kind → AreRead (item_then kind x after)
-      go _ (AQuote quote) = (h, k)
-      go _ (ARun run) = (h, k)
-      go _ (AnAutolink uri) = (tt, (tt, tt), k)
-      go _ (AText kind t) = subst AreRead (sym (t.item x after)) (h, k)
+      go : (kind : ItemKind) → IsRead options kind → KindView kind → AreRead (item_then kind x after)
+      go _ g (AQuote quote) = (h, k)
+      go _ g (ARun run) = (h, k)
+      go _ g (AnAutolink uri) = (g, (tt, tt), k)
+      go _ g (AText kind t) = subst AreRead (sym (t.item x after)) (h, k)
 
   from_read : (place : ℕ) (siblings : Inline) → AreRead siblings → AreRead (from_place place siblings)
   from_read place Nil h = tt
@@ -244,28 +259,40 @@ module _ (options : Options) where
   footnote_read true start label end others on h = (tt, (on, h))
   footnote_read false start label end others on h = (on, h)
 
-  link_read : (is_image : Bool) (linked : Linked) → IsTagGiven options (tag_by is_image linked)
-  link_read true linked = tt
-  link_read false linked = tt
+  link_read : (is_image : Bool) (linked : Linked) → IsLinkGiven options linked.link_type → IsTagGiven options (tag_by is_image linked)
+  link_read true linked h = tt
+  link_read false linked h = h
 
 -- the parts of a leaf
 module _ (reader : Reader) (asked : List Exchange) where
   abbrev wiki_linked : (name : List ℕ) → (has_pothole : Bool) → Linked
   wiki_linked name has_pothole = linked (link_type.WikiLink has_pothole) (record { url = name; title = [] }) []
 
+  led_given : (t : link_type.LinkType) (l : Linked) → LeadsBy t reader asked l → IsLinkGiven reader.options t
+  led_given link_type.Inline l h = tt
+  led_given link_type.Reference l h = tt
+  led_given link_type.ReferenceUnknown l h = tt
+  led_given link_type.Collapsed l h = tt
+  led_given link_type.CollapsedUnknown l h = tt
+  led_given link_type.Shortcut l h = tt
+  led_given link_type.ShortcutUnknown l h = tt
+  led_given link_type.Autolink l h = tt
+  led_given link_type.Email l h = h.0
+  led_given (link_type.WikiLink has_pothole) l h = tt
+
   siblings_read : (parts : Parts) → AllItems (IsRead reader.options) parts → AllFormed (IsFormedRightly reader asked) parts → AreRead reader.options (siblings_of reader.options parts)
   siblings_read NoParts h k = tt
   siblings_read (SinglePart x after) h k = item_read reader.options x (siblings_of reader.options after) h.0 (siblings_read after h.1 k)
   siblings_read (Form opener inside closer (Linking target) after) h k =
-      (link_read reader.options opener.is_image target.linked, dress_read reader.options (siblings_of reader.options inside) (siblings_read inside h.0 k.1), siblings_read after h.1 k.2)
+      (link_read reader.options opener.is_image target.linked (led_given target.linked.link_type target.linked k.0), dress_read reader.options (siblings_of reader.options inside) (siblings_read inside h.0 k.1), siblings_read after h.1 k.2)
   siblings_read (Form opener inside closer (Footnote label end) after) h k =
       footnote_read reader.options opener.is_image opener.start label end (siblings_of reader.options after) k.0 (siblings_read after h.1 k.2)
   siblings_read (Form opener inside closer (Wiki name None end) after) h k =
-      (link_read reader.options opener.is_image (wiki_linked name false), (tt, tt), siblings_read after h.1 k.2)
+      (link_read reader.options opener.is_image (wiki_linked name false) tt, (tt, tt), siblings_read after h.1 k.2)
   siblings_read (Form opener inside closer (Wiki name (Some place) end) after) h k =
       let inner = siblings_of reader.options inside in
       let display = dress_read reader.options (display_from place closer.start inner) (display_read reader.options place closer.start inner (siblings_read inside h.0 k.1)) in
-      (link_read reader.options opener.is_image (wiki_linked name true), display, siblings_read after h.1 k.2)
+      (link_read reader.options opener.is_image (wiki_linked name true) tt, display, siblings_read after h.1 k.2)
   siblings_read (Closing closer after) h k = (tt, siblings_read after h k)
   siblings_read (Opening opener after) h k = (tt, siblings_read after h k)
 
@@ -311,6 +338,7 @@ module _ (options : Options) (source : List ℕ) where
   end_given tag.Strikethrough h = h
   end_given tag.Superscript h = h
   end_given tag.Subscript h = h
+  end_given tag.Highlight h = h
   end_given (tag.Link linked) h = tt
   end_given (tag.Image linked) h = tt
   end_given (tag.MetadataBlock kind) h = tt

@@ -6,7 +6,7 @@ use Rattle.cmark_grammar.specs.InlineReading.{inline_events, over}
 use Rattle.cmark_grammar.specs.Items.{Bracket}
 use Rattle.cmark_grammar.specs.Options.{Options}
 use Rattle.cmark_grammar.specs.Parts.{Formed, Parts, Nil as NoParts, Single as SinglePart, Form, Closing, Opening, Linking, Footnote, Wiki}
-use Rattle.cmark_grammar.specs.Siblings.{Inline, Nil, Single, Around, tag_by}
+use Rattle.cmark_grammar.specs.Siblings.{Inline, Nil, Single, Around, address_link, tag_by}
 use Rattle.cmark_grammar.specs.SiblingsModel.{spans_in}
 use Rattle.cmark_grammar.specs.Tag.{Tag, Linked}
 use Rattle.cmark_grammar.specs.TagEnd.{end_of}
@@ -17,7 +17,7 @@ use Rattle.cmark_inline_model.specs.ReadingLinks.{LinkEvent, Begins, Finishes, N
 use Rattle.cmark_inline_model.proofs.CostLists.{total, total-append, sum-total}
 use Rattle.cmark_inline_model.proofs.LinkSpans.{TagView, ALink, NoLink, tag-view, span-neither, item-neither}
 use Rattle.cmark_inline_model.proofs.PartOrders.{part-up}
-use Rattle.cmark_inline_model.proofs.SpanCosts.{begun_cost, IsPriced, prices, priced_in, spans-priced}
+use Rattle.cmark_inline_model.proofs.SpanCosts.{address-free, begun_cost, IsPriced, prices, priced_in, spans-priced}
 
 module _ (place : ℕ) where
   abbrev pub priced_to : Tag → (end : ℕ) → List ℕ
@@ -34,7 +34,7 @@ module _ (place : ℕ) where
   to-is-priced = record {
     span = λ options kind tag end e. if_none (nat_le end place) (begun_cost (of_tag tag)) (ap begun_cost (span-neither options kind tag e));
     linked = by;
-    autolink = λ uri end. if_none (nat_le end place) [] refl;
+    autolink = λ uri end. if_none (nat_le end place) (own_cost (address_link uri)) (address-free uri);
     wiki = λ name has_pothole end. if_none (nat_le end place) [] refl;
   }
     where

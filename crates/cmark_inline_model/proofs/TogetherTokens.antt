@@ -6,11 +6,11 @@ use Rattle.std.proofs.lemmas.Bool.{eq-eqb, ltb-false, ltb-true, or_parts}
 use Rattle.std.proofs.lemmas.List.{get_or-drop, get_or-take, get_or_default, length-take}
 use Rattle.std.proofs.lemmas.List.Folds.{list_any_none}
 use Rattle.std.proofs.Math.Seq.{drop-cons}
-use Rattle.cmark_grammar.specs.Autolinks.{closed_by, has_scheme, is_uri_byte, autolink_in}
+use Rattle.cmark_grammar.specs.Autolinks.{closed_by, has_address, is_uri_byte, autolink_in}
 use Rattle.cmark_grammar.specs.CodeSpans.{is_backtick, backticks, code_in}
 use Rattle.cmark_grammar.specs.Columns.{is_blank_byte}
 use Rattle.cmark_grammar.specs.Dashes.{dashes_of, dash_text}
-use Rattle.cmark_grammar.specs.Flanking.{Flanking, flanking}
+use Rattle.cmark_grammar.specs.Flanking.{Flanking, flanking, is_run_delimiter}
 use Rattle.cmark_grammar.specs.Formulas.{is_dollar, Braces, no_braces, braces_behind, inline_in, display_in}
 use Rattle.cmark_grammar.specs.InlineHtml.{behind_markup, takes_lines}
 use Rattle.cmark_grammar.specs.InlineTokens.{item_at, bracket, is_plain, from, before, place_of, size_to, character_before, character_at, break_or, code_or, escaped_backtick, escape_at, entity_or, autolink_or, tag_or_text, source_from, markup_or, less_than, run_or, run_at, formula_or, dollar, dots, hyphens, quote_at, smart_or, begins, begins_at, goes_on, plain_end, longest, token}
@@ -248,26 +248,26 @@ module _ (reader : Reader) (leaf : Leaf) (text : List ℕ) (place : ℕ → ℕ)
             let m = length-drop (suc n) bs in
             subst (λ i. Front (λ d. is_content d ≡ true) i (b ∷ bs)) (let q : suc (n + 1) ≡ length (b ∷ bs) - length (drop (suc n) bs) = omega arith in q) (c, front-add (λ d. is_content d ≡ true) n 1 bs f.front g.front)
 
-    uri_front : is_content b ≡ true → UriFront (autolink_in bs)
-    uri_front c = go (has_scheme bs)
+    uri_front : is_content b ≡ true → UriFront (autolink_in reader.options.email_autolinks bs)
+    uri_front c = go (has_address reader.options.email_autolinks bs)
       where
         go : (z : Bool) → UriFront (if z then closed_by 62 (prefix_len is_uri_byte bs) bs else None)
         go true = closed_front c
         go false = tt
 
-    autolink_joined : is_content b ≡ true → (found : Option Parsed) (other : Token) → autolink_in bs ≡ found → (found ≡ None → Joined other) → Joined (autolink_or one alone k found other)
+    autolink_joined : is_content b ≡ true → (found : Option Parsed) (other : Token) → autolink_in reader.options.email_autolinks bs ≡ found → (found ≡ None → Joined other) → Joined (autolink_or one alone k found other)
     autolink_joined c None other e p = p refl
-    autolink_joined c (Some found) other e p = λ w. rest_joined found.behind (behind-rest (b ∷ bs) bs found.behind (1, refl) (subst (ParsedBehind bs) e (autolink-behind bs))) (subst UriFront e (uri_front c))
+    autolink_joined c (Some found) other e p = λ w. rest_joined found.behind (behind-rest (b ∷ bs) bs found.behind (1, refl) (subst (ParsedBehind bs) e (autolink-behind reader.options.email_autolinks bs))) (subst UriFront e (uri_front c))
 
-    module _ (none : may_open_markup (b ∷ bs) ≡ false) where
+    module _ (none : may_open_markup reader.options.email_autolinks (b ∷ bs) ≡ false) where
       less_than_joined : (b == 60) ≡ true → Joined (less_than one alone k bs)
       less_than_joined e =
           let c = subst (λ x. is_content x ≡ true) (sym (eqb-true b 60 e)) refl in
           let tag = tag_or_text one alone k (behind_tag no_prefix (from one alone k)) in
           let others = markup_or one alone k (behind_markup (source_from one alone k)) tag in
-          when (first_is (λ d. d == 92) bs) (item_at Plain k (suc k)) (autolink_or one alone k (autolink_in bs) others) (λ f w. byte_joined c)
-          (λ f. autolink_joined c (autolink_in bs) others refl
-          (λ g. subst (λ o. Joined (markup_or one alone k o tag)) (sym (no-own reader leaf text place h k b bs here none e))
+          when (first_is (λ d. d == 92) bs) (item_at Plain k (suc k)) (autolink_or one alone k (autolink_in reader.options.email_autolinks bs) others) (λ f w. byte_joined c)
+          (λ f. autolink_joined c (autolink_in reader.options.email_autolinks bs) others refl
+          (λ g. subst (λ o. Joined (markup_or one alone k o tag)) (sym (no-own reader leaf text place h k b bs here none e g))
           (tag_joined c (behind_tag no_prefix (from one alone k)) (ap (behind_tag no_prefix) (sym (from-text reader leaf text place h k ∙ here))))))
 
       run_joined : (n : ℕ) (beside : Flanking) → Leads (λ c. is_content c ≡ true) n (b ∷ bs) → 0 < n → Joined (run_or one alone k b n beside)
@@ -321,7 +321,7 @@ module _ (reader : Reader) (leaf : Leaf) (text : List ℕ) (place : ℕ → ℕ)
           let c9 = if reader.options.smart_punctuation then smart_or one alone k b else plain in
           let c8 = if reader.options.math && is_dollar b then dollar one alone k bs (braces_behind false (before one alone k) no_braces) else c9 in
           let n = prefix_len (λ c. c == b) (b ∷ bs) in
-          let c7 = if (b == 42) || ((b == 95) || ((b == 126) || (b == 94))) then run_at one alone k b n else c8 in
+          let c7 = if is_run_delimiter b then run_at one alone k b n else c8 in
           let c6 = if b == 93 then Closes (bracket false k (suc k)) else c7 in
           let c5 = if b == 91 then Opens (bracket false k (suc k)) else c6 in
           let bang = if first_is (λ c. c == 91) bs then Opens (bracket true k (k + 2)) else plain in
@@ -343,19 +343,19 @@ module _ (reader : Reader) (leaf : Leaf) (text : List ℕ) (place : ℕ → ℕ)
           (λ e4. when (b == 33) bang c5 (λ e. when (first_is (λ c. c == 91) bs) (Opens (bracket true k (k + 2))) plain (λ g. tt) (λ g w. byte_joined c))
           (λ e5. when (b == 91) (Opens (bracket false k (suc k))) c6 (λ e. tt)
           (λ e6. when (b == 93) (Closes (bracket false k (suc k))) c7 (λ e. tt)
-          (λ e7. when ((b == 42) || ((b == 95) || ((b == 126) || (b == 94)))) (run_at one alone k b n) c8
+          (λ e7. when (is_run_delimiter b) (run_at one alone k b n) c8
           (λ e. run_joined n (flanking reader.options b n (character_before one alone k) (character_at one alone (k + n)))
           (prefix-leads (λ d. d == b) (λ d. is_content d ≡ true) (λ d q. subst (λ x. is_content x ≡ true) (sym (eqb-true d b q)) c) (b ∷ bs))
           (subst (λ z. 0 < (if z then 1 + prefix_len (λ c. c == b) bs else 0)) (sym (eq-eqb b b refl)) (omega arith)))
           (λ e8. when (reader.options.math && is_dollar b) (dollar one alone k bs (braces_behind false (before one alone k) no_braces)) c9 (λ e. dollar_joined c (braces_behind false (before one alone k) no_braces))
           (λ e9. when reader.options.smart_punctuation (smart_or one alone k b) plain (λ e. smart_joined c) (λ e w. byte_joined c))))))))))))
 
-  pub begins-joined : (k : ℕ) → may_open_markup (drop k text) ≡ false → Joined (begins_at one alone k)
+  pub begins-joined : (k : ℕ) → may_open_markup reader.options.email_autolinks (drop k text) ≡ false → Joined (begins_at one alone k)
   begins-joined k none = subst (λ l. Joined (begins one alone k l)) (sym (from-text reader leaf text place h k)) (go (drop k text) refl)
     where
       go : (l : List ℕ) → drop k text ≡ l → Joined (begins one alone k l)
       go [] e = tt
-      go (b ∷ bs) e = begins_joined k b bs e (ap may_open_markup (sym e) ∙ none)
+      go (b ∷ bs) e = begins_joined k b bs e (ap (may_open_markup reader.options.email_autolinks) (sym e) ∙ none)
 
   -- ## Texts one behind the other
   grown : (s m e : ℕ) → Together s m → Together m e → Together s e
@@ -392,9 +392,9 @@ module _ (reader : Reader) (leaf : Leaf) (text : List ℕ) (place : ℕ → ℕ)
 
   plain_joined : (n s e : ℕ) → Together s e → Together s (plain_end one alone n e)
   plain_joined zero s e t = t
-  plain_joined (suc n) s e t = by (may_open_markup (drop e text)) refl (λ x u. plain_joined n s x u)
+  plain_joined (suc n) s e t = by (may_open_markup reader.options.email_autolinks (drop e text)) refl (λ x u. plain_joined n s x u)
     where
-      by : (z : Bool) → may_open_markup (drop e text) ≡ z → ((x : ℕ) → Together s x → Together s (plain_end one alone n x)) → Together s (goes_on one alone (begins_at one alone e) e (plain_end one alone n))
+      by : (z : Bool) → may_open_markup reader.options.email_autolinks (drop e text) ≡ z → ((x : ℕ) → Together s x → Together s (plain_end one alone n x)) → Together s (goes_on one alone (begins_at one alone e) e (plain_end one alone n))
       by true m further =
           let no = subst (λ l. NotPlain one alone (begins one alone e l)) (sym (from-text reader leaf text place h e)) (markup-not one alone e (drop e text) m) in
           subst (Together s) (sym (goes-stop one alone (begins_at one alone e) e (plain_end one alone n) no)) t
@@ -410,15 +410,15 @@ module _ (reader : Reader) (leaf : Leaf) (text : List ℕ) (place : ℕ → ℕ)
   longest_joined (Closes b) j shape = tt
   longest_joined Ends j shape = tt
 
-  pub token-joined : (k : ℕ) → may_open_markup (drop k text) ≡ false → Joined (token one alone k)
+  pub token-joined : (k : ℕ) → may_open_markup reader.options.email_autolinks (drop k text) ≡ false → Joined (token one alone k)
   unfolding token
   token-joined k none = longest_joined (begins_at one alone k) (begins-joined k none) (begins-shaped one alone k (from one alone k))
 
   -- an item's bytes of the source are those of the text
-  pub text-together : (k : ℕ) → may_open_markup (drop k text) ≡ false → (x : Item) (resume : ℕ) → token one alone k ≡ Stands x resume → is_as_written x.kind ≡ true → slice reader.source (place x.start) (suc (place (x.end - 1))) ≡ slice text x.start x.end
+  pub text-together : (k : ℕ) → may_open_markup reader.options.email_autolinks (drop k text) ≡ false → (x : Item) (resume : ℕ) → token one alone k ≡ Stands x resume → is_as_written x.kind ≡ true → slice reader.source (place x.start) (suc (place (x.end - 1))) ≡ slice text x.start x.end
   text-together k none x resume e w = together-slice x.start x.end (subst Joined e (token-joined k none) w)
 
-  pub byte-together : (k : ℕ) → may_open_markup (drop k text) ≡ false → (x : Item) (resume : ℕ) → begins_at one alone k ≡ Stands x resume → is_as_written x.kind ≡ true → slice reader.source (place x.start) (suc (place (x.end - 1))) ≡ slice text x.start x.end
+  pub byte-together : (k : ℕ) → may_open_markup reader.options.email_autolinks (drop k text) ≡ false → (x : Item) (resume : ℕ) → begins_at one alone k ≡ Stands x resume → is_as_written x.kind ≡ true → slice reader.source (place x.start) (suc (place (x.end - 1))) ≡ slice text x.start x.end
   byte-together k none x resume e w = together-slice x.start x.end (subst Joined e (begins-joined k none) w)
 
   -- no line ends among these bytes
@@ -430,7 +430,7 @@ module _ (reader : Reader) (leaf : Leaf) (text : List ℕ) (place : ℕ → ℕ)
       go false true f = not_written f
       go false false f = refl
 
-  pub byte-lines : (k : ℕ) → may_open_markup (drop k text) ≡ false → (x : Item) (resume : ℕ) → begins_at one alone k ≡ Stands x resume → is_as_written x.kind ≡ true → takes_lines (slice text x.start x.end) ≡ false
+  pub byte-lines : (k : ℕ) → may_open_markup reader.options.email_autolinks (drop k text) ≡ false → (x : Item) (resume : ℕ) → begins_at one alone k ≡ Stands x resume → is_as_written x.kind ≡ true → takes_lines (slice text x.start x.end) ≡ false
   byte-lines k none x resume e w =
       let t = subst Joined e (begins-joined k none) w in
       list_any_none (λ b. (b == 10) || (b == 13)) (slice text x.start x.end) (λ j d lt.

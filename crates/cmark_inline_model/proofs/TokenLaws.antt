@@ -9,7 +9,7 @@ use Rattle.cmark_grammar.specs.Autolinks.{autolink_in}
 use Rattle.cmark_grammar.specs.CodeSpans.{is_backtick, backticks, code_in, code_text}
 use Rattle.cmark_grammar.specs.Columns.{is_blank_byte}
 use Rattle.cmark_grammar.specs.Dashes.{dashes_of, dash_text}
-use Rattle.cmark_grammar.specs.Flanking.{Flanking, flanking}
+use Rattle.cmark_grammar.specs.Flanking.{Flanking, flanking, is_run_delimiter}
 use Rattle.cmark_grammar.specs.Formulas.{is_dollar, Braces, no_braces, braces_behind, inline_in, display_in}
 use Rattle.cmark_grammar.specs.InlineHtml.{behind_markup}
 use Rattle.cmark_grammar.specs.InlineTokens.{item_at, bracket, is_plain, as_in, from, before, place_of, size_to, character_before, character_at, line_begins, read_on, break_or, code_or, escaped_backtick, escape_at, entity_or, autolink_or, tag_kind, tag_or_text, source_from, markup_or, less_than, run_or, run_at, formula_or, dollar, dots, hyphens, quote_at, smart_or, begins, begins_at, goes_on, plain_end, longest, token}
@@ -151,8 +151,8 @@ module _ (reader : Reader) (leaf : Leaf) (size : ℕ) (turn : InTurn 0 leaf.stre
     less_than_onward : Onward at (less_than reader leaf at bs)
     less_than_onward =
         let others = markup_or reader leaf at (behind_markup (source_from reader leaf at)) (tag_or_text reader leaf at (behind_tag no_prefix (from reader leaf at))) in
-        when at (first_is (λ c. c == 92) bs) (item_at Plain at (suc at)) (autolink_or reader leaf at (autolink_in bs) others) (λ e. byte_onward Plain)
-        (autolink_onward (autolink_in bs) others (autolink-within bs)
+        when at (first_is (λ c. c == 92) bs) (item_at Plain at (suc at)) (autolink_or reader leaf at (autolink_in reader.options.email_autolinks bs) others) (λ e. byte_onward Plain)
+        (autolink_onward (autolink_in reader.options.email_autolinks bs) others (autolink-within reader.options.email_autolinks bs)
         (markup_onward (behind_markup (source_from reader leaf at)) (tag_or_text reader leaf at (behind_tag no_prefix (from reader leaf at))) (markup-shorter (source_from reader leaf at))
         (tag_onward (behind_tag no_prefix (from reader leaf at)) (tag-shorter no_prefix (from reader leaf at)))))
 
@@ -212,7 +212,7 @@ module _ (reader : Reader) (leaf : Leaf) (size : ℕ) (turn : InTurn 0 leaf.stre
         let plain = item_at Plain at (suc at) in
         let c9 = if reader.options.smart_punctuation then smart_or reader leaf at b else plain in
         let c8 = if reader.options.math && is_dollar b then dollar reader leaf at bs (braces_behind false (before reader leaf at) no_braces) else c9 in
-        let c7 = if (b == 42) || ((b == 95) || ((b == 126) || (b == 94))) then run_at reader leaf at b (prefix_len (λ c. c == b) (b ∷ bs)) else c8 in
+        let c7 = if is_run_delimiter b then run_at reader leaf at b (prefix_len (λ c. c == b) (b ∷ bs)) else c8 in
         let c6 = if b == 93 then Closes (bracket false at (suc at)) else c7 in
         let c5 = if b == 91 then Opens (bracket false at (suc at)) else c6 in
         let bang = if first_is (λ c. c == 91) bs then Opens (bracket true at (at + 2)) else plain in
@@ -231,7 +231,7 @@ module _ (reader : Reader) (leaf : Leaf) (size : ℕ) (turn : InTurn 0 leaf.stre
         (λ g. (let s = first-size (λ c. c == 91) bs g in (record { begins = omega arith; ordered = omega arith; ends = omega arith }, omega arith))) (byte_onward Plain))
         (when at (b == 91) (Opens (bracket false at (suc at))) c6 (λ e. (record { begins = omega arith; ordered = omega arith; ends = omega arith }, omega arith))
         (when at (b == 93) (Closes (bracket false at (suc at))) c7 (λ e. (refl, refl, omega arith))
-        (when at ((b == 42) || ((b == 95) || ((b == 126) || (b == 94)))) (run_at reader leaf at b (prefix_len (λ c. c == b) (b ∷ bs))) c8
+        (when at (is_run_delimiter b) (run_at reader leaf at b (prefix_len (λ c. c == b) (b ∷ bs))) c8
         (λ e. (let r = run_size b refl in (let n = prefix_len (λ c. c == b) (b ∷ bs) in run_onward b n (flanking reader.options b n (character_before reader leaf at) (character_at reader leaf (at + n))) r.0 r.1)))
         (when at (reader.options.math && is_dollar b) (dollar reader leaf at bs (braces_behind false (before reader leaf at) no_braces)) c9 (λ e. dollar_onward (braces_behind false (before reader leaf at) no_braces))
         (when at reader.options.smart_punctuation (smart_or reader leaf at b) plain (λ e. smart_onward) (byte_onward Plain)))))))))))

@@ -10,6 +10,7 @@ use Rattle.cmark_grammar.specs.Parts.{Parts, Nil, Single, Form, Closing, Opening
 use Rattle.cmark_grammar.specs.Questions.{Saying}
 use Rattle.cmark_grammar.specs.Readers.{Reader}
 use Rattle.cmark_inline_model.specs.OptionRules.{IsRead, AllItems}
+use Rattle.cmark_inline_model.proofs.Addresses.{address-given}
 use Rattle.cmark_inline_model.proofs.TokenItems.{HoldsOfItems, HoldsOf, token-holds, OfItems, items-hold}
 
 module _ (reader : Reader) (leaf : Leaf) where
@@ -30,7 +31,7 @@ module _ (reader : Reader) (leaf : Leaf) where
     inline_math = λ on text start end. on;
     display_math = λ on text start end. on;
     run = λ run start is_run. is_run;
-    autolink = λ at b bs found here e. tt;
+    autolink = λ at b bs found here e. address-given reader.options bs found e;
   }
 
   all_items : (parts : Parts) → OfItems (λ item. IsRead reader.options item.kind) parts → AllItems (IsRead reader.options) parts

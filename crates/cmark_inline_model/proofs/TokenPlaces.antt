@@ -7,7 +7,7 @@ use Rattle.cmark_grammar.specs.Autolinks.{autolink_in}
 use Rattle.cmark_grammar.specs.CodeSpans.{is_backtick, backticks, code_in}
 use Rattle.cmark_grammar.specs.Columns.{is_blank_byte}
 use Rattle.cmark_grammar.specs.Dashes.{dashes_of, dash_text}
-use Rattle.cmark_grammar.specs.Flanking.{flanking}
+use Rattle.cmark_grammar.specs.Flanking.{flanking, is_run_delimiter}
 use Rattle.cmark_grammar.specs.Formulas.{is_dollar, Braces, no_braces, braces_behind, inline_in, display_in}
 use Rattle.cmark_grammar.specs.InlineHtml.{behind_markup, takes_lines}
 use Rattle.cmark_grammar.specs.InlineTokens.{item_at, bracket, is_plain, from, before, place_of, size_to, character_before, character_at, line_begins, read_on, break_or, code_or, escaped_backtick, escape_at, entity_or, autolink_or, tag_or_text, source_from, markup_or, less_than, run_at, formula_or, dollar, dots, hyphens, quote_at, smart_or, begins, begins_at, goes_on, plain_end, longest, token}
@@ -230,8 +230,8 @@ module _ (reader : Reader) (leaf : Leaf) (size : ℕ) (turn : InTurn 0 leaf.stre
     less_than_sits w =
         let tag = tag_or_text reader leaf at (behind_tag no_prefix (from reader leaf at)) in
         let others = markup_or reader leaf at (behind_markup (source_from reader leaf at)) tag in
-        when (first_is (λ c. c == 92) bs) (item_at Plain at (suc at)) (autolink_or reader leaf at (autolink_in bs) others) (λ e. word_next w)
-        (λ e. autolink_sits (autolink_in bs) others (autolink-within bs)
+        when (first_is (λ c. c == 92) bs) (item_at Plain at (suc at)) (autolink_or reader leaf at (autolink_in reader.options.email_autolinks bs) others) (λ e. word_next w)
+        (λ e. autolink_sits (autolink_in reader.options.email_autolinks bs) others (autolink-within reader.options.email_autolinks bs)
         (markup_sits (behind_markup (source_from reader leaf at)) tag (tag_sits w (behind_tag no_prefix (from reader leaf at)) (tag-shorter no_prefix (from reader leaf at)))))
 
     same_byte : (c : ℕ) → IsWord b → (c == b) ≡ true → (is_content c ≡ true) × ((c == b) ≡ true)
@@ -306,30 +306,34 @@ module _ (reader : Reader) (leaf : Leaf) (size : ℕ) (turn : InTurn 0 leaf.stre
     both_false false true e = refl
     both_false false false e = cc
 
-    mark_word : ((b == 42) || ((b == 95) || ((b == 126) || (b == 94)))) ≡ true → IsWord b × ((b == 124) ≡ false)
-    mark_word e = one (or-either (b == 42) ((b == 95) || ((b == 126) || (b == 94))) e)
+    mark_word : (is_run_delimiter b) ≡ true → IsWord b × ((b == 124) ≡ false)
+    mark_word e = one (or-either (b == 42) ((b == 95) || ((b == 126) || ((b == 94) || (b == 61)))) e)
       where
         is : (c : ℕ) → is_content c ≡ true → c < 128 → (c == 124) ≡ false → (b == c) ≡ true → IsWord b × ((b == 124) ≡ false)
         is c h k n f = (word-is b c h k f, subst (λ x. (x == 124) ≡ false) (sym (eqb-true b c f)) n)
 
-        three : ((b == 126) ≡ true) ⊎ ((b == 94) ≡ true) → IsWord b × ((b == 124) ≡ false)
+        four : ((b == 94) ≡ true) ⊎ ((b == 61) ≡ true) → IsWord b × ((b == 124) ≡ false)
+        four (inl f) = is 94 refl (omega arith) refl f
+        four (inr f) = is 61 refl (omega arith) refl f
+
+        three : ((b == 126) ≡ true) ⊎ (((b == 94) || (b == 61)) ≡ true) → IsWord b × ((b == 124) ≡ false)
         three (inl f) = is 126 refl (omega arith) refl f
-        three (inr f) = is 94 refl (omega arith) refl f
+        three (inr f) = four (or-either (b == 94) (b == 61) f)
 
-        two : ((b == 95) ≡ true) ⊎ (((b == 126) || (b == 94)) ≡ true) → IsWord b × ((b == 124) ≡ false)
+        two : ((b == 95) ≡ true) ⊎ (((b == 126) || ((b == 94) || (b == 61))) ≡ true) → IsWord b × ((b == 124) ≡ false)
         two (inl f) = is 95 refl (omega arith) refl f
-        two (inr f) = three (or-either (b == 126) (b == 94) f)
+        two (inr f) = three (or-either (b == 126) ((b == 94) || (b == 61)) f)
 
-        one : ((b == 42) ≡ true) ⊎ (((b == 95) || ((b == 126) || (b == 94))) ≡ true) → IsWord b × ((b == 124) ≡ false)
+        one : ((b == 42) ≡ true) ⊎ (((b == 95) || ((b == 126) || ((b == 94) || (b == 61)))) ≡ true) → IsWord b × ((b == 124) ≡ false)
         one (inl f) = is 42 refl (omega arith) refl f
-        one (inr f) = two (or-either (b == 95) ((b == 126) || (b == 94)) f)
+        one (inr f) = two (or-either (b == 95) ((b == 126) || ((b == 94) || (b == 61))) f)
 
     begins_sits : Sits (begins reader leaf at (b ∷ bs))
     begins_sits =
         let plain = item_at Plain at (suc at) in
         let c9 = if reader.options.smart_punctuation then smart_or reader leaf at b else plain in
         let c8 = if reader.options.math && is_dollar b then dollar reader leaf at bs (braces_behind false (before reader leaf at) no_braces) else c9 in
-        let c7 = if (b == 42) || ((b == 95) || ((b == 126) || (b == 94))) then run_at reader leaf at b (prefix_len (λ c. c == b) (b ∷ bs)) else c8 in
+        let c7 = if is_run_delimiter b then run_at reader leaf at b (prefix_len (λ c. c == b) (b ∷ bs)) else c8 in
         let c6 = if b == 93 then Closes (bracket false at (suc at)) else c7 in
         let c5 = if b == 91 then Opens (bracket false at (suc at)) else c6 in
         let bang = if first_is (λ c. c == 91) bs then Opens (bracket true at (at + 2)) else plain in
@@ -349,13 +353,13 @@ module _ (reader : Reader) (leaf : Leaf) (size : ℕ) (turn : InTurn 0 leaf.stre
         (λ g. words_text 2 at (b ∷ bs) there here (leads-cons IsWord b 1 bs (word-is b 33 refl (omega arith) e) (first-leads IsWord (λ c. c == 91) bs (λ c x. word-is c 91 refl (omega arith) x) g))) (λ g. text_next c))
         (λ e5. when (b == 91) (Opens (bracket false at (suc at))) c6 (λ e. text_next c)
         (λ e6. when (b == 93) (Closes (bracket false at (suc at))) c7 (λ e. text_next c)
-        (λ e7. when ((b == 42) || ((b == 95) || ((b == 126) || (b == 94)))) (run_at reader leaf at b (prefix_len (λ c. c == b) (b ∷ bs))) c8 (λ e. (let m = mark_word e in run_sits m.0 m.1))
+        (λ e7. when (is_run_delimiter b) (run_at reader leaf at b (prefix_len (λ c. c == b) (b ∷ bs))) c8 (λ e. (let m = mark_word e in run_sits m.0 m.1))
         (λ e8. when (reader.options.math && is_dollar b) (dollar reader leaf at bs (braces_behind false (before reader leaf at) no_braces)) c9
         (λ e. dollar_sits (word-is b 36 refl (omega arith) (and-right reader.options.math (is_dollar b) e)) (braces_behind false (before reader leaf at) no_braces))
         (λ e9. when reader.options.smart_punctuation (smart_or reader leaf at b) plain (λ e. smart_sits c) (λ e. text_next c))))))))))))
 
-  begins_at_sits : (at : ℕ) → IsPlace at → Sits (begins_at reader leaf at)
-  begins_at_sits at h = go (from reader leaf at) refl
+  pub begins-at-sits : (at : ℕ) → IsPlace at → Sits (begins_at reader leaf at)
+  begins-at-sits at h = go (from reader leaf at) refl
     where
       go : (l : List ℕ) → from reader leaf at ≡ l → Sits (begins reader leaf at l)
       go [] e = tt
@@ -373,7 +377,7 @@ module _ (reader : Reader) (leaf : Leaf) (size : ℕ) (turn : InTurn 0 leaf.stre
 
   plain_place : (n item_end : ℕ) → IsPlace item_end → IsPlace (plain_end reader leaf n item_end)
   plain_place zero item_end h = h
-  plain_place (suc n) item_end h = goes_place (begins_at reader leaf item_end) item_end (plain_end reader leaf n) h (begins_at_sits item_end h) (λ x k. plain_place n x k)
+  plain_place (suc n) item_end h = goes_place (begins_at reader leaf item_end) item_end (plain_end reader leaf n) h (begins-at-sits item_end h) (λ x k. plain_place n x k)
 
   -- texts without a gap are one text
   plain_is : (kind : ItemKind) (start end : ℕ) → is_plain kind ≡ true → Uncut kind start end → HaveContent start end
@@ -392,7 +396,7 @@ module _ (reader : Reader) (leaf : Leaf) (size : ℕ) (turn : InTurn 0 leaf.stre
 
   plain_content : (n start item_end : ℕ) → HaveContent start item_end → IsPlace item_end → HaveContent start (plain_end reader leaf n item_end)
   plain_content zero start item_end h w = h
-  plain_content (suc n) start item_end h w = go (begins_at reader leaf item_end) refl (begins_at_sits item_end w) (λ resume q p. plain_content n start resume q p)
+  plain_content (suc n) start item_end h w = go (begins_at reader leaf item_end) refl (begins-at-sits item_end w) (λ resume q p. plain_content n start resume q p)
     where
       go : (t : Token) → begins_at reader leaf item_end ≡ t → Sits t → ((resume : ℕ) → HaveContent start resume → IsPlace resume → HaveContent start (plain_end reader leaf n resume)) → HaveContent start (goes_on reader leaf t item_end (plain_end reader leaf n))
       go (Stands item resume) e k more = by (is_plain item.kind) (item.start == item_end) refl refl
@@ -421,4 +425,4 @@ module _ (reader : Reader) (leaf : Leaf) (size : ℕ) (turn : InTurn 0 leaf.stre
 
   pub token-sits : (at : ℕ) → IsPlace at → Sits (token reader leaf at)
   unfolding token
-  token-sits at h = longest_sits at (begins_at reader leaf at) refl (begins_at_sits at h)
+  token-sits at h = longest_sits at (begins_at reader leaf at) refl (begins-at-sits at h)

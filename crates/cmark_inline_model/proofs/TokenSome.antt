@@ -6,7 +6,7 @@ use Rattle.cmark_grammar.specs.Autolinks.{autolink_in}
 use Rattle.cmark_grammar.specs.CodeSpans.{is_backtick, backticks, code_in}
 use Rattle.cmark_grammar.specs.Columns.{is_blank_byte}
 use Rattle.cmark_grammar.specs.Dashes.{dashes_of, dash_text}
-use Rattle.cmark_grammar.specs.Flanking.{Flanking, flanking}
+use Rattle.cmark_grammar.specs.Flanking.{Flanking, flanking, is_run_delimiter}
 use Rattle.cmark_grammar.specs.Formulas.{is_dollar, Braces, no_braces, braces_behind, inline_in, display_in}
 use Rattle.cmark_grammar.specs.InlineHtml.{behind_markup}
 use Rattle.cmark_grammar.specs.InlineTokens.{item_at, bracket, is_plain, from, before, character_before, character_at, break_or, code_or, escaped_backtick, escape_at, entity_or, autolink_or, tag_or_text, source_from, markup_or, less_than, run_or, run_at, formula_or, dollar, dots, hyphens, quote_at, smart_or, begins, plain_end, longest, token}
@@ -77,8 +77,8 @@ module _ (reader : Reader) (leaf : Leaf) where
   less_than_some at bs =
       let tag = tag_or_text reader leaf at (behind_tag no_prefix (from reader leaf at)) in
       let others = markup_or reader leaf at (behind_markup (source_from reader leaf at)) tag in
-      when (first_is (λ c. c == 92) bs) (item_at Plain at (suc at)) (autolink_or reader leaf at (autolink_in bs) others) tt
-      (autolink_some at (autolink_in bs) others (markup_some at (behind_markup (source_from reader leaf at)) tag (tag_some at (behind_tag no_prefix (from reader leaf at)))))
+      when (first_is (λ c. c == 92) bs) (item_at Plain at (suc at)) (autolink_or reader leaf at (autolink_in reader.options.email_autolinks bs) others) tt
+      (autolink_some at (autolink_in reader.options.email_autolinks bs) others (markup_some at (behind_markup (source_from reader leaf at)) tag (tag_some at (behind_tag no_prefix (from reader leaf at)))))
 
   run_some : (at delimiter size : ℕ) (beside : Flanking) → IsSome (run_or reader leaf at delimiter size beside)
   run_some at delimiter size beside =
@@ -105,7 +105,7 @@ module _ (reader : Reader) (leaf : Leaf) where
       let c9 = if reader.options.smart_punctuation then smart_or reader leaf at b else plain in
       let c8 = if reader.options.math && is_dollar b then dollar reader leaf at bs (braces_behind false (before reader leaf at) no_braces) else c9 in
       let n = prefix_len (λ c. c == b) (b ∷ bs) in
-      let c7 = if (b == 42) || ((b == 95) || ((b == 126) || (b == 94))) then run_at reader leaf at b n else c8 in
+      let c7 = if is_run_delimiter b then run_at reader leaf at b n else c8 in
       let c6 = if b == 93 then Closes (bracket false at (suc at)) else c7 in
       let c5 = if b == 91 then Opens (bracket false at (suc at)) else c6 in
       let bang = if first_is (λ c. c == 91) bs then Opens (bracket true at (at + 2)) else plain in
@@ -122,7 +122,7 @@ module _ (reader : Reader) (leaf : Leaf) where
       (when (b == 33) bang c5 (when (first_is (λ c. c == 91) bs) (Opens (bracket true at (at + 2))) plain tt tt)
       (when (b == 91) (Opens (bracket false at (suc at))) c6 tt
       (when (b == 93) (Closes (bracket false at (suc at))) c7 tt
-      (when ((b == 42) || ((b == 95) || ((b == 126) || (b == 94)))) (run_at reader leaf at b n) c8
+      (when (is_run_delimiter b) (run_at reader leaf at b n) c8
       (run_some at b n (flanking reader.options b n (character_before reader leaf at) (character_at reader leaf (at + n))))
       (when (reader.options.math && is_dollar b) (dollar reader leaf at bs (braces_behind false (before reader leaf at) no_braces)) c9 (dollar_some at bs (braces_behind false (before reader leaf at) no_braces))
       (when reader.options.smart_punctuation (smart_or reader leaf at b) plain (smart_some at b) tt))))))))))

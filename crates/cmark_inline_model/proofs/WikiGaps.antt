@@ -85,7 +85,7 @@ module _ (reader : Reader) (leaf : Leaf) where
   shape_far s closer asked o (ToInline label os taken tail h t found e) = subst (λ (x : Outcome). IsFarResult x.result) (sym e) tt
   shape_far s closer asked o (ToReference label os taken named link_type found h t n some l e) = subst (λ (x : Outcome). IsFarResult x.result) (sym e) tt
   shape_far s closer asked o (ToFootnote label os taken name h t on e) = subst (λ (x : Outcome). IsFarResult x.result) (sym e) tt
-  shape_far s closer asked o (ToWiki label os first far h t on next e) = subst (λ (x : Outcome). IsFarResult x.result) (sym e) far
+  shape_far s closer asked o (ToWiki label os first far h t on next touched e) = subst (λ (x : Outcome). IsFarResult x.result) (sym e) far
 
   pub decide-far : (s : State) (closer : Bracket) → Always (λ o. IsFarResult o.result) (decide reader leaf s closer)
   decide-far s closer = always-by reader leaf s closer (λ o. IsFarResult o.result) (shape_far s closer)

@@ -5,6 +5,8 @@ pub mod Displays
 pub mod ReferenceExpansion
 pub mod FirstEvents
 pub mod FormedParts
+pub mod GivenAnswers
+pub mod LeafExtents
 pub mod LeafGaps
 pub mod LeafModel
 pub mod LikeSlots
@@ -26,3 +28,4 @@ pub mod RowPasses
 pub mod SlotRows
 pub mod Unanswered
 pub mod TextPlaces
+pub mod WithoutHighlight

@@ -49,7 +49,7 @@ pub record IsAnswered (reader : Reader) (asked : List Exchange) (written : LinkT
   pub answer : exchange.answer ≡ Some (record { url = linked.destination; title = linked.title })
 
 -- by the way in which it is written: an inline link has no label; a reference leads where its definition or an answer says; an autolink
--- and a wikilink have no title and no label. E-mail addresses are no autolinks (this profile's own)
+-- and a wikilink have no title and no label
 abbrev pub LeadsBy : LinkType → Reader → (asked : List Exchange) → Linked → Type 0
 LeadsBy Inline reader asked linked = linked.id ≡ []
 LeadsBy Reference reader asked linked = IsDefined reader linked
@@ -59,7 +59,7 @@ LeadsBy CollapsedUnknown reader asked linked = IsAnswered reader asked Collapsed
 LeadsBy Shortcut reader asked linked = IsDefined reader linked
 LeadsBy ShortcutUnknown reader asked linked = IsAnswered reader asked Shortcut linked
 LeadsBy Autolink reader asked linked = (linked.title ≡ []) × (linked.id ≡ [])
-LeadsBy Email reader asked linked = ⊥
+LeadsBy Email reader asked linked = (reader.options.email_autolinks ≡ true) × (linked.title ≡ []) × (linked.id ≡ [])
 LeadsBy (WikiLink has_pothole) reader asked linked = (reader.options.wikilinks ≡ true) × (linked.title ≡ []) × (linked.id ≡ [])
 
 abbrev pub IsLed : Reader → (asked : List Exchange) → Linked → Type 0

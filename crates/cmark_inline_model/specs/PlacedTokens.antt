@@ -1,6 +1,7 @@
 -- What begins at a place of a leaf, by what begins in the leaf's text where that is read as a leaf of one stretch.
-use Rattle.std.specs.Prelude.{◌≡◌, ◌≤◌, ◌<◌, ◌-◌, ℕ, suc, Bool, true, false, ◌==◌, ◌&&◌, ◌||◌, List, [], ◌∷◌, get_or, drop, take, length, None}
+use Rattle.std.specs.Prelude.{◌≡◌, ◌≤◌, ◌<◌, ◌-◌, ℕ, suc, Bool, true, false, ◌==◌, ◌&&◌, ◌||◌, List, [], ◌∷◌, get_or, drop, take, length, is_none, None}
 use Rattle.cmark_grammar.specs.Answers.{Lookup}
+use Rattle.cmark_grammar.specs.Autolinks.{autolink_in}
 use Rattle.cmark_grammar.specs.InlineTokens.{from, before, item_at, begins_at, goes_on}
 use Rattle.cmark_grammar.specs.Items.{ItemKind, Plain, Own, Autolink, Html, Item, Bracket, Token, Stands, Opens, Closes, Ends}
 use Rattle.cmark_grammar.specs.LeafText.{Leaf}
@@ -63,10 +64,11 @@ placed place (Opens b) = Opens (placed_bracket place b)
 placed place (Closes b) = Closes (placed_bracket place b)
 placed place Ends = Ends
 
--- markup that is sought in the source may open there: a comment, a declaration, a CDATA section or a processing instruction
-abbrev pub may_open_markup : List ℕ → Bool
-may_open_markup [] = false
-may_open_markup (b ∷ bs) = (b == 60) && first_is (λ c. (c == 33) || (c == 63)) bs
+-- markup that is sought in the source may open there, where no autolink begins: a comment, a declaration, a CDATA section or a processing
+-- instruction
+abbrev pub may_open_markup : (emails : Bool) → List ℕ → Bool
+may_open_markup emails [] = false
+may_open_markup emails (b ∷ bs) = (b == 60) && (is_none (autolink_in emails bs) && first_is (λ c. (c == 33) || (c == 63)) bs)
 
 -- the bytes of such an item are what its event says, or what stands in it
 abbrev pub is_as_written : ItemKind → Bool

@@ -1,8 +1,8 @@
 -- Links and images among the events of a text: no link in a link but autolinks (CommonMark 6.3 and 6.5), where each leads (4.7), and
 -- what references take off the reference expansion limit (this profile's own).
-use Rattle.std.specs.Prelude.{◌≡◌, ℕ, zero, suc, pred, ◌+◌, Bool, true, false, nat_le, if◌then◌else◌, List, [], ◌∷◌, ◌++◌, length, sum}
+use Rattle.std.specs.Prelude.{◌≡◌, ◌⊎◌, ℕ, zero, suc, pred, ◌+◌, Bool, true, false, nat_le, if◌then◌else◌, List, [], ◌∷◌, ◌++◌, length, sum}
 use Rattle.cmark_grammar.specs.Event.{Event, Start, End, Ranged}
-use Rattle.cmark_grammar.specs.LinkType.{Autolink}
+use Rattle.cmark_grammar.specs.LinkType.{LinkType, Autolink, Email}
 use Rattle.cmark_grammar.specs.Questions.{Exchange}
 use Rattle.cmark_grammar.specs.Readers.{Reader}
 use Rattle.cmark_grammar.specs.Tag.{Tag, Linked, Link, Image}
@@ -34,10 +34,14 @@ link_event _ = Neither
 
 -- ## No link in a link
 
+-- an autolink leads to a URI or to an email address
+abbrev pub IsOfAutolink : LinkType → Type 0
+IsOfAutolink link_type = (link_type ≡ Autolink) ⊎ (link_type ≡ Email)
+
 -- a link that begins inside of others is an autolink
 abbrev pub MayBegin : (begun : ℕ) → Linked → Type 0
 MayBegin zero linked = Unit {0}
-MayBegin (suc begun) linked = linked.link_type ≡ Autolink
+MayBegin (suc begun) linked = IsOfAutolink linked.link_type
 
 abbrev pub ApartBy : LinkEvent → (begun : ℕ) → (Others : (begun : ℕ) → Type 0) → Type 0
 ApartBy (Begins false linked) begun Others = MayBegin begun linked × Others (suc begun)

@@ -9,7 +9,7 @@ use Rattle.cmark_grammar.specs.Options.{Options}
 use Rattle.cmark_grammar.specs.Siblings.{Inline, Nil, Single, Around, item}
 use Rattle.cmark_grammar.specs.SpanEntries.{stays, entries_of, mark_pairs}
 use Rattle.cmark_grammar.specs.Spans as spans
-use Rattle.cmark_grammar.specs.Spans.{SpanKind, Emphasis, Strong, SingleTilde, DoubleTilde, Caret, span_tag, span_width, Spans}
+use Rattle.cmark_grammar.specs.Spans.{SpanKind, Emphasis, Strong, SingleTilde, DoubleTilde, Caret, DoubleEquals, span_tag, span_width, Spans}
 use Rattle.cmark_grammar.specs.Tag.{Tag}
 use Rattle.cmark_grammar.specs.TagEnd.{end_of}
 
@@ -133,6 +133,7 @@ opening Strong = Begins Strong ∷ (Blank ∷ [])
 opening SingleTilde = Begins SingleTilde ∷ []
 opening DoubleTilde = Begins DoubleTilde ∷ (Blank ∷ [])
 opening Caret = Begins Caret ∷ []
+opening DoubleEquals = Begins DoubleEquals ∷ (Blank ∷ [])
 
 abbrev pub closing : SpanKind → List Mark
 closing Emphasis = Ends Emphasis ∷ []
@@ -140,6 +141,7 @@ closing Strong = Blank ∷ (Ends Strong ∷ [])
 closing SingleTilde = Ends SingleTilde ∷ []
 closing DoubleTilde = Blank ∷ (Ends DoubleTilde ∷ [])
 closing Caret = Ends Caret ∷ []
+closing DoubleEquals = Blank ∷ (Ends DoubleEquals ∷ [])
 
 abbrev pub marks_of : Spans → List Mark
 marks_of spans = entries_of Mark Stays opening closing spans

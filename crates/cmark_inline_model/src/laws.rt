@@ -17,6 +17,7 @@ ghost use Rattle.cmark_grammar.specs.References.{first_with, references};
 ghost use Rattle.cmark_grammar.specs.Siblings.{AreSpans, Inline};
 ghost use Rattle.cmark_grammar.specs.SiblingsModel.{spans_in};
 ghost use Rattle.cmark_grammar.specs.SpanDocuments.{Content, Given, IsReading, Left, Profile, Segment, reader_of, segments};
+ghost use Rattle.cmark_inline_model.specs.LeafExtents.{extent, extents};
 ghost use Rattle.cmark_inline_model.specs.LeafModel.{AreLeavesInTurn, AreLeavesOfLines, HaveLineEnds};
 ghost use Rattle.cmark_inline_model.specs.TextPlaces.{ArePlaces, place_in, text_of};
 ghost use Rattle.cmark_grammar.specs.BracketReading.{Reads, ReadsWhole};
@@ -151,6 +152,13 @@ pub fn leaves_stand_in_order()
 pub fn leaves_consist_of_lines()
     ensures { (text : List ℕ) (options : Options) (lookup : Lookup) (document : BlockDocument)
         → Derives text options lookup document → AreLeavesOfLines text (segments document) }
+{}
+
+/// The leaves of a text stand apart in it: together they take no more bytes than it has (`apart`), and none has more bytes than it takes (`own`).
+pub fn leaves_stand_apart()
+    ensures apart { (text : List ℕ) (options : Options) (lookup : Lookup) (document : BlockDocument)
+        → Derives text options lookup document → extents (segments document) ≤ length text }
+    ensures own { (reader : Reader) (leaf : Leaf) (size : ℕ) → InTurn 0 leaf.stretches size → length (text_of reader leaf) ≤ extent leaf }
 {}
 
 /// What the grammar decides about a closing bracket records its question, sees no earlier one, and keeps links apart and the

@@ -14,7 +14,7 @@ ghost use Rattle.cmark_grammar.specs.Parts.{Form, Formed, Linking, Nil, Opening,
 ghost use Rattle.cmark_grammar.specs.Questions.{AnyAnswer, Exchange, IsNext};
 ghost use Rattle.cmark_grammar.specs.Quotes.{Quote};
 ghost use Rattle.cmark_grammar.specs.Readers.{Reader};
-ghost use Rattle.cmark_grammar.specs.Siblings.{item, quotes_of, uri_link};
+ghost use Rattle.cmark_grammar.specs.Siblings.{item, quotes_of, address_link};
 ghost use Rattle.cmark_grammar.specs.SiblingsModel.{siblings_of};
 ghost use Rattle.cmark_grammar.specs.Spans.{Spans};
 ghost use Rattle.cmark_grammar.specs.Tag.{Link};
@@ -65,7 +65,7 @@ pub fn items_have_their_slots()
     ensures autolink { (reader : Reader) (leaf : Leaf) (before : Between) (p : Pass) (bs : List BracketPlace) (slots : List Slot) (bytes quotes : List ℕ) (runs : List Run) (quoted : List Quote)
         → IsReached reader leaf before p bs slots bytes quotes runs quoted
         → (uri : List ℕ) (start end resume : ℕ) (slot : Slot) → token reader leaf p.state.at ≡ Stands (item (Autolink uri) start end) resume → IsLike reader.source slot (ItemSlot (item Own (suc start) (end - 1)))
-        → IsReached reader leaf before (pass (moved resume p.state) (join p.here (Single (item (Autolink uri) start end) Nil))) bs (slots ++ (BeginSlot (Link (uri_link uri)) start end ∷ (slot ∷ (EndSlot ∷ [])))) bytes quotes runs quoted }
+        → IsReached reader leaf before (pass (moved resume p.state) (join p.here (Single (item (Autolink uri) start end) Nil))) bs (slots ++ (BeginSlot (Link (address_link uri)) start end ∷ (slot ∷ (EndSlot ∷ [])))) bytes quotes runs quoted }
 {}
 
 /// Where a closing bracket forms something with the opening one that is noted at a place, what is formed stands in the place of that one's

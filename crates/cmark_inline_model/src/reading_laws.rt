@@ -2,7 +2,7 @@
 //! nothing. A reading is the events of a text, with the questions that were put about it and their answers in turn
 //! (`IsReading`, of `SpanDocuments`).
 
-ghost use Rattle.std.specs.Prelude.{◌≡◌, ℕ, ◌<◌, ◌≤◌, List, [], ◌∷◌, ◌++◌, length, sum};
+ghost use Rattle.std.specs.Prelude.{◌≡◌, false, ℕ, ◌+◌, ◌*◌, ◌<◌, ◌≤◌, List, [], ◌∷◌, ◌++◌, length, sum, IsUtf8};
 ghost use Rattle.cmark_grammar.specs.BlockDocument.{BlockDocument};
 ghost use Rattle.cmark_grammar.specs.BracketDecisions.{decide};
 ghost use Rattle.cmark_grammar.specs.BracketReading.{Reads};
@@ -12,16 +12,21 @@ ghost use Rattle.cmark_grammar.specs.Event.{Ranged};
 ghost use Rattle.cmark_grammar.specs.InlineTokens.{token};
 ghost use Rattle.cmark_grammar.specs.LeafReading.{Between};
 ghost use Rattle.cmark_grammar.specs.LeafText.{Leaf};
+ghost use Rattle.cmark_grammar.specs.Options.{Options};
 ghost use Rattle.cmark_grammar.specs.Parts.{Parts};
 ghost use Rattle.cmark_grammar.specs.Questions.{AnyAnswer, Exchange, IsNext};
+ghost use Rattle.cmark_grammar.specs.Ranges.{count_tables};
 ghost use Rattle.cmark_grammar.specs.Readers.{Reader};
 ghost use Rattle.cmark_grammar.specs.SpanDocuments.{IsReading, Profile, ReadsAll, Segment, at_start, reader_of, segments};
+ghost use Rattle.cmark_grammar.specs.SpecialBytes.{is_special};
+ghost use Rattle.cmark_inline_model.specs.CharacterRanges.{CutNoCharacter};
 ghost use Rattle.cmark_inline_model.specs.CutRanges.{InPlaceButCut, HasNoTasks};
 ghost use Rattle.cmark_inline_model.specs.LinkRules.{IsQuestion};
 ghost use Rattle.cmark_inline_model.specs.OptionRules.{AllItems, AreGiven, IsRead};
 ghost use Rattle.cmark_inline_model.specs.ReadingLinks.{AreLed, LinksApart, reference_costs};
 ghost use Rattle.cmark_inline_model.specs.ReadingQuestions.{AllQuestions, PutInTurn, IsCloser, IsCloserBelow};
 ghost use Rattle.cmark_inline_model.specs.ReadingRanges.{HasNoDisplays, InPlace, LieWithin};
+ghost use Rattle.cmark_inline_model.specs.WithoutHighlight.{IsReadingWithout, is_special_without};
 
 /// No link stands in a link, at any depth, but for autolinks (CommonMark 6.3 and 6.5).
 pub fn links_stand_apart()
@@ -65,14 +70,39 @@ pub fn ranges_stand_in_order()
         → HasNoDisplays profile.options text → HasNoTasks events → IsReading text profile exchanges events → InPlace 0 events (length text) }
 {}
 
+/// Both ends of the range of each event lie in the text, and cut no character of it.
+pub fn ranges_cut_no_character()
+    ensures { (text : List ℕ) (profile : Profile) (exchanges : List Exchange) (events : List Ranged)
+        → IsUtf8 text → IsReading text profile exchanges events → CutNoCharacter text events }
+{}
+
+/// A text is read as eleven events at most a byte, but for the cells that are filled in: each of these is two events, and a table has
+/// 262,144 of them at most.
+pub fn events_are_few()
+    ensures { (text : List ℕ) (profile : Profile) (document : BlockDocument) (exchanges : List Exchange) (events : List Ranged)
+        → Derives text profile.options profile.lookup document → IsReading text profile exchanges events → length events ≤ 11 * length text + 524288 * count_tables document }
+{}
+
 /// What belongs to an option is read only where it is on. Of the items of a leaf: quotes with smart punctuation, formulas with math, runs
-/// of `~` and `^` with strikethrough, subscript and superscript. Of the events of a text: formulas with math, footnote references with
-/// footnotes, and strikethrough, subscripts and superscripts with the options of these names.
+/// of `~`, `^` and `=` with strikethrough, subscript, superscript and highlight, and autolinks to email addresses with email autolinks. Of the
+/// events of a text: formulas with math, footnote references with footnotes, strikethrough, subscripts, superscripts and highlights with the
+/// options of these names, and links to email addresses with email autolinks.
 pub fn options_that_are_off_read_nothing()
     ensures items { (reader : Reader) (leaf : Leaf) (s : State) (parts : Parts) (t : State)
         → Reads (token reader leaf) (decide reader leaf) AnyAnswer s parts t → AllItems (IsRead reader.options) parts }
     ensures events { (text : List ℕ) (profile : Profile) (exchanges : List Exchange) (events : List Ranged)
         → IsReading text profile exchanges events → AreGiven profile.options events }
+{}
+
+/// Highlight that is off changes nothing. A text is read then as the grammar without highlight reads it (`reads`), and as nothing else
+/// (`other`); and no other bytes are special (`special`). That grammar has each definition that highlight changed as it is without it:
+/// there `=` is a byte as any other.
+pub fn highlight_that_is_off_changes_nothing()
+    ensures special { (options : Options) (b : ℕ) → options.highlight ≡ false → is_special options b ≡ is_special_without options b }
+    ensures reads { (text : List ℕ) (profile : Profile) (exchanges : List Exchange) (events : List Ranged)
+        → profile.options.highlight ≡ false → IsReading text profile exchanges events → IsReadingWithout text profile exchanges events }
+    ensures other { (text : List ℕ) (profile : Profile) (exchanges : List Exchange) (events : List Ranged)
+        → profile.options.highlight ≡ false → IsReadingWithout text profile exchanges events → IsReading text profile exchanges events }
 {}
 
 /// At most one question is put for each closing bracket of the text, in the order of these; each is about a label that no

@@ -48,10 +48,10 @@ pub fn no_pipe_stands_between_the_lines_of_a_leaf()
 /// the source is left out.
 pub fn tokens_stand_in_their_places()
     ensures begins { (reader : Reader) (leaf : Leaf) (text : List ℕ) (place : ℕ → ℕ) → AreLeafPlaces reader leaf text place
-        → (k : ℕ) → k ≤ length text → may_open_markup (drop k text) ≡ false
+        → (k : ℕ) → k ≤ length text → may_open_markup reader.options.email_autolinks (drop k text) ≡ false
         → begins_at reader leaf (place k) ≡ placed place (begins_at (text_reader reader.options reader.lookup text) (one_stretch leaf.is_cell text) k) }
     ensures token { (reader : Reader) (leaf : Leaf) (text : List ℕ) (place : ℕ → ℕ) → AreLeafPlaces reader leaf text place
-        → (k : ℕ) → k ≤ length text → may_open_markup (drop k text) ≡ false
+        → (k : ℕ) → k ≤ length text → may_open_markup reader.options.email_autolinks (drop k text) ≡ false
         → token reader leaf (place k) ≡ placed place (token (text_reader reader.options reader.lookup text) (one_stretch leaf.is_cell text) k) }
 {}
 
@@ -65,10 +65,10 @@ pub fn the_text_is_read_on_in_its_places()
 /// The bytes of a text, of an autolink, and of a tag that takes no line ending stand side by side in the source, and are the bytes of the
 /// item in the text: of each byte that stands for itself (`begins`), and of the longest text (`token`).
 pub fn texts_have_their_bytes_in_the_source()
-    ensures begins { (reader : Reader) (leaf : Leaf) (text : List ℕ) (place : ℕ → ℕ) → AreLeafPlaces reader leaf text place → (k : ℕ) → may_open_markup (drop k text) ≡ false
+    ensures begins { (reader : Reader) (leaf : Leaf) (text : List ℕ) (place : ℕ → ℕ) → AreLeafPlaces reader leaf text place → (k : ℕ) → may_open_markup reader.options.email_autolinks (drop k text) ≡ false
         → (x : Item) (resume : ℕ) → begins_at (text_reader reader.options reader.lookup text) (one_stretch leaf.is_cell text) k ≡ Stands x resume → is_as_written x.kind ≡ true
         → slice reader.source (place x.start) (suc (place (x.end - 1))) ≡ slice text x.start x.end }
-    ensures token { (reader : Reader) (leaf : Leaf) (text : List ℕ) (place : ℕ → ℕ) → AreLeafPlaces reader leaf text place → (k : ℕ) → may_open_markup (drop k text) ≡ false
+    ensures token { (reader : Reader) (leaf : Leaf) (text : List ℕ) (place : ℕ → ℕ) → AreLeafPlaces reader leaf text place → (k : ℕ) → may_open_markup reader.options.email_autolinks (drop k text) ≡ false
         → (x : Item) (resume : ℕ) → token (text_reader reader.options reader.lookup text) (one_stretch leaf.is_cell text) k ≡ Stands x resume → is_as_written x.kind ≡ true
         → slice reader.source (place x.start) (suc (place (x.end - 1))) ≡ slice text x.start x.end }
 {}

@@ -75,6 +75,8 @@ pub enum ItemBody {
     Superscript,
     /// Lowered text (this profile's own).
     Subscript,
+    /// Highlighted text (this project's own).
+    Highlight,
     /// A formula: whether it is displayed, and its text (this profile's own).
     Math(bool, CowIndex),
     /// A code span (CommonMark 6.1).

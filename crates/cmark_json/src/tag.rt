@@ -75,6 +75,7 @@ fn plain_value(alloc: Global, tag: PlainTag) -> Result<Value, AllocError>
         PlainTag::Strikethrough => leaf::alone(alloc, "Strikethrough"),
         PlainTag::Superscript => leaf::alone(alloc, "Superscript"),
         PlainTag::Subscript => leaf::alone(alloc, "Subscript"),
+        PlainTag::Highlight => leaf::alone(alloc, "Highlight"),
         PlainTag::MetadataBlock(kind) => {
             leaf::with_text(alloc, "MetadataBlock", leaf::metadata_kind_name(kind))
         }
@@ -178,6 +179,7 @@ pub fn end_value(alloc: Global, tag: TagEnd) -> Result<Value, AllocError>
         TagEnd::Strikethrough => leaf::alone(alloc, "Strikethrough"),
         TagEnd::Superscript => leaf::alone(alloc, "Superscript"),
         TagEnd::Subscript => leaf::alone(alloc, "Subscript"),
+        TagEnd::Highlight => leaf::alone(alloc, "Highlight"),
         TagEnd::Link => leaf::alone(alloc, "Link"),
         TagEnd::Image => leaf::alone(alloc, "Image"),
         TagEnd::MetadataBlock(kind) => {

@@ -44,6 +44,7 @@ plain-element links element.Strong t h = cc
 plain-element links element.Strikethrough t h = cc
 plain-element links element.Superscript t h = cc
 plain-element links element.Subscript t h = cc
+plain-element links element.Highlight t h = cc
 plain-element links (element.Link index) t h = cc
 plain-element links (element.Autolink index) t h = cc
 plain-element links (element.Image index) t h = cc

@@ -20,6 +20,7 @@ element_end element.Strong = end.Strong
 element_end element.Strikethrough = end.Strikethrough
 element_end element.Superscript = end.Superscript
 element_end element.Subscript = end.Subscript
+element_end element.Highlight = end.Highlight
 element_end (element.Link index) = end.Link
 element_end (element.Autolink index) = end.Link
 element_end (element.Image index) = end.Image

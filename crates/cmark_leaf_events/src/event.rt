@@ -205,6 +205,7 @@ impl<'a> LeafEvents<'a> {
             Element::Strikethrough => Tag::Strikethrough,
             Element::Superscript => Tag::Superscript,
             Element::Subscript => Tag::Subscript,
+            Element::Highlight => Tag::Highlight,
             Element::Link(index) | Element::Autolink(index) => link_tag(self.take_link(index)),
             Element::Image(index) => image_tag(self.take_link(index)),
         }
@@ -293,6 +294,7 @@ fn element_end(element: Element) -> TagEnd
         Element::Strikethrough => TagEnd::Strikethrough,
         Element::Superscript => TagEnd::Superscript,
         Element::Subscript => TagEnd::Subscript,
+        Element::Highlight => TagEnd::Highlight,
         Element::Link(_) | Element::Autolink(_) => TagEnd::Link,
         Element::Image(_) => TagEnd::Image,
     }

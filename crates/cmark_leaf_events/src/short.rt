@@ -141,6 +141,7 @@ fn plain_element(element: Element) -> Option<(PlainTag, TagEnd)>
         Element::Strikethrough => Some((PlainTag::Strikethrough, TagEnd::Strikethrough)),
         Element::Superscript => Some((PlainTag::Superscript, TagEnd::Superscript)),
         Element::Subscript => Some((PlainTag::Subscript, TagEnd::Subscript)),
+        Element::Highlight => Some((PlainTag::Highlight, TagEnd::Highlight)),
         Element::Link(_) | Element::Autolink(_) | Element::Image(_) => None,
     }
 }

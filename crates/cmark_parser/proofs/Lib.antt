@@ -1,3 +1,4 @@
 pub mod ParseSteps
 pub mod RenderSteps
+pub mod SafeSteps
 pub mod WalkSteps

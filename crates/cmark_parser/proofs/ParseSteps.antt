@@ -1,11 +1,10 @@
 -- Steps of a walk.
-use Rattle.std.specs.Prelude.{IfOk, IfSome, OnErr, Option, Result, Err, IsUtf8, is_some, max, option_map}
+use Rattle.std.specs.Prelude.{IfOk, IfSome, OnErr, Option, Result, Err, IsUtf8, is_some, option_map}
 use Rattle.std.specs.declared.alloc.AllocError.{AllocError}
-use Rattle.std.proofs.Common.{◌≡◌, ◌+◌, ◌*◌, ◌<◌, ℕ, suc, Bool, true, false, if◌then◌else◌, List, [], ◌∷◌, ◌++◌, length, None, Some, Ok, inl, inr, refl, sym, ap, ◌∙◌, subst, arith}
+use Rattle.std.proofs.Common.{◌≡◌, ◌+◌, ◌*◌, ◌<◌, ◌≤◌, ℕ, suc, Bool, true, false, if◌then◌else◌, List, [], ◌∷◌, ◌++◌, length, None, Some, Ok, inl, inr, refl, sym, ap, ◌∙◌, subst, arith}
 use Rattle.cmark_block_model.proofs.Drawings.{derived}
 use Rattle.cmark_block_model.proofs.LeafDrawings.{segments-bounded}
 use Rattle.cmark_blocks.specs.Footnotes.{HasLabels, unused_if}
-use Rattle.cmark_blocks.specs.Runs.{shown_reference}
 use Rattle.cmark_grammar.specs.Answers.{Lookup}
 use Rattle.cmark_grammar.specs.BlockDocument.{Reference}
 use Rattle.cmark_grammar.specs.BracketDecisions.{or_empty}
@@ -19,31 +18,40 @@ use Rattle.cmark_grammar.specs.References.{first_with, references}
 use Rattle.cmark_grammar.specs.SpanDocuments.{Content, Given as GivenOf, Segment, footnote_labels, has_label, segments}
 use Rattle.cmark_grammar.specs.SpanDocuments as documents
 use Rattle.cmark_grammar.specs.Tag.{Linked}
+use Rattle.cmark_inline.specs.Counted.{total}
+use Rattle.cmark_inline.specs.declared.steps.Steps.{Steps}
 use Rattle.cmark_inline.specs.Decided.{said}
 use Rattle.cmark_inline.specs.Footnoted.{SameFootnotes}
-use Rattle.cmark_inline.specs.Linked.{Said, said_by, title_or_none}
+use Rattle.cmark_inline.specs.Linked.{said_by, title_or_none}
 use Rattle.cmark_inline.specs.Resolved.{Answered}
 use Rattle.cmark_inline.specs.declared.callback.BrokenLink.{BrokenLink}
 use Rattle.cmark_inline_model.specs.CharacterRanges.{HaveRanges}
+use Rattle.cmark_inline_model.specs.LeafExtents.{extents}
 use Rattle.cmark_inline_model.specs.LeafGaps.{HaveNoPipesBetween}
 use Rattle.cmark_inline_model.specs.LeafModel.{AreLeavesInTurn}
 use Rattle.cmark_inline_model.specs.PlacedLeaves.{AreLeavesPlaced}
 use Rattle.cmark_inline_model.specs.Unanswered.{AreUnanswered}
 use Rattle.cmark_inline_model.proofs.BlockRanges.{derived-ranges}
 use Rattle.cmark_inline_model.proofs.LeafEndings.{derived-placed}
+use Rattle.cmark_inline_model.proofs.LeafExtents.{derived-extents}
 use Rattle.cmark_inline_model.proofs.LeafGaps.{derived-no-pipes}
 use Rattle.cmark_inline_model.proofs.PlannedReadings.{left-planned}
-use Rattle.cmark_references.specs.Definitions.{ShownDefinition, definition, shown_definition}
+use Rattle.cmark_references.proofs.EntrySteps.{looked_up}
+use Rattle.cmark_references.proofs.SpellingSteps.{at}
+use Rattle.cmark_references.specs.Definitions.{definition, entry_of, reference_at, shown_entry}
 use Rattle.cmark_references.specs.Footnotes.{footnote}
 use Rattle.cmark_references.specs.Links.{shown_link}
 use Rattle.cmark_references.specs.declared.link.Link.{Link}
 use Rattle.cmark_references.specs.declared.definitions.LinkDef.{LinkDef}
+use Rattle.cmark_references.specs.declared.definitions.RefDefs.{RefDefs}
 use Rattle.cmark_references.specs.declared.footnotes.FootnoteDef.{FootnoteDef}
 use Rattle.cmark_span_walk.specs.Callback.{AnswersIfAny}
 use Rattle.cmark_span_walk.specs.Walking as walking
 use Rattle.cmark_span_walk.specs.Walking.{ArePlaced}
 use Rattle.cmark_span_walk.specs.declared.callback.OptionalCallback.{OptionalCallback}
+use Rattle.cmark_text_parts.specs.Labelled.{link_key}
 use Rattle.cmark_text_parts.specs.Shown.{text_bytes}
+use Rattle.cmark_text_parts.specs.declared.label.LinkLabel.{LinkLabel}
 use Rattle.cmark_text.specs.declared.short.Next.TheVariants as next
 use Rattle.cmark_text.specs.declared.short.Short.{Short}
 use Rattle.cmark_text_parts.specs.declared.text.CowStr.{CowStr}
@@ -53,7 +61,7 @@ use Rattle.cmark_parser.specs.declared.parse.Parser.{Parser}
 use Rattle.cmark_parser.specs.Walking.{GoesOn, SomeLeft, reader_by}
 use Rattle.cmark_span_walk.specs.declared.coming.Coming.{Coming}
 use Rattle.cmark_span_walk.specs.declared.coming.Coming.TheVariants as coming
-use Rattle.cmark_parser.specs.Parsing.{CanGo, IsOver, GivesAs, GivesOrErr, GivesStart, GivesStep, Left, Passes, Reads, Remains, definitions, footnotes, events_left, is_last, link_to_come, link_unless, lookup_of, options_of, reader_for, text_of}
+use Rattle.cmark_parser.specs.Parsing.{CanGo, IsOver, GivesAs, GivesOrErr, GivesStart, GivesStep, IsCounted, Left, Passes, ReadsWithin, Remains, definitions, footnotes, events_left, is_last, link_to_come, link_unless, lookup_of, options_of, reader_for, text_of}
 
 -- ## Questions
 
@@ -85,23 +93,16 @@ placed-turn reader (GivenOf r ∷ others) h = placed-turn reader others h.1
 placed-turn reader (Content leaf ∷ others) h = (h.0.placed.turn, placed-turn reader others h.1)
 
 -- the definitions and the footnotes of the text
-abbrev from-shown : ShownDefinition → Said
-from-shown d = record { destination = d.destination; title = or_empty d.title }
-
 title-same : (title : Option CowStr) → or_empty (option_map text_bytes title) ≡ title_or_none title
 title-same None = refl
 title-same (Some text) = refl
 
-said-shown : (found : Option LinkDef) → option_map said_by found ≡ option_map from-shown (option_map shown_definition found)
-said-shown None = refl
-said-shown (Some def) = ap (λ t. Some (record { destination = text_bytes def.dest; title = t })) (sym (title-same def.title))
+said-entry : (entry : Option (LinkLabel × LinkDef)) → option_map said (option_map shown_entry entry) ≡ option_map said_by (option_map (λ e. e.1) entry)
+said-entry None = refl
+said-entry (Some e) = ap (λ t. Some (record { destination = text_bytes e.1.dest; title = t })) (title-same e.1.title)
 
-said-reference : (found : Option Reference) → option_map said found ≡ option_map from-shown (option_map shown_reference found)
-said-reference None = refl
-said-reference (Some r) = refl
-
-pub said-same : (found : Option Reference) (def : Option LinkDef) → option_map shown_definition def ≡ option_map shown_reference found → option_map said found ≡ option_map said_by def
-said-same found def e = said-reference found ∙ ap (option_map from-shown) (sym e) ∙ sym (said-shown def)
+pub said-same : (folded : List ℕ) (table : RefDefs) (found : Option Reference) → reference_at table folded ≡ found → option_map said found ≡ option_map said_by (definition table folded)
+said-same folded table found is = ap (option_map said) (sym is) ∙ said-entry (entry_of table folded) ∙ ap (option_map said_by) (sym (looked_up (at link_key folded) table))
 
 pub label-same : (known : Option FootnoteDef) (b : Bool) → known ≡ unused_if b → b ≡ is_some known
 label-same known true e = sym (ap is_some e)
@@ -167,8 +168,8 @@ module _ {E F : Type 0} (Says : F → BrokenLink → Option (CowStr × CowStr) �
 
   -- an event is given, and the others are left
   pub gives-some : (old new : Parser E F) (item : Item) → old.is_over ≡ false → new.is_over ≡ false → walking.Gives (SaysIfAny Says) replacement (reader_for replacement old) old.spans (Some item) new.spans
-      → IsRangedZeroCopy (text_of old) item → walking.events_left new.spans < walking.events_left old.spans → text_of new ≡ text_of old → definitions new ≡ definitions old → SameFootnotes (footnotes old) (footnotes new) → GivesStep Says replacement old (Some (Ok item)) new
-  gives-some old new item e n gives lent less text same known =
+      → IsRangedZeroCopy (text_of old) item → walking.events_left new.spans < walking.events_left old.spans → text_of new ≡ text_of old → definitions new ≡ definitions old → SameFootnotes (footnotes old) (footnotes new) → IsCounted new → GivesStep Says replacement old (Some (Ok item)) new
+  gives-some old new item e n gives lent less text same known counted =
       let p = passes-of (shown_ranged item ∷ []) old new e n gives.1 in
       record {
         next = record {
@@ -180,13 +181,14 @@ module _ {E F : Type 0} (Says : F → BrokenLink → Option (CowStr × CowStr) �
         text = text;
         definitions = same;
         footnotes = known;
+        counted = counted;
         fewer = let a = left-of old e in let b = left-of new n in omega (arith, a, b, less);
       }
 
   -- no event was left
   pub gives-none : (old new : Parser E F) → old.is_over ≡ false → new.is_over ≡ true → walking.Gives (SaysIfAny Says) replacement (reader_for replacement old) old.spans None new.spans → text_of new ≡ text_of old → definitions new ≡ definitions old
-      → SameFootnotes (footnotes old) (footnotes new) → GivesStep Says replacement old None new
-  gives-none old new e n ends text same known = record {
+      → SameFootnotes (footnotes old) (footnotes new) → IsCounted new → GivesStep Says replacement old None new
+  gives-none old new e n ends text same known counted = record {
     next = record {
       taken = ends.taken;
       first = (asked-of Says ends.taken old.spans.callback new.spans.callback ends.answered, subst (λ b. Left replacement b old ends.taken []) (sym e) ends.none, n);
@@ -196,36 +198,39 @@ module _ {E F : Type 0} (Says : F → BrokenLink → Option (CowStr × CowStr) �
     text = text;
     definitions = same;
     footnotes = known;
+    counted = counted;
     fewer = tt;
   }
 
   -- behind the end
-  pub gives-nothing : (parser : Parser E F) → parser.is_over ≡ true → GivesStep Says replacement parser None parser
-  gives-nothing parser e = record {
+  pub gives-nothing : (parser : Parser E F) → parser.is_over ≡ true → IsCounted parser → GivesStep Says replacement parser None parser
+  gives-nothing parser e counted = record {
     next = record { taken = []; first = (refl, subst (λ b. Left replacement b parser [] []) (sym e) (refl, refl), e); goes_on = inl e; over = λ over. (refl, refl, e) };
     text = refl;
     definitions = refl;
     footnotes = λ folded. refl;
+    counted = counted;
     fewer = tt;
   }
 
   -- nothing is given any more
-  pub gives-over : (parser : Parser E F) → parser.is_over ≡ true → GivesAs Says replacement parser next.Over parser
-  gives-over parser e = record {
+  pub gives-over : (parser : Parser E F) → parser.is_over ≡ true → IsCounted parser → GivesAs Says replacement parser next.Over parser
+  gives-over parser e counted = record {
     answers = record { taken = []; asks = refl; none = subst (λ b. Left replacement b parser [] []) (sym e) (refl, refl); over = e };
-    can = record { goes = inl e };
+    can = record { goes = inl e; counted = counted };
     text = refl;
     definitions = refl;
     footnotes = λ folded. refl;
   }
 
   pub gives-error : (old new : Parser E F) (error : AllocError) → old.is_over ≡ false → new.is_over ≡ true → ((reader : Reader) → walking.NoEndIsNext replacement reader old.spans)
-      → walking.HasAsked (SaysIfAny Says) old.spans.callback new.spans.callback → text_of new ≡ text_of old → definitions new ≡ definitions old → SameFootnotes (footnotes old) (footnotes new) → GivesStep Says replacement old (Some (Err error)) new
-  gives-error old new error e n ends asked text same known = record {
+      → walking.HasAsked (SaysIfAny Says) old.spans.callback new.spans.callback → text_of new ≡ text_of old → definitions new ≡ definitions old → SameFootnotes (footnotes old) (footnotes new) → IsCounted new → GivesStep Says replacement old (Some (Err error)) new
+  gives-error old new error e n ends asked text same known counted = record {
     next = record { taken = asked.0; first = (asked-of Says asked.0 old.spans.callback new.spans.callback asked.1, λ exchanges events m. ends (reader_for replacement old) exchanges events (subst (λ b. Left replacement b old exchanges events) e m), n); goes_on = inl n; over = λ over. absurd (let q : true ≡ false = sym over ∙ e in cc) };
     text = text;
     definitions = same;
     footnotes = known;
+    counted = counted;
     fewer =
         let a = ap (λ b. if b then 0 else suc (walking.events_left old.spans)) e in
         let b = ap (λ b. if b then 0 else suc (walking.events_left new.spans)) n in
@@ -233,7 +238,7 @@ module _ {E F : Type 0} (Says : F → BrokenLink → Option (CowStr × CowStr) �
   }
 
   -- what the walk gives is handed on
-  module _ (old new : Parser E F) (e : old.is_over ≡ false) (text : text_of new ≡ text_of old) (same : definitions new ≡ definitions old) (known : SameFootnotes (footnotes old) (footnotes new)) where
+  module _ (old new : Parser E F) (e : old.is_over ≡ false) (text : text_of new ≡ text_of old) (same : definitions new ≡ definitions old) (known : SameFootnotes (footnotes old) (footnotes new)) (counted : IsCounted new) where
     gives-short : (short : Short) → new.is_over ≡ false → walking.GivesShort (SaysIfAny Says) replacement (reader_for replacement old) old.spans short new.spans → walking.events_left new.spans < walking.events_left old.spans → GivesAs Says replacement old (next.Short short) new
     gives-short short n h less = record {
       answers = record {
@@ -244,7 +249,7 @@ module _ {E F : Type 0} (Says : F → BrokenLink → Option (CowStr × CowStr) �
         passes = passes-of (h.given ∷ []) old new e n h.passes;
         fewer = let a = left-of old e in let b = left-of new n in omega (arith, a, b, less);
       };
-      can = record { goes = goes replacement old new n h.passes.read_by };
+      can = record { goes = goes replacement old new n h.passes.read_by; counted = counted };
       text = text;
       definitions = same;
       footnotes = known;
@@ -258,7 +263,7 @@ module _ {E F : Type 0} (Says : F → BrokenLink → Option (CowStr × CowStr) �
       range = h.range;
       passes = passes-of (h.given ∷ []) old new e n h.passes;
       fewer = let a = left-of old e in let b = left-of new n in omega (arith, a, b, less);
-      can = record { goes = goes replacement old new n h.passes.read_by };
+      can = record { goes = goes replacement old new n h.passes.read_by; counted = counted };
       text = text;
       definitions = same;
       footnotes = known;
@@ -284,7 +289,7 @@ module _ {E F : Type 0} (Says : F → BrokenLink → Option (CowStr × CowStr) �
         passes = passes-of [] old new e n h;
         most = let a = left-of old e in let b = left-of new n in omega (arith, a, b, most);
       };
-      can = record { goes = goes replacement old new n h.read_by };
+      can = record { goes = goes replacement old new n h.read_by; counted = counted };
       text = text;
       definitions = same;
       footnotes = known;
@@ -296,7 +301,7 @@ module _ {E F : Type 0} (Says : F → BrokenLink → Option (CowStr × CowStr) �
         none = subst (λ b. Left replacement b old h.taken []) (sym e) h.none;
         over = n;
       };
-      can = record { goes = inl n };
+      can = record { goes = inl n; counted = counted };
       text = text;
       definitions = same;
       footnotes = known;
@@ -306,7 +311,7 @@ module _ {E F : Type 0} (Says : F → BrokenLink → Option (CowStr × CowStr) �
         → IfOk o (λ coming. walking.LeavesFewer old.spans (walking.as_next coming) new.spans)
         → OnErr o ((reader : Reader) → walking.NoEndIsNext replacement reader old.spans) → OnErr o (walking.HasAsked (SaysIfAny Says) old.spans.callback new.spans.callback) → GivesOrErr Says replacement old o new
     gives-or-err (Ok coming) n h less ends asked = gives-coming coming n h less
-    gives-or-err (Err error) n h less ends asked = gives-error old new error e n ends asked text same known
+    gives-or-err (Err error) n h less ends asked = gives-error old new error e n ends asked text same known counted
 
 -- ## A parser at the start
 
@@ -326,13 +331,13 @@ module _ {E F : Type 0} (replacement : E → Lookup) (parser : Parser E F) (text
 
   -- the reader is that of the parser
   pub begin-same : text_of parser ≡ text → options_of parser ≡ options → lookup_of replacement parser ≡ lookup
-      → ((folded : List ℕ) → option_map shown_definition (definition (definitions parser) folded) ≡ option_map shown_reference (first_with fold folded (references (document text options lookup))))
+      → ((folded : List ℕ) → reference_at (definitions parser) folded ≡ first_with fold folded (references (document text options lookup)))
       → HasLabels (footnote_labels (document text options lookup)) (footnotes parser) → walking.ReadsSame replacement reader parser.spans
   begin-same text_is options_is lookup_is known labels = record {
     source = sym text_is;
     options_are = sym options_is;
     lookup_is = sym lookup_is;
-    definitions = λ folded. said-same (first_with fold folded (references (document text options lookup))) (definition (definitions parser) folded) (known folded);
+    definitions = λ folded. said-same folded (definitions parser) (first_with fold folded (references (document text options lookup))) (known folded);
     footnotes_are = λ folded. label-same (footnote (footnotes parser) folded) (has_label folded (footnote_labels (document text options lookup))) (labels folded);
     callback = refl;
   }
@@ -341,23 +346,31 @@ module _ {E F : Type 0} (replacement : E → Lookup) (parser : Parser E F) (text
   begin-reader text_is options_is lookup_is =
       ap (λ t. reader_by t options lookup) (sym text_is) ∙ ap (λ o. reader_by (text_of parser) o lookup) (sym options_is) ∙ ap (reader_by (text_of parser) (options_of parser)) (sym lookup_is)
 
-  pub reads-from : parser.is_over ≡ false → reader ≡ reader_for replacement parser → walking.expansion_left_of parser.spans ≡ max (length text) 100000 → ArePlaced reader left
+  pub reads-from : (limit : ℕ) → parser.is_over ≡ false → reader ≡ reader_for replacement parser → walking.expansion_left_of parser.spans ≡ limit → ArePlaced reader left
       → ((exchanges : List Exchange) (events : List Ranged) → documents.Left reader left (walking.expansion_left_of parser.spans) exchanges events → walking.Remains replacement reader parser.spans exchanges events)
       → ((exchanges : List Exchange) (events : List Ranged) → walking.Remains replacement reader parser.spans exchanges events → documents.Left reader left (walking.expansion_left_of parser.spans) exchanges events)
-      → Reads replacement text options lookup parser
-  reads-from e same limit placed begins reads = record {
+      → ReadsWithin replacement limit text options lookup parser
+  reads-from limit e same limit-is placed begins reads = record {
     some = λ plan.
         let l = left-planned reader left (walking.expansion_left_of parser.spans) plan (placed-turn reader left placed) in
         (l.0, l.1, l.2, subst (λ b. Left replacement b parser l.0 l.1) (sym e) (subst (λ r. walking.Remains replacement r parser.spans l.0 l.1) same (begins l.0 l.1 l.3)));
     reads = λ exchanges events m.
-        let h = subst (λ n. documents.Left reader left n exchanges events) limit (reads exchanges events (subst (λ r. walking.Remains replacement r parser.spans exchanges events) (sym same) (subst (λ b. Left replacement b parser exchanges events) e m))) in
+        let h = subst (λ n. documents.Left reader left n exchanges events) limit-is (reads exchanges events (subst (λ r. walking.Remains replacement r parser.spans exchanges events) (sym same) (subst (λ b. Left replacement b parser exchanges events) e m))) in
         record { document = document text options lookup; after = h.after; derives = derived text options lookup; reads = h.reads; asked = h.asked };
   }
 
   -- at its start a parser can go
-  pub can-begin : Reads replacement text options lookup parser → CanGo replacement parser
-  can-begin r = record { goes = inr r.some }
+  pub can-begin : (limit : ℕ) → ReadsWithin replacement limit text options lookup parser → IsCounted parser → CanGo replacement parser
+  can-begin limit r counted = record { goes = inr r.some; counted = counted }
 
 -- the events and leaves of its document are few
 pub begin-few : (text : List ℕ) (options : Options) (lookup : Lookup) → length (segments (document text options lookup)) < length text * 786444 + 1
 begin-few text options lookup = let n = segments-bounded text options lookup (document text options lookup) (derived text options lookup) in omega (arith, n)
+
+-- and its leaves stand apart
+pub begin-extents : (text : List ℕ) (options : Options) (lookup : Lookup) → extents (segments (document text options lookup)) ≤ length text
+begin-extents text options lookup = derived-extents text options lookup (document text options lookup) (derived text options lookup)
+
+-- and nothing was taken yet
+pub begin-counted : (steps : Steps) (text : List ℕ) → total steps ≡ 0 → total steps ≤ 128 * length text
+begin-counted steps text none = omega (arith, none)

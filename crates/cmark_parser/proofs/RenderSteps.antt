@@ -30,10 +30,14 @@ use Rattle.cmark_text.specs.Shown.{shown}
 use Rattle.cmark_text_parts.specs.Shown.{shown_link_type, text_bytes}
 use Rattle.cmark_text.specs.declared.ranged.Ranged.{Ranged as Item}
 use Rattle.cmark_parser.specs.declared.parse.Parser.{Parser}
-use Rattle.cmark_parser.specs.Parsing.{Asks, CanGo, GivesAs, GivesStart, GivesStep, Passes, Reads, Remains, callback_of}
-use Rattle.cmark_parser.specs.Rendering.{IsHtmlOf, IsHtmlOfRest, WritesSome, WritesWhole, Written, events_of, written}
-use Rattle.cmark_parser.specs.Walking.{profile}
+use Rattle.cmark_parser.specs.Parsing.{Asks, CanGo, GivesAs, GivesStart, GivesStep, Passes, ReadsWithin, Remains, callback_of}
+use Rattle.cmark_parser.specs.Rendering.{IsHtmlBy, IsHtmlOfRest, IsHtmlWithin, WritesSome, WritesWhole, Written, filtered_of, leads_to, written}
+use Rattle.cmark_parser.specs.Walking.{profile_within}
 use Rattle.cmark_parser.proofs.ParseSteps.{none-answered}
+
+-- what a filter that keeps each event makes of a reading is the reading
+pub as_they_are : (limit : ℕ) (text : List ℕ) (options : Options) (lookup : Lookup) (out : List ℕ) → IsHtmlBy limit (λ event. event) text options lookup out → IsHtmlWithin limit text options lookup out
+as_they_are limit text options lookup out h = record { events = h.events; reading = h.reading; output_is = h.output_is }
 
 -- an image that is not there
 pub none-shown : (image : Option OpenImage) → is_some image ≡ false → option_map shown_image image ≡ None
@@ -60,6 +64,7 @@ plain-opens-none plain.Strong = refl
 plain-opens-none plain.Strikethrough = refl
 plain-opens-none plain.Superscript = refl
 plain-opens-none plain.Subscript = refl
+plain-opens-none plain.Highlight = refl
 plain-opens-none (plain.MetadataBlock kind) = refl
 
 -- so no event that owns nothing opens an image
@@ -83,10 +88,6 @@ module _ {E F : Type 0} (Says : F → BrokenLink → Option (CowStr × CowStr) �
   pub asks-on : (old mid new : Parser E F) (xs ys : List Exchange) → Asks Says old xs mid → Asks Says mid ys new → Asks Says old (xs ++ ys) new
   asks-on old mid new xs ys h k = answered-on (AnswersIfAny Says) xs ys (callback_of old) (callback_of mid) (callback_of new) h k
 
-  -- nothing was given yet
-  pub none-written : (parser : Parser E F) (s : Written) → CanGo replacement parser → WritesSome Says replacement parser s parser s
-  none-written parser s can = record { given = []; passes = record { taken = []; asks = refl; back = λ rest events r. r }; bytes = sym (append-nil s.bytes); writing = refl; can = can }
-
   passes-on : (first parser new : Parser E F) (given more : List Ranged) → Passes Says replacement given first parser → Passes Says replacement more parser new → Passes Says replacement (given ++ more) first new
   passes-on first parser new given more p q = record {
     taken = p.taken ++ q.taken;
@@ -96,67 +97,72 @@ module _ {E F : Type 0} (Says : F → BrokenLink → Option (CowStr × CowStr) �
         (subst (Remains replacement first (p.taken ++ (q.taken ++ rest))) (sym (append_assoc given more events)) (p.back (q.taken ++ rest) (more ++ events) (q.back rest events r)));
   }
 
+module _ {E F : Type 0} (Says : F → BrokenLink → Option (CowStr × CowStr) → F → Type 0) (replacement : E → Lookup) (filtered : Event → Event) where
+  -- nothing was given yet
+  pub none-written : (parser : Parser E F) (s : Written) → CanGo replacement parser → WritesSome Says replacement filtered parser s parser s
+  none-written parser s can = record { given = []; passes = record { taken = []; asks = refl; back = λ rest events r. r }; bytes = sym (append-nil s.bytes); writing = refl; can = can }
+
   -- some events, and then some more
-  pub joined : (first parser new : Parser E F) (a b c : Written) → WritesSome Says replacement first a parser b → WritesSome Says replacement parser b new c → WritesSome Says replacement first a new c
+  pub joined : (first parser new : Parser E F) (a b c : Written) → WritesSome Says replacement filtered first a parser b → WritesSome Says replacement filtered parser b new c → WritesSome Says replacement filtered first a new c
   joined first parser new a b c p q =
-      let both : events_of (p.given ++ q.given) ≡ events_of p.given ++ events_of q.given = map-append Ranged.event p.given q.given in
+      let both : filtered_of filtered (p.given ++ q.given) ≡ filtered_of filtered p.given ++ filtered_of filtered q.given = map-append (λ ranged. filtered (Ranged.event ranged)) p.given q.given in
       record {
         given = p.given ++ q.given;
-        passes = passes-on first parser new p.given q.given p.passes q.passes;
+        passes = passes-on Says replacement first parser new p.given q.given p.passes q.passes;
         bytes =
             q.bytes
-            ∙ ap (λ l. l ++ pieces_from b.writing (events_of q.given)) p.bytes
-            ∙ append_assoc a.bytes (pieces_from a.writing (events_of p.given)) (pieces_from b.writing (events_of q.given))
-            ∙ ap (λ w. a.bytes ++ (pieces_from a.writing (events_of p.given) ++ pieces_from w (events_of q.given))) p.writing
-            ∙ ap (λ l. a.bytes ++ l) (sym (pieces_from-joined a.writing (events_of p.given) (events_of q.given)))
+            ∙ ap (λ l. l ++ pieces_from b.writing (filtered_of filtered q.given)) p.bytes
+            ∙ append_assoc a.bytes (pieces_from a.writing (filtered_of filtered p.given)) (pieces_from b.writing (filtered_of filtered q.given))
+            ∙ ap (λ w. a.bytes ++ (pieces_from a.writing (filtered_of filtered p.given) ++ pieces_from w (filtered_of filtered q.given))) p.writing
+            ∙ ap (λ l. a.bytes ++ l) (sym (pieces_from-joined a.writing (filtered_of filtered p.given) (filtered_of filtered q.given)))
             ∙ ap (λ es. a.bytes ++ pieces_from a.writing es) (sym both);
         writing =
             q.writing
-            ∙ ap (λ w. moved_all w (events_of q.given)) p.writing
-            ∙ sym (moved_all-joined a.writing (events_of p.given) (events_of q.given))
+            ∙ ap (λ w. moved_all w (filtered_of filtered q.given)) p.writing
+            ∙ sym (moved_all-joined a.writing (filtered_of filtered p.given) (filtered_of filtered q.given))
             ∙ ap (moved_all a.writing) (sym both);
         can = q.can;
       }
 
   one-written : (parser new : Parser E F) (r : Ranged) (mid after : Written) → Passes Says replacement (r ∷ []) parser new → CanGo replacement new
-      → after.bytes ≡ mid.bytes ++ piece mid.writing r.event → after.writing ≡ moved mid.writing r.event → WritesSome Says replacement parser mid new after
+      → after.bytes ≡ mid.bytes ++ piece mid.writing (filtered r.event) → after.writing ≡ moved mid.writing (filtered r.event) → WritesSome Says replacement filtered parser mid new after
   one-written parser new r mid after p can bytes writing = record {
     given = r ∷ [];
     passes = p;
-    bytes = bytes ∙ ap (λ l. mid.bytes ++ l) (sym (append-nil (piece mid.writing r.event)));
+    bytes = bytes ∙ ap (λ l. mid.bytes ++ l) (sym (append-nil (piece mid.writing (filtered r.event))));
     writing = writing;
     can = can;
   }
 
   -- one event
   pub more-written : (parser new : Parser E F) (item : Item) (mid after : Written) → GivesStep Says replacement parser (Some (Ok item)) new
-      → after.bytes ≡ mid.bytes ++ piece mid.writing (shown item.event) → after.writing ≡ moved mid.writing (shown item.event) → WritesSome Says replacement parser mid new after
+      → after.bytes ≡ mid.bytes ++ piece mid.writing (filtered (shown item.event)) → after.writing ≡ moved mid.writing (filtered (shown item.event)) → WritesSome Says replacement filtered parser mid new after
   more-written parser new item mid after gives bytes writing =
       let f = gives.next.first in
       let same : shown item.event ≡ f.1.0.event = ap Ranged.event f.1.1.is in
-      one-written parser new f.1.0 mid after (record { taken = gives.next.taken; asks = f.0; back = f.1.2 }) (record { goes = gives.next.goes_on }) (bytes ∙ ap (λ e. mid.bytes ++ piece mid.writing e) same) (writing ∙ ap (moved mid.writing) same)
+      one-written parser new f.1.0 mid after (record { taken = gives.next.taken; asks = f.0; back = f.1.2 }) (record { goes = gives.next.goes_on; counted = gives.counted }) (bytes ∙ ap (λ e. mid.bytes ++ piece mid.writing (filtered e)) same) (writing ∙ ap (λ e. moved mid.writing (filtered e)) same)
 
-  -- an event that owns nothing, where no image is open
-  pub short-written : (parser new : Parser E F) (short : Short) (mid after : Written) → GivesAs Says replacement parser (next.Short short) new → mid.writing.image ≡ None
-      → after.bytes ≡ mid.bytes ++ piece_outside mid.writing (shown_short short) → after.writing ≡ moved_outside mid.writing (shown_short short) → WritesSome Says replacement parser mid new after
-  short-written parser new short mid after h outside bytes writing =
+  -- an event that owns nothing, where no image is open, was written as another
+  pub short-written : (parser new : Parser E F) (short made : Short) (mid after : Written) → GivesAs Says replacement parser (next.Short short) new → shown_short made ≡ filtered (shown_short short) → mid.writing.image ≡ None
+      → after.bytes ≡ mid.bytes ++ piece_outside mid.writing (shown_short made) → after.writing ≡ moved_outside mid.writing (shown_short made) → WritesSome Says replacement filtered parser mid new after
+  short-written parser new short made mid after h made_is outside bytes writing =
       let w = mid.writing in
-      let same : shown_short short ≡ h.answers.given.event = sym h.answers.is in
+      let same : shown_short made ≡ filtered h.answers.given.event = made_is ∙ ap filtered (sym h.answers.is) in
       one-written parser new h.answers.given mid after h.answers.passes h.can
-      (bytes ∙ ap (λ i. mid.bytes ++ piece_in i w (shown_short short)) (sym outside) ∙ ap (λ e. mid.bytes ++ piece w e) same)
-      (writing ∙ ap (λ i. moved_in i w (shown_short short)) (sym outside) ∙ ap (moved w) same)
+      (bytes ∙ ap (λ i. mid.bytes ++ piece_in i w (shown_short made)) (sym outside) ∙ ap (λ e. mid.bytes ++ piece w e) same)
+      (writing ∙ ap (λ i. moved_in i w (shown_short made)) (sym outside) ∙ ap (moved w) same)
 
-  -- the start of a link, of which the label is not written
+  -- the start of a link, of which the label is not written, with the destination that the filter gives it
   pub link-written : (parser new : Parser E F) (link : Link) (destination title : List ℕ) (mid after : Written) → GivesStart Says replacement parser (shown_link link) new → mid.writing.image ≡ None
-      → destination ≡ text_bytes link.dest_url → title ≡ text_bytes link.title
+      → filtered (Start (tag.Link (shown_link link))) ≡ Start (tag.Link (leads_to destination (shown_link link))) → title ≡ text_bytes link.title
       → after.bytes ≡ mid.bytes ++ piece_outside mid.writing (Start (tag.Link (linked (shown_link_type link.link_type) destination title))) → after.writing ≡ moved_outside mid.writing (Start (tag.Link (linked (shown_link_type link.link_type) destination title)))
-      → WritesWhole Says replacement parser mid new after
-  link-written parser new link destination title mid after h outside d t bytes writing =
+      → WritesWhole Says replacement filtered parser mid new after
+  link-written parser new link destination title mid after h outside leads t bytes writing =
       let w = mid.writing in
-      let start : Event = Start (tag.Link (shown_link link)) in
-      let named : List ℕ → List ℕ → Event = λ destination title. Start (tag.Link (linked (shown_link_type link.link_type) destination title)) in
-      let same : start ≡ h.given.event = sym h.is in
-      let piece_is : piece_outside w (named destination title) ≡ piece_outside w start = ap (λ x. piece_outside w (named x title)) d ∙ ap (λ x. piece_outside w (named (text_bytes link.dest_url) x)) t in
+      let start : Event = Start (tag.Link (leads_to destination (shown_link link))) in
+      let named : List ℕ → Event = λ title. Start (tag.Link (linked (shown_link_type link.link_type) destination title)) in
+      let same : start ≡ filtered h.given.event = sym leads ∙ ap filtered (sym h.is) in
+      let piece_is : piece_outside w (named title) ≡ piece_outside w start = ap (λ x. piece_outside w (named x)) t in
       record {
         some = one-written parser new h.given mid after h.passes h.can (bytes ∙ ap (λ l. mid.bytes ++ l) piece_is ∙ ap (λ i. mid.bytes ++ piece_in i w start) (sym outside) ∙ ap (λ e. mid.bytes ++ piece w e) same)
             (writing ∙ ap (λ i. moved_in i w start) (sym outside) ∙ ap (moved w) same);
@@ -165,27 +171,27 @@ module _ {E F : Type 0} (Says : F → BrokenLink → Option (CowStr × CowStr) �
       }
 
   -- an event of another kind was not given yet
-  pub long-kept : (parser new : Parser E F) (s : Written) → GivesAs Says replacement parser next.Long new → WritesSome Says replacement parser s new s
+  pub long-kept : (parser new : Parser E F) (s : Written) → GivesAs Says replacement parser next.Long new → WritesSome Says replacement filtered parser s new s
   long-kept parser new s h = record { given = []; passes = h.answers.passes; bytes = sym (append-nil s.bytes); writing = refl; can = h.can }
 
   -- behind the last event
-  pub all-written : (first parser new : Parser E F) (taken : List Exchange) (old out : List ℕ) (s : Written) → WritesSome Says replacement first (written at_line_start old) parser s → Asks Says parser taken new → Remains replacement parser taken []
-      → out ≡ s.bytes ++ last_piece s.writing.image → IsHtmlOfRest Says replacement first new old out
+  pub all-written : (first parser new : Parser E F) (taken : List Exchange) (old out : List ℕ) (s : Written) → WritesSome Says replacement filtered first (written at_line_start old) parser s → Asks Says parser taken new → Remains replacement parser taken []
+      → out ≡ s.bytes ++ last_piece s.writing.image → IsHtmlOfRest Says replacement filtered first new old out
   all-written first parser new taken old out s some asks none out_is = record {
     exchanges = some.passes.taken ++ taken;
     events = some.given;
     left = subst (Remains replacement first (some.passes.taken ++ taken)) (append-nil some.given) (some.passes.back taken [] none);
-    asks = asks-on first parser new some.passes.taken taken some.passes.asks asks;
-    bytes = written_end s.writing (events_of some.given) old s.bytes out some.bytes some.writing out_is;
+    asks = asks-on Says replacement first parser new some.passes.taken taken some.passes.asks asks;
+    bytes = written_end s.writing (filtered_of filtered some.given) old s.bytes out some.bytes some.writing out_is;
   }
 
   -- where the HTML of all events of a parser at its start stands behind nothing, and it has no callback, it is the HTML of the parser's text
-  pub rendered : (parser last : Parser E F) (text : List ℕ) (options : Options) (lookup : Lookup) (out : List ℕ) → Reads replacement text options lookup parser → callback_of parser ≡ None → IsHtmlOfRest Says replacement parser last [] out
-      → IsHtmlOf text options lookup out
-  rendered parser last text options lookup out reads silent all =
+  pub rendered : (limit : ℕ) (parser last : Parser E F) (text : List ℕ) (options : Options) (lookup : Lookup) (out : List ℕ) → ReadsWithin replacement limit text options lookup parser → callback_of parser ≡ None
+      → IsHtmlOfRest Says replacement filtered parser last [] out → IsHtmlBy limit filtered text options lookup out
+  rendered limit parser last text options lookup out reads silent all =
       let unanswered = none-answered Says all.exchanges (callback_of last) (subst (λ (o : Option F). Answered (AnswersIfAny Says) all.exchanges o (callback_of last)) silent all.asks) in
       record {
         events = all.events;
-        reading = reading-silent text (profile text options lookup true) all.exchanges all.events unanswered (reads.reads all.exchanges all.events all.left);
+        reading = reading-silent text (profile_within limit options lookup true) all.exchanges all.events unanswered (reads.reads all.exchanges all.events all.left);
         output_is = all.bytes;
       }

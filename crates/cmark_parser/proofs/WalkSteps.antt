@@ -1,14 +1,20 @@
 -- A walk to its end gives the reading of a document.
-use Rattle.std.proofs.Common.{◌≡◌, ℕ, true, false, List, [], ◌∷◌, ◌++◌, map, Option, None, Some, Result, Ok, refl, sym, ap, ◌∙◌, subst}
+use Rattle.std.proofs.lemmas.List.{length-append, length-map}
+use Rattle.std.proofs.Common.{◌≡◌, ◌+◌, ◌*◌, ◌≤◌, ℕ, length, arith, true, false, List, [], ◌∷◌, ◌++◌, map, Option, None, Some, Result, Ok, Err, inl, inr, append_assoc, refl, sym, ap, ◌∙◌, subst}
+use Rattle.std.specs.Prelude.{is_some}
 use Rattle.std.specs.Iterator.{Yields, Drains}
 use Rattle.std.specs.declared.alloc.AllocError.{AllocError}
 use Rattle.std.specs.declared.ops.Range.{Range}
 use Rattle.cmark_grammar.specs.Answers.{Lookup}
+use Rattle.cmark_grammar.specs.BlockDocument.{BlockDocument}
+use Rattle.cmark_grammar.specs.Derivation.{Derives}
 use Rattle.cmark_grammar.specs.Event.{Ranged}
 use Rattle.cmark_grammar.specs.LeafSpans.{IsRange}
 use Rattle.cmark_grammar.specs.Options.{Options}
-use Rattle.cmark_grammar.specs.Questions.{Exchange}
+use Rattle.cmark_grammar.specs.Questions.{Exchange, Plan}
+use Rattle.cmark_grammar.specs.Ranges.{count_tables}
 use Rattle.cmark_grammar.specs.SpanDocuments.{IsReading}
+use Rattle.cmark_inline_model.proofs.EventCounts.{reading-few}
 use Rattle.cmark_inline.specs.Resolved.{Answered}
 use Rattle.cmark_inline.specs.declared.callback.BrokenLink.{BrokenLink}
 use Rattle.cmark_inline_model.proofs.SilentReadings.{reading-silent}
@@ -19,8 +25,10 @@ use Rattle.cmark_text.specs.Shown.{shown}
 use Rattle.cmark_text.specs.ZeroCopy.{IsZeroCopy}
 use Rattle.cmark_parser.specs.declared.parse.Parser.{Parser}
 use Rattle.cmark_parser.specs.declared.parse.OffsetIter.{OffsetIter}
-use Rattle.cmark_parser.specs.Parsing.{AreZeroCopy, Asks, AsksRanged, CutNone, Remains, IsOver, Gives, Reads, Shows, RemainsRanged, IsRangedOver, GivesRanged, ShowsRanged, callback_of, ranged_text, shown_item, text_of, walk_of}
-use Rattle.cmark_parser.specs.Walking.{GivesNext, profile}
+use Rattle.cmark_parser.specs.Parsing.{Left as LeftOf}
+use Rattle.cmark_parser.specs.Parsing.{AreZeroCopy, Asks, AsksRanged, CutNone, Remains, IsOver, Gives, Shows, RemainsRanged, IsRangedOver, GivesRanged, ReadsWithin, ShowsRanged, callback_of, ranged_text, shown_item, text_of, walk_of}
+use Rattle.cmark_parser.specs.Walked.{IsBegun, IsBegunRanged, IsCutShort, IsCutShortRanged, IsDrained, IsDrainedRanged}
+use Rattle.cmark_parser.specs.Walking.{GivesNext, GoesOn, NoEndIsNext, SomeLeft, profile_within}
 use Rattle.cmark_parser.proofs.ParseSteps.{none-answered}
 use Rattle.cmark_parser.proofs.RenderSteps.{asks-on}
 
@@ -34,7 +42,7 @@ module _ {T : Type 0} (Shows : T → Ranged → Type 0) where
 
 -- a walk over a text, which stays the same
 module _ {S T : Type 0} (Remains : S → List Exchange → List Ranged → Type 0) (IsOver : S → Type 0) (Asks : S → List Exchange → S → Type 0) (Shows : List ℕ → T → Ranged → Type 0) (text_of : S → List ℕ)
-    (ask_on : (old mid new : S) (xs ys : List Exchange) → Asks old xs mid → Asks mid ys new → Asks old (xs ++ ys) new) where
+    (ask_none : (s : S) → Asks s [] s) (ask_on : (old mid new : S) (xs ys : List Exchange) → Asks old xs mid → Asks mid ys new → Asks old (xs ++ ys) new) where
   -- these items show events that were left, and these questions were put up to the end
   pub record Left (text : List ℕ) (s : S) (items : List T) (last : S) : Type 0 where
     pub exchanges : List Exchange
@@ -57,6 +65,35 @@ module _ {S T : Type 0} (Remains : S → List Exchange → List Ranged → Type 
       let f = g.first.1 in
       record { exchanges = g.taken ++ l.exchanges; events = f.0 ∷ l.events; asks = ask_on s t u g.taken l.exchanges g.first.0 l.asks; remains = f.2 l.exchanges l.events l.remains; each = (f.1, l.each) }
 
+  -- these items show events that were given, up to a state
+  pub record Begun (text : List ℕ) (s t : S) (items : List T) : Type 0 where
+    pub taken : List Exchange
+    pub given : List Ranged
+    pub asks : Asks s taken t
+    pub back : (rest : List Exchange) (events : List Ranged) → Remains t rest events → Remains s (taken ++ rest) (given ++ events)
+    pub each : EachShows (Shows text) items given
+
+  -- they were given before memory was refused
+  pub record RefusedLeft (text : List ℕ) (s t u : S) (items : List T) : Type 0 where
+    pub begun : Begun text s t items
+    pub left : (plan : Plan) → SomeLeft Remains plan t
+    pub no_end : NoEndIsNext Remains t
+    pub over : IsOver u
+
+  begun_none : (text : List ℕ) (s : S) → Begun text s s []
+  begun_none text s = record { taken = []; given = []; asks = ask_none s; back = λ rest events r. r; each = tt }
+
+  begun_some : (text : List ℕ) (s t u : S) (x : T) (xs : List T) → GivesOf text s (Some (Ok x)) t → Begun text t u xs → Begun text s u (x ∷ xs)
+  begun_some text s t u x xs g b =
+      let f = g.first.1 in
+      record {
+        taken = g.taken ++ b.taken;
+        given = f.0 ∷ b.given;
+        asks = ask_on s t u g.taken b.taken g.first.0 b.asks;
+        back = λ rest events r. subst (λ ys. Remains s ys (f.0 ∷ (b.given ++ events))) (sym (append_assoc g.taken b.taken rest)) (f.2 (b.taken ++ rest) (b.given ++ events) (b.back rest events r));
+        each = (f.1, b.each);
+      }
+
   -- calls that are such steps
   module _ (steps : S → Option (Result T AllocError) → S → Type 0) (step : (s : S) (given : Option (Result T AllocError)) (t : S) → steps s given t → GivesOf (text_of s) s given t)
       (keeps : (s : S) (given : Option (Result T AllocError)) (t : S) → steps s given t → text_of t ≡ text_of s) where
@@ -67,6 +104,34 @@ module _ {S T : Type 0} (Remains : S → List Exchange → List Ranged → Type 
     left_all text s t u [] is same g = subst (λ v. Left text v [] u) (sym same) (left_none text t u (step_of text t None u (subst (λ v. text_of v ≡ text) same is) g))
     left_all text s t u (x ∷ xs) is run g =
         left_some text s run.0 u x xs (step_of text s (Some (Ok x)) run.0 is run.1) (left_all text run.0 t u xs (keeps s (Some (Ok x)) run.0 run.1 ∙ is) run.2 g)
+
+    -- what was left where some items were given is what was left behind them, and their events before it
+    begun_all : (text : List ℕ) (s t : S) (items : List T) → text_of s ≡ text → Yields steps s (map Ok items) t → Begun text s t items
+    begun_all text s t [] is same = subst (λ v. Begun text s v []) same (begun_none text s)
+    begun_all text s t (x ∷ xs) is run =
+        begun_some text s run.0 t x xs (step_of text s (Some (Ok x)) run.0 is run.1) (begun_all text run.0 t xs (keeps s (Some (Ok x)) run.0 run.1 ∙ is) run.2)
+
+    goes_all : (s t : S) (items : List T) → GoesOn Remains IsOver s → Yields steps s (map Ok items) t → GoesOn Remains IsOver t
+    goes_all s t [] goes same = subst (GoesOn Remains IsOver) same goes
+    goes_all s t (x ∷ xs) goes run = goes_all run.0 t xs (step s (Some (Ok x)) run.0 run.1).goes_on run.2
+
+    -- before the call that memory was refused to, some events were left, whatever is answered
+    pub refused_left : (s t u : S) (items : List T) (e : AllocError) → GoesOn Remains IsOver s → Yields steps s (map Ok items) t → steps t (Some (Err e)) u → RefusedLeft (text_of s) s t u items
+    refused_left s t u items e goes run call =
+        let g = step t (Some (Err e)) u call in
+        record { begun = begun_all (text_of s) s t items refl run; left = some (goes_all s t items goes run) g; no_end = g.first.1; over = g.first.2 }
+      where
+        some : GoesOn Remains IsOver t → GivesOf (text_of t) t (Some (Err e)) u → (plan : Plan) → SomeLeft Remains plan t
+        some (inl over) g = absurd (let n = (g.over over).0 in let q : true ≡ false = ap is_some n in cc)
+        some (inr left) g = left
+
+    -- behind some items some events are left, whatever is answered: none, where the walk is over
+    pub begun_left : ((s : S) → IsOver s → Remains s [] []) → (s t : S) (items : List T) → GoesOn Remains IsOver s → Yields steps s (map Ok items) t → Begun (text_of s) s t items × ((plan : Plan) → SomeLeft Remains plan t)
+    begun_left none s t items goes run = (begun_all (text_of s) s t items refl run, some (goes_all s t items goes run))
+      where
+        some : GoesOn Remains IsOver t → (plan : Plan) → SomeLeft Remains plan t
+        some (inl over) plan = ([], [], tt, none t over)
+        some (inr left) plan = left plan
 
     -- the items that a walk gave to its end show the events that were left
     pub drained_left : (s : S) (items : List T) → (d : Drains steps s (map Ok items)) → Left (text_of s) s items d.0
@@ -101,26 +166,66 @@ module _ {E F : Type 0} (Says : F → BrokenLink → Option (CowStr × CowStr) �
   call_keeps : (old : Parser E F) (given : Option (Result Event AllocError)) (new : Parser E F) → Gives Says replacement old given new → text_of new ≡ text_of old
   call_keeps old given new g = g.text
 
-  -- the events that a parser at its start gave to its end are the reading of the text with the questions that its callback was asked, and with
-  -- its answers
-  pub record IsDrained (text : List ℕ) (options : Options) (lookup : Lookup) (first last : Parser E F) (events : List Event) : Type 0 where
-    pub exchanges : List Exchange
-    pub given : List Ranged
-    pub asks : Asks Says first exchanges last
-    pub reading : IsReading text (profile text options lookup true) exchanges given
-    pub are : map shown events ≡ map (λ r. r.event) given
-
-  pub drained_reading : (parser : Parser E F) (text : List ℕ) (options : Options) (lookup : Lookup) (events : List Event)
-      → Reads replacement text options lookup parser → (d : Drains (Gives Says replacement) parser (map Ok events)) → IsDrained text options lookup parser d.0 events
-  drained_reading parser text options lookup events reads drains =
-      let l = drained_left (Remains replacement) IsOver (Asks Says) Shows text_of (asks-on Says replacement) (Gives Says replacement) one_call call_keeps parser events drains in
+  pub drained_reading : (limit : ℕ) (parser : Parser E F) (text : List ℕ) (options : Options) (lookup : Lookup) (events : List Event)
+      → ReadsWithin replacement limit text options lookup parser → (d : Drains (Gives Says replacement) parser (map Ok events)) → IsDrained Says limit text options lookup parser d.0 events
+  drained_reading limit parser text options lookup events reads drains =
+      let l = drained_left (Remains replacement) IsOver (Asks Says) Shows text_of (λ s. refl) (asks-on Says replacement) (Gives Says replacement) one_call call_keeps parser events drains in
       record { exchanges = l.exchanges; given = l.events; asks = l.asks; reading = reads.reads l.exchanges l.events l.remains; are = shown_each (text_of parser) events l.events l.each }
 
+  none_left : (parser : Parser E F) → IsOver parser → Remains replacement parser [] []
+  none_left parser over = subst (λ b. LeftOf replacement b parser [] []) (sym over) (refl, refl)
+
+  -- the events that a parser at its start gave so far
+  pub begun_reading : (limit : ℕ) (parser last : Parser E F) (text : List ℕ) (options : Options) (lookup : Lookup) (events : List Event)
+      → ReadsWithin replacement limit text options lookup parser → Yields (Gives Says replacement) parser (map Ok events) last → IsBegun Says limit text options lookup parser last events
+  begun_reading limit parser last text options lookup events reads run =
+      let l = begun_left (Remains replacement) IsOver (Asks Says) Shows text_of (λ s. refl) (asks-on Says replacement) (Gives Says replacement) one_call call_keeps none_left parser last events (inr reads.some) run in
+      record {
+        taken = l.0.taken;
+        given = l.0.given;
+        asks = l.0.asks;
+        are = shown_each (text_of parser) events l.0.given l.0.each;
+        begin = λ plan.
+            let some = l.1 plan in
+            record { rest = some.0; events = some.1; planned = some.2; reading = reads.reads (l.0.taken ++ some.0) (l.0.given ++ some.1) (l.0.back some.0 some.1 some.3) };
+      }
+
+  -- which are few
+  pub begun_few : (limit : ℕ) (parser last : Parser E F) (text : List ℕ) (options : Options) (lookup : Lookup) (document : BlockDocument) (events : List Event)
+      → Derives text options lookup document → ReadsWithin replacement limit text options lookup parser → Yields (Gives Says replacement) parser (map Ok events) last → length events ≤ 11 * length text + 524288 * count_tables document
+  begun_few limit parser last text options lookup document events derives reads run =
+      let b = begun_reading limit parser last text options lookup events reads run in
+      let r = b.begin (λ asked question. None) in
+      let few = reading-few text (profile_within limit options lookup true) document (b.taken ++ r.rest) (b.given ++ r.events) derives r.reading in
+      let front = length-append b.given r.events in
+      let same : length events ≡ length b.given = sym (length-map events shown) ∙ ap length b.are ∙ length-map b.given (λ (q : Ranged). q.event) in
+      omega (arith, few, front, same)
+
+  -- the events that a parser at its start gave before memory was refused
+  pub refused_reading : (limit : ℕ) (parser before last : Parser E F) (text : List ℕ) (options : Options) (lookup : Lookup) (events : List Event) (e : AllocError)
+      → ReadsWithin replacement limit text options lookup parser → Yields (Gives Says replacement) parser (map Ok events) before → Gives Says replacement before (Some (Err e)) last → IsCutShort Says limit text options lookup parser last events
+  refused_reading limit parser before last text options lookup events e reads run call =
+      let l = refused_left (Remains replacement) IsOver (Asks Says) Shows text_of (λ s. refl) (asks-on Says replacement) (Gives Says replacement) one_call call_keeps parser before last events e (inr reads.some) run call in
+      record {
+        before = before;
+        taken = l.begun.taken;
+        given = l.begun.given;
+        asks = l.begun.asks;
+        are = shown_each (text_of parser) events l.begun.given l.begun.each;
+        begin = λ plan.
+            let some = l.left plan in
+            record {
+              begin = record { rest = some.0; events = some.1; planned = some.2; reading = reads.reads (l.begun.taken ++ some.0) (l.begun.given ++ some.1) (l.begun.back some.0 some.1 some.3) };
+              no_end = l.no_end some.0 some.1 some.3;
+            };
+        over = l.over;
+      }
+
   -- a reading in which a callback that is not there was asked is the reading without a callback
-  silent-reading : (text : List ℕ) (options : Options) (lookup : Lookup) (exchanges : List Exchange) (events : List Ranged) (before after : Option F) → before ≡ None → Answered (AnswersIfAny Says) exchanges before after
-      → IsReading text (profile text options lookup true) exchanges events → IsReading text (profile text options lookup false) [] events
-  silent-reading text options lookup exchanges events before after silent asks reading =
-      reading-silent text (profile text options lookup true) exchanges events (none-answered Says exchanges after (subst (λ (o : Option F). Answered (AnswersIfAny Says) exchanges o after) silent asks)) reading
+  silent-reading : (limit : ℕ) (text : List ℕ) (options : Options) (lookup : Lookup) (exchanges : List Exchange) (events : List Ranged) (before after : Option F) → before ≡ None → Answered (AnswersIfAny Says) exchanges before after
+      → IsReading text (profile_within limit options lookup true) exchanges events → IsReading text (profile_within limit options lookup false) [] events
+  silent-reading limit text options lookup exchanges events before after silent asks reading =
+      reading-silent text (profile_within limit options lookup true) exchanges events (none-answered Says exchanges after (subst (λ (o : Option F). Answered (AnswersIfAny Says) exchanges o after) silent asks)) reading
 
   one_item : (old : OffsetIter E F) (given : Option (Result (Event × Range ℕ) AllocError)) (new : OffsetIter E F) → GivesRanged Says replacement old given new
       → GivesNext (RemainsRanged replacement) IsRangedOver (AsksRanged Says) (ShowsRanged (ranged_text old)) old given new
@@ -130,28 +235,91 @@ module _ {E F : Type 0} (Says : F → BrokenLink → Option (CowStr × CowStr) �
   item_keeps old given new g = g.text
 
   abbrev RangedLeft : OffsetIter E F → List (Event × Range ℕ) → OffsetIter E F → Type 0
-  RangedLeft iter items last = Left (RemainsRanged replacement) IsRangedOver (AsksRanged Says) ShowsRanged ranged_text (λ old mid new. asks-on Says replacement old.parser mid.parser new.parser) (ranged_text iter) iter items last
+  RangedLeft iter items last = Left (RemainsRanged replacement) IsRangedOver (AsksRanged Says) ShowsRanged ranged_text (λ s. refl) (λ old mid new. asks-on Says replacement old.parser mid.parser new.parser) (ranged_text iter) iter items last
 
   ranged-left : (iter : OffsetIter E F) (items : List (Event × Range ℕ)) → (d : Drains (GivesRanged Says replacement) iter (map Ok items)) → RangedLeft iter items d.0
   ranged-left iter items d =
-      drained_left (RemainsRanged replacement) IsRangedOver (AsksRanged Says) ShowsRanged ranged_text (λ old mid new. asks-on Says replacement old.parser mid.parser new.parser) (GivesRanged Says replacement) one_item item_keeps iter items d
+      drained_left (RemainsRanged replacement) IsRangedOver (AsksRanged Says) ShowsRanged ranged_text (λ s. refl) (λ old mid new. asks-on Says replacement old.parser mid.parser new.parser) (GivesRanged Says replacement) one_item item_keeps iter items d
 
   -- the same of a walk that gives ranges too
-  pub drained_ranges : (parser : Parser E F) (iter : OffsetIter E F) (text : List ℕ) (options : Options) (lookup : Lookup) (items : List (Event × Range ℕ))
-      → walk_of iter ≡ parser → Reads replacement text options lookup parser → (d : Drains (GivesRanged Says replacement) iter (map Ok items))
-      → (exchanges : List Exchange) × AsksRanged Says iter exchanges d.0 × IsReading text (profile text options lookup true) exchanges (map shown_item items)
-  drained_ranges parser iter text options lookup items same reads drains =
+  pub drained_ranges : (limit : ℕ) (parser : Parser E F) (iter : OffsetIter E F) (text : List ℕ) (options : Options) (lookup : Lookup) (items : List (Event × Range ℕ))
+      → walk_of iter ≡ parser → ReadsWithin replacement limit text options lookup parser → (d : Drains (GivesRanged Says replacement) iter (map Ok items))
+      → IsDrainedRanged Says limit text options lookup iter d.0 items
+  drained_ranges limit parser iter text options lookup items same reads drains =
       let l = ranged-left iter items drains in
-      let begun : Reads replacement text options lookup (walk_of iter) = subst (Reads replacement text options lookup) (sym same) reads in
-      (l.exchanges, l.asks, subst (IsReading text (profile text options lookup true) l.exchanges) (sym (shown_ranges (ranged_text iter) items l.events l.each)) (begun.reads l.exchanges l.events l.remains))
+      let begun : ReadsWithin replacement limit text options lookup (walk_of iter) = subst (ReadsWithin replacement limit text options lookup) (sym same) reads in
+      record {
+        exchanges = l.exchanges;
+        asks = l.asks;
+        reading = subst (IsReading text (profile_within limit options lookup true) l.exchanges) (sym (shown_ranges (ranged_text iter) items l.events l.each)) (begun.reads l.exchanges l.events l.remains);
+      }
+
+  pub begun_ranges : (limit : ℕ) (parser : Parser E F) (iter last : OffsetIter E F) (text : List ℕ) (options : Options) (lookup : Lookup) (items : List (Event × Range ℕ))
+      → walk_of iter ≡ parser → ReadsWithin replacement limit text options lookup parser → Yields (GivesRanged Says replacement) iter (map Ok items) last → IsBegunRanged Says limit text options lookup iter last items
+  begun_ranges limit parser iter last text options lookup items same reads run =
+      let begun : ReadsWithin replacement limit text options lookup (walk_of iter) = subst (ReadsWithin replacement limit text options lookup) (sym same) reads in
+      let l =
+      begun_left (RemainsRanged replacement) IsRangedOver (AsksRanged Says) ShowsRanged ranged_text (λ s. refl) (λ old mid new. asks-on Says replacement old.parser mid.parser new.parser) (GivesRanged Says replacement) one_item item_keeps
+      (λ s. none_left s.parser) iter last items (inr begun.some) run in
+      let given = sym (shown_ranges (ranged_text iter) items l.0.given l.0.each) in
+      record {
+        taken = l.0.taken;
+        asks = l.0.asks;
+        begin = λ plan.
+            let some = l.1 plan in
+            record {
+              rest = some.0;
+              events = some.1;
+              planned = some.2;
+              reading = subst (λ rs. IsReading text (profile_within limit options lookup true) (l.0.taken ++ some.0) (rs ++ some.1)) given (begun.reads (l.0.taken ++ some.0) (l.0.given ++ some.1) (l.0.back some.0 some.1 some.3));
+            };
+      }
+
+  pub begun_ranges_few : (limit : ℕ) (parser : Parser E F) (iter last : OffsetIter E F) (text : List ℕ) (options : Options) (lookup : Lookup) (document : BlockDocument) (items : List (Event × Range ℕ))
+      → Derives text options lookup document → walk_of iter ≡ parser → ReadsWithin replacement limit text options lookup parser → Yields (GivesRanged Says replacement) iter (map Ok items) last
+      → length items ≤ 11 * length text + 524288 * count_tables document
+  begun_ranges_few limit parser iter last text options lookup document items derives same reads run =
+      let b = begun_ranges limit parser iter last text options lookup items same reads run in
+      let r = b.begin (λ asked question. None) in
+      let few = reading-few text (profile_within limit options lookup true) document (b.taken ++ r.rest) (map shown_item items ++ r.events) derives r.reading in
+      let front = length-append (map shown_item items) r.events in
+      let size = length-map items shown_item in
+      omega (arith, few, front, size)
+
+  pub refused_ranges : (limit : ℕ) (parser : Parser E F) (iter before last : OffsetIter E F) (text : List ℕ) (options : Options) (lookup : Lookup) (items : List (Event × Range ℕ)) (e : AllocError)
+      → walk_of iter ≡ parser → ReadsWithin replacement limit text options lookup parser → Yields (GivesRanged Says replacement) iter (map Ok items) before → GivesRanged Says replacement before (Some (Err e)) last
+      → IsCutShortRanged Says limit text options lookup iter last items
+  refused_ranges limit parser iter before last text options lookup items e same reads run call =
+      let begun : ReadsWithin replacement limit text options lookup (walk_of iter) = subst (ReadsWithin replacement limit text options lookup) (sym same) reads in
+      let l =
+      refused_left (RemainsRanged replacement) IsRangedOver (AsksRanged Says) ShowsRanged ranged_text (λ s. refl) (λ old mid new. asks-on Says replacement old.parser mid.parser new.parser) (GivesRanged Says replacement) one_item item_keeps iter before last items e
+      (inr begun.some) run call in
+      let given = sym (shown_ranges (ranged_text iter) items l.begun.given l.begun.each) in
+      record {
+        before = before;
+        taken = l.begun.taken;
+        asks = l.begun.asks;
+        begin = λ plan.
+            let some = l.left plan in
+            record {
+              begin = record {
+                rest = some.0;
+                events = some.1;
+                planned = some.2;
+                reading = subst (λ rs. IsReading text (profile_within limit options lookup true) (l.begun.taken ++ some.0) (rs ++ some.1)) given (begun.reads (l.begun.taken ++ some.0) (l.begun.given ++ some.1) (l.begun.back some.0 some.1 some.3));
+              };
+              no_end = l.no_end some.0 some.1 some.3;
+            };
+        over = l.over;
+      }
 
   -- without a callback it is the reading without one
-  pub drained_silent : (parser : Parser E F) (iter : OffsetIter E F) (text : List ℕ) (options : Options) (lookup : Lookup) (items : List (Event × Range ℕ))
-      → walk_of iter ≡ parser → callback_of parser ≡ None → Reads replacement text options lookup parser → Drains (GivesRanged Says replacement) iter (map Ok items)
-      → IsReading text (profile text options lookup false) [] (map shown_item items)
-  drained_silent parser iter text options lookup items same silent reads drains =
-      let r = drained_ranges parser iter text options lookup items same reads drains in
-      silent-reading text options lookup r.0 (map shown_item items) (callback_of (walk_of iter)) (callback_of (walk_of drains.0)) (ap callback_of same ∙ silent) r.1 r.2
+  pub drained_silent : (limit : ℕ) (parser : Parser E F) (iter : OffsetIter E F) (text : List ℕ) (options : Options) (lookup : Lookup) (items : List (Event × Range ℕ))
+      → walk_of iter ≡ parser → callback_of parser ≡ None → ReadsWithin replacement limit text options lookup parser → Drains (GivesRanged Says replacement) iter (map Ok items)
+      → IsReading text (profile_within limit options lookup false) [] (map shown_item items)
+  drained_silent limit parser iter text options lookup items same silent reads drains =
+      let r = drained_ranges limit parser iter text options lookup items same reads drains in
+      silent-reading limit text options lookup r.exchanges (map shown_item items) (callback_of (walk_of iter)) (callback_of (walk_of drains.0)) (ap callback_of same ∙ silent) r.asks r.reading
 
   -- and what it gives is borrowed as the zero-copy law says, and cuts no character
   pub drained_lent : (iter : OffsetIter E F) (items : List (Event × Range ℕ)) → Drains (GivesRanged Says replacement) iter (map Ok items) → AreZeroCopy (ranged_text iter) items

@@ -1,3 +1,5 @@
+pub mod Filters
 pub mod Parsing
 pub mod Rendering
+pub mod Walked
 pub mod Walking

@@ -1,9 +1,9 @@
 -- What a parser still has to give, and the definitions of links and of footnotes that it found.
-use Rattle.std.specs.Prelude.{◌≡◌, ◌<◌, ◌≤◌, ℕ, suc, Bool, true, false, if◌then◌else◌, List, [], ◌∷◌, ◌++◌, OnSome, IfSome, Option, None, Some, option_map, Result, Ok, Err}
+use Rattle.std.specs.Prelude.{◌≡◌, ◌<◌, ◌≤◌, ℕ, suc, Bool, true, false, if◌then◌else◌, List, [], ◌∷◌, ◌++◌, OnSome, IfSome, Option, None, Some, Result, Ok, Err}
+use Rattle.std.specs.Option.{ForSome}
 use Rattle.std.specs.declared.alloc.AllocError.{AllocError}
 use Rattle.std.specs.declared.ops.Range.{Range}
 use Rattle.cmark_blocks.specs.Footnotes.{HasLabels}
-use Rattle.cmark_blocks.specs.Runs.{shown_reference}
 use Rattle.cmark_grammar.specs.Answers.{Lookup}
 use Rattle.cmark_grammar.specs.BlockDocument.{BlockDocument}
 use Rattle.cmark_grammar.specs.Derivation.{Derives}
@@ -20,7 +20,8 @@ use Rattle.cmark_grammar.specs.Tag.{Linked}
 use Rattle.cmark_inline.specs.Footnoted.{SameFootnotes}
 use Rattle.cmark_inline.specs.Resolved.{Answered}
 use Rattle.cmark_inline.specs.declared.callback.BrokenLink.{BrokenLink}
-use Rattle.cmark_references.specs.Definitions.{definition, shown_definition}
+use Rattle.cmark_inline.specs.declared.steps.Steps.{Steps}
+use Rattle.cmark_references.specs.Definitions.{reference_at}
 use Rattle.cmark_references.specs.Links.{shown_link}
 use Rattle.cmark_references.specs.declared.link.Link.{Link}
 use Rattle.cmark_references.specs.declared.definitions.RefDefs.{RefDefs}
@@ -41,7 +42,7 @@ use Rattle.cmark_text.specs.declared.ranged.Ranged.{Ranged as Given}
 use Rattle.cmark_text.specs.Ranged.{shown_ranged}
 use Rattle.cmark_parser.specs.declared.parse.Parser.{Parser}
 use Rattle.cmark_parser.specs.declared.parse.OffsetIter.{OffsetIter}
-use Rattle.cmark_parser.specs.Walking.{GoesOn, GivesNext, ReadsFrom, reader_by}
+use Rattle.cmark_parser.specs.Walking.{GoesOn, GivesNext, ReadsFrom, reader_by, usual_limit}
 
 -- an item is the event, or the event with its range, which cuts no character, and its text is borrowed as the zero-copy law says
 pub record Shows (text : List ℕ) (event : Event) (r : Ranged) : Type 0 where
@@ -97,6 +98,18 @@ module _ {E F : Type 0} where
   abbrev pub callback_of : Parser E F → Option F
   callback_of parser = parser.spans.callback.callback
 
+  -- the callback may be asked, if there is one
+  abbrev pub IsReady : (Ready : F → Type 0) → Parser E F → Type 0
+  IsReady Ready parser = ForSome (callback_of parser) Ready
+
+  -- what the searches of the spans have taken so far
+  abbrev pub steps_of : Parser E F → Steps
+  steps_of parser = walking.steps_of parser.spans
+
+  -- they have taken no more than 128 steps for each byte of the text
+  abbrev pub IsCounted : Parser E F → Type 0
+  IsCounted parser = walking.IsCounted parser.spans
+
   -- the link reference definitions
   abbrev pub definitions : Parser E F → RefDefs
   definitions parser = walking.definitions_of parser.spans
@@ -117,10 +130,10 @@ module _ {E F : Type 0} where
   abbrev pub link_to_come : Parser E F → Option Link
   link_to_come parser = link_unless parser.is_over parser
 
-  -- its table answers for each folded label as the first definition of this document with that label (CommonMark 4.7)
+  -- its table has of each folded label the first definition of this document with that label, as it spells the label (CommonMark 4.7)
   abbrev pub DefinesAs : BlockDocument → Parser E F → Type 0
   DefinesAs document parser =
-      (folded : List ℕ) → option_map shown_definition (definition (definitions parser) folded) ≡ option_map shown_reference (first_with fold folded (references document))
+      (folded : List ℕ) → reference_at (definitions parser) folded ≡ first_with fold folded (references document)
 
   -- so it does of each document that the text derives
   abbrev pub Defines : List ℕ → Options → Lookup → Parser E F → Type 0
@@ -143,6 +156,15 @@ module _ {E F : Type 0} where
 
   abbrev pub ranged_footnotes : OffsetIter E F → FootnoteDefs
   ranged_footnotes iter = footnotes iter.parser
+
+  abbrev pub IsRangedReady : (Ready : F → Type 0) → OffsetIter E F → Type 0
+  IsRangedReady Ready iter = IsReady Ready iter.parser
+
+  abbrev pub ranged_steps : OffsetIter E F → Steps
+  ranged_steps iter = steps_of iter.parser
+
+  abbrev pub IsRangedCounted : OffsetIter E F → Type 0
+  IsRangedCounted iter = IsCounted iter.parser
 
   abbrev pub ranged_text : OffsetIter E F → List ℕ
   ranged_text iter = text_of iter.parser
@@ -171,10 +193,14 @@ module _ {E F : Type 0} (replacement : E → Lookup) where
   -- a call may be made: the walk is over, or some events are left
   pub record CanGo (parser : Parser E F) : Type 0 where
     pub goes : GoesOn Remains IsOver parser
+    pub counted : IsCounted parser
 
-  -- the parser is at the start of a walk over a document that the text derives
+  -- the parser is at the start of a walk over a document that the text derives, where references take so many bytes
+  abbrev pub ReadsWithin : (limit : ℕ) → List ℕ → Options → Lookup → Parser E F → Type 0
+  ReadsWithin limit text options lookup parser = ReadsFrom Remains text options lookup limit parser
+
   abbrev pub Reads : List ℕ → Options → Lookup → Parser E F → Type 0
-  Reads text options lookup parser = ReadsFrom Remains text options lookup parser
+  Reads text options lookup parser = ReadsWithin (usual_limit text) text options lookup parser
 
   abbrev pub RemainsRanged : OffsetIter E F → List Exchange → List Ranged → Type 0
   RemainsRanged iter exchanges events = Remains iter.parser exchanges events
@@ -198,12 +224,14 @@ module _ {E F : Type 0} (Says : F → BrokenLink → Option (CowStr × CowStr) �
     pub text : text_of new ≡ text_of old
     pub definitions : definitions new ≡ definitions old
     pub footnotes : SameFootnotes (footnotes old) (footnotes new)
+    pub counted : IsCounted new
 
   pub record GivesStep (old : Parser E F) (given : Option (Result Given AllocError)) (new : Parser E F) : Type 0 where
     pub next : GivesNext (Remains replacement) IsOver (Asks Says) (ShowsStep (text_of old)) old given new
     pub text : text_of new ≡ text_of old
     pub definitions : definitions new ≡ definitions old
     pub footnotes : SameFootnotes (footnotes old) (footnotes new)
+    pub counted : IsCounted new
     pub fewer : OnSome given (events_left new < events_left old)
 
   -- these events are the first of what was left, and these questions were put on the way
@@ -273,3 +301,4 @@ module _ {E F : Type 0} (Says : F → BrokenLink → Option (CowStr × CowStr) �
     pub text : ranged_text new ≡ ranged_text old
     pub definitions : ranged_definitions new ≡ ranged_definitions old
     pub footnotes : SameFootnotes (ranged_footnotes old) (ranged_footnotes new)
+    pub counted : IsRangedCounted new

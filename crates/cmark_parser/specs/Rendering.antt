@@ -6,23 +6,49 @@ use Rattle.cmark_grammar.specs.Html.{Writing, html, moved, moved_all, piece, pie
 use Rattle.cmark_grammar.specs.Options.{Options}
 use Rattle.cmark_grammar.specs.Questions.{Exchange}
 use Rattle.cmark_grammar.specs.SpanDocuments.{IsReading}
+use Rattle.cmark_grammar.specs.Tag.{Linked}
 use Rattle.cmark_inline.specs.declared.callback.BrokenLink.{BrokenLink}
+use Rattle.cmark_safe.specs.SafeEvents.{safe}
 use Rattle.cmark_text.specs.Shown.{shown}
 use Rattle.cmark_text_parts.specs.declared.text.CowStr.{CowStr}
 use Rattle.cmark_text.specs.declared.ranged.Ranged.{Ranged as Given}
 use Rattle.cmark_parser.specs.declared.parse.Parser.{Parser}
 use Rattle.cmark_parser.specs.Parsing.{Asks, CanGo, GivesStep, Passes, Remains, events_left}
-use Rattle.cmark_parser.specs.Walking.{profile}
+use Rattle.cmark_parser.specs.Walking.{profile, profile_within, usual_limit}
 
 -- the events without their ranges
 abbrev pub events_of : List Ranged → List Event
 events_of rs = map (λ ranged. ranged.event) rs
 
--- the output is the HTML of the reading of the text, without a callback
-pub record IsHtmlOf (text : List ℕ) (options : Options) (lookup : Lookup) (output : List ℕ) : Type 0 where
+-- the output is the HTML of the reading of the text within this reference expansion limit, without a callback
+pub record IsHtmlWithin (limit : ℕ) (text : List ℕ) (options : Options) (lookup : Lookup) (output : List ℕ) : Type 0 where
+  pub events : List Ranged
+  pub reading : IsReading text (profile_within limit options lookup false) [] events
+  pub output_is : output ≡ html (events_of events)
+
+-- the limit is as many bytes as the text has, or 100,000 where it has fewer
+abbrev pub IsHtmlOf : (text : List ℕ) → Options → Lookup → (output : List ℕ) → Type 0
+IsHtmlOf text options lookup output = IsHtmlWithin (usual_limit text) text options lookup output
+
+-- the output is the HTML of the safe forms of these events, with these further schemes
+pub record IsSafeHtmlOf (text : List ℕ) (options : Options) (lookup : Lookup) (further output : List ℕ) : Type 0 where
   pub events : List Ranged
   pub reading : IsReading text (profile text options lookup false) [] events
-  pub output_is : output ≡ html (events_of events)
+  pub output_is : output ≡ html (map (safe further) (events_of events))
+
+-- what a filter makes of these events
+abbrev pub filtered_of : (filtered : Event → Event) → List Ranged → List Event
+filtered_of filtered rs = map (λ ranged. filtered ranged.event) rs
+
+-- the output is the HTML of what a filter makes of the reading within this limit
+pub record IsHtmlBy (limit : ℕ) (filtered : Event → Event) (text : List ℕ) (options : Options) (lookup : Lookup) (output : List ℕ) : Type 0 where
+  pub events : List Ranged
+  pub reading : IsReading text (profile_within limit options lookup false) [] events
+  pub output_is : output ≡ html (filtered_of filtered events)
+
+-- a link with another destination
+abbrev pub leads_to : List ℕ → Linked → Linked
+leads_to destination link = record { link_type = link.link_type; destination = destination; title = link.title; id = link.id }
 
 -- what a writer keeps, and all that was written
 pub record Written : Type 0 where
@@ -32,13 +58,13 @@ pub record Written : Type 0 where
 abbrev pub written : Writing → List ℕ → Written
 written writing bytes = record { writing = writing; bytes = bytes }
 
-module _ {E F : Type 0} (Says : F → BrokenLink → Option (CowStr × CowStr) → F → Type 0) (replacement : E → Lookup) where
-  -- the first event of what was left was given, and its piece was appended
+module _ {E F : Type 0} (Says : F → BrokenLink → Option (CowStr × CowStr) → F → Type 0) (replacement : E → Lookup) (filtered : Event → Event) where
+  -- the first event of what was left was given, and the piece was appended of what the filter makes of it
   pub record WritesEvent (old : Parser E F) (before : Written) (new : Parser E F) (after : Written) : Type 0 where
     pub given : Given
     pub gives : GivesStep Says replacement old (Some (Ok given)) new
-    pub bytes : after.bytes ≡ before.bytes ++ piece before.writing (shown given.event)
-    pub writing : after.writing ≡ moved before.writing (shown given.event)
+    pub bytes : after.bytes ≡ before.bytes ++ piece before.writing (filtered (shown given.event))
+    pub writing : after.writing ≡ moved before.writing (filtered (shown given.event))
 
   -- behind the old bytes stands the HTML of all events that were left, with the questions that were put
   pub record IsHtmlOfRest (old new : Parser E F) (before after : List ℕ) : Type 0 where
@@ -46,14 +72,14 @@ module _ {E F : Type 0} (Says : F → BrokenLink → Option (CowStr × CowStr) �
     pub events : List Ranged
     pub left : Remains replacement old exchanges events
     pub asks : Asks Says old exchanges new
-    pub bytes : after ≡ before ++ html (events_of events)
+    pub bytes : after ≡ before ++ html (filtered_of filtered events)
 
   -- these events were given, and their pieces were appended
   pub record WritesSome (old : Parser E F) (before : Written) (new : Parser E F) (after : Written) : Type 0 where
     pub given : List Ranged
     pub passes : Passes Says replacement given old new
-    pub bytes : after.bytes ≡ before.bytes ++ pieces_from before.writing (events_of given)
-    pub writing : after.writing ≡ moved_all before.writing (events_of given)
+    pub bytes : after.bytes ≡ before.bytes ++ pieces_from before.writing (filtered_of filtered given)
+    pub writing : after.writing ≡ moved_all before.writing (filtered_of filtered given)
     pub can : CanGo replacement new
 
   -- so it was with one event or more, and no image is open behind them

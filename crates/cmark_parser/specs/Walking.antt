@@ -11,9 +11,16 @@ use Rattle.cmark_grammar.specs.SpanDocuments.{IsReading, Profile, reader_of}
 use Rattle.cmark_inline_model.specs.FirstEvents.{BeginWithEnd}
 use Rattle.cmark_inline_model.specs.PlannedAnswers.{AreByPlan}
 
--- what a text is read with: references take as many bytes of destinations and titles as the text has, or 100,000 where it has fewer
+-- what a text is read with, where references take so many bytes of destinations and titles
+abbrev pub profile_within : (limit : ℕ) → Options → Lookup → (has_callback : Bool) → Profile
+profile_within limit options lookup has_callback = record { options = options; lookup = lookup; reference_expansion_limit = limit; has_callback = has_callback }
+
+-- they take as many as the text has, or 100,000 where it has fewer, if it is not said how many
+abbrev pub usual_limit : (text : List ℕ) → ℕ
+usual_limit text = max (length text) 100000
+
 abbrev pub profile : (text : List ℕ) → Options → Lookup → (has_callback : Bool) → Profile
-profile text options lookup has_callback = record { options = options; lookup = lookup; reference_expansion_limit = max (length text) 100000; has_callback = has_callback }
+profile text options lookup has_callback = profile_within (usual_limit text) options lookup has_callback
 
 -- what the leaves of its document are read with, where there is a callback
 abbrev pub reader_by : (text : List ℕ) → Options → Lookup → Reader
@@ -32,9 +39,9 @@ module _ {S : Type 0} (Remains : S → List Exchange → List Ranged → Type 0)
 
   -- a walk at its start: with each plan's answers some events are left, and whichever are left, they are the reading of the text with
   -- exactly these questions and answers
-  pub record ReadsFrom (text : List ℕ) (options : Options) (lookup : Lookup) (s : S) : Type 0 where
+  pub record ReadsFrom (text : List ℕ) (options : Options) (lookup : Lookup) (limit : ℕ) (s : S) : Type 0 where
     pub some : (plan : Plan) → SomeLeft plan s
-    pub reads : (exchanges : List Exchange) (events : List Ranged) → Remains s exchanges events → IsReading text (profile text options lookup true) exchanges events
+    pub reads : (exchanges : List Exchange) (events : List Ranged) → Remains s exchanges events → IsReading text (profile_within limit options lookup true) exchanges events
 
   -- IsOver says that nothing will be given any more. The walk goes on: it is over, or some events are left, whatever is answered
   module _ (IsOver : S → Type 0) where

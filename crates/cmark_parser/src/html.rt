@@ -4,12 +4,15 @@ ghost use Rattle.std.specs.Prelude.{◌≡◌, [], IfOk, OnOk, string_bytes};
 ghost use Rattle.cmark_grammar.specs.Html.{at_line_start};
 ghost use Rattle.cmark_html.specs.Writer.{writing};
 ghost use Rattle.cmark_text_parts.specs.Shown.{shown_options};
-ghost use Rattle.cmark_parser.specs.Parsing.{CanGo};
-ghost use Rattle.cmark_parser.specs.Rendering.{IsHtmlOf, IsHtmlOfRest, WritesLink, WritesLong, WritesNext, written};
+ghost use Rattle.cmark_parser.specs.Parsing.{CanGo, IsReady};
+ghost use Rattle.cmark_parser.specs.Rendering.{IsHtmlBy, IsHtmlOf, IsHtmlOfRest, IsHtmlWithin, IsSafeHtmlOf, WritesLink, WritesLong, WritesNext, written};
+ghost use Rattle.cmark_parser.specs.Walking.{usual_limit};
+ghost use Rattle.cmark_safe.specs.SafeHtml.{IsSafe};
 
+use crate::filter::{Filter, Filtering};
 use crate::parse::Parser;
 use cmark_html::{Writer, finish, write_event, write_link, write_short};
-use cmark_inline::BrokenLinkCallback;
+use cmark_inline::{BrokenLinkCallback, DefaultBrokenLinkCallback};
 use cmark_span_walk::Coming;
 use cmark_text::{EntityLookup, Options};
 use std::alloc::{AllocError, Global};
@@ -27,56 +30,128 @@ pub fn to_html<E: EntityLookup>(
 ) -> Result<String, AllocError>
     ensures { IfOk result (λ html. IsHtmlOf text.now (shown_options options) (E.replacement entities.now) (string_bytes html)) }
 {
-    let mut parser = Parser::new_ext(alloc, text, options, entities)?;
-    // There is room at once for the HTML of most texts, which are longer by their elements: a string that grows is there twice.
-    let room = text.len().saturating_add(text.len() / 8);
-    // The parser is lent, so that it is let go at one place: each way out of a function lets go all that it holds.
-    html_of(alloc, room, &mut parser)
+    filtered_html(alloc, text, options, entities, &Filtering::AsTheyAre)
 }
 
-// The HTML of the events that a parser still has to give, in a string that has room for so many bytes at once.
-fn html_of<'a, E: EntityLookup, F: BrokenLinkCallback<'a> + Drop>(
+/// The HTML of a text within a reference expansion limit of the caller. Once the destinations and titles of references have `limit` bytes, no
+/// definition is looked up.
+///
+/// ```text
+/// to_html_within(alloc, "[a] [a]\n\n[a]: /u", Options::empty(), &BasicEntities, 1)?.as_str() == "<p><a href=\"/u\">a</a> [a]</p>\n"
+/// ```
+pub fn to_html_within<E: EntityLookup>(
+    alloc: Global,
+    text: &str,
+    options: Options,
+    entities: &E,
+    limit: usize,
+) -> Result<String, AllocError>
+    ensures { IfOk result (λ html. IsHtmlWithin limit text.now (shown_options options) (E.replacement entities.now) (string_bytes html)) }
+{
+    let none: Option<DefaultBrokenLinkCallback> = None;
+    let mut parser = Parser::new_with_expansion_limit(alloc, text, options, entities, none, limit)?;
+    let room = room_of(text);
+    html_of(alloc, room, &mut parser, &Filtering::AsTheyAre)
+}
+
+/// The safe HTML of a text, for a text of a stranger. Raw HTML is shown as text. A heading has no attribute but its anchor. Anchors and names
+/// of footnotes begin with `user-content-`. Addresses are relative, or begin with `http:`, `https:` or `mailto:`; others are empty.
+/// `further` names further schemes, with white space between them; `javascript`, `vbscript`, `data` and `file` are never taken from it.
+///
+/// A link may still lead to a bad place, and an image may tell a server who looks at it.
+///
+/// ```text
+/// to_safe_html(alloc, "[a](javascript:b)", Options::empty(), &BasicEntities, "")?.as_str() == "<p><a href=\"\">a</a></p>\n"
+/// ```
+pub fn to_safe_html<E: EntityLookup>(
+    alloc: Global,
+    text: &str,
+    options: Options,
+    entities: &E,
+    further: &str,
+) -> Result<String, AllocError>
+    ensures safe { IfOk result (λ html. IsSafe further.now (string_bytes html)) }
+    ensures html { IfOk result (λ html. IsSafeHtmlOf text.now (shown_options options) (E.replacement entities.now) further.now (string_bytes html)) }
+{
+    filtered_html(alloc, text, options, entities, &Filtering::Safe(further))
+}
+
+// The HTML of what a filter makes of the events of a text.
+fn filtered_html<E: EntityLookup, T: Filter>(
+    alloc: Global,
+    text: &str,
+    options: Options,
+    entities: &E,
+    filter: &T,
+) -> Result<String, AllocError>
+    ensures { IfOk result (λ html. IsHtmlBy (usual_limit text.now) (T.filtered filter.now) text.now (shown_options options) (E.replacement entities.now) (string_bytes html)) }
+{
+    let mut parser = Parser::new_ext(alloc, text, options, entities)?;
+    let room = room_of(text);
+    // The parser is lent, so that it is let go at one place: each way out of a function lets go all that it holds.
+    html_of(alloc, room, &mut parser, filter)
+}
+
+// How many bytes more than the text the HTML of a short text has room for at once: elements are much of it.
+const ROOM_FOR_ELEMENTS: usize = 256;
+
+// How many bytes the HTML of a text has room for at once: those of most texts, which are longer by their elements. A string that grows is there
+// twice.
+fn room_of(text: &str) -> usize {
+    text.len()
+        .saturating_add(text.len() / 8)
+        .saturating_add(ROOM_FOR_ELEMENTS)
+}
+
+// The HTML of what the filter makes of the events that a parser still has to give, in a string that has room for so many bytes at once.
+fn html_of<'a, E: EntityLookup, F: BrokenLinkCallback<'a> + Drop, T: Filter>(
     alloc: Global,
     room: usize,
     parser: &mut Parser<'a, E, F>,
+    filter: &T,
 ) -> Result<String, AllocError>
-    requires { CanGo E.replacement parser.old }
-    ensures { IfOk result (λ output. IsHtmlOfRest F.answers E.replacement parser.old parser.new [] (string_bytes output)) }
+    requires goes { CanGo E.replacement parser.old }
+    requires ready { IsReady F.ready parser.old }
+    ensures { IfOk result (λ output. IsHtmlOfRest F.answers E.replacement (T.filtered filter.now) parser.old parser.new [] (string_bytes output)) }
 {
     let mut output = String::with_capacity(alloc, room)?;
-    render(&mut output, parser)?;
+    render(&mut output, parser, filter)?;
     Ok(output)
 }
 
 // Appends the same.
-fn render<'a, E: EntityLookup, F: BrokenLinkCallback<'a> + Drop>(
+fn render<'a, E: EntityLookup, F: BrokenLinkCallback<'a> + Drop, T: Filter>(
     out: &mut String,
     parser: &mut Parser<'a, E, F>,
+    filter: &T,
 ) -> Result<(), AllocError>
-    requires { CanGo E.replacement parser.old }
-    ensures { OnOk result (IsHtmlOfRest F.answers E.replacement parser.old parser.new (string_bytes out.old) (string_bytes out.new)) }
+    requires goes { CanGo E.replacement parser.old }
+    requires ready { IsReady F.ready parser.old }
+    ensures { OnOk result (IsHtmlOfRest F.answers E.replacement (T.filtered filter.now) parser.old parser.new (string_bytes out.old) (string_bytes out.new)) }
 {
     let mut writer: Writer<'a> = Writer::new(*out.allocator());
-    write_all(out, &mut writer, parser)
+    write_all(out, &mut writer, parser, filter)
 }
 
 // Appends the HTML of the events that a parser still has to give, by a writer that has written nothing yet. Of most of them no event is made.
-fn write_all<'a, E: EntityLookup, F: BrokenLinkCallback<'a> + Drop>(
+fn write_all<'a, E: EntityLookup, F: BrokenLinkCallback<'a> + Drop, T: Filter>(
     out: &mut String,
     writer: &mut Writer<'a>,
     parser: &mut Parser<'a, E, F>,
+    filter: &T,
 ) -> Result<(), AllocError>
     requires goes { CanGo E.replacement parser.old }
+    requires ready { IsReady F.ready parser.old }
     requires begins { writing writer.old ≡ at_line_start }
-    ensures { OnOk result (IsHtmlOfRest F.answers E.replacement parser.old parser.new (string_bytes out.old) (string_bytes out.new)) }
+    ensures { OnOk result (IsHtmlOfRest F.answers E.replacement (T.filtered filter.now) parser.old parser.new (string_bytes out.old) (string_bytes out.new)) }
 {
     loop {
         match parser.next_short()? {
             // The two calls are inlined, each for what comes there: a span is followed by other events than a block.
-            Coming::Span(short) => write_short(out, writer, short)?,
-            Coming::Block(short) => write_short(out, writer, short)?,
+            Coming::Span(short) => write_short(out, writer, filter.short_of(short))?,
+            Coming::Block(short) => write_short(out, writer, filter.short_of(short))?,
             Coming::Long => {
-                let is_given = write_long(out, writer, parser)?;
+                let is_given = write_long(out, writer, parser, filter)?;
                 if !is_given {
                     return finish(out, writer);
                 }
@@ -89,29 +164,35 @@ fn write_all<'a, E: EntityLookup, F: BrokenLinkCallback<'a> + Drop>(
 // Appends the piece of the next event, of any kind, and where that opens an image those of the events up to the image's end, so that no
 // image is open behind it. Says whether there was one behind which that is so: where not, the text is over. Of the start of a link no event
 // is made.
-fn write_long<'a, E: EntityLookup, F: BrokenLinkCallback<'a> + Drop>(
+fn write_long<'a, E: EntityLookup, F: BrokenLinkCallback<'a> + Drop, T: Filter>(
     out: &mut String,
     writer: &mut Writer<'a>,
     parser: &mut Parser<'a, E, F>,
+    filter: &T,
 ) -> Result<bool, AllocError>
-    requires { CanGo E.replacement parser.old }
-    ensures { IfOk result (λ is_given. WritesLong F.answers E.replacement is_given parser.old (written (writing writer.old) (string_bytes out.old)) parser.new (written (writing writer.new) (string_bytes out.new))) }
+    requires goes { CanGo E.replacement parser.old }
+    requires ready { IsReady F.ready parser.old }
+    ensures writes { IfOk result (λ is_given. WritesLong F.answers E.replacement (T.filtered filter.now) is_given parser.old (written (writing writer.old) (string_bytes out.old)) parser.new (written (writing writer.new) (string_bytes out.new))) }
+    ensures ready { IsReady F.ready parser.new }
 {
-    if write_link_ahead(out, writer, parser)? {
+    if write_link_ahead(out, writer, parser, filter)? {
         return Ok(true);
     }
-    write_any(out, writer, parser)
+    write_any(out, writer, parser, filter)
 }
 
 // Appends the piece of the start of a link, where that comes next and no image is open, and says whether it was so. No event is made of it:
 // what is written stands where the parser keeps the link.
-fn write_link_ahead<'a, E: EntityLookup, F: BrokenLinkCallback<'a> + Drop>(
+fn write_link_ahead<'a, E: EntityLookup, F: BrokenLinkCallback<'a> + Drop, T: Filter>(
     out: &mut String,
     writer: &mut Writer<'a>,
     parser: &mut Parser<'a, E, F>,
+    filter: &T,
 ) -> Result<bool, AllocError>
-    requires { CanGo E.replacement parser.old }
-    ensures { IfOk result (λ is_written. WritesLink F.answers E.replacement is_written parser.old (written (writing writer.old) (string_bytes out.old)) parser.new (written (writing writer.new) (string_bytes out.new))) }
+    requires goes { CanGo E.replacement parser.old }
+    requires ready { IsReady F.ready parser.old }
+    ensures writes { IfOk result (λ is_written. WritesLink F.answers E.replacement (T.filtered filter.now) is_written parser.old (written (writing writer.old) (string_bytes out.old)) parser.new (written (writing writer.new) (string_bytes out.new))) }
+    ensures ready { IsReady F.ready parser.new }
 {
     if writer.image.is_some() {
         return Ok(false);
@@ -123,7 +204,7 @@ fn write_link_ahead<'a, E: EntityLookup, F: BrokenLinkCallback<'a> + Drop>(
         out,
         writer,
         link.link_type,
-        link.dest_url.as_str(),
+        filter.destination_of(link.dest_url.as_str()),
         link.title.as_str(),
     )?;
     parser.pass_link()?;
@@ -131,16 +212,19 @@ fn write_link_ahead<'a, E: EntityLookup, F: BrokenLinkCallback<'a> + Drop>(
 }
 
 // The same, where an event is made of each, of the start of a link too.
-fn write_any<'a, E: EntityLookup, F: BrokenLinkCallback<'a> + Drop>(
+fn write_any<'a, E: EntityLookup, F: BrokenLinkCallback<'a> + Drop, T: Filter>(
     out: &mut String,
     writer: &mut Writer<'a>,
     parser: &mut Parser<'a, E, F>,
+    filter: &T,
 ) -> Result<bool, AllocError>
-    requires { CanGo E.replacement parser.old }
-    ensures { IfOk result (λ is_given. WritesLong F.answers E.replacement is_given parser.old (written (writing writer.old) (string_bytes out.old)) parser.new (written (writing writer.new) (string_bytes out.new))) }
+    requires goes { CanGo E.replacement parser.old }
+    requires ready { IsReady F.ready parser.old }
+    ensures writes { IfOk result (λ is_given. WritesLong F.answers E.replacement (T.filtered filter.now) is_given parser.old (written (writing writer.old) (string_bytes out.old)) parser.new (written (writing writer.new) (string_bytes out.new))) }
+    ensures ready { IsReady F.ready parser.new }
 {
     loop {
-        let is_given = write_next(out, writer, parser)?;
+        let is_given = write_next(out, writer, parser, filter)?;
         if !is_given {
             return Ok(false);
         }
@@ -153,17 +237,21 @@ fn write_any<'a, E: EntityLookup, F: BrokenLinkCallback<'a> + Drop>(
 // Appends the piece of the next event, of any kind, and says whether there is one. It is apart, so that no other event waits for the room that
 // one of any kind takes.
 #[inline(never)]
-fn write_next<'a, E: EntityLookup, F: BrokenLinkCallback<'a> + Drop>(
+fn write_next<'a, E: EntityLookup, F: BrokenLinkCallback<'a> + Drop, T: Filter>(
     out: &mut String,
     writer: &mut Writer<'a>,
     parser: &mut Parser<'a, E, F>,
+    filter: &T,
 ) -> Result<bool, AllocError>
-    requires { CanGo E.replacement parser.old }
-    ensures { IfOk result (λ is_given. WritesNext F.answers E.replacement is_given parser.old (written (writing writer.old) (string_bytes out.old)) parser.new (written (writing writer.new) (string_bytes out.new))) }
+    requires goes { CanGo E.replacement parser.old }
+    requires ready { IsReady F.ready parser.old }
+    ensures writes { IfOk result (λ is_given. WritesNext F.answers E.replacement (T.filtered filter.now) is_given parser.old (written (writing writer.old) (string_bytes out.old)) parser.new (written (writing writer.new) (string_bytes out.new))) }
+    ensures ready { IsReady F.ready parser.new }
 {
     match parser.advance() {
         Some(Ok(given)) => {
-            write_event(out, writer, given.event)?;
+            let event = filter.event_of(*out.allocator(), given.event)?;
+            write_event(out, writer, event)?;
             Ok(true)
         }
         Some(Err(error)) => Err(error),

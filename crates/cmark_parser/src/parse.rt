@@ -1,14 +1,18 @@
 //! The parser: iterators over the events of a text's document.
 
-ghost use Rattle.std.specs.Prelude.{◌≡◌, true, None, IfOk, is_some, option_map};
+ghost use Rattle.std.specs.Prelude.{◌≡◌, ◌*◌, ◌≤◌, length, true, None, IfOk, is_some, option_map};
 ghost use Rattle.std.specs.Iterator.{at_most};
+ghost use Rattle.std.specs.Option.{ForSome};
 ghost use Rattle.cmark_grammar.specs.Options.{no_options};
 ghost use Rattle.cmark_text_parts.specs.Shown.{shown_options};
+ghost use Rattle.cmark_inline.specs.Counted.{total};
 ghost use Rattle.cmark_parser.specs.Parsing.{is_last};
 
 use bitflags::Flags;
 use cmark_blocks::{FirstPass, run_first_pass};
-use cmark_inline::{BrokenLinkCallback, DefaultBrokenLinkCallback};
+use cmark_inline::{
+    BrokenLinkCallback, DefaultBrokenLinkCallback, LEAST_REFERENCE_EXPANSION_LIMIT, Steps,
+};
 use cmark_references::{FootnoteDefs, Link, RefDefs};
 use cmark_span_walk::{Coming, OptionalCallback, SpanWalk};
 use cmark_text::{EntityLookup, Event, Options, Ranged};
@@ -78,7 +82,7 @@ impl<'input, E: EntityLookup> Parser<'input, E> {
 }
 
 impl<'input, E: EntityLookup, F: BrokenLinkCallback<'input> + Drop> Parser<'input, E, F> {
-    ghost use Rattle.cmark_parser.specs.Parsing.{Reads, Defines, DefinesFootnotes, CanGo, CanGoRanged, GivesOrErr, GivesStartOrErr, GivesStep, callback_of, definitions, link_to_come, text_of, walk_of};
+    ghost use Rattle.cmark_parser.specs.Parsing.{Reads, Defines, DefinesFootnotes, CanGo, CanGoRanged, GivesOrErr, GivesStartOrErr, GivesStep, IsReady, ReadsWithin, callback_of, definitions, link_to_come, steps_of, text_of, walk_of};
 
     /// A parser of `text` with these options, which asks the callback, if there is one, for each reference without a
     /// definition. The callback is asked while the events are given.
@@ -89,8 +93,33 @@ impl<'input, E: EntityLookup, F: BrokenLinkCallback<'input> + Drop> Parser<'inpu
         entities: &'input E,
         callback: Option<F>,
     ) -> Result<Parser<'input, E, F>, AllocError>
+        requires ready { ForSome callback F.ready }
+        ensures ready { IfOk result (IsReady F.ready) }
         ensures text { IfOk result (λ parser. text_of parser ≡ text.entry.now) }
         ensures reads { IfOk result (Reads E.replacement text.entry.now (shown_options options) (E.replacement entities.entry.now)) }
+        ensures definitions { IfOk result (Defines text.entry.now (shown_options options) (E.replacement entities.entry.now)) }
+        ensures footnotes { IfOk result (DefinesFootnotes text.entry.now (shown_options options) (E.replacement entities.entry.now)) }
+        ensures callback { IfOk result (λ parser. callback_of parser ≡ callback) }
+        ensures goes { IfOk result (CanGo E.replacement) }
+    {
+        let limit = text.len().max(LEAST_REFERENCE_EXPANSION_LIMIT);
+        Parser::new_with_expansion_limit(alloc, text, options, entities, callback, limit)
+    }
+
+    /// A parser with a reference expansion limit of the caller. Once the destinations and titles of references have `limit` bytes, no
+    /// definition is looked up, and nothing is asked.
+    pub fn new_with_expansion_limit(
+        alloc: Global,
+        text: &'input str,
+        options: Options,
+        entities: &'input E,
+        callback: Option<F>,
+        limit: usize,
+    ) -> Result<Parser<'input, E, F>, AllocError>
+        requires ready { ForSome callback F.ready }
+        ensures ready { IfOk result (IsReady F.ready) }
+        ensures text { IfOk result (λ parser. text_of parser ≡ text.entry.now) }
+        ensures reads { IfOk result (ReadsWithin E.replacement limit text.entry.now (shown_options options) (E.replacement entities.entry.now)) }
         ensures definitions { IfOk result (Defines text.entry.now (shown_options options) (E.replacement entities.entry.now)) }
         ensures footnotes { IfOk result (DefinesFootnotes text.entry.now (shown_options options) (E.replacement entities.entry.now)) }
         ensures callback { IfOk result (λ parser. callback_of parser ≡ callback) }
@@ -107,7 +136,7 @@ impl<'input, E: EntityLookup, F: BrokenLinkCallback<'input> + Drop> Parser<'inpu
         let callback = OptionalCallback { callback };
         Ok(Parser {
             spans: SpanWalk::new(
-                alloc, text, walk, budget, options, entities, footnotes, callback,
+                alloc, text, walk, budget, options, entities, footnotes, callback, limit,
             ),
             is_over: false,
         })
@@ -119,6 +148,14 @@ impl<'input, E: EntityLookup, F: BrokenLinkCallback<'input> + Drop> Parser<'inpu
         ensures { result.now ≡ definitions self.now }
     {
         self.spans.definitions()
+    }
+
+    /// What the searches of the spans have taken so far: never more than 128 steps for each byte of the text.
+    pub fn steps(&self) -> Steps
+        ensures steps { result ≡ steps_of self.now }
+        ensures counted { CanGo E.replacement self.now → total result ≤ 128 * length (text_of self.now) }
+    {
+        self.spans.steps()
     }
 
     /// The same walk, from where it stands, with the range of each event.
@@ -133,8 +170,10 @@ impl<'input, E: EntityLookup, F: BrokenLinkCallback<'input> + Drop> Parser<'inpu
     // memory is refused, nothing is given any more.
     #[inline(always)]
     pub(crate) fn next_short(&mut self) -> Result<Coming<'input>, AllocError>
-        requires { CanGo E.replacement self.old }
-        ensures { GivesOrErr F.answers E.replacement self.old result self.new }
+        requires goes { CanGo E.replacement self.old }
+        requires ready { IsReady F.ready self.old }
+        ensures gives { GivesOrErr F.answers E.replacement self.old result self.new }
+        ensures ready { IsReady F.ready self.new }
     {
         if !self.is_over {
             let given = self.spans.next_short();
@@ -163,7 +202,8 @@ impl<'input, E: EntityLookup, F: BrokenLinkCallback<'input> + Drop> Parser<'inpu
     pub(crate) fn pass_link(&mut self) -> Result<(), AllocError>
         requires goes { CanGo E.replacement self.old }
         requires ahead { is_some (link_to_come self.old) ≡ true }
-        ensures { GivesStartOrErr F.answers E.replacement self.old result self.new }
+        ensures gives { GivesStartOrErr F.answers E.replacement self.old result self.new }
+        ensures callback { callback_of self.new ≡ callback_of self.old }
     {
         match self.spans.pass_link() {
             Ok(()) => Ok(()),
@@ -177,8 +217,10 @@ impl<'input, E: EntityLookup, F: BrokenLinkCallback<'input> + Drop> Parser<'inpu
     // The next event with its range. Where memory is refused, this is the last item.
     #[inline(always)]
     pub(crate) fn advance(&mut self) -> Option<Result<Ranged<'input>, AllocError>>
-        requires { CanGo E.replacement self.old }
-        ensures { GivesStep F.answers E.replacement self.old result self.new }
+        requires goes { CanGo E.replacement self.old }
+        requires ready { IsReady F.ready self.old }
+        ensures gives { GivesStep F.answers E.replacement self.old result self.new }
+        ensures ready { IsReady F.ready self.new }
     {
         if self.is_over {
             return None;
@@ -210,11 +252,11 @@ fn is_last(given: &Result<Coming<'_>, AllocError>) -> bool
 
 impl<'input, E: EntityLookup, F: BrokenLinkCallback<'input> + Drop> Iterator
     for Parser<'input, E, F> {
-    ghost use Rattle.cmark_parser.specs.Parsing.{CanGo, Gives, events_left};
+    ghost use Rattle.cmark_parser.specs.Parsing.{CanGo, Gives, IsReady, events_left};
 
     type Item = Result<Event<'input>, AllocError>;
 
-    ghost can_next = { CanGo E.replacement };
+    ghost can_next = { λ parser. CanGo E.replacement parser × IsReady F.ready parser };
 
     ghost next_gives = { Gives F.answers E.replacement };
 
@@ -242,7 +284,7 @@ pub struct OffsetIter<'input, E, F = DefaultBrokenLinkCallback> {
 }
 
 impl<'input, E: EntityLookup, F: BrokenLinkCallback<'input> + Drop> OffsetIter<'input, E, F> {
-    ghost use Rattle.cmark_parser.specs.Parsing.{ranged_definitions};
+    ghost use Rattle.cmark_parser.specs.Parsing.{CanGoRanged, ranged_definitions, ranged_steps, ranged_text};
 
     /// The link reference definitions of the text, as those of the parser.
     pub fn reference_definitions(&self) -> &RefDefs<'input>
@@ -250,15 +292,23 @@ impl<'input, E: EntityLookup, F: BrokenLinkCallback<'input> + Drop> OffsetIter<'
     {
         self.parser.reference_definitions()
     }
+
+    /// What the searches of the spans have taken so far, as that of the parser.
+    pub fn steps(&self) -> Steps
+        ensures steps { result ≡ ranged_steps self.now }
+        ensures counted { CanGoRanged E.replacement self.now → total result ≤ 128 * length (ranged_text self.now) }
+    {
+        self.parser.steps()
+    }
 }
 
 impl<'input, E: EntityLookup, F: BrokenLinkCallback<'input> + Drop> Iterator
     for OffsetIter<'input, E, F> {
-    ghost use Rattle.cmark_parser.specs.Parsing.{CanGoRanged, GivesRanged, ranged_left};
+    ghost use Rattle.cmark_parser.specs.Parsing.{CanGoRanged, GivesRanged, IsRangedReady, ranged_left};
 
     type Item = Result<(Event<'input>, Range<usize>), AllocError>;
 
-    ghost can_next = { CanGoRanged E.replacement };
+    ghost can_next = { λ iter. CanGoRanged E.replacement iter × IsRangedReady F.ready iter };
 
     ghost next_gives = { GivesRanged F.answers E.replacement };
 

@@ -1,1 +1,4 @@
+pub mod CopySteps
 pub mod DefinitionSteps
+pub mod EntrySteps
+pub mod SpellingSteps

@@ -2,9 +2,10 @@
 use Rattle.std.specs.Prelude.{ℕ, List, map, bytes_eq, if◌then◌else◌, Option, Some, None, option_map}
 use Rattle.std.specs.Borrow.{Bor}
 use Rattle.std.specs.BTreeMap.{is_at}
-use Rattle.std.specs.Map.{lookup}
+use Rattle.std.specs.Map.{lookup, lookup_entry}
 use Rattle.std.specs.Cmp.Lexicographic.{slice_cmp}
 use Rattle.std.specs.Ordering.{nat_cmp}
+use Rattle.cmark_grammar.specs.BlockDocument.{Reference}
 use Rattle.cmark_text_parts.specs.Labelled.{link_text, link_key}
 use Rattle.cmark_text_parts.specs.declared.label.LinkLabel.{LinkLabel}
 use Rattle.cmark_references.specs.declared.definitions.LinkDef.{LinkDef}
@@ -15,6 +16,10 @@ use Rattle.cmark_text_parts.specs.Shown.{text_bytes}
 -- the definition of a folded label
 abbrev pub definition : RefDefs → List ℕ → Option LinkDef
 definition table folded = lookup (is_at (λ label. slice_cmp nat_cmp folded (link_key label))) table
+
+-- the label that has this folded form, with its spelling, and its definition
+abbrev pub entry_of : RefDefs → List ℕ → Option (LinkLabel × LinkDef)
+entry_of table folded = lookup_entry (is_at (λ label. slice_cmp nat_cmp folded (link_key label))) table
 
 -- a label's normal form with its definition
 abbrev pub entry : LinkLabel × LinkDef → List ℕ × LinkDef
@@ -50,3 +55,14 @@ pub record ShownDefinition : Type 0 where
 
 abbrev pub shown_definition : LinkDef → ShownDefinition
 shown_definition def = record { destination = text_bytes def.dest; title = option_map text_bytes def.title; start = def.span.start; end = def.span.end }
+
+-- an entry as a document has it: the label's normal form, beside what the definition shows
+abbrev pub labelled : List ℕ → ShownDefinition → Reference
+labelled label d = record { label = label; destination = d.destination; title = d.title; start = d.start; end = d.end }
+
+abbrev pub shown_entry : LinkLabel × LinkDef → Reference
+shown_entry e = labelled (link_text e.0) (shown_definition e.1)
+
+-- the entry of a folded label as a document has it
+abbrev pub reference_at : RefDefs → List ℕ → Option Reference
+reference_at table folded = option_map shown_entry (entry_of table folded)

@@ -4,7 +4,7 @@ ghost use Rattle.std.specs.Prelude.{◌≡◌, IfOk, OnOk, OnErr, List, ℕ, opt
 ghost use Rattle.std.specs.Iterator.{YieldsFirstBy, item_count};
 ghost use Rattle.cmark_grammar.specs.Labels.{fold};
 ghost use Rattle.cmark_text_parts.specs.Labelled.{link_key};
-ghost use Rattle.cmark_references.specs.Definitions.{definition, definitions, first_of, at_label, left, seen, shown_definition};
+ghost use Rattle.cmark_references.specs.Definitions.{definition, definitions, entry_of, first_of, at_label, left, reference_at, seen, shown_definition};
 
 use cmark_text_parts::{CowStr, LinkLabel};
 use std::alloc::{AllocError, Global};
@@ -68,11 +68,13 @@ impl<'a> RefDefs<'a> {
         self.defs.get(label)
     }
 
-    /// Keeps a definition, unless there is one of its label.
+    /// Keeps a definition, unless there is one of its label. A label stays as its first definition spells it.
     pub fn insert(&mut self, label: LinkLabel, def: LinkDef<'a>) -> Result<(), AllocError>
         ensures first_stays { OnOk result ((folded : List ℕ) → definition self.new folded
             ≡ first_of (definition self.old folded) (at_label (link_key label) def.entry folded)) }
-        ensures refused { OnErr result ((folded : List ℕ) → definition self.new folded ≡ definition self.old folded) }
+        ensures spelled { OnOk result ((folded : List ℕ) → entry_of self.new folded
+            ≡ first_of (entry_of self.old folded) (at_label (link_key label) (label, def.entry) folded)) }
+        ensures refused { OnErr result (self.new ≡ self.old) }
     {
         if self.defs.contains_key(&label) {
             drop(label);
@@ -83,10 +85,24 @@ impl<'a> RefDefs<'a> {
         Ok(())
     }
 
-    /// All definitions, each with its label's normal form, in no order that is promised.
+    /// The same definitions once more, their labels spelled alike.
+    pub fn clone(&self, alloc: Global) -> Result<RefDefs<'a>, AllocError>
+        ensures { IfOk result (λ copy. (folded : List ℕ) → reference_at copy folded ≡ reference_at self.now folded) }
+    {
+        let mut copy = RefDefs::new(alloc);
+        let mut entries = self.defs.iter();
+        while let Some((label, def)) = entries.next() {
+            let label = label.clone(alloc)?;
+            let def = def.clone(alloc)?;
+            copy.insert(label, def)?;
+        }
+        Ok(copy)
+    }
+
+    /// All definitions, each with its label's normal form as its first definition spells it, in no order that is promised.
     pub fn iter(&self) -> RefDefsIter<'_, 'a>
         ensures all { left result ≡ definitions self.now }
-        ensures found { All (λ e. definition self.now (link_key e.0) ≡ Some e.1) self.now }
+        ensures found { All (λ e. entry_of self.now (link_key e.0) ≡ Some e) self.now }
     {
         RefDefsIter {
             entries: self.defs.iter(),

@@ -43,7 +43,8 @@ pub fn answer<P: Render>(
     room: &mut [u8],
     size: &mut usize,
 ) -> u32
-    ensures { Answers (P.renders renderer.now text.now) text.now room.old room.new size.new result }
+    ensures answers { Answers (P.renders renderer.now text.now) text.now room.old room.new size.new result }
+    ensures refused { result ≡ 3 → P.refuses renderer.now text.now }
 {
     *size = 0;
     let Ok(text) = str::from_utf8(text) else {

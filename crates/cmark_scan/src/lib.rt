@@ -13,7 +13,7 @@ pub use cmark_scan_over_lines::{
     HtmlTag, LinkLabelRest, scan_html_block_inner, scan_link_label_rest,
 };
 pub use cmark_scan_parts::{
-    Cut, Entity, HtmlFind, scan_autolink, scan_entity, scan_inline_html_comment,
+    Cut, Entity, HtmlFind, HtmlScanGuard, scan_autolink, scan_entity, scan_inline_html_comment,
     scan_inline_html_processing, scan_link_dest, scan_rev_while, scan_tag, scan_while,
     scan_wikilink_pipe, unescape,
 };

@@ -50,6 +50,10 @@ item_numbers indent (Some (Footnote label old size)) = None
 item_numbers indent (Some (ListDefinition width)) = None
 item_numbers indent (Some (Item delimiter number width task)) = Some (delimiter, number, sum_up_to_most indent width)
 
+-- the same, where a bullet has the number 0
+abbrev pub plain_numbers : ℕ × Option ℕ × ℕ → ℕ × ℕ × ℕ
+plain_numbers found = (found.0, unwrap_or found.1 0, found.2)
+
 -- the width of a definition's prefix, and its first line behind the marker
 abbrev pub definition_in : Row → Option ℕ
 definition_in r = flush r (definition_width r)

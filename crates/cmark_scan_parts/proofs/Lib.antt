@@ -1,5 +1,6 @@
 pub mod Boundaries
 pub mod Closers
+mod EmailSteps
 pub mod Endings
 pub mod EntitySteps
 pub mod FootnoteSteps
@@ -11,3 +12,4 @@ pub mod PipeSteps
 pub mod TagSteps
 pub mod TrailingSteps
 pub mod Unescaping
+pub mod Marks

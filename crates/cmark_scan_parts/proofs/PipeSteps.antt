@@ -1,16 +1,16 @@
 -- Literal pipes, one after the other.
-use Rattle.std.proofs.Common.{◌≡◌, ◌≢◌, ℕ, zero, suc, ◌+◌, ◌<◌, ◌≤◌, Bool, true, false, ◌||◌, if◌then◌else◌, List, [], ◌∷◌, ◌++◌, length, take, drop, get_or, Option, None, Some, is_some, true≢false, refl, sym, ap, ◌∙◌, arith, append_assoc, length-append, length-drop, length-take-le}
+use Rattle.std.proofs.Common.{◌≡◌, ◌≢◌, ℕ, zero, suc, ◌+◌, ◌<◌, ◌≤◌, Bool, true, false, ◌||◌, if◌then◌else◌, List, [], ◌∷◌, ◌++◌, length, take, drop, get_or, Option, None, Some, is_some, true≢false, refl, sym, ap, subst, ◌∙◌, arith, append_assoc, append-nil, length-append, length-drop, length-take-le}
 use Rattle.std.specs.Option.{MatchOption}
 use Rattle.std.specs.Str.{IsCharBoundary}
-use Rattle.std.proofs.lemmas.Bool.{false_from_ne_true}
-use Rattle.memchr.specs.Find.{OccursAt, FindsNeedle}
+use Rattle.std.proofs.lemmas.List.{drop-drop, drop_all, drop_more, get_or-drop, take_all, take_more}
+use Rattle.memchr.specs.Find.{OccursAt}
 use Rattle.cmark_grammar.specs.Letters.{starts}
 use Rattle.cmark_grammar.specs.Unescaped.{escaped_pipe}
-use Rattle.cmark_grammar.specs.LabelsOverLines.{piped, with_literal_pipes}
+use Rattle.cmark_grammar.specs.LabelsOverLines.{backslash_pair, literal_pipes_from, piped, with_literal_pipes}
 use Rattle.cmark_scan_parts.specs.Pipes.{Drops}
 use Rattle.cmark_scan_parts.specs.declared.pipes.Backslashes.{Backslashes}
 use Rattle.cmark_scan_parts.proofs.Boundaries.{ascii_boundary}
-use Rattle.cmark_scan_parts.proofs.Closers.{starts_here, here_starts, onward, back}
+use Rattle.cmark_scan_parts.proofs.Closers.{starts_here, here_starts, onward}
 
 some_pipe : 0 < length piped
 some_pipe = omega arith
@@ -30,109 +30,108 @@ onto_pipe bs n h = record {
     go (suc zero) lt = ap (λ k. get_or bs k 0) (let e : suc n + 1 ≡ n + 2 = omega arith in e) ∙ h.reads 2 (omega arith)
     go (suc (suc j)) lt = absurd (omega arith)
 
-from_pipe : (bs : List ℕ) (n : ℕ) → get_or bs n 0 ≡ 92 → OccursAt bs piped (suc n) → OccursAt bs escaped_pipe n
-from_pipe bs n is h = record {
-  fits = let f : suc n + 2 ≤ length bs = h.fits in omega arith;
-  reads = λ j lt. go j lt;
-}
-  where
-    go : (j : ℕ) → j < 3 → get_or bs (n + j) 0 ≡ get_or escaped_pipe j 0
-    go zero lt = ap (λ k. get_or bs k 0) (let e : n + 0 ≡ n = omega arith in e) ∙ is
-    go (suc zero) lt = ap (λ k. get_or bs k 0) (let e : n + 1 ≡ suc n + 0 = omega arith in e) ∙ h.reads 0 (omega arith)
-    go (suc (suc zero)) lt = ap (λ k. get_or bs k 0) (let e : n + 2 ≡ suc n + 1 = omega arith in e) ∙ h.reads 1 (omega arith)
-    go (suc (suc (suc j))) lt = absurd (omega arith)
+-- ---- one byte
 
--- one byte
-kept_byte : (b : ℕ) (bs : List ℕ) → ¬ OccursAt (b ∷ bs) piped 0 → ¬ OccursAt (b ∷ bs) escaped_pipe 0 → with_literal_pipes (b ∷ bs) ≡ b ∷ with_literal_pipes bs
+kept_byte : (b : ℕ) (bs : List ℕ) → starts piped (b ∷ bs) ≡ false → starts escaped_pipe (b ∷ bs) ≡ false
+    → with_literal_pipes (b ∷ bs) ≡ b ∷ literal_pipes_from (starts backslash_pair (b ∷ bs)) bs
 kept_byte b bs no_pipe no_escape =
-    ap (λ t. if t || starts escaped_pipe (b ∷ bs) then with_literal_pipes bs else b ∷ with_literal_pipes bs) (false_from_ne_true _ (λ e. no_pipe (here_starts piped some_pipe (b ∷ bs) e)))
-    ∙ ap (λ t. if t then with_literal_pipes bs else b ∷ with_literal_pipes bs) (false_from_ne_true _ (λ e. no_escape (here_starts escaped_pipe some_escape (b ∷ bs) e)))
+    ap (λ t. if t || starts escaped_pipe (b ∷ bs) then with_literal_pipes bs else b ∷ literal_pipes_from (starts backslash_pair (b ∷ bs)) bs) no_pipe
+    ∙ ap (λ t. if t then with_literal_pipes bs else b ∷ literal_pipes_from (starts backslash_pair (b ∷ bs)) bs) no_escape
 
-dropped_pipe : (b : ℕ) (bs : List ℕ) → OccursAt (b ∷ bs) piped 0 → with_literal_pipes (b ∷ bs) ≡ with_literal_pipes bs
-dropped_pipe b bs h = ap (λ t. if t || starts escaped_pipe (b ∷ bs) then with_literal_pipes bs else b ∷ with_literal_pipes bs) (starts_here piped some_pipe (b ∷ bs) h)
+dropped_pipe : (b : ℕ) (bs : List ℕ) → starts piped (b ∷ bs) ≡ true → with_literal_pipes (b ∷ bs) ≡ with_literal_pipes bs
+dropped_pipe b bs h = ap (λ t. if t || starts escaped_pipe (b ∷ bs) then with_literal_pipes bs else b ∷ literal_pipes_from (starts backslash_pair (b ∷ bs)) bs) h
 
-dropped_escape : (b : ℕ) (bs : List ℕ) → OccursAt (b ∷ bs) escaped_pipe 0 → with_literal_pipes (b ∷ bs) ≡ with_literal_pipes bs
+dropped_escape : (b : ℕ) (bs : List ℕ) → starts escaped_pipe (b ∷ bs) ≡ true → with_literal_pipes (b ∷ bs) ≡ with_literal_pipes bs
 dropped_escape b bs h =
-    ap (λ t. if starts piped (b ∷ bs) || t then with_literal_pipes bs else b ∷ with_literal_pipes bs) (starts_here escaped_pipe some_escape (b ∷ bs) h)
+    ap (λ t. if starts piped (b ∷ bs) || t then with_literal_pipes bs else b ∷ literal_pipes_from (starts backslash_pair (b ∷ bs)) bs) h
     ∙ either (starts piped (b ∷ bs))
   where
-    either : (z : Bool) → (if z || true then with_literal_pipes bs else b ∷ with_literal_pipes bs) ≡ with_literal_pipes bs
+    either : (z : Bool) → (if z || true then with_literal_pipes bs else b ∷ literal_pipes_from (starts backslash_pair (b ∷ bs)) bs) ≡ with_literal_pipes bs
     either true = refl
     either false = refl
 
-first_behind : (b : ℕ) (bs : List ℕ) (n : ℕ) → OccursAt (b ∷ bs) piped (suc n) → ((k : ℕ) → k < suc n → ¬ OccursAt (b ∷ bs) piped k) → (k : ℕ) → k < n → ¬ OccursAt bs piped k
-first_behind b bs n h before k lt o = before (suc k) (omega arith) (back piped some_pipe b bs k o)
+-- both backslashes of an escaped pipe
+dropped_pair : (b : ℕ) (bs : List ℕ) → starts escaped_pipe (b ∷ bs) ≡ true → with_literal_pipes (b ∷ bs) ≡ with_literal_pipes (drop 1 bs)
+dropped_pair b [] h = absurd (let f : 0 + 3 ≤ 1 = (here_starts escaped_pipe some_escape (b ∷ []) h).fits in omega arith)
+dropped_pair b (c ∷ bs) h =
+    dropped_escape b (c ∷ bs) h
+    ∙ dropped_pipe c bs (starts_here piped some_pipe (c ∷ bs) (onward piped some_pipe b (c ∷ bs) 0 (onto_pipe (b ∷ (c ∷ bs)) 0 (here_starts escaped_pipe some_escape (b ∷ (c ∷ bs)) h))))
 
--- the first backslash before a pipe, with none before it
-one_dropped : (bs : List ℕ) (n : ℕ) → OccursAt bs piped n → ((k : ℕ) → k < n → ¬ OccursAt bs piped k) → ((k : ℕ) → suc k ≡ n → get_or bs k 0 ≢ 92)
-    → with_literal_pipes bs ≡ take n bs ++ with_literal_pipes (drop (suc n) bs)
-one_dropped [] n h before alone = absurd (let f : n + 2 ≤ 0 = h.fits in omega arith)
-one_dropped (b ∷ bs) zero h before alone = dropped_pipe b bs h
-one_dropped (b ∷ bs) (suc n) h before alone =
-    kept_byte b bs (before 0 (omega arith)) (λ e. no_escape n h before alone e)
-    ∙ ap (λ l. b ∷ l) (one_dropped bs n (onward piped some_pipe b bs n h) (first_behind b bs n h before) (λ k e. alone (suc k) (ap suc e)))
-  where
-    no_escape : (n : ℕ) → OccursAt (b ∷ bs) piped (suc n) → ((k : ℕ) → k < suc n → ¬ OccursAt (b ∷ bs) piped k) → ((k : ℕ) → suc k ≡ suc n → get_or (b ∷ bs) k 0 ≢ 92) → ¬ OccursAt (b ∷ bs) escaped_pipe 0
-    no_escape zero h before alone e = alone 0 refl (e.reads 0 (omega arith))
-    no_escape (suc n) h before alone e = before 1 (omega arith) (onto_pipe (b ∷ bs) 0 e)
+-- ---- a byte of a text
 
--- and with one before it
-two_dropped : (bs : List ℕ) (n : ℕ) → OccursAt bs piped (suc n) → ((k : ℕ) → k < suc n → ¬ OccursAt bs piped k) → get_or bs n 0 ≡ 92
-    → with_literal_pipes bs ≡ take n bs ++ with_literal_pipes (drop (suc (suc n)) bs)
-two_dropped [] n h before is = absurd (let f : suc n + 2 ≤ 0 = h.fits in omega arith)
-two_dropped (b ∷ []) zero h before is = absurd (let f : 1 + 2 ≤ 1 = h.fits in omega arith)
-two_dropped (b ∷ (c ∷ bs)) zero h before is = dropped_escape b (c ∷ bs) (from_pipe (b ∷ (c ∷ bs)) 0 is h) ∙ dropped_pipe c bs (onward piped some_pipe b (c ∷ bs) 0 h)
-two_dropped (b ∷ bs) (suc n) h before is =
-    kept_byte b bs (before 0 (omega arith)) (λ e. before 1 (omega arith) (onto_pipe (b ∷ bs) 0 e))
-    ∙ ap (λ l. b ∷ l) (two_dropped bs n (onward piped some_pipe b bs (suc n) h) (first_behind b bs (suc n) h before) is)
+module _ (text : List ℕ) (at : ℕ) (within : at < length text) where
+  abbrev pub byte : ℕ
+  byte = get_or text at 0
 
-none_dropped : (bs : List ℕ) → ((k : ℕ) → k < length bs + 1 → ¬ OccursAt bs piped k) → with_literal_pipes bs ≡ bs
-none_dropped [] before = refl
-none_dropped (b ∷ bs) before =
-    kept_byte b bs (before 0 (omega arith)) (λ e. before 1 (let f : 0 + 3 ≤ suc (length bs) = e.fits in omega arith) (onto_pipe (b ∷ bs) 0 e))
-    ∙ ap (λ l. b ∷ l) (none_dropped bs (λ k lt o. before (suc k) (omega arith) (back piped some_pipe b bs k o)))
+  abbrev pub rest : List ℕ
+  rest = drop (at + 1) text
 
-pub no_backslashes : (bs text : List ℕ) → bs ≡ text → FindsNeedle bs piped 0 None → with_literal_pipes text ≡ text
-no_backslashes bs text same h = ap with_literal_pipes (sym same) ∙ none_dropped bs (λ k lt. h k (omega arith) lt) ∙ same
+  here : drop at text ≡ byte ∷ rest
+  here = drop_more text at 0 within
 
-module _ (text : List ℕ) (last : ℕ) (found : FindsNeedle text piped 0 (Some last)) where
-  occurs : OccursAt text piped last
-  occurs = found.1
+  -- a byte that stays
+  stays : (all : List ℕ) (old new : Bool) → literal_pipes_from old (byte ∷ rest) ≡ byte ∷ literal_pipes_from new rest
+      → all ≡ take at text ++ literal_pipes_from old (drop at text) → all ≡ take (at + 1) text ++ literal_pipes_from new rest
+  stays all old new one e =
+      e ∙ ap (λ l. take at text ++ l) (ap (literal_pipes_from old) here ∙ one)
+      ∙ sym (append_assoc (take at text) (byte ∷ []) (literal_pipes_from new rest))
+      ∙ ap (λ l. l ++ literal_pipes_from new rest) (sym (take_more text at 0 within))
 
-  ends_here : IsCharBoundary text (last + 1)
-  ends_here = ascii_boundary text (last + 1) 124 (let f : last + 2 ≤ length text = occurs.fits in omega arith) (occurs.reads 1 (omega arith)) (omega arith)
+  pub second_stays : (all : List ℕ) → all ≡ take at text ++ literal_pipes_from true (drop at text) → all ≡ take (at + 1) text ++ literal_pipes_from false rest
+  second_stays all e = stays all true false refl e
 
-  pub one_backslash : (start : ℕ) → start ≡ last → ((k : ℕ) → suc k ≡ last → get_or text k 0 ≢ 92) → Drops text start (last + 1)
-  one_backslash start is alone = record {
+  pub first_stays : (all : List ℕ) → starts piped (drop at text) ≡ false → starts escaped_pipe (drop at text) ≡ false
+      → all ≡ take at text ++ literal_pipes_from false (drop at text)
+      → all ≡ take (at + 1) text ++ literal_pipes_from (starts backslash_pair (drop at text)) rest
+  first_stays all no_pipe no_escape e =
+      stays all false (starts backslash_pair (byte ∷ rest))
+      (kept_byte byte rest (ap (starts piped) (sym here) ∙ no_pipe) (ap (starts escaped_pipe) (sym here) ∙ no_escape)) e
+      ∙ ap (λ l. take (at + 1) text ++ literal_pipes_from (starts backslash_pair l) rest) (sym here)
+
+  -- the place of a byte of a literal pipe
+  is_place : (needle : List ℕ) (some : 0 < length needle) (k b : ℕ) → k < length needle → get_or needle k 0 ≡ b → b < 128 → starts needle (drop at text) ≡ true → IsCharBoundary text (at + k)
+  is_place needle some k b lt is low h =
+      let o = here_starts needle some (drop at text) h in
+      ascii_boundary text (at + k) b
+      (let f = o.fits in let d = length-drop at text in omega arith)
+      (sym (get_or-drop at text k 0) ∙ ap (λ i. get_or (drop at text) i 0) (let e : k ≡ 0 + k = omega arith in e) ∙ o.reads k lt ∙ is) low
+
+  pub one_backslash : (end : ℕ) → end ≡ at + 1 → starts piped (drop at text) ≡ true → with_literal_pipes text ≡ take at text ++ with_literal_pipes (drop at text) → Drops text at end
+  one_backslash end is h e = record {
     low = omega arith;
-    starts = ascii_boundary text start 92 (let f : last + 2 ≤ length text = occurs.fits in omega arith) (ap (λ k. get_or text k 0) (let e : start ≡ last + 0 = omega arith in e) ∙ occurs.reads 0 (omega arith)) (omega arith);
-    ends = ends_here;
-    same = one_dropped text last occurs (λ k lt. found.0.before k (omega arith) lt) alone
-        ∙ ap (λ k. take k text ++ with_literal_pipes (drop (suc last) text)) (sym is) ∙ ap (λ k. take start text ++ with_literal_pipes (drop k text)) (let e : suc last ≡ last + 1 = omega arith in e);
+    starts = subst (IsCharBoundary text) (let p : at + 0 ≡ at = omega arith in p) (is_place piped some_pipe 0 92 (omega arith) refl (omega arith) h);
+    ends = subst (IsCharBoundary text) (sym is) (is_place piped some_pipe 1 124 (omega arith) refl (omega arith) h);
+    same = e ∙ ap (λ l. take at text ++ l) (ap with_literal_pipes here ∙ dropped_pipe byte rest (ap (starts piped) (sym here) ∙ h))
+        ∙ ap (λ k. take at text ++ with_literal_pipes (drop k text)) (sym is);
   }
 
-  pub two_backslashes : (start : ℕ) → suc start ≡ last → get_or text start 0 ≡ 92 → Drops text start (last + 1)
-  two_backslashes start is first = record {
+  pub two_backslashes : (end : ℕ) → end ≡ at + 2 → starts escaped_pipe (drop at text) ≡ true → with_literal_pipes text ≡ take at text ++ with_literal_pipes (drop at text) → Drops text at end
+  two_backslashes end is h e = record {
     low = omega arith;
-    starts = ascii_boundary text start 92 (let f : last + 2 ≤ length text = occurs.fits in omega arith) first (omega arith);
-    ends = ends_here;
-    same = two_dropped text start here (λ k lt. found.0.before k (omega arith) (omega arith)) first ∙ ap (λ k. take start text ++ with_literal_pipes (drop k text)) (let e : suc (suc start) ≡ last + 1 = omega arith in e);
+    starts = subst (IsCharBoundary text) (let p : at + 0 ≡ at = omega arith in p) (is_place escaped_pipe some_escape 0 92 (omega arith) refl (omega arith) h);
+    ends = subst (IsCharBoundary text) (sym is) (is_place escaped_pipe some_escape 2 124 (omega arith) refl (omega arith) h);
+    same = e ∙ ap (λ l. take at text ++ l) (ap with_literal_pipes here ∙ dropped_pair byte rest (ap (starts escaped_pipe) (sym here) ∙ h))
+        ∙ ap (λ l. take at text ++ with_literal_pipes l) (drop-drop 1 (at + 1) text ∙ ap (λ k. drop k text) (let p : at + 1 + 1 ≡ end = omega arith in p));
   }
-    where
-      here : OccursAt text piped (suc start)
-      here = record {
-        fits = let f : last + 2 ≤ length text = occurs.fits in omega arith;
-        reads = λ j lt. ap (λ k. get_or text (k + j) 0) is ∙ occurs.reads j lt;
-      }
 
--- what is left is no longer
-shorter : (bs : List ℕ) → length (with_literal_pipes bs) ≤ length bs
-shorter [] = omega arith
-shorter (b ∷ bs) = go (starts piped (b ∷ bs) || starts escaped_pipe (b ∷ bs)) (shorter bs)
+-- no byte is left
+pub all_stay : (text : List ℕ) (at : ℕ) (is_second : Bool) → length text ≤ at → with_literal_pipes text ≡ take at text ++ literal_pipes_from is_second (drop at text) → with_literal_pipes text ≡ text
+all_stay text at is_second past e =
+    e ∙ ap (λ l. take at text ++ literal_pipes_from is_second l) (drop_all at text past) ∙ ap (λ l. l ++ literal_pipes_from is_second []) (take_all at text past)
+    ∙ append-nil text
+
+-- ---- what is left
+
+-- it is no longer
+shorter : (is_second : Bool) (bs : List ℕ) → length (literal_pipes_from is_second bs) ≤ length bs
+shorter is_second [] = omega arith
+shorter true (b ∷ bs) = let ih = shorter false bs in omega arith
+shorter false (b ∷ bs) = go (starts piped (b ∷ bs) || starts escaped_pipe (b ∷ bs)) (starts backslash_pair (b ∷ bs)) (shorter false bs) (shorter (starts backslash_pair (b ∷ bs)) bs)
   where
-    go : (z : Bool) → length (with_literal_pipes bs) ≤ length bs → length (if z then with_literal_pipes bs else b ∷ with_literal_pipes bs) ≤ suc (length bs)
-    go true ih = omega arith
-    go false ih = omega arith
+    go : (z next : Bool) → length (literal_pipes_from false bs) ≤ length bs → length (literal_pipes_from next bs) ≤ length bs
+        → length (if z then literal_pipes_from false bs else b ∷ literal_pipes_from next bs) ≤ suc (length bs)
+    go true next ih ih' = omega arith
+    go false next ih ih' = omega arith
 
 pub drops_some : (text : List ℕ) (start end : ℕ) → Drops text start end → with_literal_pipes text ≢ text
 drops_some text start end d same =
@@ -141,7 +140,7 @@ drops_some text start end d same =
     let n = ap length (sym same ∙ d.same) in
     let a = length-append (take start text) (with_literal_pipes (drop end text)) in
     let t = length-take-le start text (omega arith) in
-    let s = shorter (drop end text) in
+    let s = shorter false (drop end text) in
     let l = length-drop end text in
     omega arith
 
@@ -159,11 +158,16 @@ push_to_backslashes start end out one rest next front all first behind cut d e =
     ∙ ap (λ l. out ++ l) (sym d.same) ∙ e
 
 -- as many bytes are the same ones
-pub none_left_out : (bs : List ℕ) → length bs ≤ length (with_literal_pipes bs) → with_literal_pipes bs ≡ bs
-none_left_out [] le = refl
-none_left_out (b ∷ bs) le = go (starts piped (b ∷ bs) || starts escaped_pipe (b ∷ bs)) le (shorter bs) (none_left_out bs)
+kept_all : (is_second : Bool) (bs : List ℕ) → length bs ≤ length (literal_pipes_from is_second bs) → literal_pipes_from is_second bs ≡ bs
+kept_all is_second [] le = refl
+kept_all true (b ∷ bs) le = ap (λ l. b ∷ l) (kept_all false bs (omega (arith, le)))
+kept_all false (b ∷ bs) le = go (starts piped (b ∷ bs) || starts escaped_pipe (b ∷ bs)) (starts backslash_pair (b ∷ bs)) le (shorter false bs) (kept_all (starts backslash_pair (b ∷ bs)) bs)
   where
-    go : (z : Bool) → suc (length bs) ≤ length (if z then with_literal_pipes bs else b ∷ with_literal_pipes bs) → length (with_literal_pipes bs) ≤ length bs → (length bs ≤ length (with_literal_pipes bs) → with_literal_pipes bs ≡ bs)
-        → (if z then with_literal_pipes bs else b ∷ with_literal_pipes bs) ≡ b ∷ bs
-    go true le short ih = absurd (omega arith)
-    go false le short ih = ap (λ l. b ∷ l) (ih (omega arith))
+    go : (z next : Bool) → suc (length bs) ≤ length (if z then literal_pipes_from false bs else b ∷ literal_pipes_from next bs) → length (literal_pipes_from false bs) ≤ length bs
+        → (length bs ≤ length (literal_pipes_from next bs) → literal_pipes_from next bs ≡ bs)
+        → (if z then literal_pipes_from false bs else b ∷ literal_pipes_from next bs) ≡ b ∷ bs
+    go true next le short ih = absurd (omega arith)
+    go false next le short ih = ap (λ l. b ∷ l) (ih (omega arith))
+
+pub none_left_out : (bs : List ℕ) → length bs ≤ length (with_literal_pipes bs) → with_literal_pipes bs ≡ bs
+none_left_out = kept_all false

@@ -3,6 +3,7 @@ pub mod Footnotes
 pub mod Handled
 pub mod Pipes
 pub mod Resolved
+pub mod Guards
 pub mod Shown
 pub mod Steps
 pub mod Tested

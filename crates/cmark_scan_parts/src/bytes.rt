@@ -1,6 +1,7 @@
 //! Tests of bytes, and what stands in front of bytes or at their end: the one place for each test that several crates make.
 
 ghost use Rattle.std.specs.Prelude.{◌≡◌, ◌<◌, ◌≤◌, length, option_copied, IfSome};
+ghost use Rattle.cmark_grammar.specs.Autolinks.{is_local_mark};
 ghost use Rattle.cmark_grammar.specs.Columns.{is_blank_byte, drop_end};
 ghost use Rattle.std.specs.List.{prefix_len};
 ghost use Rattle.cmark_grammar.specs.Letters.{is_letter, behind_all};
@@ -26,6 +27,8 @@ pub(crate) enum Class {
     Scheme,
     /// All but ASCII controls, space, `<` and `>` (CommonMark 6.5).
     Uri,
+    /// The local part of an email address: letters, digits and ``.!#$%&'*+/=?^_`{|}~-`` (CommonMark 6.5).
+    Local,
     /// Letters and digits.
     Alphanumeric,
     /// Decimal digits.
@@ -51,6 +54,7 @@ impl Class {
             Class::BareValue => !ends_value(byte),
             Class::Scheme => byte.is_ascii_alphanumeric() || matches!(byte, b'+' | b'-' | b'.'),
             Class::Uri => byte > b' ' && !matches!(byte, 127 | b'<' | b'>'),
+            Class::Local => byte.is_ascii_alphanumeric() || is_local_mark(byte),
             Class::Alphanumeric => byte.is_ascii_alphanumeric(),
             Class::Digit => byte.is_ascii_digit(),
             Class::Hexadecimal => byte.is_ascii_hexdigit(),
@@ -123,6 +127,16 @@ fn ends_value(byte: u8) -> bool
     ensures { result ≡ ends_value byte }
 {
     is_space(byte) || matches!(byte, b'"' | b'\'' | b'<' | b'=' | b'>' | b'`')
+}
+
+/// Whether a byte is one of the marks that the local part of an email address has (CommonMark 6.5).
+fn is_local_mark(byte: u8) -> bool
+    ensures { result ≡ is_local_mark byte }
+{
+    matches!(
+        byte,
+        b'!' | b'#'..=b'\'' | b'*' | b'+' | b'-'..=b'/' | b'=' | b'?' | b'^'..=b'`' | b'{'..=b'~'
+    )
 }
 
 /// Whether a byte is an ASCII letter.

@@ -1,9 +1,11 @@
 //! Finds of comments, declarations, CDATA sections and processing instructions (CommonMark 6.6).
 
-ghost use Rattle.std.specs.Prelude.{◌≡◌, ◌-◌, ◌≤◌, length, codes, Some, IfSome, option_copied, option_map};
+ghost use Rattle.std.specs.Prelude.{◌≡◌, ℕ, ◌+◌, ◌-◌, ◌≤◌, length, drop, codes, Some, None, IfSome, MatchOption, option_copied, option_map};
 ghost use Rattle.std.specs.Str.{IsUtf8, IsCharBoundary};
 ghost use Rattle.cmark_grammar.specs.InlineHtml.{behind_comment, declaration_in, cdata_in, opened_in, find_with, comment_find, processing_find};
+ghost use Rattle.cmark_scan_parts.specs.Guards.{AreMarks, AreWithin, OpensWith, closed_by, guarded, kind_in, mark_of, marked, may_pass};
 ghost use Rattle.cmark_scan_parts.specs.Shown.{shown_find};
+ghost use Rattle.cmark_scan_parts.specs.declared.inline_html.MarkupKind.TheVariants as kind;
 
 use crate::bytes::is_letter;
 use crate::find::{behind_first, behind_start};
@@ -14,8 +16,31 @@ pub struct HtmlFind {
     /// The place behind the first closer; `None` where there is none, and where nothing opens.
     pub end: Option<usize>,
     /// How many bytes the search passed, from its place on: up to `end`; all of them, where there is no closer; the first
-    /// seven or fewer, where nothing opens.
+    /// seven or fewer, where nothing opens, and where it was known that there is none.
     pub passed: usize,
+}
+
+/// What opens behind `<!` or `<?`.
+#[derive(Clone, Copy)]
+enum MarkupKind {
+    Comment,
+    Processing,
+    Declaration,
+    Cdata,
+}
+
+/// What finds in the same bytes remember: a mark for each kind. A mark beyond the place of a find says that no closer of its kind
+/// follows that place.
+#[derive(Clone, Copy, Default)]
+pub struct HtmlScanGuard {
+    /// The mark of CDATA sections.
+    pub cdata: usize,
+    /// The mark of processing instructions.
+    pub processing: usize,
+    /// The mark of declarations.
+    pub declaration: usize,
+    /// The mark of comments.
+    pub comment: usize,
 }
 
 /// The bytes behind a comment, if `bytes` are those behind its `<!--` and it is closed.
@@ -32,28 +57,13 @@ fn behind_comment(bytes: &[u8]) -> Option<&[u8]>
     behind_first(b"-->", bytes)
 }
 
-/// What opens behind `<!`, if anything does, with the bytes behind its closer, if it is closed.
-fn opened(bytes: &[u8]) -> Option<Option<&[u8]>>
-    ensures value { option_map option_copied result ≡ opened_in bytes.now }
-    ensures within { IfSome result (λ closed. IfSome closed (λ rest. length rest.now ≤ length bytes.now)) }
-{
-    if let Some(rest) = behind_start(b"--", bytes) {
-        return Some(behind_comment(rest));
-    }
-    if let [first, rest @ ..] = bytes {
-        if is_letter(*first) {
-            return Some(behind_first(b">", rest));
-        }
-    }
-    let rest = behind_start(b"[CDATA[", bytes)?;
-    Some(behind_first(b"]]>", rest))
-}
-
 /// The find of what opened at a place of the bytes.
 fn find_with(bytes: &[u8], ix: usize, opened: Option<Option<&[u8]>>) -> HtmlFind
     requires place { ix ≤ length bytes.now }
     requires within { IfSome opened (λ closed. IfSome closed (λ rest. length rest.now ≤ length bytes.now - ix)) }
     ensures value { shown_find result ≡ find_with bytes.now ix (option_map option_copied opened.entry) }
+    ensures passed { IfSome result.end (λ end. ix + result.passed ≡ end) }
+    ensures few { ix + result.passed ≤ length bytes.now }
     ensures within { IfSome result.end (λ end. (ix ≤ end) × (end ≤ length bytes.now)) }
 {
     let left = bytes.len() - ix;
@@ -73,25 +83,128 @@ fn find_with(bytes: &[u8], ix: usize, opened: Option<Option<&[u8]>>) -> HtmlFind
     }
 }
 
+/// What opens behind `<!`, if anything does, with the bytes behind what opens it.
+fn opening(bytes: &[u8]) -> Option<(MarkupKind, &[u8])>
+    ensures kind { option_map (λ o. o.0) result ≡ kind_in bytes.entry.now }
+    ensures opens { IfSome result (λ o. OpensWith o.0 bytes.entry.now o.1.now) }
+    ensures value { opened_in bytes.entry.now ≡ option_map (λ o. closed_by o.0 o.1.now) result }
+    ensures within { IfSome result (λ o. length o.1.now ≤ length bytes.entry.now) }
+{
+    if let Some(rest) = behind_start(b"--", bytes) {
+        return Some((MarkupKind::Comment, rest));
+    }
+    if let [first, rest @ ..] = bytes {
+        if is_letter(*first) {
+            return Some((MarkupKind::Declaration, rest));
+        }
+    }
+    let rest = behind_start(b"[CDATA[", bytes)?;
+    Some((MarkupKind::Cdata, rest))
+}
+
+/// The bytes behind the closer, if `bytes` are those behind what opens markup of this kind and it is closed.
+fn behind_closer(kind: MarkupKind, bytes: &[u8]) -> Option<&[u8]>
+    ensures value { option_copied result ≡ closed_by kind bytes.entry.now }
+    ensures within { IfSome result (λ rest. length rest.now ≤ length bytes.entry.now) }
+{
+    match kind {
+        MarkupKind::Comment => behind_comment(bytes),
+        MarkupKind::Processing => behind_first(b"?>", bytes),
+        MarkupKind::Declaration => behind_first(b">", bytes),
+        MarkupKind::Cdata => behind_first(b"]]>", bytes),
+    }
+}
+
+impl HtmlScanGuard {
+    /// The mark of a kind.
+    fn mark(&self, kind: MarkupKind) -> usize
+        ensures { result ≡ mark_of self.now kind }
+    {
+        match kind {
+            MarkupKind::Comment => self.comment,
+            MarkupKind::Processing => self.processing,
+            MarkupKind::Declaration => self.declaration,
+            MarkupKind::Cdata => self.cdata,
+        }
+    }
+
+    /// Moves the mark of a kind.
+    fn set(&mut self, kind: MarkupKind, place: usize)
+        ensures { self.new ≡ marked kind place self.old }
+    {
+        match kind {
+            MarkupKind::Comment => self.comment = place,
+            MarkupKind::Processing => self.processing = place,
+            MarkupKind::Declaration => self.declaration = place,
+            MarkupKind::Cdata => self.cdata = place,
+        }
+    }
+
+    /// The find of markup of this kind, which opens at a place of the bytes; `inside` are those behind what opens it.
+    fn find(&mut self, kind: MarkupKind, bytes: &[u8], ix: usize, inside: &[u8]) -> HtmlFind
+        requires place { ix ≤ length bytes.now }
+        requires opens { OpensWith kind (drop ix bytes.now) inside.now }
+        requires inside { length inside.now ≤ length bytes.now - ix }
+        requires marks { AreMarks bytes.now ix self.old }
+        ensures value { shown_find result ≡ guarded self.old (Some kind) bytes.now ix (find_with bytes.now ix (Some (closed_by kind inside.now))) }
+        ensures end { result.end ≡ (find_with bytes.now ix (Some (closed_by kind inside.now))).end }
+        ensures within { IfSome result.end (λ end. (ix ≤ end) × (end ≤ length bytes.now)) }
+        ensures passed { IfSome result.end (λ end. ix + result.passed ≡ end) }
+        ensures few { ix + result.passed ≤ length bytes.now }
+        ensures marks { (later : ℕ) → ix ≤ later → AreMarks bytes.now later self.new }
+        ensures bound { AreWithin (length bytes.now) self.old → AreWithin (length bytes.now) self.new }
+        ensures pays { (width : ℕ) → length bytes.now - ix ≤ width → MatchOption result.end (result.passed + may_pass width (length bytes.now) self.new ≤ 7 + may_pass width (length bytes.now) self.old) (λ end. self.new ≡ self.old) }
+    {
+        if ix < self.mark(kind) {
+            return find_with(bytes, ix, None);
+        }
+        let closed = behind_closer(kind, inside);
+        if closed.is_none() {
+            self.set(kind, bytes.len());
+        }
+        find_with(bytes, ix, Some(closed))
+    }
+}
+
 /// The end of the comment, declaration or CDATA section whose `<!` ends at the place `ix` (CommonMark 6.6). A comment is
 /// closed at once by `>` or `->`, else by the first `-->`; a declaration, which a letter opens, by the first `>`; a CDATA
 /// section by the first `]]>`. Where none of them opens, `end` is `None`, and `passed` counts the next seven bytes, or as
-/// many as there are.
-pub fn scan_inline_html_comment(bytes: &[u8], ix: usize) -> HtmlFind
-    requires { ix ≤ length bytes.now }
-    ensures value { shown_find result ≡ comment_find bytes.now ix }
+/// many as there are. So it is too where the mark of its kind is beyond the place; where there is no closer, this mark goes to the end of
+/// the bytes.
+pub fn scan_inline_html_comment(bytes: &[u8], ix: usize, guard: &mut HtmlScanGuard) -> HtmlFind
+    requires place { ix ≤ length bytes.now }
+    requires marks { AreMarks bytes.now ix guard.old }
+    ensures value { shown_find result ≡ guarded guard.old (kind_in (drop ix bytes.now)) bytes.now ix (comment_find bytes.now ix) }
+    ensures end { result.end ≡ (comment_find bytes.now ix).end }
     ensures within { IfSome result.end (λ end. (ix ≤ end) × (end ≤ length bytes.now)) }
+    ensures passed { IfSome result.end (λ end. ix + result.passed ≡ end) }
+    ensures few { ix + result.passed ≤ length bytes.now }
     ensures boundary { IsUtf8 bytes.now → IfSome result.end (IsCharBoundary bytes.now) }
+    ensures marks { (later : ℕ) → ix ≤ later → AreMarks bytes.now later guard.new }
+    ensures bound { AreWithin (length bytes.now) guard.old → AreWithin (length bytes.now) guard.new }
+    ensures pays { (width : ℕ) → length bytes.now - ix ≤ width → MatchOption result.end (result.passed + may_pass width (length bytes.now) guard.new ≤ 7 + may_pass width (length bytes.now) guard.old) (λ end. guard.new ≡ guard.old) }
 {
-    find_with(bytes, ix, opened(&bytes[ix..]))
+    match opening(&bytes[ix..]) {
+        Some((kind, inside)) => guard.find(kind, bytes, ix, inside),
+        None => find_with(bytes, ix, None),
+    }
 }
 
-/// The end of the processing instruction whose `<?` ends at the place `ix`: behind the first `?>` (CommonMark 6.6).
-pub fn scan_inline_html_processing(bytes: &[u8], ix: usize) -> HtmlFind
-    requires { ix ≤ length bytes.now }
-    ensures value { shown_find result ≡ processing_find bytes.now ix }
+/// The end of the processing instruction whose `<?` ends at the place `ix`: behind the first `?>` (CommonMark 6.6). Where its mark is
+/// beyond the place, `end` is `None`, and `passed` counts the next seven bytes, or as many as there are; where there is no closer, the
+/// mark goes to the end of the bytes.
+pub fn scan_inline_html_processing(bytes: &[u8], ix: usize, guard: &mut HtmlScanGuard) -> HtmlFind
+    requires place { ix ≤ length bytes.now }
+    requires marks { AreMarks bytes.now ix guard.old }
+    ensures value { shown_find result ≡ guarded guard.old (Some kind.Processing) bytes.now ix (processing_find bytes.now ix) }
+    ensures end { result.end ≡ (processing_find bytes.now ix).end }
     ensures within { IfSome result.end (λ end. (ix ≤ end) × (end ≤ length bytes.now)) }
+    ensures passed { IfSome result.end (λ end. ix + result.passed ≡ end) }
+    ensures few { ix + result.passed ≤ length bytes.now }
     ensures boundary { IsUtf8 bytes.now → IfSome result.end (IsCharBoundary bytes.now) }
+    ensures marks { (later : ℕ) → ix ≤ later → AreMarks bytes.now later guard.new }
+    ensures bound { AreWithin (length bytes.now) guard.old → AreWithin (length bytes.now) guard.new }
+    ensures pays { (width : ℕ) → length bytes.now - ix ≤ width → MatchOption result.end (result.passed + may_pass width (length bytes.now) guard.new ≤ 7 + may_pass width (length bytes.now) guard.old) (λ end. guard.new ≡ guard.old) }
 {
-    find_with(bytes, ix, Some(behind_first(b"?>", &bytes[ix..])))
+    guard.find(MarkupKind::Processing, bytes, ix, &bytes[ix..])
 }

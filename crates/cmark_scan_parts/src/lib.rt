@@ -5,6 +5,7 @@ pub mod bytes;
 mod closed;
 mod count;
 mod destination;
+mod email;
 mod entity;
 mod escapes;
 mod find;
@@ -21,8 +22,10 @@ pub use destination::scan_link_dest;
 pub use entity::{Entity, scan_entity};
 pub use escapes::unescape;
 pub use footnote_marker::scan_footnote_marker;
-pub use inline_html::{HtmlFind, scan_inline_html_comment, scan_inline_html_processing};
+pub use inline_html::{
+    HtmlFind, HtmlScanGuard, scan_inline_html_comment, scan_inline_html_processing,
+};
 pub use label_text::{begins_character, is_label};
-pub use link::{Cut, scan_autolink, scan_wikilink_pipe};
+pub use link::{Cut, has_scheme, scan_autolink, scan_wikilink_pipe};
 pub use pipes::{with_literal_pipes, without_pipe_escapes};
 pub use tag::{behind_tag, scan_tag, without_prefix};

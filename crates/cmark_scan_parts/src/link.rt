@@ -3,12 +3,13 @@
 ghost use Rattle.std.specs.Prelude.{◌≡◌, ◌+◌, ◌<◌, ◌≤◌, ◌==◌, suc, length, drop, take, slice_index, IfSome, option_map};
 ghost use Rattle.std.specs.List.{prefix_len};
 ghost use Rattle.std.specs.Str.{IsCharBoundary};
-ghost use Rattle.cmark_grammar.specs.Autolinks.{has_scheme, is_uri_byte, autolink_in, piped_name_in};
+ghost use Rattle.cmark_grammar.specs.Autolinks.{has_scheme, is_uri_byte, has_address, autolink_in, piped_name_in};
 ghost use Rattle.cmark_grammar.specs.LinkDefinitions.{Parsed};
 ghost use Rattle.cmark_grammar.specs.Letters.{first_is};
 ghost use Rattle.cmark_scan_parts.specs.Shown.{shown_cut, cut_at};
 
 use crate::bytes::{Class, is_letter};
+use crate::email::is_email;
 use crate::find::begins_with;
 use memchr::memchr;
 
@@ -22,7 +23,7 @@ pub struct Cut<'t> {
 }
 
 /// Whether a scheme and a colon stand in front: a letter, then letters, digits, `+`, `-` and `.`, 2 to 32 bytes in all.
-fn has_scheme(bytes: &[u8]) -> bool
+pub fn has_scheme(bytes: &[u8]) -> bool
     ensures { result ≡ has_scheme bytes.now }
 {
     let [first, ..] = bytes else {
@@ -32,29 +33,39 @@ fn has_scheme(bytes: &[u8]) -> bool
     is_letter(*first) && 2 <= size && size <= 32 && begins_with(&bytes[size..], b':')
 }
 
-/// How many bytes a URI in front takes up to a `>`, if it is one and that follows it.
-fn uri_size(bytes: &[u8]) -> Option<usize>
-    ensures value { option_map (λ size. record { bytes = take size bytes.now; behind = drop (suc size) bytes.now }) result ≡ autolink_in bytes.now }
+/// Whether an address begins the bytes, of which the first `size` are those that a URI may have: a URI or, with `emails`, an email
+/// address.
+fn has_address(emails: bool, bytes: &[u8], size: usize) -> bool
+    requires { size ≡ prefix_len is_uri_byte bytes.now }
+    ensures { result ≡ has_address emails bytes.now }
+{
+    has_scheme(bytes) || emails && is_email(&bytes[..size])
+}
+
+/// How many bytes the address of an autolink in front takes up to a `>`, if it is one and that follows it.
+fn address_size(emails: bool, bytes: &[u8]) -> Option<usize>
+    ensures value { option_map (λ size. record { bytes = take size bytes.now; behind = drop (suc size) bytes.now }) result ≡ autolink_in emails bytes.now }
     ensures within { IfSome result (λ size. size < length bytes.now) }
     ensures closed { IfSome result (λ size. slice_index bytes.now size ≡ 62) }
 {
     let size = Class::Uri.count(bytes);
-    if has_scheme(bytes) && begins_with(&bytes[size..], b'>') {
+    if has_address(emails, bytes, size) && begins_with(&bytes[size..], b'>') {
         Some(size)
     } else {
         None
     }
 }
 
-/// The autolink whose `<` ends at the place `start_ix` (CommonMark 6.5): its URI, as it is written, up to the `>` that closes
-/// it, and the place behind that. The URI has a scheme of 2 to 32 bytes, and no ASCII control, space, `<` or `>` in it.
-pub fn scan_autolink(text: &str, start_ix: usize) -> Option<Cut<'_>>
+/// The autolink whose `<` ends at the place `start_ix` (CommonMark 6.5): its address, as it is written, up to the `>` that closes
+/// it, and the place after that. The address is a URI, with a scheme of 2 to 32 bytes and no ASCII control, space, `<` or `>` in
+/// it, or with `emails` an email address.
+pub fn scan_autolink(emails: bool, text: &str, start_ix: usize) -> Option<Cut<'_>>
     requires { IsCharBoundary text.now start_ix }
-    ensures value { option_map shown_cut result ≡ cut_at start_ix (autolink_in (drop start_ix text.entry.now)) }
+    ensures value { option_map shown_cut result ≡ cut_at start_ix (autolink_in emails (drop start_ix text.entry.now)) }
     ensures within { IfSome result (λ link. link.end ≤ length text.entry.now) }
     ensures boundary { IfSome result (λ link. IsCharBoundary text.entry.now link.end) }
 {
-    let size = uri_size(&text.as_bytes()[start_ix..])?;
+    let size = address_size(emails, &text.as_bytes()[start_ix..])?;
     Some(Cut {
         end: start_ix + size + 1,
         part: &text[start_ix..start_ix + size],

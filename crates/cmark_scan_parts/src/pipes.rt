@@ -1,10 +1,11 @@
 //! Literal pipes in cells of tables (GFM 4.10).
 
-ghost use Rattle.std.specs.Prelude.{◌≡◌, ◌⊎◌, ◌<◌, ◌++◌, Ok, string_bytes, IfOk, OnOk, MatchOption};
+ghost use Rattle.std.specs.Prelude.{◌≡◌, ◌⊎◌, ◌<◌, ◌≤◌, ◌++◌, length, Ok, string_bytes, IfOk, IsTrue, OnOk, MatchOption};
 ghost use Rattle.std.specs.Str.{IsCharBoundary};
 ghost use Rattle.memchr.specs.Find.{FindsNeedle};
 ghost use Rattle.cmark_grammar.specs.InlineTokens.{without_pipe_escapes};
-ghost use Rattle.cmark_grammar.specs.LabelsOverLines.{piped, with_literal_pipes};
+ghost use Rattle.cmark_grammar.specs.LabelsOverLines.{with_literal_pipes};
+ghost use Rattle.cmark_grammar.specs.Letters.{starts};
 ghost use Rattle.cmark_text_parts.specs.Shown.{IsBoxed, text_bytes};
 ghost use Rattle.cmark_scan_parts.specs.Pipes.{Drops, LeavesOut};
 
@@ -21,21 +22,41 @@ struct Backslashes {
     end: usize,
 }
 
-/// The one or two backslashes directly before the first pipe that has some.
+/// Whether these bytes stand in front.
+fn starts(bytes: &[u8], prefix: &[u8]) -> bool
+    ensures value { result ≡ starts prefix.now bytes.now }
+    ensures within { IsTrue result → length prefix.now ≤ length bytes.now }
+{
+    bytes.starts_with(prefix)
+}
+
+/// The one or two backslashes that the first literal pipe loses, where backslashes are read from the left in pairs.
 fn find_backslashes(text: &str) -> Option<Backslashes>
     ensures { MatchOption result (with_literal_pipes text.now ≡ text.now) (λ found. Drops text.now found.start found.end) }
 {
     let bytes = text.as_bytes();
-    let last = memmem::find(bytes, b"\\|")?;
-    let start = if 0 < last && bytes[last - 1] == b'\\' {
-        last - 1
-    } else {
-        last
-    };
-    Some(Backslashes {
-        start,
-        end: last + 1,
-    })
+    let mut start = 0;
+    // Whether the byte is the second of a pair that stays.
+    let mut is_second = false;
+    while start < bytes.len() {
+        if is_second {
+            is_second = false;
+            start += 1;
+            continue;
+        }
+        let rest = &bytes[start..];
+        if starts(rest, b"\\|") {
+            let end = start + 1;
+            return Some(Backslashes { start, end });
+        }
+        if starts(rest, b"\\\\|") {
+            let end = start + 2;
+            return Some(Backslashes { start, end });
+        }
+        is_second = starts(rest, b"\\\\");
+        start += 1;
+    }
+    None
 }
 
 /// Appends the text without the backslashes of its literal pipes.
@@ -51,7 +72,8 @@ fn push_with_literal_pipes(out: &mut String, text: &str) -> Result<(), AllocErro
     Ok(())
 }
 
-/// The text with `|` in the place of each `\|` and `\\|`; the very text where there is none.
+/// The text with `|` in the place of each `\|` and `\\|`, where backslashes are read from the left in pairs; the very text where
+/// there is none.
 pub fn with_literal_pipes<'a>(alloc: Global, text: CowStr<'a>) -> Result<CowStr<'a>, AllocError>
     ensures value { IfOk result (λ made. text_bytes made ≡ with_literal_pipes (text_bytes text.entry)) }
     ensures kept { with_literal_pipes (text_bytes text.entry) ≡ text_bytes text.entry → result ≡ Ok text.entry }

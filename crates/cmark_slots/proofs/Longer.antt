@@ -30,6 +30,7 @@ same-element old new element.Strong s = refl
 same-element old new element.Strikethrough s = refl
 same-element old new element.Superscript s = refl
 same-element old new element.Subscript s = refl
+same-element old new element.Highlight s = refl
 same-element old new (element.Link index) s = ap (λ (o : Option Link). tag.Link (linked_or_none o)) s
 same-element old new (element.Autolink index) s = ap (λ (o : Option Link). tag.Link (linked_or_none o)) s
 same-element old new (element.Image index) s = ap (λ (o : Option Link). tag.Image (linked_or_none o)) s

@@ -143,6 +143,7 @@ module _ (texts links : ℕ) (before : List Slot) (runs : List PlacedRun) (quote
     quotes_order = plain.quotes_order;
     runs_are = plain.runs_are;
     sizes = plain.sizes;
+    known = plain.known;
     apart = plain.apart;
     standing_are = All-push (IsPlaced slots runs quotes) standing b plain.standing_are new-placed;
     doubled_are = plain.doubled_are;
@@ -199,6 +200,7 @@ module _ (texts links : ℕ) (before : List Slot) (runs : List PlacedRun) (quote
           quotes_order = m.quotes_order;
           runs_are = m.runs_are;
           sizes = m.sizes;
+          known = m.known;
           apart = m.apart;
           standing_are = m.standing_are;
           doubled_are = All-push (IsPlaced slots runs quotes) doubled pair m.doubled_are pair-placed;

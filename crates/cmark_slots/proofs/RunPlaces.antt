@@ -16,7 +16,7 @@ use Rattle.cmark_grammar.specs.Emphasis.{Pair, IsEmphasis, StandFrom, kinds_of, 
 use Rattle.cmark_grammar.specs.EmphasisModel.{pairs_of, spans_of}
 use Rattle.cmark_grammar.specs.Options.{Options}
 use Rattle.cmark_grammar.specs.SpanEntries as entries
-use Rattle.cmark_grammar.specs.Spans.{SpanKind, Emphasis, Strong, SingleTilde, DoubleTilde, Caret, Spans, span_width}
+use Rattle.cmark_grammar.specs.Spans.{SpanKind, Emphasis, Strong, SingleTilde, DoubleTilde, Caret, DoubleEquals, Spans, span_width}
 use Rattle.cmark_grammar.proofs.EmphasisOne.{one}
 use Rattle.cmark_grammar.proofs.EmphasisSound.{sound as emphasis}
 use Rattle.cmark_grammar.proofs.SpanEntries.{pairs-marked}
@@ -60,6 +60,7 @@ opening-wide Strong = refl
 opening-wide SingleTilde = refl
 opening-wide DoubleTilde = refl
 opening-wide Caret = refl
+opening-wide DoubleEquals = refl
 
 closing-wide : (k : SpanKind) → length (closing k) ≡ span_width k
 closing-wide Emphasis = refl
@@ -67,6 +68,7 @@ closing-wide Strong = refl
 closing-wide SingleTilde = refl
 closing-wide DoubleTilde = refl
 closing-wide Caret = refl
+closing-wide DoubleEquals = refl
 
 opening-shown : (k : SpanKind) → map shown_mark (code_sides.opening k) ≡ opening k
 opening-shown Emphasis = refl
@@ -74,6 +76,7 @@ opening-shown Strong = refl
 opening-shown SingleTilde = refl
 opening-shown DoubleTilde = refl
 opening-shown Caret = refl
+opening-shown DoubleEquals = refl
 
 closing-shown : (k : SpanKind) → map shown_mark (code_sides.closing k) ≡ closing k
 closing-shown Emphasis = refl
@@ -81,6 +84,7 @@ closing-shown Strong = refl
 closing-shown SingleTilde = refl
 closing-shown DoubleTilde = refl
 closing-shown Caret = refl
+closing-shown DoubleEquals = refl
 
 pub marks-are : (placed : List PlacedRun) (marks : List code_mark.Slot) (pairs : List Pair) (spans : Spans) → IsEmphasis (siblings_from 0 placed) pairs spans → marks ≡ slots_of (spans_of (siblings_from 0 placed))
     → map shown_mark marks ≡ marks_by (length (places_of placed)) pairs

@@ -1,12 +1,16 @@
 -- Runs that are counted one behind the other.
-use Rattle.std.proofs.Common.{◌≡◌, ℕ, suc, ◌+◌, ◌≤◌, List, [], ◌∷◌, ◌++◌, drop, take, refl, sym, ap, ◌∙◌, arith}
+use Rattle.std.proofs.Common.{Bool, ◌≡◌, ℕ, suc, ◌+◌, ◌<◌, ◌≤◌, List, [], ◌∷◌, ◌++◌, All, drop, length, take, refl, sym, ap, ◌∙◌, arith}
 use Rattle.std.specs.Prelude.{map}
+use Rattle.std.proofs.lemmas.List.Elements.{All-cons}
 use Rattle.std.proofs.lemmas.List.Sums.{sum_by-take-le, sum_by-take-drop, sum_by-cons}
 use Rattle.cmark_grammar.specs.Emphasis.{Run, Sibling, Plain, Delimiter, StandFrom, places_taken, runs_of}
+use Rattle.cmark_emphasis.specs.Counts.{IsKnown, is_run_of}
 use Rattle.cmark_emphasis.specs.Shown.{shown_run}
 use Rattle.cmark_emphasis.specs.Slots.{AreRuns}
 use Rattle.cmark_emphasis.specs.declared.run.Run as code_run
+use Rattle.cmark_slots.specs.MarkedSlots.{siblings_from}
 use Rattle.cmark_slots.specs.Slots.{bytes_of}
+use Rattle.cmark_slots.specs.Standing.{AreKnown}
 use Rattle.cmark_slots.specs.declared.delimiter.PlacedRun.{PlacedRun}
 
 run_length : PlacedRun → ℕ
@@ -56,3 +60,21 @@ one-more count rs qs r h at whole e =
       taken = (let q : places_taken (h.siblings ++ (Delimiter (shown_run r) ∷ [])) ≡ count + r.run_length = omega (arith, m, t, whole) in q);
       are = runs-more h.siblings (shown_run r) ∙ ap (λ l. l ++ (shown_run r ∷ [])) h.are ∙ sym (map-more rs r) ∙ ap (map shown_run) (sym e);
     }
+
+-- runs that are gathered are as many as those that are placed, and consist of the same bytes, as many
+pub gathered-known : (rs : List code_run.Run) (ps : List PlacedRun) (n : ℕ) → map shown_run rs ≡ runs_of (siblings_from n ps) → (length rs ≡ length ps) × (AreKnown ps → All IsKnown rs)
+gathered-known [] [] n e = (refl, λ known. λ k d lt. absurd (omega (arith, lt)))
+gathered-known [] (p ∷ ps) n e = absurd (let q : ⊥ = cc in q)
+gathered-known (r ∷ rs) [] n e = absurd (let q : ⊥ = cc in q)
+gathered-known (r ∷ rs) (p ∷ ps) n e =
+    let head : is_run_of r.delimiter r.run_length ≡ is_run_of p.run.delimiter p.run.run_length = ap first e in
+    let i = gathered-known rs ps (n + p.run.run_length) (ap behind e) in
+    (ap suc i.0, λ known. All-cons IsKnown r rs (head ∙ known 0 p (omega arith)) (i.1 (λ k d lt. known (suc k) d (omega (arith, lt)))))
+  where
+    first : List Run → Bool
+    first [] = is_run_of r.delimiter r.run_length
+    first (x ∷ xs) = is_run_of x.delimiter x.run_length
+
+    behind : List Run → List Run
+    behind [] = []
+    behind (x ∷ xs) = xs

@@ -132,6 +132,7 @@ module _ (low : ℕ) (slots : List Slot) (runs : List PlacedRun) (quotes : List 
         quotes_behind = h.quotes_behind;
         runs_are = have-kept slots new low 0 runs longer h.sizes (keeps-before (length slots) slots new runs same (runs-within slots low 0 runs h.sizes h.runs_are)) h.runs_are;
         sizes = h.sizes;
+        known = h.known;
         apart = h.apart;
       }
 

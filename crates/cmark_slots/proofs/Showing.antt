@@ -7,6 +7,7 @@ use Rattle.cmark_grammar.specs.InlineHtml.{takes_lines}
 use Rattle.cmark_grammar.specs.Tokens.{slice}
 use Rattle.cmark_slots.specs.MarkedSlots.{EndWithin, HaveBytes, SameBefore, last_in}
 use Rattle.cmark_slots.specs.SlotViews.{link_named, text_named}
+use Rattle.cmark_emphasis.specs.Counts.{IsKnown}
 use Rattle.cmark_slots.specs.Standing.{AreSound, CanSettle, HaveSizes, IsPlain, NamesAs, NamesNoMore, source_end}
 use Rattle.cmark_slots.specs.Cuts.{Hides, cut_at, cut_kind, cut_slot}
 use Rattle.cmark_slots.specs.declared.bracket.Bracket.{Bracket}
@@ -193,6 +194,7 @@ module _ (texts links : ℕ) (slots : List Slot) (runs : List PlacedRun) (quotes
         subst (λ (q : PlacedQuote). low ≤ q.slot) (sym (get_or-drop m quotes k d)) (let q : low ≤ (get_or quotes (m + k) d).slot = omega (arith, g, order) in q);
     runs_are = have-kept slots shown low 0 (drop n runs) (let e = shown-length in let q : length slots ≤ length shown = omega (arith, e) in q) sizes keeps (have-rest slots 0 0 low n runs h.runs_are (λ d lt. let g = run_at d lt in omega (arith, g, order)));
     sizes = sizes;
+    known = all-drop (λ (r : PlacedRun). IsKnown r.run) n runs h.known;
     apart = all-drop (λ (q : PlacedQuote). All (λ (r : PlacedRun). (q.slot < r.slot) ⊎ (r.slot + r.run.run_length ≤ q.slot)) (drop n runs)) m quotes
         (λ k d lt. all-drop (λ (r : PlacedRun). ((get_or quotes k d).slot < r.slot) ⊎ (r.slot + r.run.run_length ≤ (get_or quotes k d).slot)) n runs (h.apart k d lt));
   }

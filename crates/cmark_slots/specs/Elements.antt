@@ -14,6 +14,7 @@ emphasis_tag element.Strong = Some tag.Strong
 emphasis_tag element.Strikethrough = Some tag.Strikethrough
 emphasis_tag element.Superscript = Some tag.Superscript
 emphasis_tag element.Subscript = Some tag.Subscript
+emphasis_tag element.Highlight = Some tag.Highlight
 emphasis_tag (element.Link index) = None
 emphasis_tag (element.Autolink index) = None
 emphasis_tag (element.Image index) = None

@@ -49,6 +49,7 @@ shown_element links element.Strong = tag.Strong
 shown_element links element.Strikethrough = tag.Strikethrough
 shown_element links element.Superscript = tag.Superscript
 shown_element links element.Subscript = tag.Subscript
+shown_element links element.Highlight = tag.Highlight
 shown_element links (element.Link index) = tag.Link (linked_at links index)
 shown_element links (element.Autolink index) = tag.Link (linked_at links index)
 shown_element links (element.Image index) = tag.Image (linked_at links index)

@@ -57,6 +57,7 @@ is_link element.Strong = false
 is_link element.Strikethrough = false
 is_link element.Superscript = false
 is_link element.Subscript = false
+is_link element.Highlight = false
 is_link (element.Link index) = true
 is_link (element.Autolink index) = false
 is_link (element.Image index) = false

@@ -2,6 +2,7 @@
 -- and the brackets that stand in them.
 use Rattle.std.specs.Prelude.{◌≡◌, ◌⊎◌, ℕ, ◌+◌, ◌<◌, ◌≤◌, List, length, get_or, All, Option, Some, None}
 use Rattle.std.specs.Str.{IsCharBoundary}
+use Rattle.cmark_emphasis.specs.Counts.{IsKnown}
 use Rattle.cmark_leaf_text.specs.Reads.{place_of, source_of, text_of}
 use Rattle.cmark_leaf_text.specs.declared.leaf_text.LeafText.{LeafText}
 use Rattle.cmark_slots.specs.MarkedSlots.{AreWhole, EndWithin, HaveBytes, HaveTexts, SameBefore, last_in}
@@ -59,6 +60,10 @@ AreApart runs quotes = All (λ (q : PlacedQuote). All (λ (r : PlacedRun). (q.sl
 abbrev pub HaveSizes : List PlacedRun → Type 0
 HaveSizes runs = All (λ (r : PlacedRun). 0 < r.run.run_length) runs
 
+-- they consist of bytes of which delimiter runs do
+abbrev pub AreKnown : List PlacedRun → Type 0
+AreKnown runs = All (λ (r : PlacedRun). IsKnown r.run) runs
+
 -- each quote has a slot before that of the next one
 abbrev pub StandInOrder : List PlacedQuote → Type 0
 StandInOrder quotes = (i j : ℕ) (d : PlacedQuote) → i < j → j < length quotes → (get_or quotes i d).slot < (get_or quotes j d).slot
@@ -95,6 +100,7 @@ pub record AreSound (texts links : ℕ) (slots : List Slot) (runs : List PlacedR
   pub quotes_order : StandInOrder quotes
   pub runs_are : HaveBytes slots 0 0 runs
   pub sizes : HaveSizes runs
+  pub known : AreKnown runs
   pub apart : AreApart runs quotes
   pub standing_are : All (IsPlaced slots runs quotes) standing
   pub doubled_are : All (IsPlaced slots runs quotes) doubled
@@ -113,6 +119,7 @@ pub record CanSettle (low : ℕ) (slots : List Slot) (runs : List PlacedRun) (qu
   pub quotes_behind : All (λ (q : PlacedQuote). low ≤ q.slot) quotes
   pub runs_are : HaveBytes slots low 0 runs
   pub sizes : HaveSizes runs
+  pub known : AreKnown runs
   pub apart : AreApart runs quotes
 
 -- they have got them: nothing is named that was not named before, and the slots before stay

@@ -1,6 +1,8 @@
 //! Delimiter runs and the elements that they become (CommonMark 6.2).
 
-ghost use Rattle.std.specs.Prelude.{◌≡◌, ◌+◌, ◌<◌, ◌≤◌, ◌++◌, ◌∷◌, ℕ, false, List, [], None, Some, drop, get_or, length, map, reverse, set, take, IsOk, OnOk, IfOk, IfSome};
+ghost use Rattle.std.specs.Prelude.{◌≡◌, ◌+◌, ◌*◌, ◌^◌, ◌<◌, ◌≤◌, All, ◌++◌, ◌∷◌, ℕ, false, List, [], None, Some, drop, get_or, length, map, reverse, set, take, IsOk, OnOk, IfOk, IfSome};
+ghost use Rattle.cmark_emphasis.specs.Counts.{IsKnown};
+ghost use Rattle.cmark_emphasis.specs.Least.{least_examined};
 ghost use Rattle.cmark_emphasis.specs.Shown.{shown_kind, shown_run};
 ghost use Rattle.cmark_emphasis.specs.Slots.{AreBalanced, AreRuns, slots_of};
 ghost use Rattle.cmark_emphasis.specs.declared.slot.Slot.{Slot as Marks};
@@ -14,7 +16,7 @@ ghost use Rattle.cmark_text_parts.specs.declared.text.CowStr.{CowStr};
 ghost use Rattle.cmark_slots.specs.Elements.{IsElementOf};
 ghost use Rattle.cmark_slots.specs.MarkedSlots.{AreReady, AreWhole, BeganFrom, EndWithin, HaveBytes, Merges, SameBefore, begun_as, ended, places_of, shown_mark, siblings_from};
 ghost use Rattle.cmark_slots.specs.SlotViews.{link_of, shown_element, shown_slots};
-ghost use Rattle.cmark_slots.specs.Standing.{NamesNoMore};
+ghost use Rattle.cmark_slots.specs.Standing.{AreKnown, NamesNoMore};
 ghost use Rattle.cmark_slots.specs.Slots.{AreSlots, NoNewLink, bytes_of, is_link};
 ghost use Rattle.cmark_slots.specs.declared.delimiter.PlacedRun.{PlacedRun as Placed};
 ghost use Rattle.cmark_references.specs.declared.link.Link.{Link};
@@ -42,6 +44,8 @@ pub struct Delimiters {
     room: PairingRoom,
     marks: Vec<Mark>,
     begun: Vec<usize>,
+    /// How many open runs were examined to pair runs, since there was none.
+    pub examined: u128,
 }
 
 impl Delimiters {
@@ -52,13 +56,16 @@ impl Delimiters {
             room: PairingRoom::new(alloc),
             marks: Vec::new(alloc),
             begun: Vec::new(alloc),
+            examined: 0,
         }
     }
 
     pub fn clear(&mut self)
-        ensures { self.new.placed.items ≡ [] }
+        ensures placed { self.new.placed.items ≡ [] }
+        ensures examined { self.new.examined ≡ 0 }
     {
         self.placed.clear();
+        self.examined = 0;
     }
 
     /// How many runs there are.
@@ -71,6 +78,7 @@ impl Delimiters {
     pub fn push(&mut self, slot: usize, run: Run) -> Result<(), AllocError>
         ensures bytes { OnOk result (bytes_of self.new.placed.items ≡ bytes_of self.old.placed.items + run.run_length) }
         ensures placed { OnOk result (self.new.placed.items ≡ self.old.placed.items ++ (record { slot = slot; run = run } ∷ [])) }
+        ensures examined { self.new.examined ≡ self.old.examined }
     {
         self.placed.push(PlacedRun { slot, run })?;
         Ok(())
@@ -94,6 +102,7 @@ impl Delimiters {
     /// Forgets the runs from this one on.
     pub fn truncate(&mut self, first: usize)
         ensures placed { self.new.placed.items ≡ take first self.old.placed.items }
+        ensures examined { self.new.examined ≡ self.old.examined }
         ensures bytes { bytes_of self.new.placed.items ≤ bytes_of self.old.placed.items }
     {
         self.placed.truncate(first);
@@ -112,6 +121,10 @@ impl Delimiters {
         requires few { bytes_of self.old.placed.items ≤ length slots.old.items }
         requires bytes { HaveBytes slots.old.items 0 0 (drop first self.old.placed.items) }
         requires whole { AreWhole slots.old.items }
+        requires known { AreKnown (drop first self.old.placed.items) }
+        requires room { self.old.examined < 2 ^ 127 }
+        ensures examined { self.new.examined ≤ self.old.examined + 15 * length (drop first self.old.placed.items) }
+        ensures least { OnOk result (self.old.examined + least_examined (runs_of (siblings_from 0 (drop first self.old.placed.items))) ≤ self.new.examined) }
         ensures slots { OnOk result ((text : List ℕ) (place : ℕ) → AreSlots text place slots.old.items → AreSlots text place slots.new.items) }
         ensures length { OnOk result (length slots.new.items ≡ length slots.old.items) }
         ensures links { OnOk result (NoNewLink slots.old.items slots.new.items) }
@@ -152,18 +165,33 @@ impl Delimiters {
     fn mark(&mut self, first: usize, bound: usize) -> Result<(), AllocError>
         requires first { first ≤ length self.old.placed.items }
         requires bytes { bytes_of self.old.placed.items ≤ bound }
+        requires known { AreKnown (drop first self.old.placed.items) }
+        requires room { self.old.examined < 2 ^ 127 }
+        ensures examined { self.new.examined ≤ self.old.examined + 15 * length (drop first self.old.placed.items) }
+        ensures least { OnOk result (self.old.examined + least_examined (runs_of (siblings_from 0 (drop first self.old.placed.items))) ≤ self.new.examined) }
         ensures marks { OnOk result (self.new.marks.items ≡ slots_of (spans_of (siblings_from 0 (drop first self.old.placed.items)))) }
         ensures balanced { OnOk result (AreBalanced [] self.new.marks.items) }
         ensures placed { self.new.placed ≡ self.old.placed }
     {
         if let [one, other] = runs_from(self.placed.as_slice(), first) {
             let behind = counted_from(other.run, one.run.run_length);
-            if slots_of_two(counted_from(one.run, 0), behind, &mut self.marks)? {
+            if slots_of_two(
+                counted_from(one.run, 0),
+                behind,
+                &mut self.marks,
+                &mut self.examined,
+            )? {
                 return Ok(());
             }
         }
         let count = gather(&mut self.runs, self.placed.as_slice(), first, bound)?;
-        slots_of_runs(count, &self.runs, &mut self.room, &mut self.marks)?;
+        slots_of_runs(
+            count,
+            &self.runs,
+            &mut self.room,
+            &mut self.marks,
+            &mut self.examined,
+        )?;
         Ok(())
     }
 }
@@ -189,6 +217,8 @@ fn gather(
 ) -> Result<usize, AllocError>
     requires first { first ≤ length placed.now }
     requires bytes { bytes_of placed.now ≤ bound }
+    ensures known { AreKnown (drop first placed.now) → OnOk result (All IsKnown runs.new.items) }
+    ensures length { OnOk result (length runs.new.items ≡ length (drop first placed.now)) }
     ensures runs { IfOk result (λ count. AreRuns count (map shown_run runs.new.items)) }
     ensures value { IfOk result (λ count. (count ≡ places_taken (siblings_from 0 (drop first placed.now))) × (map shown_run runs.new.items ≡ runs_of (siblings_from 0 (drop first placed.now)))) }
 {
@@ -335,5 +365,6 @@ fn element_of(kind: SpanKind, options: Options) -> Option<Element>
         SpanKind::DoubleTilde if !options.contains(Options::ENABLE_STRIKETHROUGH) => None,
         SpanKind::SingleTilde | SpanKind::DoubleTilde => Some(Element::Strikethrough),
         SpanKind::Caret => Some(Element::Superscript),
+        SpanKind::DoubleEquals => Some(Element::Highlight),
     }
 }

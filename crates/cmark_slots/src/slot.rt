@@ -23,6 +23,7 @@ pub enum Element {
     Strikethrough,
     Superscript,
     Subscript,
+    Highlight,
     /// The link of this index.
     Link(usize),
     /// The autolink of this index.

@@ -1,4 +1,5 @@
 pub mod EndSteps
+pub mod LeafCounts
 pub mod LeafReads
 pub mod Readings
 pub mod Walks

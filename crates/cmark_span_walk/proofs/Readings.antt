@@ -114,7 +114,8 @@ module _ {E F : Type 0} (Says : F → BrokenLink → Option (CowStr × CowStr) �
   abbrev pub KeepsEnd : (old new : SpanWalk E F) → Type 0
   KeepsEnd old new = (reader : Reader) (exchanges : List Exchange) (events : List Ranged) → Remains replacement reader old exchanges events → BeginWithEnd events → Remains replacement reader new exchanges events
 
-  pub record Turns (old walk : SpanWalk E F) : Type 0 where
+  pub record Turns (Ready : F → Type 0) (old walk : SpanWalk E F) : Type 0 where
+    pub ready : Ready (callback_of walk)
     pub lasts : Lasts old walk
     pub reads : ReadsOn old walk
     pub ends : KeepsEnd old walk

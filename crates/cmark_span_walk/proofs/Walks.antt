@@ -1,15 +1,17 @@
 -- Steps of a walk with spans: where it stands.
-use Rattle.std.proofs.Common.{◌≡◌, ◌⊎◌, inl, inr, ℕ, ◌<◌, ◌≤◌, ◌-◌, arith, Bool, true, false, List, [], ◌∷◌, length, refl, sym, ap, ◌∙◌, subst}
+use Rattle.std.proofs.Common.{◌≡◌, ◌⊎◌, inl, inr, ℕ, ◌<◌, ◌≤◌, ◌+◌, ◌*◌, ◌-◌, arith, Bool, true, false, List, [], ◌∷◌, length, refl, sym, ap, ◌∙◌, subst}
 use Rattle.std.specs.Prelude.{None, Option, Some, is_some}
 use Rattle.std.specs.Global.{Vec}
 use Rattle.cmark_grammar.specs.LeafText.{Leaf}
-use Rattle.cmark_grammar.specs.SpanDocuments.{Segment, Content}
+use Rattle.cmark_grammar.specs.SpanDocuments.{Segment, Given, Content}
 use Rattle.cmark_references.specs.declared.footnotes.FootnoteDefs.{FootnoteDefs}
 use Rattle.cmark_leaf_events.specs.declared.leaf_events.Opened.{Opened}
 use Rattle.cmark_slots.specs.declared.slot.Slot.{Slot}
 use Rattle.cmark_inline.specs.declared.state.InlineState.{InlineState}
 use Rattle.cmark_leaf_events.specs.declared.leaf_events.LeafEvents.{LeafEvents}
+use Rattle.cmark_inline.specs.Counted.{Counts, extent_of, total}
 use Rattle.cmark_inline.specs.Footnoted.{SameFootnotes}
+use Rattle.cmark_inline_model.specs.LeafExtents.{extent, extents}
 use Rattle.cmark_leaf_events.specs.Events.{AreLeft}
 use Rattle.cmark_leaf_events.specs.Opens.{AreOpened}
 use Rattle.cmark_slots.specs.Slots.{AreSlots}
@@ -24,7 +26,7 @@ use Rattle.cmark_walk.specs.Walking as walking
 use Rattle.cmark_walk.specs.Walking.{AreLinesOf}
 use Rattle.cmark_walk.proofs.OneRemainder.{one-remainder}
 use Rattle.cmark_span_walk.specs.declared.span_walk.SpanWalk.{SpanWalk}
-use Rattle.cmark_span_walk.specs.Walking.{BeforeLeaf, BlocksLeft, EntersLeaf, HasSpecialBytes, Stands, StandsAt, StandsIn, StandsInLeaf, definitions_of, events_left, footnotes_of, link_in, link_to_come, opened_of, source_of}
+use Rattle.cmark_span_walk.specs.Walking.{BeforeLeaf, BlocksLeft, EntersLeaf, HasSpecialBytes, IsAble, IsCounted, Stands, StandsAt, StandsIn, StandsInLeaf, definitions_of, events_left, footnotes_of, link_in, link_to_come, opened_of, source_of}
 
 none-opened : (source : List ℕ) (opened : List Opened) → opened ≡ [] → AreOpened source opened
 none-opened source opened e = subst (AreOpened source) (sym e) (λ k d lt. absurd (omega (arith, lt)))
@@ -44,7 +46,52 @@ before-over P (next.Short short) some s l = s short refl
 before-over P next.Long some s l = l refl
 before-over P next.Over some s l = absurd (some refl)
 
+-- before the first leaf
+pub begin-able : (inline : InlineState) (source : List ℕ) (left : List Segment) → total inline.steps ≡ 0 → inline.failed ≡ false → extents left ≤ length source → IsAble inline source left
+begin-able inline source left none live short = record { counted = omega (arith, none, short); live = live }
+
+-- what is left for the leaves is left for those behind the first
+extents-behind : (x : Segment) (others : List Segment) → extents others ≤ extents (x ∷ others)
+extents-behind (Given r) others = omega arith
+extents-behind (Content leaf) others = omega arith
+
+able-behind : (inline : InlineState) (source : List ℕ) (x : Segment) (others : List Segment) → IsAble inline source (x ∷ others) → IsAble inline source others
+able-behind inline source x others able =
+    let counted = able.counted in
+    let less = extents-behind x others in
+    record { counted = omega (arith, counted, less); live = able.live }
+
+-- a leaf takes what was left for it
+able-leaf : (old new : InlineState) (source : List ℕ) (one : Leaf) (others : List Segment) (read : LeafText) → IsAble old source (Content one ∷ others) → Counts read old.steps new.steps → extent_of read ≤ extent one → length (text_of read) ≤ extent one → new.failed ≡ false
+    → IsAble new source others
+able-leaf old new source one others read able counts extent text live =
+    let counted = able.counted in
+    let found = counts.found in
+    let opened = counts.opened in
+    record { counted = omega (arith, counted, found, opened, extent, text); live = live }
+
+able-counted : (inline : InlineState) (source : List ℕ) (left : List Segment) → IsAble inline source left → total inline.steps ≤ 128 * length source
+able-counted inline source left able = let counted = able.counted in omega (arith, counted)
+
+-- and even where memory was refused in it
+pub leaf-counted : (old new : InlineState) (source : List ℕ) (one : Leaf) (others : List Segment) (read : LeafText) → IsAble old source (Content one ∷ others) → Counts read old.steps new.steps → extent_of read ≤ extent one → length (text_of read) ≤ extent one
+    → total new.steps ≤ 128 * length source
+leaf-counted old new source one others read able counts extent text =
+    let counted = able.counted in
+    let found = counts.found in
+    let opened = counts.opened in
+    omega (arith, counted, found, opened, extent, text)
+
 module _ {E F : Type 0} where
+  pub counted-stands : (walk : SpanWalk E F) → Stands walk → IsCounted walk
+  counted-stands walk s = able-counted walk.inline (source_of walk) s.0 s.1.blocks.able
+
+  pub counted-kept : (old new : SpanWalk E F) → new.inline ≡ old.inline → source_of new ≡ source_of old → IsCounted old → IsCounted new
+  counted-kept old new inline source counted =
+      let steps = ap (λ (i : InlineState). total i.steps) inline in
+      let size = ap length source in
+      omega (arith, counted, steps, size)
+
   -- what is left of the document is one list
   pub one-left : (walk : SpanWalk E F) (first second : List Segment) → BlocksLeft walk first → BlocksLeft walk second → first ≡ second
   one-left walk first second a b = one-remainder walk.walk first second a.remains b.remains
@@ -57,8 +104,8 @@ module _ {E F : Type 0} where
 
   -- a walk at its start
   pub new-stands : (walk : SpanWalk E F) (text : List ℕ) (left : List Segment) → walk.in_leaf ≡ false → source_of walk ≡ text → HasSpecialBytes walk → walking.Remains walk.walk left → walking.text_of walk.walk ≡ text → length left < walk.budget
-      → StandsAt walk left
-  new-stands walk text left out source special remains same few = record { blocks = record { remains = remains; few = few; same_text = same ∙ sym source; special = special }; leaf = outside walk out }
+      → IsAble walk.inline text left → StandsAt walk left
+  new-stands walk text left out source special remains same few able = record { blocks = record { remains = remains; few = few; able = subst (λ t. IsAble walk.inline t left) (sym source) able; same_text = same ∙ sym source; special = special }; leaf = outside walk out }
 
   -- one more span, or none
   pub spanned-at : (walk : SpanWalk E F) (leaf_events : LeafEvents) (left : List Segment) → StandsAt walk left → walk.in_leaf ≡ true → leaf_events.slots ≡ walk.events.slots → AreOpened (source_of walk) leaf_events.walk.opened.items → AreLeft walk.leaf leaf_events
@@ -67,7 +114,7 @@ module _ {E F : Type 0} where
       let new : SpanWalk E F = record walk { events = leaf_events } in
       let h = in-leaf walk inside s.leaf in
       let here : StandsInLeaf new = record { read = h.read; slots = subst (λ (v : Vec Slot). AreSlots (text_of walk.leaf) (length (text_of walk.leaf)) v.items) (sym slots) h.slots; opened = opened; given = given } in
-      record { blocks = record { remains = s.blocks.remains; few = s.blocks.few; same_text = s.blocks.same_text; special = s.blocks.special }; leaf = subst (λ b. StandsIn b new) (sym inside) here }
+      record { blocks = record { remains = s.blocks.remains; few = s.blocks.few; able = s.blocks.able; same_text = s.blocks.same_text; special = s.blocks.special }; leaf = subst (λ b. StandsIn b new) (sym inside) here }
 
   -- the slots that are left in a leaf can be given
   pub given-left : (walk : SpanWalk E F) (left : List Segment) → StandsAt walk left → walk.in_leaf ≡ true → AreLeft walk.leaf walk.events
@@ -86,15 +133,15 @@ module _ {E F : Type 0} where
   closed walk leaf_events = record walk { events = leaf_events; in_leaf = false }
 
   pub closed-at : (walk : SpanWalk E F) (leaf_events : LeafEvents) (left : List Segment) → StandsAt walk left → StandsAt (closed walk leaf_events) left
-  closed-at walk leaf_events left s = record { blocks = record { remains = s.blocks.remains; few = s.blocks.few; same_text = s.blocks.same_text; special = s.blocks.special }; leaf = tt }
+  closed-at walk leaf_events left s = record { blocks = record { remains = s.blocks.remains; few = s.blocks.few; able = s.blocks.able; same_text = s.blocks.same_text; special = s.blocks.special }; leaf = tt }
 
   -- into a leaf
   pub enters : (old : SpanWalk E F) (leaf : LeafText) (inline : InlineState) (leaf_events : LeafEvents) (footnotes : FootnoteDefs) (callback : F) (is_cell : Bool) → IsRead leaf → leaf.source.now ≡ source_of old
-      → AreSlots (text_of leaf) (length (text_of leaf)) leaf_events.slots.items → leaf_events.walk.opened.items ≡ [] → AreLeft leaf leaf_events
-      → (one : Leaf) (others : List Segment) → BeforeLeaf old is_cell one others → EntersLeaf others (record old { leaf = leaf; inline = inline; events = leaf_events; footnotes = footnotes; in_leaf = true; callback = callback })
-  enters old leaf inline leaf_events footnotes callback is_cell read source slots none given one others before = record {
+      → AreSlots (text_of leaf) (length (text_of leaf)) leaf_events.slots.items → leaf_events.walk.opened.items ≡ [] → AreLeft leaf leaf_events → Counts leaf old.inline.steps inline.steps → inline.failed ≡ false
+      → (one : Leaf) (others : List Segment) → BeforeLeaf old is_cell one others → extent_of leaf ≤ extent one → length (text_of leaf) ≤ extent one → EntersLeaf others (record old { leaf = leaf; inline = inline; events = leaf_events; footnotes = footnotes; in_leaf = true; callback = callback })
+  enters old leaf inline leaf_events footnotes callback is_cell read source slots none given counts live one others before extent text = record {
     stands = record {
-      blocks = record { remains = before.blocks.remains; few = before.blocks.few; same_text = before.blocks.same_text ∙ sym source; special = before.blocks.special };
+      blocks = record { remains = before.blocks.remains; few = before.blocks.few; able = subst (λ s. IsAble inline s others) (sym source) (able-leaf old.inline inline (source_of old) one others leaf before.able counts extent text live); same_text = before.blocks.same_text ∙ sym source; special = before.blocks.special };
       leaf = record { read = read; slots = slots; opened = none-opened leaf.source.now leaf_events.walk.opened.items none; given = given };
     };
     inside = refl;
@@ -159,7 +206,8 @@ module _ {E F : Type 0} where
     blocks-behind budget left x others s e r less =
         let f = s.blocks.few in
         let l = ap length e in
-        record { remains = r; few = (let q : length others < budget = omega (arith, f, l, less) in q); same_text = same-text ∙ s.blocks.same_text; special = s.blocks.special }
+        let able = able-behind mid.inline (source_of mid) x others (subst (IsAble mid.inline (source_of mid)) e s.blocks.able) in
+        record { remains = r; few = (let q : length others < budget = omega (arith, f, l, less) in q); able = able; same_text = same-text ∙ s.blocks.same_text; special = s.blocks.special }
 
     -- an event, or a leaf that is one text
     pub behind-at : (budget : ℕ) (left : List Segment) (x : Segment) (others : List Segment) → StandsAt mid left → left ≡ x ∷ others → walking.Remains walk others → budget ≡ mid.budget - 1 → StandsAt (met-by budget) others
@@ -167,19 +215,19 @@ module _ {E F : Type 0} where
 
     -- an event of another kind, which was not met yet
     pub same-at : (left : List Segment) → StandsAt mid left → walking.Remains walk left → StandsAt (met-by mid.budget) left
-    same-at left s r = record { blocks = record { remains = r; few = s.blocks.few; same_text = same-text ∙ s.blocks.same_text; special = s.blocks.special }; leaf = outside (met-by mid.budget) out }
+    same-at left s r = record { blocks = record { remains = r; few = s.blocks.few; able = s.blocks.able; same_text = same-text ∙ s.blocks.same_text; special = s.blocks.special }; leaf = outside (met-by mid.budget) out }
 
     -- nothing
     pub over-at : (left : List Segment) → StandsAt mid left → left ≡ [] → walking.Remains walk [] → StandsAt (met-by mid.budget) []
     over-at left s e r =
         let f = s.blocks.few in
-        record { blocks = record { remains = r; few = (let q : 0 < mid.budget = omega (arith, f) in q); same_text = same-text ∙ s.blocks.same_text; special = s.blocks.special }; leaf = outside (met-by mid.budget) out }
+        record { blocks = record { remains = r; few = (let q : 0 < mid.budget = omega (arith, f) in q); able = subst (IsAble mid.inline (source_of mid)) e s.blocks.able; same_text = same-text ∙ s.blocks.same_text; special = s.blocks.special }; leaf = outside (met-by mid.budget) out }
 
     -- a leaf
     pub before-leaf : (is_cell : Bool) (budget : ℕ) (left : List Segment) (leaf : Leaf) (others : List Segment) → StandsAt mid left → left ≡ Content leaf ∷ others → AreLinesOf (walking.text_of walk) leaf lines.items → walking.Remains walk others
         → is_cell ≡ leaf.is_cell → budget ≡ mid.budget - 1 → BeforeLeaf (met-by budget) is_cell leaf others
     before-leaf is_cell budget left leaf others s e are remains cell less =
-        record { cell = cell; lines = subst (λ t. AreLinesOf t leaf lines.items) (same-text ∙ s.blocks.same_text) are; blocks = blocks-behind budget left (Content leaf) others s e remains less }
+        record { cell = cell; able = subst (IsAble mid.inline (source_of mid)) e s.blocks.able; lines = subst (λ t. AreLinesOf t leaf lines.items) (same-text ∙ s.blocks.same_text) are; blocks = blocks-behind budget left (Content leaf) others s e remains less }
 
     -- fewer events are left behind an event
     pub met-fewer : (old head : SpanWalk E F) (budget : ℕ) (left : List Segment) (x : Segment) (others : List Segment) → StandsAt mid left → left ≡ x ∷ others → Lasts old head

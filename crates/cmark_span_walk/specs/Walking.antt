@@ -13,6 +13,7 @@ use Rattle.cmark_grammar.specs.Tag as tag
 use Rattle.cmark_grammar.specs.Tag.{Linked}
 use Rattle.cmark_grammar.specs.Tokens.{slice}
 use Rattle.cmark_inline_model.specs.FirstEvents.{BeginWithEnd}
+use Rattle.cmark_inline_model.specs.LeafExtents.{extents}
 use Rattle.cmark_inline_model.specs.LeafGaps.{HasNoPipesBetween}
 use Rattle.cmark_inline_model.specs.PlacedLeaves.{IsPlaced}
 use Rattle.cmark_references.specs.Definitions.{definition}
@@ -20,6 +21,9 @@ use Rattle.cmark_references.specs.Footnotes.{footnote}
 use Rattle.cmark_references.specs.declared.link.Link.{Link}
 use Rattle.cmark_references.specs.declared.definitions.RefDefs.{RefDefs}
 use Rattle.cmark_references.specs.declared.footnotes.FootnoteDefs.{FootnoteDefs}
+use Rattle.cmark_inline.specs.Counted.{total}
+use Rattle.cmark_inline.specs.declared.state.InlineState.{InlineState}
+use Rattle.cmark_inline.specs.declared.steps.Steps.{Steps}
 use Rattle.cmark_inline.specs.Decided.{said}
 use Rattle.cmark_inline.specs.Linked.{said_by}
 use Rattle.cmark_leaf_events.specs.LinkStarts as starts
@@ -74,6 +78,11 @@ ArePlaced reader (documents.Content leaf ∷ others) = HasPlaces reader leaf × 
 
 -- ## Where the walk stands
 
+-- the searches have left enough for the leaves that are left, and no memory was refused
+pub record IsAble (inline : InlineState) (source : List ℕ) (left : List Segment) : Type 0 where
+  pub counted : total inline.steps + 128 * extents left ≤ 128 * length source
+  pub live : inline.failed ≡ false
+
 module _ {E F : Type 0} where
   abbrev pub source_of : SpanWalk E F → List ℕ
   source_of walk = reads.source_of walk.leaf
@@ -93,6 +102,14 @@ module _ {E F : Type 0} where
   abbrev pub expansion_left_of : SpanWalk E F → ℕ
   expansion_left_of walk = walk.inline.expansion_left
 
+  -- what the searches of the leaves so far have taken
+  abbrev pub steps_of : SpanWalk E F → Steps
+  steps_of walk = walk.inline.steps
+
+  -- they have taken no more than 128 steps for each byte of the text
+  abbrev pub IsCounted : SpanWalk E F → Type 0
+  IsCounted walk = total (steps_of walk) ≤ 128 * length (source_of walk)
+
   -- the definitions of links
   abbrev pub definitions_of : SpanWalk E F → RefDefs
   definitions_of walk = walking.definitions_of walk.walk
@@ -104,6 +121,7 @@ module _ {E F : Type 0} where
   -- a call reads on in a leaf alone: what stands around the leaf is as it was
   pub record KeepsAround (old new : SpanWalk E F) : Type 0 where
     pub callback : callback_of new ≡ callback_of old
+    pub inline : new.inline ≡ old.inline
     pub budget : new.budget ≡ old.budget
     pub source : source_of new ≡ source_of old
     pub definitions : definitions_of new ≡ definitions_of old
@@ -117,6 +135,7 @@ module _ {E F : Type 0} where
   pub record BlocksLeft (walk : SpanWalk E F) (left : List Segment) : Type 0 where
     pub remains : walking.Remains walk.walk left
     pub few : length left < walk.budget
+    pub able : IsAble walk.inline (source_of walk) left
     pub same_text : walking.text_of walk.walk ≡ source_of walk
     pub special : HasSpecialBytes walk
 
@@ -172,6 +191,7 @@ module _ {E F : Type 0} where
   pub record BeforeLeaf (walk : SpanWalk E F) (is_cell : Bool) (leaf : Leaf) (others : List Segment) : Type 0 where
     pub lines : AreLinesOf (source_of walk) leaf walk.lines.items
     pub cell : is_cell ≡ leaf.is_cell
+    pub able : IsAble walk.inline (source_of walk) (documents.Content leaf ∷ others)
     pub blocks : BlocksLeft walk others
 
   -- the walk stands in the leaf, before its first span

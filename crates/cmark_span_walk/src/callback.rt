@@ -1,5 +1,6 @@
 //! A callback that may be absent.
 
+ghost use Rattle.std.specs.Option.{ForSome};
 ghost use Rattle.cmark_span_walk.specs.Callback.{AnswersIfAny};
 
 use cmark_inline::{BrokenLink, BrokenLinkCallback};
@@ -13,6 +14,8 @@ pub struct OptionalCallback<F> {
 }
 
 impl<'input, F: BrokenLinkCallback<'input>> BrokenLinkCallback<'input> for OptionalCallback<F> {
+    ghost ready = { λ optional. ForSome optional.callback F.ready };
+
     ghost answers = { λ before link answer after. AnswersIfAny F.answers before.callback link answer after.callback };
 
     fn handle_broken_link(

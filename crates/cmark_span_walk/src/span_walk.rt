@@ -1,6 +1,6 @@
 //! The walk over a document's events with the spans of its leaves.
 
-ghost use Rattle.std.specs.Prelude.{◌≡◌, ◌≢◌, ◌<◌, ◌≤◌, Bool, true, false, List, [], is_some, length, max, option_map, IfOk, IfSome, OnErr, OnOk, OnSome};
+ghost use Rattle.std.specs.Prelude.{◌≡◌, ◌≢◌, ◌<◌, ◌≤◌, Bool, true, false, List, [], is_some, length, option_map, IfOk, IfSome, OnErr, OnOk, OnSome};
 ghost use Rattle.cmark_grammar.specs.Answers.{Lookup};
 ghost use Rattle.cmark_grammar.specs.Event.{Ranged as Shown};
 ghost use Rattle.cmark_grammar.specs.Questions.{Exchange};
@@ -8,7 +8,9 @@ ghost use Rattle.cmark_grammar.specs.Readers.{Reader as GrammarReader};
 ghost use Rattle.cmark_grammar.specs.LeafText.{Leaf};
 ghost use Rattle.cmark_grammar.specs.Options.{Options as Extensions};
 ghost use Rattle.cmark_grammar.specs.SpanDocuments.{Left, Segment};
+ghost use Rattle.cmark_inline.specs.Counted.{total};
 ghost use Rattle.cmark_inline.specs.Footnoted.{SameFootnotes};
+ghost use Rattle.cmark_inline_model.specs.LeafExtents.{extents};
 ghost use Rattle.cmark_references.specs.Links.{shown_link};
 ghost use Rattle.cmark_inline.specs.PlainStretches.{IsSetOf, StandUpTo};
 ghost use Rattle.cmark_leaf_text.specs.Stretches.{AreLines};
@@ -19,7 +21,7 @@ ghost use Rattle.cmark_text_parts.specs.Shown.{shown_options};
 ghost use Rattle.cmark_span_walk.specs.Walking.{ArePlaced, HasAsked, HasPlaces, IsOnlyLine};
 
 use crate::coming::Coming;
-use cmark_inline::{BrokenLinkCallback, InlineState, Reader, SpecialBytes, special_bytes};
+use cmark_inline::{BrokenLinkCallback, InlineState, Reader, SpecialBytes, Steps, special_bytes};
 use cmark_leaf_events::LeafEvents;
 use cmark_leaf_text::{LeafLine, LeafText};
 use cmark_references::{FootnoteDefs, Link, RefDefs};
@@ -51,11 +53,11 @@ pub struct SpanWalk<'input, 'e, E, F> {
 }
 
 impl<'input, 'e, E: EntityLookup, F: BrokenLinkCallback<'input> + Drop> SpanWalk<'input, 'e, E, F> {
-    ghost use Rattle.cmark_span_walk.specs.Walking.{BeforeLeaf, KeepsAround, EntersLeaf, Gives, GivesInLeaf, GivesNext, GivesSpan, GivesStart, IsReadBy, KeepsBehindLeaf, KeepsLeft, LeavesFewer, LeavesLeaf, NoEndIsNext, ReadsLeaf, ReadsSame, Remains, Stands, as_next, callback_of, definitions_of, events_left, expansion_left_of, footnotes_of, link_to_come, options_of, source_of};
+    ghost use Rattle.cmark_span_walk.specs.Walking.{BeforeLeaf, KeepsAround, EntersLeaf, Gives, GivesInLeaf, GivesNext, GivesSpan, GivesStart, IsCounted, IsReadBy, KeepsBehindLeaf, KeepsLeft, LeavesFewer, LeavesLeaf, NoEndIsNext, ReadsLeaf, ReadsSame, Remains, Stands, as_next, callback_of, definitions_of, events_left, expansion_left_of, footnotes_of, link_to_come, options_of, source_of, steps_of};
 
     /// A walk over what this walk over the text meets, which are fewer events and leaves than `budget`. `entities` says what the
     /// entity names stand for; `footnotes` are those that the text defines, of which each counts its references; `callback` is asked
-    /// for references without a definition.
+    /// for references without a definition, which may take so many bytes of destinations and titles.
     pub fn new(
         alloc: Global,
         text: &'input str,
@@ -65,12 +67,14 @@ impl<'input, 'e, E: EntityLookup, F: BrokenLinkCallback<'input> + Drop> SpanWalk
         entities: &'e E,
         footnotes: FootnoteDefs,
         callback: F,
+        expansion_limit: usize,
     ) -> SpanWalk<'input, 'e, E, F>
-        ensures stands { (left : List Segment) → BlocksRemain walk.entry left → text_of walk.entry ≡ text.entry.now → length left < budget → Stands result }
+        ensures stands { (left : List Segment) → BlocksRemain walk.entry left → text_of walk.entry ≡ text.entry.now → length left < budget → extents left ≤ length text.entry.now → Stands result }
         ensures begins { (reader : GrammarReader) (left : List Segment)
             → BlocksRemain walk.entry left
             → text_of walk.entry ≡ text.entry.now
             → length left < budget
+            → extents left ≤ length text.entry.now
             → ArePlaced reader left
             → ReadsSame E.replacement reader result
             → IsReadBy E.replacement reader result
@@ -79,7 +83,8 @@ impl<'input, 'e, E: EntityLookup, F: BrokenLinkCallback<'input> + Drop> SpanWalk
             → BlocksRemain walk.entry left
             → Remains E.replacement reader result exchanges events
             → Left reader left (expansion_left_of result) exchanges events }
-        ensures expansion_left { expansion_left_of result ≡ max (length text.entry.now) 100000 }
+        ensures expansion_left { expansion_left_of result ≡ expansion_limit }
+        ensures steps { total (steps_of result) ≡ 0 }
         ensures options { options_of result ≡ shown_options options }
         ensures entities { result.entities.now ≡ entities.entry.now }
         ensures callback { callback_of result ≡ callback }
@@ -93,7 +98,7 @@ impl<'input, 'e, E: EntityLookup, F: BrokenLinkCallback<'input> + Drop> SpanWalk
             in_leaf: false,
             lines: Vec::new(alloc),
             leaf: LeafText::new(alloc, text),
-            inline: InlineState::new(alloc, text.len()),
+            inline: InlineState::with_limit(alloc, expansion_limit),
             events: LeafEvents::new(alloc),
             footnotes,
             entities,
@@ -110,16 +115,26 @@ impl<'input, 'e, E: EntityLookup, F: BrokenLinkCallback<'input> + Drop> SpanWalk
         self.walk.definitions()
     }
 
+    /// What the searches in the leaves so far have taken.
+    pub fn steps(&self) -> Steps
+        ensures { result ≡ steps_of self.now }
+    {
+        self.inline.steps()
+    }
+
     /// The next event, with its range; `None` where no event is left. Where memory is refused, the walk is lost.
     #[inline(always)]
     pub fn next(&mut self) -> Result<Option<Ranged<'input>>, AllocError>
-        requires { Stands self.old }
+        requires stands { Stands self.old }
+        requires ready { F.ready (callback_of self.old) }
+        ensures ready { F.ready (callback_of self.new) }
         ensures stands { OnOk result (Stands self.new) }
         ensures given { (reader : GrammarReader) → IsReadBy E.replacement reader self.old → IfOk result (λ given. Gives F.answers E.replacement reader self.old given self.new) }
         ensures lent { IfOk result (λ given. IfSome given (IsRangedZeroCopy (source_of self.old))) }
         ensures fewer { IfOk result (λ given. OnSome given (events_left self.new < events_left self.old)) }
         ensures ends { OnErr result ((reader : GrammarReader) → NoEndIsNext E.replacement reader self.old) }
         ensures asked { OnErr result (HasAsked F.answers (callback_of self.old) (callback_of self.new)) }
+        ensures counted { IsCounted self.new }
         ensures definitions { definitions_of self.new ≡ definitions_of self.old }
         ensures footnotes { SameFootnotes (footnotes_of self.old) (footnotes_of self.new) }
         ensures source { source_of self.new ≡ source_of self.old }
@@ -151,12 +166,15 @@ impl<'input, 'e, E: EntityLookup, F: BrokenLinkCallback<'input> + Drop> SpanWalk
     /// What `next` would give, where no event is made: one that owns nothing counts as given then, and one of another kind does not.
     #[inline(always)]
     pub fn next_short(&mut self) -> Result<Coming<'input>, AllocError>
-        requires { Stands self.old }
+        requires stands { Stands self.old }
+        requires ready { F.ready (callback_of self.old) }
+        ensures ready { F.ready (callback_of self.new) }
         ensures stands { OnOk result (Stands self.new) }
         ensures given { (reader : GrammarReader) → IsReadBy E.replacement reader self.old → IfOk result (λ coming. GivesNext F.answers E.replacement reader self.old (as_next coming) self.new) }
         ensures fewer { IfOk result (λ coming. LeavesFewer self.old (as_next coming) self.new) }
         ensures ends { OnErr result ((reader : GrammarReader) → NoEndIsNext E.replacement reader self.old) }
         ensures asked { OnErr result (HasAsked F.answers (callback_of self.old) (callback_of self.new)) }
+        ensures counted { IsCounted self.new }
         ensures definitions { definitions_of self.new ≡ definitions_of self.old }
         ensures footnotes { SameFootnotes (footnotes_of self.old) (footnotes_of self.new) }
         ensures source { source_of self.new ≡ source_of self.old }
@@ -212,7 +230,8 @@ impl<'input, 'e, E: EntityLookup, F: BrokenLinkCallback<'input> + Drop> SpanWalk
         ensures given { (reader : GrammarReader) → IsReadBy E.replacement reader self.old → OnOk result (IfSome (link_to_come self.old) (λ link. GivesStart F.answers E.replacement reader self.old (shown_link link) self.new)) }
         ensures fewer { OnOk result (events_left self.new < events_left self.old) }
         ensures ends { OnErr result ((reader : GrammarReader) → NoEndIsNext E.replacement reader self.old) }
-        ensures asked { OnErr result (HasAsked F.answers (callback_of self.old) (callback_of self.new)) }
+        ensures callback { callback_of self.new ≡ callback_of self.old }
+        ensures counted { IsCounted self.new }
         ensures definitions { definitions_of self.new ≡ definitions_of self.old }
         ensures footnotes { SameFootnotes (footnotes_of self.old) (footnotes_of self.new) }
         ensures source { source_of self.new ≡ source_of self.old }
@@ -303,12 +322,15 @@ impl<'input, 'e, E: EntityLookup, F: BrokenLinkCallback<'input> + Drop> SpanWalk
 
     // Into the leaf whose lines were met, perhaps the cell of a table.
     fn enter_leaf(&mut self, is_cell: bool) -> Result<(), AllocError>
-        requires { (leaf : Leaf) × (others : List Segment) × BeforeLeaf self.old is_cell leaf others }
+        requires before { (leaf : Leaf) × (others : List Segment) × BeforeLeaf self.old is_cell leaf others }
+        requires ready { F.ready (callback_of self.old) }
+        ensures ready { F.ready (callback_of self.new) }
         ensures enters { OnOk result ((leaf : Leaf) (others : List Segment) → BeforeLeaf self.old is_cell leaf others → EntersLeaf others self.new) }
         ensures reads { OnOk result ((reader : GrammarReader) (leaf : Leaf) (others : List Segment) → BeforeLeaf self.old is_cell leaf others → HasPlaces reader leaf → ReadsSame E.replacement reader self.old
             → ReadsLeaf F.answers E.replacement reader leaf self.old self.new) }
         ensures lines { OnErr result (self.old.lines.items ≢ []) }
         ensures asked { HasAsked F.answers (callback_of self.old) (callback_of self.new) }
+        ensures counted { IsCounted self.new }
         ensures source { source_of self.new ≡ source_of self.old }
         ensures budget { self.new.budget ≡ self.old.budget }
         ensures definitions { definitions_of self.new ≡ definitions_of self.old }

@@ -35,6 +35,7 @@ shown_plain plain.Strong = tag.Strong
 shown_plain plain.Strikethrough = tag.Strikethrough
 shown_plain plain.Superscript = tag.Superscript
 shown_plain plain.Subscript = tag.Subscript
+shown_plain plain.Highlight = tag.Highlight
 shown_plain (plain.MetadataBlock kind) = tag.MetadataBlock (shown_metadata_block_kind kind)
 
 -- the element may have a text or a list of its own

@@ -60,6 +60,8 @@ pub enum Tag<'a> {
     Superscript,
     /// Subscript (this profile's own).
     Subscript,
+    /// Highlighted text (this project's own).
+    Highlight,
     /// A link (CommonMark 6.3).
     Link {
         /// How it is written.
@@ -114,6 +116,7 @@ impl<'a> Tag<'a> {
             Tag::Strikethrough => TagEnd::Strikethrough,
             Tag::Superscript => TagEnd::Superscript,
             Tag::Subscript => TagEnd::Subscript,
+            Tag::Highlight => TagEnd::Highlight,
             Tag::Link { .. } => TagEnd::Link,
             Tag::Image { .. } => TagEnd::Image,
             Tag::MetadataBlock(kind) => TagEnd::MetadataBlock(*kind),
@@ -164,6 +167,8 @@ pub enum TagEnd {
     Superscript,
     /// The end of subscript.
     Subscript,
+    /// The end of highlighted text.
+    Highlight,
     /// The end of a link.
     Link,
     /// The end of an image.

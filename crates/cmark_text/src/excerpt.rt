@@ -5,7 +5,7 @@ ghost use Rattle.std.specs.Str.{IsCharBoundary};
 
 /// A part of a text, with what stands behind it there. The bytes behind it do not count; but since they are there, sixteen bytes can be
 /// looked at or copied at once where the part has fewer, whatever its length is.
-#[derive(Clone, Copy)]
+#[derive(Clone, Copy, Debug)]
 pub struct Excerpt<'a> {
     /// The text, from the part's begin on.
     pub(crate) ahead: &'a str,

@@ -4,7 +4,7 @@ use crate::event::Event;
 use std::ops::Range;
 
 /// An event, and the bytes of the text that it comes from. A start and its end have the range of the whole element.
-#[derive(Drop)]
+#[derive(Debug, Drop)]
 pub struct Ranged<'a> {
     /// The event.
     pub event: Event<'a>,

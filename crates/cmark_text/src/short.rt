@@ -10,7 +10,7 @@ use cmark_text_parts::{BlockQuoteKind, CodeBlockKind, CowStr, HeadingLevel, Meta
 use std::alloc::Global;
 
 /// The tag of an element that has no text of its own.
-#[derive(Clone, Copy)]
+#[derive(Clone, Copy, Debug)]
 pub enum PlainTag {
     /// A paragraph (CommonMark 4.8).
     Paragraph,
@@ -48,6 +48,8 @@ pub enum PlainTag {
     Superscript,
     /// Subscript (this profile's own).
     Subscript,
+    /// Highlighted text (this project's own).
+    Highlight,
     /// A metadata block (this profile's own).
     MetadataBlock(MetadataBlockKind),
 }
@@ -81,6 +83,7 @@ impl PlainTag {
             PlainTag::Strikethrough => Tag::Strikethrough,
             PlainTag::Superscript => Tag::Superscript,
             PlainTag::Subscript => Tag::Subscript,
+            PlainTag::Highlight => Tag::Highlight,
             PlainTag::MetadataBlock(kind) => Tag::MetadataBlock(kind),
         }
     }
@@ -112,6 +115,7 @@ impl<'a> Tag<'a> {
             Tag::Strikethrough => Some(PlainTag::Strikethrough),
             Tag::Superscript => Some(PlainTag::Superscript),
             Tag::Subscript => Some(PlainTag::Subscript),
+            Tag::Highlight => Some(PlainTag::Highlight),
             Tag::MetadataBlock(kind) => Some(PlainTag::MetadataBlock(*kind)),
             Tag::Heading { .. }
             | Tag::CodeBlock(_)
@@ -124,7 +128,7 @@ impl<'a> Tag<'a> {
 }
 
 /// An event that owns nothing. A value has 32 bytes, where one of any kind has 136.
-#[derive(Clone, Copy)]
+#[derive(Clone, Copy, Debug)]
 pub enum Short<'a> {
     /// An element starts that has no text of its own.
     Start(PlainTag),
@@ -166,7 +170,7 @@ impl<'a> Short<'a> {
 }
 
 /// What comes next of a text, of which no event is made.
-#[derive(Clone, Copy)]
+#[derive(Clone, Copy, Debug)]
 pub enum Next<'a> {
     /// An event that owns nothing.
     Short(Short<'a>),

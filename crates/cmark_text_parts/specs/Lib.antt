@@ -1,4 +1,5 @@
 pub mod Folding
+pub mod Holding
 pub mod InPlace
 pub mod Labelled
 pub mod Lending

@@ -117,4 +117,6 @@ shown_options set = record {
   superscript = has_bits set 8192;
   subscript = has_bits set 16384;
   wikilinks = has_bits set 32768;
+  highlight = has_bits set 65536;
+  email_autolinks = has_bits set 131072;
 }

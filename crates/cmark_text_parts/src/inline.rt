@@ -4,6 +4,7 @@ ghost use Rattle.std.specs.Prelude.{◌≡◌, ◌<◌, ◌≤◌, Some, MatchRe
 ghost use Rattle.std.specs.Cmp.{on_equiv, on_per, partial_equiv_from_equiv};
 ghost use Rattle.std.specs.Cmp.Lexicographic.{pointwise, nat_list_eq_equiv};
 ghost use Rattle.std.specs.Cmp.Rules.{hashing};
+ghost use Rattle.std.specs.Fmt.{padded};
 ghost use Rattle.std.specs.Hash as fed;
 ghost use Rattle.std.proofs.Common.{rules};
 ghost use Rattle.cmark_text_parts.specs.Shown.{inline_bytes};
@@ -97,6 +98,8 @@ impl Hash for InlineStr {
 
 impl Display for InlineStr {
     ghost output = { λ text. Some (inline_bytes text) };
+
+    ghost styled_output = { λ text spec. Some (padded spec (inline_bytes text)) };
 
     fn fmt<W: Write>(&self, f: &mut Formatter<W>) -> fmt::Result {
         let text = self.as_str();

@@ -1,6 +1,7 @@
 //! Kinds of blocks, links and headings.
 
 ghost use Rattle.std.specs.Prelude.{◌≡◌, ◌<◌, ◌⊎◌, ◌∷◌, [], ◌+◌, Some, MatchResult, IfOk, IsOk, length, ◌≤◌};
+ghost use Rattle.std.specs.Fmt.{padded};
 ghost use Rattle.cmark_grammar.specs.LinkType.{to_unknown};
 ghost use Rattle.cmark_text_parts.specs.InPlace.{KindCopiesInPlace, KindStaysInPlace};
 ghost use Rattle.cmark_text_parts.specs.Shown.{level_number, shown_code_block_kind, shown_link_type};
@@ -132,6 +133,8 @@ impl TryFrom<usize> for HeadingLevel {
 
 impl Display for HeadingLevel {
     ghost output = { λ level. Some (104 ∷ (48 + level_number level) ∷ []) };
+
+    ghost styled_output = { λ level spec. Some (padded spec (104 ∷ (48 + level_number level) ∷ [])) };
 
     /// `h1` to `h6`.
     fn fmt<W: Write>(&self, f: &mut Formatter<W>) -> fmt::Result {

@@ -45,6 +45,16 @@ impl LinkLabel {
     {
         self.link.as_str()
     }
+
+    /// The same label once more.
+    pub fn clone(&self, alloc: Global) -> Result<LinkLabel, AllocError>
+        ensures text { IfOk result (λ copy. link_text copy ≡ link_text self.now) }
+        ensures key { IfOk result (λ copy. link_key copy ≡ link_key self.now) }
+    {
+        Ok(LinkLabel {
+            link: self.link.clone(alloc)?,
+        })
+    }
 }
 
 /// The label of a footnote (this profile's own), in its normal form; it is compared as a [`LinkLabel`] is.
@@ -89,6 +99,17 @@ impl Label {
     {
         let text = normal_text(alloc, label)?;
         let folded = folded_apart(alloc, text.as_str())?;
+        Ok(Label { text, folded })
+    }
+
+    fn clone(&self, alloc: Global) -> Result<Label, AllocError>
+        ensures { IfOk result (λ copy. string_bytes copy.text ≡ string_bytes self.now.text) }
+    {
+        let folded = match &self.folded {
+            Some(folded) => Some(String::from_str(alloc, folded.as_str())?),
+            None => None,
+        };
+        let text = String::from_str(alloc, self.text.as_str())?;
         Ok(Label { text, folded })
     }
 

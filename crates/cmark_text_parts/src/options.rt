@@ -40,6 +40,14 @@ impl Options {
     pub const ENABLE_SUBSCRIPT: Options = Options(1 << 14);
     /// Links such as `[[page]]` (this profile's own).
     pub const ENABLE_WIKILINKS: Options = Options(1 << 15);
+    /// Highlighted text between `==` (this project's own).
+    pub const ENABLE_HIGHLIGHT: Options = Options(1 << 16);
+    /// Email addresses as autolinks (CommonMark 6.5).
+    pub const ENABLE_EMAIL_AUTOLINKS: Options = Options(1 << 17);
+    /// What GitHub reads: tables, footnotes, strikethrough, task lists, alerts and email addresses as autolinks.
+    pub const GITHUB: Options = Options(
+        (1 << 1) | (1 << 2) | (1 << 3) | (1 << 4) | (1 << 11) | (1 << 17),
+    );
 
     /// Whether footnotes are read as GitHub reads them: footnotes are, and not as they were before.
     pub fn has_gfm_footnotes(&self) -> bool
@@ -50,7 +58,7 @@ impl Options {
 }
 
 /// The options with their names.
-const NAMED: [Flag<Options>; 15] = [
+const NAMED: [Flag<Options>; 17] = [
     Flag {
         name: "ENABLE_TABLES",
         value: Options::ENABLE_TABLES,
@@ -111,6 +119,14 @@ const NAMED: [Flag<Options>; 15] = [
         name: "ENABLE_WIKILINKS",
         value: Options::ENABLE_WIKILINKS,
     },
+    Flag {
+        name: "ENABLE_HIGHLIGHT",
+        value: Options::ENABLE_HIGHLIGHT,
+    },
+    Flag {
+        name: "ENABLE_EMAIL_AUTOLINKS",
+        value: Options::ENABLE_EMAIL_AUTOLINKS,
+    },
 ];
 
 impl Flags for Options {
@@ -133,6 +149,8 @@ impl Flags for Options {
         (codes "ENABLE_SUPERSCRIPT", 8192) ∷
         (codes "ENABLE_SUBSCRIPT", 16384) ∷
         (codes "ENABLE_WIKILINKS", 32768) ∷
+        (codes "ENABLE_HIGHLIGHT", 65536) ∷
+        (codes "ENABLE_EMAIL_AUTOLINKS", 131072) ∷
         [] };
 
     ghost set_of = { λ options. options.0 };

@@ -5,9 +5,12 @@ ghost use Rattle.std.specs.Cmp.{on_equiv, on_per, partial_equiv_from_equiv};
 ghost use Rattle.std.specs.Cmp.Lexicographic.{pointwise, nat_list_eq_equiv};
 ghost use Rattle.std.specs.Cmp.Rules.{hashing};
 ghost use Rattle.std.specs.Cow.{cow_str_bytes};
+ghost use Rattle.std.specs.Fmt.{padded};
 ghost use Rattle.std.specs.Hash as fed;
 ghost use Rattle.std.proofs.Common.{rules};
+ghost use Rattle.cmark_text_parts.specs.Holding.{BecomesCow, ComesFromCow, StaysBorrowed};
 ghost use Rattle.cmark_text_parts.specs.InPlace.{CopiesInPlace, StaysInPlace};
+ghost use Rattle.cmark_text_parts.specs.Lending.{IsBorrowed};
 ghost use Rattle.cmark_text_parts.specs.Shown.{text_bytes, IsBoxed, IsInlined};
 
 use crate::inline::InlineStr;
@@ -47,6 +50,7 @@ impl<'a> CowStr<'a> {
     /// The same text once more. Memory is taken only where a text of its own does not fit into an [`InlineStr`].
     pub fn clone(&self, alloc: Global) -> Result<CowStr<'a>, AllocError>
         ensures value { IfOk result (λ copy. text_bytes copy ≡ text_bytes self.now) }
+        ensures held { IfOk result (StaysBorrowed self.now) }
         ensures succeeds { CopiesInPlace self.now → IsOk result }
     {
         match self {
@@ -59,6 +63,7 @@ impl<'a> CowStr<'a> {
     /// The text of a `String`, which it keeps. No memory is taken, so this never fails.
     pub fn from_string(text: String) -> Result<CowStr<'a>, AllocError>
         ensures value { IfOk result (λ made. text_bytes made ≡ string_bytes text) }
+        ensures held { IfOk result IsBoxed }
         ensures succeeds { IsOk result }
     {
         Ok(CowStr::Boxed(text.into_boxed_str()))
@@ -92,6 +97,7 @@ impl<'a> CowStr<'a> {
     /// The text of std's `CowStr`: a borrowed one stays borrowed. No memory is taken, so this never fails.
     pub fn from_cow(text: borrow::CowStr<'a>) -> Result<CowStr<'a>, AllocError>
         ensures value { IfOk result (λ made. text_bytes made ≡ cow_str_bytes text.entry) }
+        ensures held { IfOk result (ComesFromCow text.entry) }
         ensures succeeds { IsOk result }
     {
         match text {
@@ -103,6 +109,7 @@ impl<'a> CowStr<'a> {
     /// The text as std's `CowStr`: a borrowed one stays borrowed. Memory is taken for a short text alone.
     pub fn into_cow(self, alloc: Global) -> Result<borrow::CowStr<'a>, AllocError>
         ensures value { IfOk result (λ made. cow_str_bytes made ≡ text_bytes self.entry) }
+        ensures held { IfOk result (BecomesCow self.entry) }
         ensures succeeds { ¬ IsInlined self.entry → IsOk result }
     {
         match self {
@@ -129,7 +136,7 @@ fn own(alloc: Global, text: &str) -> Result<CowStr<'static>, AllocError>
 }
 
 impl<'a> From<&'a str> for CowStr<'a> {
-    ghost from_gives = { λ text made. text_bytes made ≡ text.now };
+    ghost from_gives = { λ text made. (text_bytes made ≡ text.now) × IsBorrowed made };
 
     fn from(text: &'a str) -> CowStr<'a> {
         CowStr::Borrowed(text)
@@ -170,6 +177,8 @@ impl Hash for CowStr<'_> {
 
 impl Display for CowStr<'_> {
     ghost output = { λ text. Some (text_bytes text) };
+
+    ghost styled_output = { λ text spec. Some (padded spec (text_bytes text)) };
 
     fn fmt<W: Write>(&self, f: &mut Formatter<W>) -> fmt::Result {
         let text = self.as_str();

@@ -1,21 +1,18 @@
 -- What a tree ends as, where a `&mut` to the item of one of its nodes is returned.
-use Rattle.std.specs.Prelude.{ℕ, ◌-◌, slice_index_or}
+use Rattle.std.specs.Prelude.{ℕ, ◌-◌}
+use Rattle.std.proofs.Common.{sym, ◌∙◌, length-set}
 use Rattle.std.specs.Vec.{with_item}
 use Rattle.std.specs.Borrow.{Lends, Fml, MutBor, RattleType}
-use Rattle.cmark_tree.specs.declared.nodes.Node.{Node}
 use Rattle.cmark_tree.specs.declared.nodes.Nodes.{Nodes}
 use Rattle.cmark_tree.specs.declared.tree.Tree.{Tree}
-use Rattle.cmark_tree.specs.contracts.nodes.Node.{the_row as node_row}
 use Rattle.cmark_tree.specs.contracts.nodes.Nodes.{the_row as nodes_row}
 use Rattle.cmark_tree.specs.contracts.tree.Tree.{the_row as tree_row}
 
 module _ {T : Type 0} where
-  abbrev pub with_node_item : Node T → T → Node T
-  with_node_item n w = record n { item = w }
-
   abbrev pub with_stored_item : Nodes T → ℕ → T → Nodes T
   with_stored_item nodes ix w =
-      record nodes { list = with_item nodes.list (ix - 1) (with_node_item (slice_index_or nodes.list.items (ix - 1) (record { item = w; child = 0; next = 0 })) w) }
+      let same = length-set nodes.items.items (ix - 1) w in
+      record nodes { items = with_item nodes.items (ix - 1) w; even = (nodes.even.0 ∙ sym same, (nodes.even.1.0 ∙ sym same, nodes.even.1.1)) }
 
   -- the tree with another item at this node
   abbrev pub with_item_at : Tree T → ℕ → T → Tree T
@@ -23,9 +20,6 @@ module _ {T : Type 0} where
 
 module _ (T : RattleType) where
   -- once the borrow r ends, the node has the last item written through r
-  abbrev pub LendsItem : MutBor (Node T.Denot) → MutBor T.Denot → Fml
-  LendsItem s r = Lends (node_row T) T s r (with_node_item s.now)
-
   abbrev pub LendsStoredItem : MutBor (Nodes T.Denot) → ℕ → MutBor T.Denot → Fml
   LendsStoredItem s ix r = Lends (nodes_row T) T s r (with_stored_item s.now ix)
 

@@ -1,25 +1,29 @@
 -- The nodes of a tree by their numbers, from 1 on. No other file of specs/ knows how they are stored.
 use Rattle.std.specs.Prelude.{◌≡◌, ◌≢◌, ℕ, zero, suc, ◌<◌, ◌≤◌, List, length, slice_get, Option, Some, None}
-use Rattle.cmark_tree.specs.declared.nodes.Node.{Node}
 use Rattle.cmark_tree.specs.declared.nodes.Nodes.{Nodes}
 use Rattle.cmark_tree.specs.Arena.{Entry}
 
-module _ {T : Type 0} where
-  abbrev pub entry_of : Option (Node T) → Option (Entry T)
-  entry_of None = None
-  entry_of (Some n) = Some (record { item = n.item; child = n.child; next = n.next })
+-- the number that a link is, where one that is not there is none
+abbrev pub link_at : Option ℕ → ℕ
+link_at None = 0
+link_at (Some i) = i
 
-  abbrev pub entry_in : List (Node T) → ℕ → Option (Entry T)
-  entry_in list zero = None
-  entry_in list (suc i) = entry_of (slice_get list i)
+module _ {T : Type 0} where
+  abbrev pub entry_of : Option T → (next child : Option ℕ) → Option (Entry T)
+  entry_of None next child = None
+  entry_of (Some x) next child = Some (record { item = x; child = link_at child; next = link_at next })
+
+  abbrev pub entry_in : List T → (nexts children : List ℕ) → ℕ → Option (Entry T)
+  entry_in items nexts children zero = None
+  entry_in items nexts children (suc i) = entry_of (slice_get items i) (slice_get nexts i) (slice_get children i)
 
   -- the node of this number
   unfoldable pub node_at : Nodes T → ℕ → Option (Entry T)
-  node_at nodes = entry_in nodes.list.items
+  node_at nodes = entry_in nodes.items.items nodes.nexts.items nodes.children.items
 
   -- how many there are
   unfoldable pub node_count : Nodes T → ℕ
-  node_count nodes = length nodes.list.items
+  node_count nodes = length nodes.items.items
 
   -- there is a node of this number
   abbrev pub HasNumber : Nodes T → ℕ → Type 0

@@ -1,61 +1,85 @@
 // The nodes of a tree by their numbers. This file alone knows how they are stored.
 
-ghost use Rattle.std.specs.Prelude.{◌≡◌, ◌<◌, Some, IfOk, OnErr};
-ghost use Rattle.std.specs.Borrow.{sem};
-ghost use Rattle.cmark_tree.specs.Lending.{LendsItem, LendsStoredItem};
-ghost use Rattle.cmark_tree.specs.Arena.{Entry};
-ghost use Rattle.cmark_tree.specs.Nodes.{node_at, node_count, HasNumber, IsGrown, IsChanged, IsMoved, SameNodes, with_next, with_child};
+ghost use Rattle.std.specs.Prelude.{◌≡◌, ◌≤◌, length, vec_capacity};
 
 use std::alloc::{AllocError, Global};
 
-// A node, with the numbers of its first child and its next sibling, where 0 stands for none.
-#[derive(Drop)]
-struct Node<T> {
-    item: T,
-    child: usize,
-    next: usize,
-}
+// For how many nodes at least a vector that is full makes room: a short text then asks for memory once.
+const NODES_AT_ONCE: usize = 16;
 
-// Number i stands at place i - 1.
+// Node i has its item, the number of its next sibling and that of its first child at place i - 1 of the three vectors. The number 0 means
+// that there is none.
 #[derive(Drop)]
 pub struct Nodes<T> {
-    list: Vec<Node<T>>,
-}
-
-impl<T: Drop> Node<T> {
-    fn item_mut(&mut self) -> &mut T
-        ensures* lends { sem 𝓛 (LendsItem T.row self.entry result) }
-        ensures value { result.now ≡ self.old.item }
-    {
-        &mut self.item
-    }
+    items: Vec<T>,
+    nexts: Vec<usize>,
+    children: Vec<usize>,
+    // Each of the three has room for this many, so that one comparison says whether the next node needs memory.
+    room: usize,
+    ghost even: { (length nexts.items ≡ length items.items)
+        × ((length children.items ≡ length items.items)
+        × ((room ≤ vec_capacity items) × ((room ≤ vec_capacity nexts) × (room ≤ vec_capacity children)))) },
 }
 
 impl<T: Drop> Nodes<T> {
+    ghost use Rattle.std.specs.Prelude.{◌<◌, Some, IfOk, OnErr, OnOk};
+    ghost use Rattle.std.specs.Borrow.{sem};
+    ghost use Rattle.cmark_tree.specs.Lending.{LendsStoredItem};
+    ghost use Rattle.cmark_tree.specs.Arena.{Entry};
+    ghost use Rattle.cmark_tree.specs.Nodes.{node_at, node_count, HasNumber, IsGrown, IsChanged, IsMoved, SameNodes, with_next, with_child};
+
     pub fn with_capacity(alloc: Global, capacity: usize) -> Result<Nodes<T>, AllocError>
         ensures { IfOk result (λ nodes. node_count nodes ≡ 0) }
     {
-        let list = Vec::with_capacity(alloc, capacity)?;
-        Ok(Nodes { list })
+        let items = Vec::with_capacity(alloc, capacity)?;
+        let nexts = Vec::with_capacity(alloc, capacity)?;
+        let children = Vec::with_capacity(alloc, capacity)?;
+        Ok(Nodes {
+            items,
+            nexts,
+            children,
+            room: capacity,
+        })
     }
 
     pub fn count(&self) -> usize
         ensures { result ≡ node_count self.now }
     {
-        self.list.len()
+        self.items.len()
     }
 
-    // A node with no links behind the others: its number.
+    // Makes room for at least one more node. Where memory is refused, what grew before keeps its room.
+    #[inline(never)]
+    fn grow(&mut self) -> Result<(), AllocError>
+        ensures items { self.new.items.items ≡ self.old.items.items }
+        ensures nexts { self.new.nexts.items ≡ self.old.nexts.items }
+        ensures children { self.new.children.items ≡ self.old.children.items }
+        ensures ok { OnOk result (length self.new.items.items < self.new.room) }
+    {
+        self.items.reserve(NODES_AT_ONCE)?;
+        self.nexts.reserve(NODES_AT_ONCE)?;
+        self.children.reserve(NODES_AT_ONCE)?;
+        self.room = self
+            .items
+            .capacity()
+            .min(self.nexts.capacity())
+            .min(self.children.capacity());
+        Ok(())
+    }
+
+    // A node with no links after the others: its number. All three have room before any of them gets something.
+    #[inline]
     pub fn push(&mut self, item: T) -> Result<usize, AllocError>
         ensures ok { IfOk result (λ ix. IsGrown self.old self.new ix item) }
         ensures err { OnErr result (SameNodes self.old self.new) }
     {
-        self.list.push(Node {
-            item,
-            child: 0,
-            next: 0,
-        })?;
-        Ok(self.list.len())
+        if self.items.len() >= self.room {
+            self.grow()?;
+        }
+        self.items.push_reserved(item);
+        self.nexts.push_reserved(0);
+        self.children.push_reserved(0);
+        Ok(self.items.len())
     }
 
     // A new node behind the others takes what node `ix` has, which gets this item and no links: the new node's number.
@@ -65,7 +89,9 @@ impl<T: Drop> Nodes<T> {
         ensures err { OnErr result (SameNodes self.old self.new) }
     {
         let new = self.push(item)?;
-        self.list.swap(ix - 1, new - 1);
+        self.items.swap(ix - 1, new - 1);
+        self.nexts.swap(ix - 1, new - 1);
+        self.children.swap(ix - 1, new - 1);
         Ok(new)
     }
 
@@ -73,7 +99,7 @@ impl<T: Drop> Nodes<T> {
         requires { HasNumber self.now ix }
         ensures { (e : Entry T) → node_at self.now ix ≡ Some e → result.now ≡ e.item }
     {
-        &self.list[ix - 1].item
+        &self.items[ix - 1]
     }
 
     pub fn item_mut(&mut self, ix: usize) -> &mut T
@@ -81,37 +107,35 @@ impl<T: Drop> Nodes<T> {
         ensures* lends { sem 𝓛 (LendsStoredItem T.row self.entry ix result) }
         ensures value { (e : Entry T) → node_at self.old ix ≡ Some e → result.now ≡ e.item }
     {
-        self.list[ix - 1].item_mut()
+        &mut self.items[ix - 1]
     }
 
     pub fn next(&self, ix: usize) -> usize
         requires { HasNumber self.now ix }
         ensures { (e : Entry T) → node_at self.now ix ≡ Some e → result ≡ e.next }
     {
-        self.list[ix - 1].next
+        self.nexts[ix - 1]
     }
 
     pub fn child(&self, ix: usize) -> usize
         requires { HasNumber self.now ix }
         ensures { (e : Entry T) → node_at self.now ix ≡ Some e → result ≡ e.child }
     {
-        self.list[ix - 1].child
+        self.children[ix - 1]
     }
 
     pub fn set_next(&mut self, ix: usize, to: usize)
         requires { HasNumber self.old ix }
         ensures { IsChanged self.old self.new ix (with_next to) }
     {
-        let node = &mut self.list[ix - 1];
-        node.next = to;
+        self.nexts[ix - 1] = to;
     }
 
     pub fn set_child(&mut self, ix: usize, to: usize)
         requires { HasNumber self.old ix }
         ensures { IsChanged self.old self.new ix (with_child to) }
     {
-        let node = &mut self.list[ix - 1];
-        node.child = to;
+        self.children[ix - 1] = to;
     }
 
     // The children of a node end with this one, or, where it is 0, there are none.

@@ -123,6 +123,7 @@ kind-within text texts start end tight body.Strong kind e = absurd (let q : None
 kind-within text texts start end tight body.Strikethrough kind e = absurd (let q : None ≡ Some kind = e in cc)
 kind-within text texts start end tight body.Superscript kind e = absurd (let q : None ≡ Some kind = e in cc)
 kind-within text texts start end tight body.Subscript kind e = absurd (let q : None ≡ Some kind = e in cc)
+kind-within text texts start end tight body.Highlight kind e = absurd (let q : None ≡ Some kind = e in cc)
 kind-within text texts start end tight (body.Math x0 x1) kind e = absurd (let q : None ≡ Some kind = e in cc)
 kind-within text texts start end tight (body.Code x0) kind e = absurd (let q : None ≡ Some kind = e in cc)
 kind-within text texts start end tight (body.FootnoteReference x0) kind e = absurd (let q : None ≡ Some kind = e in cc)
@@ -220,6 +221,7 @@ not-within tight body.Strong l d i j = refl
 not-within tight body.Strikethrough l d i j = refl
 not-within tight body.Superscript l d i j = refl
 not-within tight body.Subscript l d i j = refl
+not-within tight body.Highlight l d i j = refl
 not-within tight (body.Math x0 x1) l d i j = refl
 not-within tight (body.Code x0) l d i j = refl
 not-within tight (body.FootnoteReference x0) l d i j = refl

@@ -3,17 +3,13 @@
 
 use mdevents_run::run;
 use mdhtml_parts::Watched;
-use mdhtml_settings::{Stop, finish, start};
+use mdhtml_settings::{Program, Stop, finish, start};
 use std::process::ExitCode;
-
-/// What the program does, as its help says it.
-const ABOUT: &str =
-    "Reads Markdown on standard input and writes a line of JSON for each event on standard output";
 
 fn main(rt: HostRuntime) -> ExitCode {
     let mut reader = Watched::new(rt.stdin());
     let mut writer = Watched::new(rt.stdout());
-    let ended = start(&rt, "mdevents", ABOUT).and_then(|settings| {
+    let ended = start(&rt, Program::Mdevents).and_then(|settings| {
         let options = settings.options;
         run(
             rt.alloc(),
@@ -24,5 +20,5 @@ fn main(rt: HostRuntime) -> ExitCode {
         )
         .map_err(Stop::Fault)
     });
-    finish(&rt, "mdevents", &mut writer, ended)
+    finish(&rt, Program::Mdevents, &mut writer, ended)
 }

@@ -15,6 +15,7 @@ use Rattle.cmark_parser.specs.declared.parse.OffsetIter.{OffsetIter}
 use Rattle.cmark_parser.specs.declared.parse.Parser.{Parser}
 use Rattle.cmark_parser.specs.Parsing.{GivesRanged, Reads, callback_of, shown_item, walk_of}
 use Rattle.cmark_parser.proofs.WalkSteps.{drained_silent}
+use Rattle.cmark_parser.specs.Walking.{usual_limit}
 
 lines-more : (rs : List Ranged) (r : Ranged) → lines (rs ++ r ∷ []) ≡ lines rs ++ line r
 lines-more [] r = append-nil (line r)
@@ -36,4 +37,4 @@ module _ {E F : Type 0} (Says : F → BrokenLink → Option (CowStr × CowStr) �
   pub rendered : (parser : Parser E F) (iter : OffsetIter E F) (text : List ℕ) (options : Options) (lookup : Lookup) (items : List (Event × Range ℕ)) (output : List ℕ) → walk_of iter ≡ parser → callback_of parser ≡ None
       → Reads replacement text options lookup parser → Drains (GivesRanged Says replacement) iter (map Ok items) → output ≡ lines (map shown_item items) → AreLinesOf text options lookup output
   rendered parser iter text options lookup items output same silent reads drains is =
-      record { events = map shown_item items; reading = drained_silent Says replacement parser iter text options lookup items same silent reads drains; output_is = is }
+      record { events = map shown_item items; reading = drained_silent Says replacement (usual_limit text) parser iter text options lookup items same silent reads drains; output_is = is }

@@ -1,9 +1,11 @@
 //! From a reader's Markdown to a writer's lines of JSON.
 #![tactic(auto)]
 
+ghost use Rattle.std.specs.Prelude.{⊤};
 ghost use Rattle.cmark_text_parts.specs.Shown.{shown_options};
 ghost use Rattle.mdevents_lines.specs.Renders.{AreLinesOf};
-ghost use Rattle.mdhtml_parts.specs.Ends.{watched_end, watched_notes};
+ghost use Rattle.mdhtml_parts.specs.Ends.{watched_end, watched_notes, watched_resets};
+ghost use Rattle.mdhtml_parts.specs.Notes.{Cleared};
 ghost use Rattle.mdhtml_parts.specs.Runs.{Runs};
 
 use cmark_text_parts::{EntityLookup, Options};
@@ -41,10 +43,12 @@ pub fn run<R: Read, W: Write, E: EntityLookup>(
     options: Options,
     entities: &E,
 ) -> Result<(), RunFault>
-    ensures { Runs (λ text output. AreLinesOf text (shown_options options) (E.replacement entities.now) output)
+    ensures run { Runs (λ text output. AreLinesOf text (shown_options options) (E.replacement entities.now) output) (λ text. ⊤)
         (R.remaining (watched_end reader.old)) (R.remaining (watched_end reader.new))
         (W.contents (watched_end writer.old)) (W.contents (watched_end writer.new))
         (watched_notes reader.new) (watched_notes writer.new) result }
+    ensures fresh_reader { Cleared (watched_resets reader.old) (watched_resets reader.new) }
+    ensures fresh_writer { Cleared (watched_resets writer.old) (watched_resets writer.new) }
 {
     mdhtml_parts::run::run(alloc, reader, writer, &EventLines { options, entities })
 }

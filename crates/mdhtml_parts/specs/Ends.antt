@@ -1,4 +1,5 @@
 -- What a watched end shows.
+use Rattle.std.specs.Prelude.{ℕ}
 use Rattle.mdhtml_parts.specs.declared.watched.Watched.{Watched}
 use Rattle.mdhtml_parts.specs.declared.watched.Notes.{Notes}
 
@@ -9,3 +10,7 @@ watched_end watched = watched.end
 -- what became of its calls since the last reset
 abbrev pub watched_notes : {E : Type 0} → Watched E → Notes
 watched_notes watched = watched.notes
+
+-- how often the notes were cleared
+abbrev pub watched_resets : {E : Type 0} → Watched E → ℕ
+watched_resets watched = watched.resets

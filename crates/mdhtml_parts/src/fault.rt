@@ -1,29 +1,26 @@
 //! What can end a run.
 
-ghost use Rattle.std.specs.Prelude.{◌≡◌};
-ghost use Rattle.mdhtml_parts.specs.Faults.{status_of};
+ghost use Rattle.std.specs.Prelude.{◌≡◌, Some};
+ghost use Rattle.std.specs.Fmt.{padded};
+ghost use Rattle.mdhtml_parts.specs.Faults.{message_of, status_of};
 
 use std::alloc::AllocError;
-use thiserror::Error;
+use std::error::Error;
+use std::fmt::{self, Display, Formatter, Write};
 
 /// What ended a run before all was written. Its text is the message, without the program's name.
-#[derive(Clone, Copy, Debug, PartialEq, Eq, Error)]
+#[derive(Clone, Copy, Debug, PartialEq, Eq)]
 pub enum RunFault {
     /// Memory was refused. Nothing was written.
-    #[error("out of memory")]
     Memory = 1,
     /// A read failed, too many in a row were interrupted, or the input is too long. Nothing was written.
-    #[error("read failed")]
     Read = 2,
     /// The input is not UTF-8. Nothing was written.
-    #[error("input is not UTF-8")]
     NotUtf8 = 3,
     /// The file of entities cannot be read, or is no object of texts. Nothing was written.
-    #[error("bad entity file")]
     Entities = 4,
     /// A write or the flush failed, a write took no byte, or too many in a row were interrupted. A beginning of the output
     /// was written.
-    #[error("write failed")]
     Write = 5,
 }
 
@@ -36,6 +33,25 @@ impl From<AllocError> for RunFault {
         Self::Memory
     }
 }
+
+impl Display for RunFault {
+    ghost output = { λ fault. Some (message_of fault) };
+
+    ghost styled_output = { λ fault spec. Some (padded spec (message_of fault)) };
+
+    fn fmt<W: Write>(&self, f: &mut Formatter<W>) -> fmt::Result {
+        let message = match self {
+            RunFault::Memory => "out of memory",
+            RunFault::Read => "read failed",
+            RunFault::NotUtf8 => "input is not UTF-8",
+            RunFault::Entities => "bad entity file",
+            RunFault::Write => "write failed",
+        };
+        f.pad(message)
+    }
+}
+
+impl Error for RunFault {}
 
 /// The exit status that the program ends with after a fault.
 pub fn status(fault: &RunFault) -> u8

@@ -1,9 +1,10 @@
 //! Reading to the end.
 
-ghost use Rattle.std.specs.Prelude.{◌≡◌, ◌≤◌, IfOk, IfErr, OnOk, vec_len};
+ghost use Rattle.std.specs.Prelude.{◌≡◌, ◌≤◌, true, IfOk, IfErr, OnOk, vec_len};
 ghost use Rattle.std.specs.Io.KnownBytes.{Consumes, IsAtEnd};
-ghost use Rattle.mdhtml_parts.specs.Ends.{watched_end, watched_notes};
-ghost use Rattle.mdhtml_parts.specs.Faults.{ReadStops};
+ghost use Rattle.mdhtml_parts.specs.Ends.{watched_end, watched_notes, watched_resets};
+ghost use Rattle.mdhtml_parts.specs.Faults.{ReadStops, ReadsOn};
+ghost use Rattle.mdhtml_parts.specs.Notes.{Cleared};
 
 use crate::fault::RunFault;
 use crate::watched::{PATIENCE, Watched};
@@ -17,8 +18,8 @@ const CHUNK: usize = 8_192;
 /// All bytes that a reader has left, `limit` at most.
 ///
 /// The notes of the reader start afresh. Answers `Read` where a read failed, where `PATIENCE` reads in a row were
-/// interrupted, or where more than `limit` bytes came, and `Memory` where memory was refused. The bytes that were read
-/// before are then lost.
+/// interrupted, or where more than `limit` bytes came, and `Memory` where memory was refused to bytes that came. The bytes that
+/// were read before are then lost.
 // The chunk stands on the stack while the text is read, and not while it is rendered.
 #[inline(never)]
 pub fn read_all<R: Read>(
@@ -29,11 +30,12 @@ pub fn read_all<R: Read>(
     ensures all { IfOk result (λ bytes. Consumes (R.remaining (watched_end reader.old)) (R.remaining (watched_end reader.new)) bytes.items) }
     ensures at_end { OnOk result (IsAtEnd (R.remaining (watched_end reader.new))) }
     ensures within { IfOk result (λ bytes. vec_len bytes ≤ limit) }
+    ensures notes { OnOk result (((watched_notes reader.new).ended ≡ true) × ReadsOn limit (watched_notes reader.new)) }
     ensures fault { IfErr result (ReadStops limit (watched_notes reader.new)) }
+    ensures fresh { Cleared (watched_resets reader.old) (watched_resets reader.new) }
 {
     reader.reset();
-    // There is room at once for a short text.
-    let mut bytes = Vec::with_capacity(alloc, CHUNK)?;
+    let mut bytes = Vec::new(alloc);
     let mut chunk = [0u8; CHUNK];
     loop {
         match reader.read(&mut chunk) {

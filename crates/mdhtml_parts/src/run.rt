@@ -1,6 +1,7 @@
 //! From a reader's Markdown to a writer's output.
 
-ghost use Rattle.mdhtml_parts.specs.Ends.{watched_end, watched_notes};
+ghost use Rattle.mdhtml_parts.specs.Ends.{watched_end, watched_notes, watched_resets};
+ghost use Rattle.mdhtml_parts.specs.Notes.{Cleared};
 ghost use Rattle.mdhtml_parts.specs.Runs.{Runs};
 
 use crate::fault::RunFault;
@@ -25,12 +26,13 @@ pub fn run<R: Read, W: Write, P: Render>(
     writer: &mut Watched<W>,
     renderer: &P,
 ) -> Result<(), RunFault>
-    ensures { Runs (P.renders renderer.now)
+    ensures run { Runs (P.renders renderer.now) (P.refuses renderer.now)
         (R.remaining (watched_end reader.old)) (R.remaining (watched_end reader.new))
         (W.contents (watched_end writer.old)) (W.contents (watched_end writer.new))
         (watched_notes reader.new) (watched_notes writer.new) result }
+    ensures fresh_reader { Cleared (watched_resets reader.old) (watched_resets reader.new) }
+    ensures fresh_writer { Cleared (watched_resets writer.old) (watched_resets writer.new) }
 {
-    reader.reset();
     writer.reset();
     let bytes = read_all(alloc, reader, INPUT_LIMIT)?;
     let Ok(text) = str::from_utf8(bytes.as_slice()) else {

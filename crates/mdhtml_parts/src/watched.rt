@@ -3,8 +3,8 @@
 ghost use Rattle.std.specs.Prelude.{◌≡◌};
 ghost use Rattle.std.specs.Io.{ReadsAtMost, WritesAtMost};
 ghost use Rattle.std.specs.Io.KnownBytes.{ReadConsumes, WriteAppends, Keeps};
-ghost use Rattle.mdhtml_parts.specs.Ends.{watched_end, watched_notes};
-ghost use Rattle.mdhtml_parts.specs.Notes.{no_notes, noted_moved, noted_failed, noted_error, noted_read, noted_write, noted_flush};
+ghost use Rattle.mdhtml_parts.specs.Ends.{watched_end, watched_notes, watched_resets};
+ghost use Rattle.mdhtml_parts.specs.Notes.{counted, no_notes, noted_moved, noted_end, noted_failed, noted_error, noted_read, noted_write, noted_flush};
 
 use std::io;
 use std::io::{ErrorKind, Read, Write};
@@ -17,6 +17,8 @@ pub const PATIENCE: u64 = 1_048_576;
 pub struct Notes {
     /// Whether a call failed. A write of no byte and an interrupted flush failed, an interrupted read or write did not.
     pub failed: bool,
+    /// Whether the last call was a read that found the end, as it gave no byte, or a flush that succeeded.
+    pub ended: bool,
     /// How many calls in a row were interrupted last, up to the greatest `u64`.
     pub interrupted: u64,
     /// How many bytes were read or written, up to the greatest `u64`.
@@ -30,6 +32,7 @@ impl Notes {
     {
         Notes {
             failed: false,
+            ended: false,
             interrupted: 0,
             moved: 0,
         }
@@ -41,8 +44,21 @@ impl Notes {
     {
         Notes {
             failed: self.failed,
+            ended: false,
             interrupted: 0,
             moved: self.moved.saturating_add(count as u64),
+        }
+    }
+
+    /// The notes after a read that found the end, or a flush that succeeded.
+    fn after_end(self) -> Notes
+        ensures { result ≡ noted_end self }
+    {
+        Notes {
+            failed: self.failed,
+            ended: true,
+            interrupted: 0,
+            moved: self.moved,
         }
     }
 
@@ -52,6 +68,7 @@ impl Notes {
     {
         Notes {
             failed: true,
+            ended: false,
             interrupted: 0,
             moved: self.moved,
         }
@@ -64,6 +81,7 @@ impl Notes {
         match kind {
             ErrorKind::Interrupted => Notes {
                 failed: self.failed,
+                ended: false,
                 interrupted: self.interrupted.saturating_add(1),
                 moved: self.moved,
             },
@@ -77,6 +95,8 @@ impl Notes {
 pub struct Watched<E> {
     end: E,
     notes: Notes,
+    /// How often the notes were cleared, up to the greatest `u64`.
+    resets: u64,
 }
 
 impl<E> Watched<E> {
@@ -88,6 +108,7 @@ impl<E> Watched<E> {
         Watched {
             end,
             notes: Notes::none(),
+            resets: 0,
         }
     }
 
@@ -105,12 +126,21 @@ impl<E> Watched<E> {
         self.notes
     }
 
+    /// How often the notes were cleared, up to the greatest `u64`. Where it grew, the notes are of later calls alone.
+    pub fn resets(&self) -> u64
+        ensures { result ≡ watched_resets self.now }
+    {
+        self.resets
+    }
+
     /// Forgets what became of the calls so far.
     pub fn reset(&mut self)
         ensures end { watched_end self.new ≡ watched_end self.old }
         ensures notes { watched_notes self.new ≡ no_notes }
+        ensures resets { watched_resets self.new ≡ counted (watched_resets self.old) 1 }
     {
         self.notes = Notes::none();
+        self.resets = self.resets.saturating_add(1);
     }
 }
 
@@ -121,9 +151,11 @@ impl<R: Read> Read for Watched<R> {
         ensures bound { ReadsAtMost result buf.new }
         ensures bytes { ReadConsumes (R.remaining (watched_end self.old)) (R.remaining (watched_end self.new)) result buf.new }
         ensures notes { watched_notes self.new ≡ noted_read (watched_notes self.old) result }
+        ensures resets { watched_resets self.new ≡ watched_resets self.old }
     {
         let result = self.end.read(buf);
         self.notes = match &result {
+            Ok(0) => self.notes.after_end(),
             Ok(count) => self.notes.after_moving(*count),
             Err(error) => self.notes.after_error(error.kind()),
         };
@@ -138,6 +170,7 @@ impl<W: Write> Write for Watched<W> {
         ensures bound { WritesAtMost result buf.now }
         ensures bytes { WriteAppends (W.contents (watched_end self.old)) (W.contents (watched_end self.new)) result buf.now }
         ensures notes { watched_notes self.new ≡ noted_write (watched_notes self.old) result }
+        ensures resets { watched_resets self.new ≡ watched_resets self.old }
     {
         let result = self.end.write(buf);
         self.notes = match &result {
@@ -151,11 +184,13 @@ impl<W: Write> Write for Watched<W> {
     fn flush(&mut self) -> io::Result<()>
         ensures bytes { Keeps (W.contents (watched_end self.old)) (W.contents (watched_end self.new)) }
         ensures notes { watched_notes self.new ≡ noted_flush (watched_notes self.old) result }
+        ensures resets { watched_resets self.new ≡ watched_resets self.old }
     {
         let result = self.end.flush();
-        if result.is_err() {
-            self.notes = self.notes.after_failure();
-        }
+        self.notes = match &result {
+            Ok(()) => self.notes.after_end(),
+            Err(_) => self.notes.after_failure(),
+        };
         result
     }
 }

@@ -1,9 +1,10 @@
 //! Writing to the end.
 
-ghost use Rattle.std.specs.Prelude.{IfErr, OnOk, OnErr};
+ghost use Rattle.std.specs.Prelude.{◌≡◌, true, IfErr, OnOk, OnErr};
 ghost use Rattle.std.specs.Io.KnownBytes.{Appends};
-ghost use Rattle.mdhtml_parts.specs.Ends.{watched_end, watched_notes};
+ghost use Rattle.mdhtml_parts.specs.Ends.{watched_end, watched_notes, watched_resets};
 ghost use Rattle.mdhtml_parts.specs.Faults.{WriteStops};
+ghost use Rattle.mdhtml_parts.specs.Notes.{Cleared};
 ghost use Rattle.mdhtml_parts.specs.Runs.{AppendsFrontOf};
 
 use crate::fault::RunFault;
@@ -17,7 +18,9 @@ use std::io::Write;
 pub fn write_text<W: Write>(writer: &mut Watched<W>, text: &[u8]) -> Result<(), RunFault>
     ensures all { OnOk result (Appends (W.contents (watched_end writer.old)) (W.contents (watched_end writer.new)) text.now) }
     ensures front { OnErr result (AppendsFrontOf (W.contents (watched_end writer.old)) (W.contents (watched_end writer.new)) text.now) }
+    ensures flushed { OnOk result ((watched_notes writer.new).ended ≡ true) }
     ensures fault { IfErr result (WriteStops (watched_notes writer.new)) }
+    ensures fresh { Cleared (watched_resets writer.old) (watched_resets writer.new) }
 {
     writer.reset();
     let mut at = 0;

@@ -1,3 +1,4 @@
 pub mod EntitySteps
 mod LineSamples
 pub mod LineSteps
+pub mod StartSteps

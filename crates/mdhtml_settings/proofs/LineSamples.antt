@@ -1,18 +1,19 @@
 -- Lines whose answer is computed.
-use Rattle.std.proofs.Common.{◌≡◌, ◌∷◌, [], true, List, Some, None, codes, refl}
+use Rattle.std.proofs.Common.{◌≡◌, ◌∷◌, [], true, false, List, Some, None, codes, refl}
 use Rattle.clap.specs.Words.{Kinds, Row, Text, fault_of, matches_of, takes}
 use Rattle.clap.specs.declared.error.kind.ErrorKind.TheVariants.{ArgumentConflict, DisplayHelp, DisplayVersion, TooManyValues, UnknownArgument}
 use Rattle.clap.proofs.OnLiterals.{clap_on_literals}
-use Rattle.mdhtml_settings.specs.Line.{bits_given, file_given, flags, line_command}
+use Rattle.mdhtml_settings.specs.Line.{bits_given, file_given, flags, is_safe_given, line_command}
+use Rattle.mdhtml_settings.specs.declared.program.Program.TheVariants.{Mdhtml, Mdevents}
 
 abbrev line : List Text → List Text
 line words = codes "mdhtml" ∷ words
 
 abbrev rows : List Text → List Row
-rows words = matches_of (line_command (codes "mdhtml")) (line words)
+rows words = matches_of (line_command Mdhtml) (line words)
 
 abbrev faults : List Text → Kinds
-faults words = fault_of (line_command (codes "mdhtml")) (line words)
+faults words = fault_of (line_command Mdhtml) (line words)
 
 no_words : bits_given flags (rows []) ≡ 0
 unfolding clap_on_literals
@@ -22,7 +23,7 @@ two_flags : bits_given flags (rows (codes "--gfm" ∷ codes "--tables" ∷ [])) 
 unfolding clap_on_literals
 two_flags = refl
 
-two_flags_are_taken : takes (line_command (codes "mdhtml")) (line (codes "--gfm" ∷ codes "--tables" ∷ [])) ≡ true
+two_flags_are_taken : takes (line_command Mdhtml) (line (codes "--gfm" ∷ codes "--tables" ∷ [])) ≡ true
 unfolding clap_on_literals
 two_flags_are_taken = refl
 
@@ -65,3 +66,23 @@ a_flag_twice = refl
 a_flag_with_a_value : faults (codes "--math=1" ∷ []) ≡ TooManyValues ∷ []
 unfolding clap_on_literals
 a_flag_with_a_value = refl
+
+safe_html_is_asked_for : is_safe_given (rows (codes "--safe" ∷ codes "--math" ∷ [])) ≡ true
+unfolding clap_on_literals
+safe_html_is_asked_for = refl
+
+safe_html_sets_no_option : bits_given flags (rows (codes "--safe" ∷ [])) ≡ 0
+unfolding clap_on_literals
+safe_html_sets_no_option = refl
+
+safe_html_is_not_asked_for : is_safe_given (rows (codes "--math" ∷ [])) ≡ false
+unfolding clap_on_literals
+safe_html_is_not_asked_for = refl
+
+safe_html_twice : faults (codes "--safe" ∷ codes "--safe" ∷ []) ≡ ArgumentConflict ∷ []
+unfolding clap_on_literals
+safe_html_twice = refl
+
+mdevents_takes_no_flag_for_safe_html : fault_of (line_command Mdevents) (codes "mdevents" ∷ codes "--safe" ∷ []) ≡ UnknownArgument ∷ []
+unfolding clap_on_literals
+mdevents_takes_no_flag_for_safe_html = refl

@@ -1,5 +1,5 @@
 -- The exit status of a program, by what it came to.
-use Rattle.std.specs.Prelude.{◌≡◌, ◌⊎◌, ℕ, List, Option, Result, Ok, Err, string_bytes}
+use Rattle.std.specs.Prelude.{◌≡◌, ◌⊎◌, ℕ, true, List, Option, Result, Ok, Err, string_bytes}
 use Rattle.std.specs.Io.KnownBytes.{Appends, Keeps}
 use Rattle.mdhtml_parts.specs.Faults.{WriteStops, status_of}
 use Rattle.mdhtml_parts.specs.Runs.{AppendsFrontOf}
@@ -10,10 +10,10 @@ use Rattle.mdhtml_settings.specs.declared.starting.Stop.TheVariants.{Help, BadLi
 
 -- what the writer held before and after the program was ended, and its notes then
 module _ (held_old held_new : Option (List ℕ)) (writer : Notes) where
-  -- the text was written, and the status says so; or a write failed behind a beginning of it
+  -- the text was written and flushed, and the status says so; or a write failed behind a beginning of it
   abbrev pub Shows : List ℕ → ℕ → Type 0
   Shows text status =
-      (Appends held_old held_new text × (status ≡ 0))
+      (Appends held_old held_new text × (writer.ended ≡ true) × (status ≡ 0))
       ⊎ (AppendsFrontOf held_old held_new text × WriteStops writer Write × (status ≡ status_of Write))
 
   -- the status is 0 where the program came to its end, and where it wrote the text that was asked for; else that of what

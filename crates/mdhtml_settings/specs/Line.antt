@@ -13,6 +13,8 @@ use Rattle.mdhtml_settings.specs.declared.flags.LineFlag.{LineFlag}
 use Rattle.mdhtml_settings.specs.declared.line.LineFault.{LineFault}
 use Rattle.mdhtml_settings.specs.declared.line.LineFault.TheVariants.{Help, Bad, Memory}
 use Rattle.mdhtml_settings.specs.declared.line.Settings.{Settings}
+use Rattle.mdhtml_settings.specs.declared.program.Program.{Program}
+use Rattle.mdhtml_settings.specs.declared.program.Program.TheVariants.{Mdhtml, Mdevents}
 
 -- the number whose bits are the options
 abbrev pub option_bits : Options → ℕ
@@ -35,7 +37,10 @@ flags =
     (codes "definition-list", 4096) ∷
     (codes "superscript", 8192) ∷
     (codes "subscript", 16384) ∷
-    (codes "wikilinks", 32768) ∷ []
+    (codes "wikilinks", 32768) ∷
+    (codes "highlight", 65536) ∷
+    (codes "email-autolinks", 131072) ∷
+    (codes "github", 133150) ∷ []
 
 abbrev pub shown_flag : LineFlag → Text × ℕ
 shown_flag flag = (flag.name.now, option_bits flag.option)
@@ -57,9 +62,29 @@ file_rule = record (new_rule (codes "entities")) { long = Some (codes "entities"
 abbrev pub with_version : App → App
 with_version = on_top (λ shape. record shape { has_version = true })
 
--- the command of this name: a version, the flags and the file
-abbrev pub line_command : Text → App
-line_command name = with_rule (with_flag_rules (with_version (new_app name)) flags) file_rule
+-- the command of this name: a version, and the flags of the options
+abbrev pub options_command : Text → App
+options_command name = with_flag_rules (with_version (new_app name)) flags
+
+abbrev pub name_of : Program → Text
+name_of Mdhtml = codes "mdhtml"
+name_of Mdevents = codes "mdevents"
+
+abbrev pub writes_html : Program → Bool
+writes_html Mdhtml = true
+writes_html Mdevents = false
+
+-- the flag for safe HTML, which a program that writes HTML has
+abbrev pub safe_flag : Text
+safe_flag = codes "safe"
+
+abbrev pub with_safe_rule : (writes_html : Bool) → App → App
+with_safe_rule true app = with_rule app (flag_rule safe_flag)
+with_safe_rule false app = app
+
+-- the command of a program: that of its name, with the flag for safe HTML, and the file
+abbrev pub line_command : Program → App
+line_command program = with_rule (with_safe_rule (writes_html program) (options_command (name_of program))) file_rule
 
 -- ---- what its words ask for
 
@@ -74,6 +99,10 @@ bits_with rows bits flag = if is_given flag.0 rows then bit_or bits flag.1 else 
 -- the bits of the flags that were given
 abbrev pub bits_given : List (Text × ℕ) → List Row → ℕ
 bits_given all rows = fold (bits_with rows) 0 all
+
+-- the flag for safe HTML was given
+abbrev pub is_safe_given : List Row → Bool
+is_safe_given rows = is_given safe_flag rows
 
 abbrev pub file_given : List Row → Option Text
 file_given = first_of (codes "entities")

@@ -1,8 +1,14 @@
 -- Why a program makes no run.
+use Rattle.std.specs.Prelude.{◌≡◌, [], Result, MatchResult}
+use Rattle.std.specs.declared.io.ErrorKind.{ErrorKind}
+use Rattle.std.specs.declared.io.ErrorKind.TheVariants.{OutOfMemory}
+use Rattle.clap.specs.Words.{Kinds}
 use Rattle.mdhtml_parts.specs.declared.fault.RunFault.{RunFault}
 use Rattle.mdhtml_parts.specs.declared.fault.RunFault.TheVariants.{Memory, Read, NotUtf8, Entities, Write}
+use Rattle.mdhtml_settings.specs.Line.{MayFail}
 use Rattle.mdhtml_settings.specs.declared.line.LineFault.{LineFault}
 use Rattle.mdhtml_settings.specs.declared.line.LineFault.TheVariants as line
+use Rattle.mdhtml_settings.specs.declared.starting.RunSettings.{RunSettings}
 use Rattle.mdhtml_settings.specs.declared.starting.Stop.{Stop}
 use Rattle.mdhtml_settings.specs.declared.starting.Stop.TheVariants.{Help, BadLine, Fault}
 
@@ -23,3 +29,23 @@ abbrev pub IsStop : Stop → Type 0
 IsStop (Help text) = Unit {0}
 IsStop BadLine = Unit {0}
 IsStop (Fault fault) = IsEarly fault
+
+-- the fault of words that the system does not give: want of memory, or a word that is no text
+abbrev pub words_fault_of : ErrorKind → LineFault
+words_fault_of OutOfMemory = line.Memory
+words_fault_of _ = line.Bad
+
+-- the fault of a file that cannot be opened
+abbrev pub file_fault_of : ErrorKind → RunFault
+file_fault_of OutOfMemory = Memory
+file_fault_of _ = Entities
+
+-- words that can be refused with these kinds alone stop a program so, and else memory or the file does
+abbrev pub MayStop : Kinds → Stop → Type 0
+MayStop kinds (Help text) = MayFail kinds (line.Help text)
+MayStop kinds BadLine = MayFail kinds line.Bad
+MayStop kinds (Fault fault) = IsEarly fault
+
+-- a run comes only where there is no such kind
+abbrev pub StartsBy : Kinds → Result RunSettings Stop → Type 0
+StartsBy kinds result = MatchResult result (λ settings. kinds ≡ []) (MayStop kinds)

@@ -4,6 +4,7 @@ ghost use Rattle.std.specs.Process.{exit_status};
 ghost use Rattle.mdhtml_parts.specs.Ends.{watched_end, watched_notes};
 ghost use Rattle.mdhtml_settings.specs.Endings.{EndsWith};
 
+use crate::program::Program;
 use crate::starting::Stop;
 use mdhtml_parts::{Watched, status, write_text};
 use std::io::{Eprint, Write};
@@ -12,19 +13,20 @@ use std::process::ExitCode;
 /// The status that a program ends with where the words are not the command's.
 const BAD_LINE_STATUS: u8 = 2;
 
-/// Ends the program of this name, which came to its end or was stopped, and answers its exit status.
+/// Ends a program, which came to its end or was stopped, and returns its exit status.
 ///
 /// A text that the words asked for goes to the writer. What else stopped the program is said on standard error, in one
 /// line behind its name; where standard error is closed too, the status alone tells of it.
 pub fn finish<H: Eprint, W: Write>(
     host: &H,
-    name: &str,
+    program: Program,
     writer: &mut Watched<W>,
     ended: Result<(), Stop>,
 ) -> ExitCode
     ensures { EndsWith (W.contents (watched_end writer.old)) (W.contents (watched_end writer.new)) (watched_notes writer.new)
         ended (exit_status result) }
 {
+    let name = program.name();
     let fault = match ended {
         Ok(()) => return ExitCode::SUCCESS,
         Err(Stop::Help(text)) => match write_text(writer, text.as_bytes()) {

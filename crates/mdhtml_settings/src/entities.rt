@@ -2,6 +2,7 @@
 
 ghost use Rattle.std.specs.Prelude.{◌≡◌, ◌⊎◌, ℕ, List, IfOk, IfErr};
 ghost use Rattle.serde_json.specs.Data.{Members};
+ghost use Rattle.serde_json.specs.Errors.{IsMemory};
 ghost use Rattle.serde_json.specs.View.{view};
 ghost use Rattle.cmark_grammar.specs.Entities.{basic_entity};
 ghost use Rattle.mdhtml_parts.specs.declared.fault.RunFault.TheVariants.{Entities, Memory};
@@ -59,6 +60,17 @@ fn is_object_of_texts(value: &Value) -> bool
     true
 }
 
+/// The fault of a text that is not read as JSON.
+fn json_fault(error: &serde_json::Error) -> RunFault
+    ensures memory { IsMemory error.now → result ≡ Memory }
+    ensures bad { ¬ IsMemory error.now → result ≡ Entities }
+{
+    if error.is_memory() {
+        return RunFault::Memory;
+    }
+    RunFault::Entities
+}
+
 /// Reads a file of entities from its bytes: one JSON object whose values are all texts, each for the name that is its key.
 /// A name that stands twice keeps its last text.
 ///
@@ -74,8 +86,7 @@ pub fn read_entities(alloc: Global, bytes: &[u8]) -> Result<NamedEntities, RunFa
     };
     let file = match Value::from_str(alloc, text) {
         Ok(file) => file,
-        Err(error) if error.is_memory() => return Err(RunFault::Memory),
-        Err(_) => return Err(RunFault::Entities),
+        Err(error) => return Err(json_fault(&error)),
     };
     if !is_object_of_texts(&file) {
         return Err(RunFault::Entities);

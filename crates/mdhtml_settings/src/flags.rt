@@ -18,7 +18,7 @@ pub struct LineFlag {
 }
 
 /// All flags, in the order of the help.
-pub static FLAGS: [LineFlag; 15] = [
+pub static FLAGS: [LineFlag; 18] = [
     LineFlag {
         name: "tables",
         option: Options::ENABLE_TABLES,
@@ -94,6 +94,21 @@ pub static FLAGS: [LineFlag; 15] = [
         option: Options::ENABLE_WIKILINKS,
         help: "Links by name: [[page]]",
     },
+    LineFlag {
+        name: "highlight",
+        option: Options::ENABLE_HIGHLIGHT,
+        help: "Highlighted text: ==a==",
+    },
+    LineFlag {
+        name: "email-autolinks",
+        option: Options::ENABLE_EMAIL_AUTOLINKS,
+        help: "Links by email address: <a@b.c>",
+    },
+    LineFlag {
+        name: "github",
+        option: Options::GITHUB,
+        help: "What GitHub reads: --tables --footnotes --strikethrough --tasklists --gfm --email-autolinks",
+    },
 ];
 
 /// The command with an argument for each of these flags.
@@ -132,7 +147,7 @@ pub fn text_given<'a>(matches: &ArgMatches<'a>, name: &str) -> Option<&'a str>
 ///
 /// The value of a flag is the text `true` or `false`. It is compared as a text, since the clauses of `get_flag` leave open
 /// what it answers for any other.
-fn has_flag(matches: &ArgMatches<'_>, name: &str) -> bool
+pub fn has_flag(matches: &ArgMatches<'_>, name: &str) -> bool
     ensures { result ≡ is_given name.now (rows_of (found_of matches.now)) }
 {
     matches!(text_given(matches, name), Some("true"))

@@ -6,9 +6,11 @@ mod ending;
 mod entities;
 mod flags;
 mod line;
+mod program;
 mod starting;
 
 pub use ending::finish;
 pub use entities::{NamedEntities, read_entities};
 pub use line::{LineFault, Settings, parse_line};
-pub use starting::{RunSettings, Stop, read_entity_file, start};
+pub use program::Program;
+pub use starting::{RunSettings, Stop, read_entity_file, start, start_with};

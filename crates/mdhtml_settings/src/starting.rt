@@ -1,22 +1,27 @@
 //! What a program does before its run: it reads the words of its command line, and the file that they name.
 
-ghost use Rattle.std.specs.Prelude.{◌≡◌, ◌⊎◌, ℕ, List, IfOk, IfErr};
+ghost use Rattle.std.specs.Prelude.{◌≡◌, ◌⊎◌, ℕ, List, true, map, None, Some, is_some, IfOk, IfErr, IfSome, IsOk};
+ghost use Rattle.clap.specs.Words.{fault_of, matches_of, takes};
 ghost use Rattle.serde_json.specs.Data.{Members};
+ghost use Rattle.cmark_grammar.specs.Entities.{basic_entity};
 ghost use Rattle.mdhtml_parts.specs.Ends.{watched_end, watched_notes};
-ghost use Rattle.mdhtml_parts.specs.Faults.{ReadStops};
+ghost use Rattle.mdhtml_parts.specs.Faults.{ReadStops, input_limit};
 ghost use Rattle.mdhtml_parts.specs.Runs.{ReadsAll};
 ghost use Rattle.mdhtml_parts.specs.declared.fault.RunFault.TheVariants.{Entities, Memory, Read};
-ghost use Rattle.mdhtml_parts.specs.declared.run.TheConstants.{INPUT_LIMIT};
 ghost use Rattle.mdhtml_settings.specs.Entities.{Spells, entity_of};
-ghost use Rattle.mdhtml_settings.specs.LookUp.{looked_up};
-ghost use Rattle.mdhtml_settings.specs.Starts.{IsEarly, IsStop};
+ghost use Rattle.mdhtml_settings.specs.Line.{bits_given, file_given, flags, is_safe_given, line_command, option_bits};
+ghost use Rattle.mdhtml_settings.specs.LookUp.{HasNamesOf, looked_up};
+ghost use Rattle.mdhtml_settings.specs.Starts.{IsEarly, IsStop, StartsBy, file_fault_of, words_fault_of};
+ghost use Rattle.mdhtml_settings.specs.declared.starting.Stop.TheVariants.{Fault};
 
 use crate::entities::{NamedEntities, read_entities};
 use crate::line::{LineFault, parse_line};
+use crate::program::Program;
 use cmark_text_parts::Options;
 use mdhtml_parts::run::INPUT_LIMIT;
 use mdhtml_parts::{RunFault, Watched, read_all};
 use std::alloc::{AllocError, Global};
+use std::convert::AsStr;
 use std::env::Env;
 use std::io::{ErrorKind, Read};
 use std::rt::Files;
@@ -27,6 +32,8 @@ use std::{env, fs, io};
 pub struct RunSettings {
     /// The options whose flags were given.
     pub options: Options,
+    /// Whether `--safe` was given, which asks for safe HTML.
+    pub safe: bool,
     /// The names of the file that was given, and the eleven that are known.
     pub entities: NamedEntities,
 }
@@ -87,7 +94,7 @@ pub fn read_entity_file<R: Read>(
 ) -> Result<NamedEntities, RunFault>
     ensures names { IfOk result (λ found. (bytes : List ℕ) × ReadsAll (R.remaining (watched_end reader.old)) (R.remaining (watched_end reader.new)) bytes
         × ((names : Members) × Spells bytes names × ((name : List ℕ) → looked_up found name ≡ entity_of names name))) }
-    ensures fault { IfErr result (λ fault. (fault ≡ Memory) ⊎ ((fault ≡ Entities) × (ReadStops INPUT_LIMIT (watched_notes reader.new) Read
+    ensures fault { IfErr result (λ fault. (fault ≡ Memory) ⊎ ((fault ≡ Entities) × (ReadStops input_limit (watched_notes reader.new) Read
         ⊎ ((bytes : List ℕ) × ReadsAll (R.remaining (watched_end reader.old)) (R.remaining (watched_end reader.new)) bytes
         × ((names : Members) → ¬ (Spells bytes names)))))) }
 {
@@ -99,45 +106,94 @@ pub fn read_entity_file<R: Read>(
     read_entities(alloc, bytes.as_slice())
 }
 
+/// The fault of words that the system does not give.
+fn words_fault(kind: ErrorKind) -> LineFault
+    ensures { result ≡ words_fault_of kind }
+{
+    match kind {
+        ErrorKind::OutOfMemory => LineFault::Memory,
+        _ => LineFault::Bad,
+    }
+}
+
+/// The fault of a file of entities that cannot be opened.
+fn file_fault(kind: ErrorKind) -> RunFault
+    ensures { result ≡ file_fault_of kind }
+{
+    match kind {
+        ErrorKind::OutOfMemory => RunFault::Memory,
+        _ => RunFault::Entities,
+    }
+}
+
 /// The words that the program was started with, its own name first. A word that is not UTF-8 makes the line a bad one.
 fn started_with<H: Env + AllocGlobal>(host: &H) -> Result<Vec<String>, LineFault> {
     match env::args(host) {
         Ok(words) => Ok(words.collect(host.alloc())?),
-        Err(error) if error.kind() == ErrorKind::OutOfMemory => Err(LineFault::Memory),
-        Err(_) => Err(LineFault::Bad),
+        Err(error) => Err(words_fault(error.kind())),
     }
 }
 
-/// The look-up of the file that was given, or of the eleven names alone.
-fn look_up<H: Files + AllocGlobal>(
-    host: &H,
-    file: Option<String>,
-) -> Result<NamedEntities, RunFault>
-    ensures { IfErr result IsEarly }
+/// The file of this path, if there is a path.
+fn opened<H: Files>(host: &H, path: Option<String>) -> Result<Option<Watched<H::File>>, RunFault>
+    ensures file { IfOk result (λ file. is_some file ≡ is_some path) }
+    ensures succeeds { path ≡ None → IsOk result }
+    ensures fault { IfErr result IsEarly }
 {
-    let Some(path) = file else {
-        return Ok(NamedEntities::basic());
+    let Some(path) = path else {
+        return Ok(None);
     };
     match fs::open(host, path) {
-        Ok(end) => read_entity_file(host.alloc(), &mut Watched::new(end)),
-        Err(error) if error.kind() == ErrorKind::OutOfMemory => Err(RunFault::Memory),
-        Err(_) => Err(RunFault::Entities),
+        Ok(file) => Ok(Some(Watched::new(file))),
+        Err(error) => Err(file_fault(error.kind())),
     }
 }
 
-/// Reads the words that the program was started with, and the file of entities that they name. `name` and `about` stand in the
-/// help.
-pub fn start<H: Env + Files + AllocGlobal>(
+/// The look-up of a file of entities, or of the eleven names alone where there is none.
+fn look_up<R: Read + Drop>(
+    alloc: Global,
+    file: Option<Watched<R>>,
+) -> Result<NamedEntities, RunFault>
+    ensures basic { file ≡ None → IfOk result (λ found. (name : List ℕ) → looked_up found name ≡ basic_entity name) }
+    ensures succeeds { file ≡ None → IsOk result }
+    ensures names { IfSome file (λ reader. IfSome (R.remaining (watched_end reader)) (λ bytes. IfOk result (HasNamesOf bytes))) }
+    ensures fault { IfErr result IsEarly }
+{
+    let Some(mut reader) = file else {
+        return Ok(NamedEntities::basic());
+    };
+    read_entity_file(alloc, &mut reader)
+}
+
+/// What a run of a program is told by these words, of which the first is its own name, and by the file of entities that they name.
+pub fn start_with<H: Files + AllocGlobal, S: AsStr>(
     host: &H,
-    name: &str,
-    about: &str,
+    program: Program,
+    words: &[S],
 ) -> Result<RunSettings, Stop>
+    ensures options { IfOk result (λ s. option_bits s.options
+        ≡ bits_given flags (matches_of (line_command program) (map S.text words.now))) }
+    ensures safe { IfOk result (λ s. s.safe ≡ is_safe_given (matches_of (line_command program) (map S.text words.now))) }
+    ensures basic { file_given (matches_of (line_command program) (map S.text words.now)) ≡ None
+        → IfOk result (λ s. (entity : List ℕ) → looked_up s.entities entity ≡ basic_entity entity) }
+    ensures stops { StartsBy (fault_of (line_command program) (map S.text words.now)) result }
+    ensures passes { takes (line_command program) (map S.text words.now) ≡ true
+        → file_given (matches_of (line_command program) (map S.text words.now)) ≡ None
+        → IfErr result (λ stop. stop ≡ Fault Memory) }
+{
+    let settings = parse_line(host.alloc(), program, words)?;
+    let file = opened(host, settings.entities)?;
+    Ok(RunSettings {
+        options: settings.options,
+        safe: settings.safe,
+        entities: look_up(host.alloc(), file)?,
+    })
+}
+
+/// The same by the words that the program was started with.
+pub fn start<H: Env + Files + AllocGlobal>(host: &H, program: Program) -> Result<RunSettings, Stop>
     ensures { IfErr result IsStop }
 {
     let words = started_with(host)?;
-    let settings = parse_line(host.alloc(), name, about, words.as_slice())?;
-    Ok(RunSettings {
-        options: settings.options,
-        entities: look_up(host, settings.entities)?,
-    })
+    start_with(host, program, words.as_slice())
 }

@@ -2,13 +2,15 @@
 #![tactic(auto)]
 
 pub mod html;
+pub mod laws;
 
 pub use cmark_inline::{
-    BrokenLink, BrokenLinkCallback, DefaultBrokenLinkCallback, OwnedLinkCallback,
+    BrokenLink, BrokenLinkCallback, DefaultBrokenLinkCallback, FnCallback, OwnedLinkCallback, Steps,
 };
 pub use cmark_merge::{TextMergeStream, TextMergeWithOffset};
 pub use cmark_parser::{OffsetIter, Parser};
 pub use cmark_references::{LinkDef, RefDefs, RefDefsIter};
+pub use cmark_safe::{SafeEvents, SafeItem, safe_event};
 pub use cmark_text::{
     Alignment, BasicEntities, BlockQuoteKind, CodeBlockKind, CowStr, EntityLookup, Event,
     HeadingLevel, InlineStr, InvalidHeadingLevel, LinkType, MetadataBlockKind, Options,

@@ -25,6 +25,8 @@ options_of set = record {
   superscript = has set 8192;
   subscript = has set 16384;
   wikilinks = has set 32768;
+  highlight = has set 65536;
+  email_autolinks = has set 131072;
 }
 
 -- a version as one number

@@ -1,17 +1,18 @@
 //! What C calls.
 
-ghost use Rattle.std.specs.Prelude.{◌≡◌};
+ghost use Rattle.std.specs.Prelude.{◌≡◌, [], IsUtf8};
 ghost use Rattle.cmark_grammar.specs.Entities.{basic_entity};
-ghost use Rattle.cmark_room.specs.Statuses.{Answers};
+ghost use Rattle.cmark_room.specs.Statuses.{Answers, Refused};
 ghost use Rattle.mdevents_lines.specs.Renders.{AreLinesOf};
 ghost use Rattle.cmark_parser.specs.Rendering.{IsHtmlOf};
+ghost use Rattle.mdhtml_run.specs.Safe.{IsSafeAnswer};
 ghost use Rattle.pulldown_cmark_c.specs.Calls.{options_of, version_number};
 
 use bitflags::Flags;
-use cmark_room::answer;
+use cmark_room::{NOT_UTF8, answer};
 use cmark_text_parts::{BasicEntities, Options};
 use mdevents_run::EventLines;
-use mdhtml_run::Html;
+use mdhtml_run::{Html, SafeHtml};
 use std::alloc::Global;
 
 /// Writes the HTML of a text, read with the options of these bits, at the beginning of `room`, and into `size` how many bytes
@@ -33,6 +34,62 @@ pub extern "C" fn pcm_html(
         entities: &BasicEntities,
     };
     answer(alloc, &html, text, room, size)
+}
+
+/// Writes the HTML of a text of which nothing runs, whoever wrote the text, and else what `pcm_html` says.
+#[unsafe(no_mangle)]
+pub extern "C" fn pcm_safe_html(
+    alloc: Global,
+    text: &[u8],
+    options: u32,
+    room: &mut [u8],
+    size: &mut usize,
+) -> u32
+    ensures { Answers (IsSafeAnswer text.now (options_of options) basic_entity []) text.now room.old room.new size.new result }
+{
+    safe_answer(alloc, text, options, "", room, size)
+}
+
+/// The same, where addresses may have these further schemes too, which are names with white space between them. Where their list is not
+/// UTF-8, the status is that of a text that is not.
+#[unsafe(no_mangle)]
+pub extern "C" fn pcm_safe_html_with(
+    alloc: Global,
+    text: &[u8],
+    options: u32,
+    schemes: &[u8],
+    room: &mut [u8],
+    size: &mut usize,
+) -> u32
+    ensures listed { IsUtf8 schemes.now → Answers (IsSafeAnswer text.now (options_of options) basic_entity schemes.now) text.now room.old room.new size.new result }
+    ensures not_listed { (IsUtf8 schemes.now → ⊥) → (result ≡ 2) × Refused room.old room.new size.new }
+{
+    let Ok(further) = str::from_utf8(schemes) else {
+        *size = 0;
+        return NOT_UTF8;
+    };
+    safe_answer(alloc, text, options, further, room, size)
+}
+
+/// The same with a list that is UTF-8.
+fn safe_answer(
+    alloc: Global,
+    text: &[u8],
+    bits: u32,
+    further: &str,
+    room: &mut [u8],
+    size: &mut usize,
+) -> u32
+    ensures { Answers (IsSafeAnswer text.now (options_of bits) basic_entity further.now) text.now room.old room.new size.new result }
+{
+    let options = Options::from_bits_retain(bits);
+    let entities = &BasicEntities;
+    let renderer = SafeHtml {
+        options,
+        entities,
+        further,
+    };
+    answer(alloc, &renderer, text, room, size)
 }
 
 /// Writes a line of JSON for each event of a text, as `mdevents` does, and else what `pcm_html` says.

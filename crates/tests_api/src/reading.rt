@@ -1,7 +1,8 @@
 //! Definitions and ranges at each point of a reading.
 
 ghost use Rattle.cmark_grammar.specs.Entities.{basic_entity};
-ghost use Rattle.cmark_parser.specs.Parsing.{CanGo, CanGoRanged};
+ghost use Rattle.cmark_parser.specs.Parsing.{CanGo, CanGoRanged, IsRangedReady, IsReady};
+ghost use Rattle.std.specs.Prelude.{⊤};
 
 use pulldown_cmark::{BasicEntities, OffsetIter, Parser, RefDefs};
 use std::alloc::AllocError;
@@ -26,8 +27,10 @@ fn is_defined(
 
 /// Reads on over the first four events.
 fn pass_four_events(parser: &mut Parser<'_, BasicEntities>)
-    requires { CanGo (λ _. basic_entity) parser.old }
-    ensures { CanGo (λ _. basic_entity) parser.new }
+    requires goes { CanGo (λ _. basic_entity) parser.old }
+    requires ready { IsReady (λ _. ⊤) parser.old }
+    ensures goes { CanGo (λ _. basic_entity) parser.new }
+    ensures ready { IsReady (λ _. ⊤) parser.new }
 {
     for _ in 0..4 {
         let _given = parser.next();
@@ -36,7 +39,8 @@ fn pass_four_events(parser: &mut Parser<'_, BasicEntities>)
 
 /// Whether the label `foo` is defined by the first of the two, before the first event and behind the fourth, and `d` never.
 fn keeps_its_definitions(parser: &mut Parser<'_, BasicEntities>) -> Result<bool, AllocError>
-    requires { CanGo (λ _. basic_entity) parser.old }
+    requires goes { CanGo (λ _. basic_entity) parser.old }
+    requires ready { IsReady (λ _. ⊤) parser.old }
 {
     let before = is_defined(
         parser.reference_definitions(),
@@ -128,7 +132,8 @@ fn definitions_are_there_at_every_point(rt: HostRuntime) -> Result<(), Fail> {
 
 /// The ranges of the next five events; `None` where there is no further one.
 fn next_ranges(iter: &mut OffsetIter<'_, BasicEntities>) -> [Option<(usize, usize)>; 5]
-    requires { CanGoRanged (λ _. basic_entity) iter.old }
+    requires goes { CanGoRanged (λ _. basic_entity) iter.old }
+    requires ready { IsRangedReady (λ _. ⊤) iter.old }
 {
     let mut ranges = [None; 5];
     for range in &mut ranges {

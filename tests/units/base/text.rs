@@ -55,6 +55,7 @@ fn texts_are_converted(rt: HostRuntime) -> Result<(), Fail> {
     assert!(rt; matches!(&long, CowStr::Boxed(_)));
     assert_eq!(rt; long.clone(alloc)?.as_str(), LONG);
     assert_eq!(rt; long.into_string(alloc)?.as_str(), LONG);
+    assert_eq!(rt; CowStr::from(SHORT).into_string(alloc)?.as_str(), SHORT);
     let short = CowStr::from(SHORT).into_static(alloc)?;
     assert!(rt; matches!(&short, CowStr::Inlined(_)));
     let cow = short.into_cow(alloc)?;
@@ -101,10 +102,13 @@ fn code_blocks(rt: HostRuntime) -> Result<(), Fail> {
 fn options(rt: HostRuntime) {
     assert_eq!(rt; Options::ENABLE_OLD_FOOTNOTES.bits(), 516);
     assert_eq!(rt; Options::ENABLE_WIKILINKS.bits(), 32768);
+    assert_eq!(rt; Options::ENABLE_HIGHLIGHT.bits(), 65536);
+    assert_eq!(rt; Options::ENABLE_EMAIL_AUTOLINKS.bits(), 131072);
+    assert_eq!(rt; Options::GITHUB.bits(), 133150);
     assert!(rt; !Options::empty().has_gfm_footnotes());
     assert!(rt; Options::ENABLE_FOOTNOTES.has_gfm_footnotes());
     assert!(rt; !Options::ENABLE_OLD_FOOTNOTES.has_gfm_footnotes());
-    assert_eq!(rt; Options::all().bits(), 65534);
+    assert_eq!(rt; Options::all().bits(), 262142);
     assert!(rt; Options::from_name("ENABLE_MATH") == Some(Options::ENABLE_MATH));
 }
 

@@ -1,7 +1,10 @@
 // The pass over a short text, and the prefixes of a line inside an item of a list in a block quote.
 
 use bitflags::Flags;
-use cmark_blocks::{FirstPass, run_first_pass, scan_containers, skip_container_prefixes};
+use cmark_blocks::{
+    FirstPass, LoopInstruction, iterate_special_bytes, run_first_pass, scan_containers,
+    skip_container_prefixes, special_bytes,
+};
 use cmark_builder::Builder;
 use cmark_items::{Item, ItemBody, ListFlags};
 use cmark_scan::LineStart;
@@ -61,5 +64,45 @@ fn prefixes_have_bytes(rt: HostRuntime) -> Result<(), Fail> {
     assert_eq!(rt; skip_container_prefixes(&tree, b"> b", Options::empty()), 2);
     assert_eq!(rt; skip_container_prefixes(&tree, b">\n", Options::empty()), 1);
     assert_eq!(rt; skip_container_prefixes(&tree, b"  b", Options::empty()), 0);
+    Ok(())
+}
+
+// The options of the two tests below.
+fn of_six_extensions() -> Options {
+    Options::ENABLE_MATH
+        .union(Options::ENABLE_TABLES)
+        .union(Options::ENABLE_FOOTNOTES)
+        .union(Options::ENABLE_STRIKETHROUGH)
+        .union(Options::ENABLE_SUPERSCRIPT)
+        .union(Options::ENABLE_TASKLISTS)
+}
+
+#[test]
+fn each_special_byte_is_asked_about_in_turn(rt: HostRuntime) -> Result<(), Fail> {
+    let table = special_bytes(of_six_extensions());
+    let mut places = Vec::new(rt.alloc());
+    let mut is_refused = false;
+    let found: (usize, Option<u8>) =
+        iterate_special_bytes(&table, b"0123456789abcde~*bcd&f0", 0, |at, _byte| {
+            is_refused = is_refused || places.push(at).is_err();
+            LoopInstruction::ContinueAndSkip(0)
+        });
+    assert_eq!(rt; found, (23, None));
+    assert!(rt; !is_refused);
+    assert_eq!(rt; places.as_slice(), [15, 16, 20].as_slice());
+    Ok(())
+}
+
+#[test]
+fn a_skip_past_the_end_ends_at_the_length(rt: HostRuntime) -> Result<(), Fail> {
+    let table = special_bytes(of_six_extensions());
+    let mut questions = 0usize;
+    let found: (usize, Option<u8>) =
+        iterate_special_bytes(&table, b"0123456789abcde~*bcd&f0", 0, |at, _byte| {
+            questions = questions.saturating_add(1);
+            LoopInstruction::ContinueAndSkip(if at == 15 { 100 } else { 0 })
+        });
+    assert_eq!(rt; found, (23, None));
+    assert_eq!(rt; questions, 1);
     Ok(())
 }

@@ -152,19 +152,61 @@ fn takes_an_interrupted_flush_for_a_failure(rt: HostRuntime) -> Result<(), Fail>
     Ok(())
 }
 
+/// A run whose reads, or writes, are interrupted so often in a row before one moves two bytes.
+fn interrupted(
+    alloc: Global,
+    reads: usize,
+    writes: usize,
+) -> Result<Outcome, AllocError> {
+    let reads = after(alloc, reads, Answer::Interrupted, Answer::Bytes(2))?;
+    let writes = after(alloc, writes, Answer::Interrupted, Answer::Bytes(2))?;
+    run_on(alloc, HELLO, reads.as_slice(), writes.as_slice())
+}
+
 #[test]
-fn has_patience(rt: HostRuntime) -> Result<(), Fail> {
-    let most = PATIENCE as usize;
-    let enough = after(rt.alloc(), most - 1, Answer::Interrupted, Answer::Bytes(2))?;
-    let outcome = run_on(rt.alloc(), HELLO, enough.as_slice(), enough.as_slice())?;
+fn has_patience_with_reads(rt: HostRuntime) -> Result<(), Fail> {
+    let outcome = interrupted(rt.alloc(), PATIENCE as usize - 1, 0)?;
     assert_eq!(rt; outcome.result, Ok(()));
     assert_eq!(rt; outcome.written.as_slice(), HELLO_OUTPUT);
-    let too_many = after(rt.alloc(), most, Answer::Interrupted, Answer::Bytes(2))?;
-    let outcome = run_on(rt.alloc(), HELLO, too_many.as_slice(), &[])?;
+    Ok(())
+}
+
+#[test]
+fn has_patience_with_writes(rt: HostRuntime) -> Result<(), Fail> {
+    let outcome = interrupted(rt.alloc(), 0, PATIENCE as usize - 1)?;
+    assert_eq!(rt; outcome.result, Ok(()));
+    assert_eq!(rt; outcome.written.as_slice(), HELLO_OUTPUT);
+    Ok(())
+}
+
+#[test]
+fn loses_patience_with_reads(rt: HostRuntime) -> Result<(), Fail> {
+    let outcome = interrupted(rt.alloc(), PATIENCE as usize, 0)?;
     assert_eq!(rt; outcome.result, Err(RunFault::Read));
-    let outcome = run_on(rt.alloc(), HELLO, &[], too_many.as_slice())?;
+    assert_eq!(rt; outcome.written.as_slice(), b"".as_slice());
+    Ok(())
+}
+
+#[test]
+fn loses_patience_with_writes(rt: HostRuntime) -> Result<(), Fail> {
+    let outcome = interrupted(rt.alloc(), 0, PATIENCE as usize)?;
     assert_eq!(rt; outcome.result, Err(RunFault::Write));
     assert_eq!(rt; outcome.written.as_slice(), b"".as_slice());
+    Ok(())
+}
+
+#[test]
+fn notes_start_afresh(rt: HostRuntime) -> Result<(), Fail> {
+    let failing = [Answer::Failed];
+    let mut reader = Watched::new(Scripted::new(rt.alloc(), HELLO, &failing));
+    let mut writer = Watched::new(Scripted::new(rt.alloc(), b"", &[]));
+    let result = run(rt.alloc(), &mut reader, &mut writer, &Paragraph);
+    assert_eq!(rt; result, Err(RunFault::Read));
+    assert!(rt; reader.notes().failed);
+    let result = run(rt.alloc(), &mut reader, &mut writer, &Paragraph);
+    assert_eq!(rt; result, Ok(()));
+    assert!(rt; !reader.notes().failed && reader.notes().ended && writer.notes().ended);
+    assert_eq!(rt; reader.resets(), 2);
     Ok(())
 }
 

@@ -63,11 +63,11 @@ fn a_tag_of_an_alert(rt: HostRuntime) -> Result<(), Fail> {
 #[test]
 fn bullets(rt: HostRuntime) -> Result<(), Fail> {
     let mut line = LineStart::new(b"- a");
-    assert_eq!(rt; line.scan_list_marker_with_indent(0), Some((b'-', None, 2)));
+    assert_eq!(rt; line.scan_list_marker_with_indent(0), Some((b'-', 0, 2)));
     let mut tabbed = LineStart::new(b"-\ta");
     assert_eq!(rt;
         tabbed.scan_list_marker_with_indent(0),
-        Some((b'-', None, 4))
+        Some((b'-', 0, 4))
     );
     Ok(())
 }
@@ -75,8 +75,8 @@ fn bullets(rt: HostRuntime) -> Result<(), Fail> {
 #[test]
 fn a_thematic_break_behind_bullets(rt: HostRuntime) -> Result<(), Fail> {
     let mut line = LineStart::new(b"- - * * *");
-    assert_eq!(rt; line.scan_list_marker_with_indent(0), Some((b'-', None, 2)));
-    assert_eq!(rt; line.scan_list_marker_with_indent(0), Some((b'-', None, 2)));
+    assert_eq!(rt; line.scan_list_marker_with_indent(0), Some((b'-', 0, 2)));
+    assert_eq!(rt; line.scan_list_marker_with_indent(0), Some((b'-', 0, 2)));
     assert_eq!(rt; line.scan_list_marker_with_indent(0), None);
     assert_eq!(rt; line.bytes_scanned(), 4);
     Ok(())
@@ -87,7 +87,7 @@ fn a_numbered_item(rt: HostRuntime) -> Result<(), Fail> {
     let mut line = LineStart::new(b"10) x");
     assert_eq!(rt;
         line.scan_list_marker_with_indent(0),
-        Some((b')', Some(10), 4))
+        Some((b')', 10, 4))
     );
     Ok(())
 }
@@ -95,14 +95,14 @@ fn a_numbered_item(rt: HostRuntime) -> Result<(), Fail> {
 #[test]
 fn an_item_with_a_blank_rest(rt: HostRuntime) -> Result<(), Fail> {
     let mut line = LineStart::new(b"-");
-    assert_eq!(rt; line.scan_list_marker_with_indent(0), Some((b'-', None, 2)));
+    assert_eq!(rt; line.scan_list_marker_with_indent(0), Some((b'-', 0, 2)));
     Ok(())
 }
 
 #[test]
 fn of_six_blanks_one_counts(rt: HostRuntime) -> Result<(), Fail> {
     let mut line = LineStart::new(b"-      a");
-    assert_eq!(rt; line.scan_list_marker_with_indent(0), Some((b'-', None, 2)));
+    assert_eq!(rt; line.scan_list_marker_with_indent(0), Some((b'-', 0, 2)));
     assert_eq!(rt; line.bytes_scanned(), 2);
     Ok(())
 }

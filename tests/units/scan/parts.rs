@@ -1,6 +1,6 @@
 use cmark_scan_over_lines::{HtmlTag, scan_html_block_inner, scan_link_label_rest};
 use cmark_scan_parts::{
-    scan_autolink, scan_entity, scan_footnote_marker, scan_inline_html_comment,
+    HtmlScanGuard, scan_autolink, scan_entity, scan_footnote_marker, scan_inline_html_comment,
     scan_inline_html_processing, scan_link_dest, scan_rev_while, scan_tag, scan_while,
     scan_wikilink_pipe, unescape,
 };
@@ -39,46 +39,79 @@ fn scans_tag_over_lines(rt: HostRuntime) -> Result<(), Fail> {
 
 #[test]
 fn finds_comment(rt: HostRuntime) -> Result<(), Fail> {
-    let find = scan_inline_html_comment(b"<!-- a -->b", 2);
+    let find = scan_inline_html_comment(b"<!-- a -->b", 2, &mut HtmlScanGuard::default());
     assert_eq!(rt; (find.end, find.passed), (Some(10), 8));
     Ok(())
 }
 
 #[test]
 fn finds_comment_closed_at_once(rt: HostRuntime) -> Result<(), Fail> {
-    let find = scan_inline_html_comment(b"<!-->", 2);
+    let find = scan_inline_html_comment(b"<!-->", 2, &mut HtmlScanGuard::default());
     assert_eq!(rt; (find.end, find.passed), (Some(5), 3));
     Ok(())
 }
 
 #[test]
 fn finds_no_end_of_comment(rt: HostRuntime) -> Result<(), Fail> {
-    let find = scan_inline_html_comment(b"<!-- a", 2);
+    let find = scan_inline_html_comment(b"<!-- a", 2, &mut HtmlScanGuard::default());
     assert_eq!(rt; (find.end, find.passed), (None, 4));
     Ok(())
 }
 
 #[test]
 fn finds_first_end_of_cdata(rt: HostRuntime) -> Result<(), Fail> {
-    let find = scan_inline_html_comment(b"<![CDATA[a]]>b]]>", 2);
+    let find = scan_inline_html_comment(b"<![CDATA[a]]>b]]>", 2, &mut HtmlScanGuard::default());
     assert_eq!(rt; (find.end, find.passed), (Some(13), 11));
     Ok(())
 }
 
 #[test]
 fn finds_processing_instruction(rt: HostRuntime) -> Result<(), Fail> {
-    let find = scan_inline_html_processing(b"<?a>?>b", 2);
+    let find = scan_inline_html_processing(b"<?a>?>b", 2, &mut HtmlScanGuard::default());
     assert_eq!(rt; (find.end, find.passed), (Some(6), 4));
     Ok(())
 }
 
 #[test]
+fn finds_in_vain_once(rt: HostRuntime) -> Result<(), Fail> {
+    let bytes = b"<!-- a <!-- b <?c> d <!E";
+    let mut guard = HtmlScanGuard::default();
+    let find = scan_inline_html_comment(bytes, 2, &mut guard);
+    assert_eq!(rt; (find.end, find.passed), (None, 22));
+    assert_eq!(rt; guard.comment, 24);
+    let find = scan_inline_html_comment(bytes, 9, &mut guard);
+    assert_eq!(rt; (find.end, find.passed), (None, 7));
+    let find = scan_inline_html_processing(bytes, 16, &mut guard);
+    assert_eq!(rt; (find.end, find.passed), (None, 8));
+    let find = scan_inline_html_comment(bytes, 23, &mut guard);
+    assert_eq!(rt; (find.end, find.passed), (None, 1));
+    assert_eq!(rt; (guard.cdata, guard.processing, guard.declaration), (0, 24, 24));
+    Ok(())
+}
+
+#[test]
+fn finds_with_another_mark(rt: HostRuntime) -> Result<(), Fail> {
+    let bytes = b"<!-- a <!B>";
+    let mut guard = HtmlScanGuard::default();
+    let find = scan_inline_html_comment(bytes, 2, &mut guard);
+    assert_eq!(rt; (find.end, guard.comment), (None, 11));
+    let find = scan_inline_html_comment(bytes, 9, &mut guard);
+    assert_eq!(rt; (find.end, find.passed), (Some(11), 2));
+    Ok(())
+}
+
+#[test]
 fn scans_an_autolink(rt: HostRuntime) -> Result<(), Fail> {
-    let link = scan_autolink("<made-up:x y>", 1);
+    let link = scan_autolink(true, "<made-up:x y>", 1);
     assert!(rt; link.is_none());
-    let link = scan_autolink("a <http://b.c>d", 3).ok_or("no link")?;
+    let link = scan_autolink(false, "a <http://b.c>d", 3).ok_or("no link")?;
     assert_eq!(rt; link.end, 14);
     assert_eq!(rt; link.part, "http://b.c");
+    let link = scan_autolink(false, "<a@b.c>", 1);
+    assert!(rt; link.is_none());
+    let link = scan_autolink(true, "<a@b.c>", 1).ok_or("no address")?;
+    assert_eq!(rt; link.end, 7);
+    assert_eq!(rt; link.part, "a@b.c");
     Ok(())
 }
 
@@ -196,6 +229,6 @@ fn pipes_in_a_label_in_a_table(rt: HostRuntime) -> Result<(), Fail> {
     let found = scan_link_label_rest(rt.alloc(), "p\\|q\\\\|r\\\\\\|]", &|_: &[u8]| None, true)?;
     let label = found.ok_or("no label")?;
     assert_eq!(rt; label.end, 13);
-    assert_eq!(rt; label.text.as_str(), "p|q|r\\|");
+    assert_eq!(rt; label.text.as_str(), "p|q|r\\\\|");
     Ok(())
 }

@@ -67,13 +67,13 @@ const SHUT: [Run; 3] = [
 
 fn nested_slots(alloc: Global, room: &mut PairingRoom) -> Result<Vec<Slot>, AllocError> {
     let mut slots = Vec::new(alloc);
-    slots_of_runs(9, &NESTED, room, &mut slots)?;
+    slots_of_runs(9, &NESTED, room, &mut slots, &mut 0)?;
     Ok(slots)
 }
 
 fn inactive_slots(alloc: Global, room: &mut PairingRoom) -> Result<Vec<Slot>, AllocError> {
     let mut slots = Vec::new(alloc);
-    slots_of_runs(7, &SHUT, room, &mut slots)?;
+    slots_of_runs(7, &SHUT, room, &mut slots, &mut 0)?;
     Ok(slots)
 }
 

@@ -19,22 +19,22 @@ fn places(span: CodeSpan) -> (usize, usize, usize) {
 
 #[test]
 fn code_spans(rt: HostRuntime) -> Result<(), Fail> {
-    assert_eq!(rt; code_span("`foo`", 0).map(places), Some((1, 4, 5)));
+    assert_eq!(rt; code_span("`foo`", 0, &mut 0).map(places), Some((1, 4, 5)));
     assert_eq!(rt;
-        code_span("`` foo ` bar ``", 0).map(places),
+        code_span("`` foo ` bar ``", 0, &mut 0).map(places),
         Some((2, 13, 15))
     );
-    assert_eq!(rt; code_span("`foo``bar``", 4).map(places), Some((6, 9, 11)));
-    assert_eq!(rt; code_span("`foo\\`bar`", 0).map(places), Some((1, 5, 6)));
+    assert_eq!(rt; code_span("`foo``bar``", 4, &mut 0).map(places), Some((6, 9, 11)));
+    assert_eq!(rt; code_span("`foo\\`bar`", 0, &mut 0).map(places), Some((1, 5, 6)));
     Ok(())
 }
 
 #[test]
 fn no_code_spans(rt: HostRuntime) -> Result<(), Fail> {
-    assert!(rt; code_span("```foo``", 0).is_none());
-    assert!(rt; code_span("`foo", 0).is_none());
-    assert!(rt; code_span("`foo``bar``", 0).is_none());
-    assert!(rt; code_span("foo`bar`", 0).is_none());
+    assert!(rt; code_span("```foo``", 0, &mut 0).is_none());
+    assert!(rt; code_span("`foo", 0, &mut 0).is_none());
+    assert!(rt; code_span("`foo``bar``", 0, &mut 0).is_none());
+    assert!(rt; code_span("foo`bar`", 0, &mut 0).is_none());
     Ok(())
 }
 

@@ -1,6 +1,7 @@
 //! Tests of footnote references, with footnotes that are defined.
 
 use super::inline::{events_with, whole};
+use bitflags::Flags;
 use cmark_inline::{BrokenLink, BrokenLinkCallback};
 use cmark_items::{FootnoteDef, FootnoteDefs, LinkDef, RefDefs};
 use cmark_text::{CowStr, FootnoteLabel, LinkLabel, Options};
@@ -132,5 +133,14 @@ fn a_label_over_lines_is_one_of_a_link(rt: HostRuntime) -> Result<(), Fail> {
     assert_eq!(rt; (old.asked, old.uses), (0, Some(1)));
     let off = read(rt.alloc(), "[^a b]", Options::ENABLE_TABLES)?;
     assert_eq!(rt; (off.asked, off.uses), (1, Some(0)));
+    Ok(())
+}
+
+#[test]
+fn a_reference_that_a_wikilink_hides_is_counted(rt: HostRuntime) -> Result<(), Fail> {
+    let options = Options::ENABLE_FOOTNOTES.union(Options::ENABLE_WIKILINKS);
+    let found = read(rt.alloc(), "[[c [^a b]|d]]", options)?;
+    assert!(rt; !found.events.as_str().contains("FootnoteReference"));
+    assert_eq!(rt; (found.asked, found.uses), (0, Some(1)));
     Ok(())
 }

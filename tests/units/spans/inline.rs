@@ -3,7 +3,7 @@
 use bitflags::Flags;
 use cmark_inline::{
     BrokenLink, BrokenLinkCallback, DefaultBrokenLinkCallback, InlineState, OwnedLinkCallback,
-    Reader, special_bytes,
+    Reader, Steps, special_bytes,
 };
 use cmark_items::{FootnoteDefs, LinkDef, RefDefs};
 use cmark_leaf_events::LeafEvents;
@@ -111,6 +111,59 @@ pub fn events_with<'a, F: BrokenLinkCallback<'a>>(
         )?;
     }
     Ok(out)
+}
+
+/// What the searches in a leaf of one line have looked at.
+fn steps_of(alloc: Global, source: &str, options: Options) -> Result<Steps, Fail> {
+    let leaf = whole(alloc, source)?.ok_or("no leaf")?;
+    let references = RefDefs::new(alloc);
+    let mut footnotes = FootnoteDefs::new(alloc);
+    let entities = BasicEntities;
+    let special = special_bytes(options);
+    let reader = Reader {
+        entities: &entities,
+        references: &references,
+        options,
+        special: &special,
+    };
+    let mut state = InlineState::new(alloc, source.len());
+    state.resolve(&leaf, &reader, &mut footnotes, &mut DefaultBrokenLinkCallback)?;
+    Ok(state.steps())
+}
+
+#[test]
+fn counts_no_steps(rt: HostRuntime) -> Result<(), Fail> {
+    for text in ["", "hello world"] {
+        let steps = steps_of(rt.alloc(), text, Options::empty())?;
+        assert_eq!(rt; (steps.html, steps.openers, steps.closers), (0, 0, 0));
+    }
+    Ok(())
+}
+
+#[test]
+fn counts_steps(rt: HostRuntime) -> Result<(), Fail> {
+    let steps = steps_of(rt.alloc(), "x <!-- a <!-- b", Options::empty())?;
+    assert_eq!(rt; (steps.html, steps.openers, steps.closers), (15, 0, 0));
+    let steps = steps_of(rt.alloc(), "x <!-- a --> <b> <?c?>", Options::empty())?;
+    assert_eq!(rt; (steps.html, steps.openers, steps.closers), (11, 0, 0));
+    let steps = steps_of(rt.alloc(), "*a*", Options::empty())?;
+    assert_eq!(rt; (steps.html, steps.openers, steps.closers), (0, 1, 0));
+    let steps = steps_of(rt.alloc(), "`a`", Options::empty())?;
+    assert_eq!(rt; (steps.html, steps.openers, steps.closers), (0, 0, 1));
+    let steps = steps_of(rt.alloc(), "$a$", Options::ENABLE_MATH)?;
+    assert_eq!(rt; (steps.html, steps.openers, steps.closers), (0, 0, 5));
+    Ok(())
+}
+
+#[test]
+fn counts_few_steps(rt: HostRuntime) -> Result<(), Fail> {
+    let text = "*a_ ".repeat(rt.alloc(), 5000)?;
+    let steps = steps_of(rt.alloc(), text.as_str(), Options::empty())?;
+    assert!(rt; steps.openers <= 2_560_000);
+    let text = " ${".repeat(rt.alloc(), 1000)?;
+    let steps = steps_of(rt.alloc(), text.as_str(), Options::ENABLE_MATH)?;
+    assert!(rt; steps.closers <= 12_000);
+    Ok(())
 }
 
 /// Definitions of labels, all with this destination and title.

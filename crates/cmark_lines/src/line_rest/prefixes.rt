@@ -120,7 +120,7 @@ impl<'a> LineRest<'a> {
     {
         let mut front = self.front;
         let indent = front.scan_space_upto(3);
-        let (delimiter, number, width) = front.scan_list_marker_with_indent(indent)?;
+        let (delimiter, number, width) = front.scan_item_marker(indent)?;
         let item = ItemStart {
             delimiter,
             number,

@@ -8,7 +8,7 @@ ghost use Rattle.cmark_scan_parts.specs.Footnotes.{marked, IsClosed};
 ghost use Rattle.cmark_grammar.specs.Containers.{padding};
 ghost use Rattle.cmark_text_parts.specs.Shown.{shown_block_quote_kind};
 ghost use Rattle.cmark_scan_blocks.specs.LineStart.{columns_from, row_from};
-ghost use Rattle.cmark_scan_blocks.specs.LineMarkers.{begins_block_quote, behind_block_quote, alert_in, behind_alert, item_in, item_numbers, entered, definition_in, behind_definition, sum_up_to_most, task_in, behind_task, footnote_at, behind_footnote};
+ghost use Rattle.cmark_scan_blocks.specs.LineMarkers.{begins_block_quote, behind_block_quote, alert_in, behind_alert, item_in, item_numbers, plain_numbers, entered, definition_in, behind_definition, sum_up_to_most, task_in, behind_task, footnote_at, behind_footnote};
 
 use crate::line_start::LineStart;
 use crate::marker::{scan_alert, scan_listitem, scan_task};
@@ -45,16 +45,24 @@ impl<'a> LineStart<'a> {
         Some(kind)
     }
 
-    /// Takes the marker of a list item and the blanks behind it that count (CommonMark 5.2), and answers its character
-    /// (the bullet, or what stands behind the number), its number, none for a bullet, and the item's width in columns: the
-    /// indent, which was taken before, the marker and those blanks. At most `usize::MAX` is answered. Where no list item
-    /// begins, or a thematic break stands, nothing is taken. In front of `10) x`, with no indent, the answer is
-    /// `(b')', Some(10), 4)`.
+    /// Takes the marker of a list item and the blanks after it that count (CommonMark 5.2). Returns the marker's character
+    /// (the bullet, or what is after the number), its number, 0 for a bullet, and the item's width in columns.
+    ///
+    /// The width is the sum of the indent, which was taken before, the marker and those blanks, and is at most `usize::MAX`.
+    /// If no list item begins, or there is a thematic break, nothing is taken. Before `10) x`, with no indent, the result is
+    /// `(b')', 10, 4)`.
+    pub fn scan_list_marker_with_indent(&mut self, indent: usize) -> Option<(u8, u64, usize)>
+        ensures found { (at line_end : ℕ) → result ≡ option_map plain_numbers (item_numbers indent (item_in (row_from at line_end self.old))) }
+        ensures rest { (at line_end : ℕ) → row_from at line_end self.new ≡ entered (item_in (row_from at line_end self.old)) (row_from at line_end self.old) }
+        ensures stays { result ≡ None → self.new ≡ self.old }
+    {
+        let (delimiter, number, width) = self.scan_item_marker(indent)?;
+        Some((delimiter, number.unwrap_or(0), width))
+    }
+
+    /// The same, with no number for a bullet. Before `10) x`, with no indent, the result is `(b')', Some(10), 4)`.
     #[inline]
-    pub fn scan_list_marker_with_indent(
-        &mut self,
-        indent: usize,
-    ) -> Option<(u8, Option<u64>, usize)>
+    pub fn scan_item_marker(&mut self, indent: usize) -> Option<(u8, Option<u64>, usize)>
         ensures found { (at line_end : ℕ) → result ≡ item_numbers indent (item_in (row_from at line_end self.old)) }
         ensures rest { (at line_end : ℕ) → row_from at line_end self.new ≡ entered (item_in (row_from at line_end self.old)) (row_from at line_end self.old) }
         ensures stays { result ≡ None → self.new ≡ self.old }

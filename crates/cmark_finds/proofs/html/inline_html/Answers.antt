@@ -2,20 +2,19 @@ use Rattle.std.proofs.Common.{Some, ◌<◌, ◌-◌, length, drop, ap, sym, sub
 use Rattle.std.proofs.lemmas.Grind.{common_steps}
 use Rattle.std.specs.Str.{IsCharBoundary}
 use Rattle.cmark_scan_parts.proofs.Lists.{rest_of}
-use Rattle.cmark_scan_parts.specs.Shown.{shown_find}
 use Rattle.cmark_finds.proofs.HtmlSteps.{markup_value, instruction_value, other_value, tag_further, tag_ends}
 use Rattle.cmark_finds.proofs.html.inline_html.Goals as goal
 
 pub returns-then-starts-clause-value : goal.returns-then-starts-clause-value
 returns-then-starts-clause-value c =
     let rest = rest_of c.as_bytes-bytes.result.now c.args.at ∙ ap (drop c.args.at) c.as_bytes-bytes.ensures.value in
-    markup_value c.args.text.now c.args.at _ rest c.as_bytes-bytes.result.now (shown_find c.scan_inline_html_comment.result) c.as_bytes-bytes.ensures.value (sym c.starts.ensures.value ∙ c.if-starts.true) c.scan_inline_html_comment.ensures.value
+    markup_value c.args.text.now c.args.at _ rest c.as_bytes-bytes.result.now c.scan_inline_html_comment.result.end c.as_bytes-bytes.ensures.value (sym c.starts.ensures.value ∙ c.if-starts.true) c.scan_inline_html_comment.ensures.end
 
 pub returns-then-starts-2-clause-value : goal.returns-then-starts-2-clause-value
 returns-then-starts-2-clause-value c =
     let rest = rest_of c.as_bytes-bytes.result.now c.args.at ∙ ap (drop c.args.at) c.as_bytes-bytes.ensures.value in
-    instruction_value c.args.text.now c.args.at _ rest c.as_bytes-bytes.result.now (shown_find c.scan_inline_html_processing.result) c.as_bytes-bytes.ensures.value (sym c.starts.ensures.value ∙ c.if-starts.false)
-    (sym c.starts-2.ensures.value ∙ c.if-starts-2.true) c.scan_inline_html_processing.ensures.value
+    instruction_value c.args.text.now c.args.at _ rest c.as_bytes-bytes.result.now c.scan_inline_html_processing.result.end c.as_bytes-bytes.ensures.value (sym c.starts.ensures.value ∙ c.if-starts.false)
+    (sym c.starts-2.ensures.value ∙ c.if-starts-2.true) c.scan_inline_html_processing.ensures.end
 
 pub returns-clause-value : goal.returns-clause-value
 returns-clause-value c =

@@ -1,10 +1,22 @@
-use Rattle.std.proofs.Common.{◌∙◌, false, arith, below_more, get_or-set_same, get_or-set_other}
+use Rattle.std.proofs.Common.{◌≡◌, false, refl, sym, ap, ◌∙◌, arith, drop}
+use Rattle.std.proofs.lemmas.List.{get_or-replicate}
 use Rattle.std.proofs.lemmas.Grind.{common_steps}
+use Rattle.cmark_grammar.specs.SpecialBytes.{is_one_of}
+use Rattle.cmark_text_parts.specs.Shown.{shown_options}
+use Rattle.cmark_finds.proofs.SpecialSteps.{marked, may_be_special, plain_is_not_special}
 use Rattle.cmark_finds.proofs.special.special_bytes.Goals as goal
+
+pub loop-byte-init : goal.loop-byte-init
+loop-byte-init c = record {
+  done = λ k h e. get_or-replicate 256 k false false h ∙ sym (plain_is_not_special (shown_options c.args.options) k e);
+  size = refl;
+}
 
 pub loop-byte-preserved : goal.loop-byte-preserved
 loop-byte-preserved c = record {
-  done = below_more _ _ (λ k h. get_or-set_other c.loop-byte.table c.loop-byte.byte k _ false (omega arith) ∙ c.loop-byte.invariant.done k h)
-      (get_or-set_same c.loop-byte.table c.loop-byte.byte _ false (let n = c.loop-byte.invariant.size in omega arith) ∙ c.is_special.ensures);
+  done = λ k h. marked (shown_options c.args.options) c.loop-byte.table c.loop-byte.byte-index k c.is_special.result c.loop-byte-test.true c.loop-byte.invariant.size c.is_special.ensures (c.loop-byte.invariant.done k h);
   size = let n = c.loop-byte.invariant.size in grind (arith, common_steps, n);
 }
+
+pub returns : goal.returns
+returns c = λ k h. c.loop-byte.invariant.done k h (ap (λ n. is_one_of (drop n may_be_special) k) (let at : c.loop-byte.byte-index ≡ 22 = omega (arith, c.loop-byte-test.false, c.loop-byte.auto.byte-index-end) in at))

@@ -17,7 +17,7 @@ returns-clause-moves c = λ from state m.
     let e = c.requires.same in
     let f = m.further in
     record {
-      stands = record { slots = k.slots; brackets = k.brackets; few = k.few; free = k.free; doubled = k.doubled; doubled_free = k.doubled_free; runs = k.runs };
+      stands = record { slots = k.slots; brackets = k.brackets; few = k.few; free = k.free; doubled = k.doubled; doubled_free = k.doubled_free; runs = k.runs; examined = (let x = h.examined in omega (arith, x, le)) };
       cursor = record { pending = c.words_from-words.ensures.boundary; at = c.words_from-words.ensures.boundary; ordered = omega arith };
       further = (let q : from < line = omega (arith, e, f, le) in q);
     }

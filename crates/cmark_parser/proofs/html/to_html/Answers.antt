@@ -1,7 +1,5 @@
-use Rattle.std.proofs.Common.{string_bytes}
 use Rattle.std.proofs.lemmas.Result.{IfOk-weaker}
-use Rattle.cmark_parser.proofs.RenderSteps.{rendered}
 use Rattle.cmark_parser.proofs.html.to_html.Goals as goal
 
 pub returns : goal.returns
-returns g c = IfOk-weaker c.html_of.result _ _ (λ output all. rendered _ _ c.in_ok-parser.parser c.html_of.new.parser c.args.text.now _ _ (string_bytes output) c.in_ok-parser.ensures.reads c.in_ok-parser.ensures.callback all) c.html_of.ensures
+returns g c = IfOk-weaker c.filtered_html.result _ _ (λ output h. record { events = h.events; reading = h.reading; output_is = h.output_is }) c.filtered_html.ensures

@@ -1,4 +1,4 @@
-use Rattle.std.proofs.Common.{rules, ◌≡◌, ◌+◌, ◌≤◌, ◌∷◌, ◌++◌, List, drop, refl, ap, sym, subst, ◌∙◌, arith}
+use Rattle.std.proofs.Common.{rules, [], append-nil, ◌≡◌, ◌+◌, ◌≤◌, ◌∷◌, ◌++◌, List, drop, refl, ap, sym, subst, ◌∙◌, arith}
 use Rattle.std.specs.Prelude.{map}
 use Rattle.cmark_emphasis.specs.Shown.{shown_run}
 use Rattle.cmark_emphasis.specs.Slots.{AreRuns}
@@ -7,8 +7,8 @@ use Rattle.cmark_grammar.specs.Emphasis.{places_taken, runs_of}
 use Rattle.cmark_slots.specs.MarkedSlots.{siblings_from}
 use Rattle.cmark_slots.specs.Slots.{bytes_of}
 use Rattle.cmark_slots.specs.declared.delimiter.PlacedRun.{PlacedRun}
-use Rattle.cmark_slots.proofs.Runs.{first-bytes, no-runs, one-more}
-use Rattle.cmark_slots.proofs.RunPlaces.{gathered-more}
+use Rattle.cmark_slots.proofs.Runs.{first-bytes, gathered-known, no-runs, one-more}
+use Rattle.cmark_slots.proofs.RunPlaces.{gathered-more, none-left}
 use Rattle.cmark_slots.proofs.delimiter.gather.Goals as goal
 
 pub loop-next-init : goal.loop-next-init
@@ -40,3 +40,15 @@ loop-next-preserved c =
           let all = i.3 in
           let l : (c.loop-next.count + c.in-Some.next.now.run.run_length) + places_taken (siblings_from (c.loop-next.count + c.in-Some.next.now.run.run_length) c.in-Some.others.now) ≡ places_taken (siblings_from 0 (drop c.args.first c.args.placed.now)) = omega (arith, t, all) in l),
     )
+
+-- the runs that are gathered are those of the siblings
+gathered : (c : goal.In_default) → map shown_run c.loop-next.runs.items ≡ runs_of (siblings_from 0 (drop c.args.first c.args.placed.now))
+gathered c =
+    let none : c.loop-next.rest.now ≡ [] = none-left c.loop-next.rest.now c.in_default.ensures.cases in
+    sym (append-nil (map shown_run c.loop-next.runs.items)) ∙ ap (λ (ps : List PlacedRun). map shown_run c.loop-next.runs.items ++ runs_of (siblings_from c.loop-next.count ps)) (sym none) ∙ c.loop-next.invariant.2
+
+pub returns-clause-known : goal.returns-clause-known
+returns-clause-known c = (gathered-known c.loop-next.runs.items (drop c.args.first c.args.placed.now) 0 (gathered c)).1
+
+pub returns-clause-length : goal.returns-clause-length
+returns-clause-length c = (gathered-known c.loop-next.runs.items (drop c.args.first c.args.placed.now) 0 (gathered c)).0

@@ -1,7 +1,8 @@
 use Rattle.std.proofs.Common.{◌≡◌, ◌<◌, ◌≤◌, ◌+◌, ◌-◌, ◌*◌, false, vec_len, length}
 use Rattle.std.specs.Io.KnownBytes.{Consumes}
 use Rattle.mdhtml_parts.specs.declared.read.TheConstants.{CHUNK}
-use Rattle.mdhtml_parts.specs.declared.watched.TheConstants.{PATIENCE}
+use Rattle.mdhtml_parts.specs.Faults.{patience}
+use Rattle.mdhtml_parts.specs.Notes.{Cleared}
 use Rattle.mdhtml_parts.proofs.read.read_all.Given as goal
 
 abbrev pub invariant-loop-bytes : goal.invariant-loop-bytes
@@ -10,7 +11,8 @@ invariant-loop-bytes g l = record {
   within : vec_len l.bytes ≤ l.limit;
   moved : l.reader.notes.moved ≡ vec_len l.bytes;
   fine : l.reader.notes.failed ≡ false;
-  patient : l.reader.notes.interrupted < PATIENCE;
+  patient : l.reader.notes.interrupted < patience;
+  fresh : Cleared l.fn.reader.resets l.reader.resets;
   room : length l.chunk ≡ CHUNK;
 }
 

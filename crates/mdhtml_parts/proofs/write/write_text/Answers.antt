@@ -16,6 +16,7 @@ loop-at-preserved-in-Ok g c = record {
   within = omega (arith, c.in-Ok.ensures.bound, ap length (take_rest c.args.text.now c.loop-at.at), length-drop c.loop-at.at c.args.text.now);
   fine = grind (arith, common_steps);
   patient = grind (arith, common_steps);
+  fresh = grind (arith, common_steps);
 }
 
 pub returns-then-notes-clause-front : goal.returns-then-notes-clause-front

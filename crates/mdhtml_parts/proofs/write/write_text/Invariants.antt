@@ -1,6 +1,7 @@
 use Rattle.std.proofs.Common.{◌≡◌, ◌<◌, ◌≤◌, ◌+◌, ◌-◌, ◌*◌, false, take, length}
 use Rattle.std.specs.Io.KnownBytes.{Appends}
-use Rattle.mdhtml_parts.specs.declared.watched.TheConstants.{PATIENCE}
+use Rattle.mdhtml_parts.specs.Faults.{patience}
+use Rattle.mdhtml_parts.specs.Notes.{Cleared}
 use Rattle.mdhtml_parts.proofs.write.write_text.Given as goal
 
 abbrev pub invariant-loop-at : goal.invariant-loop-at
@@ -8,7 +9,8 @@ invariant-loop-at g l = record {
   written : Appends (g.W.Write.contents l.fn.writer.end) (g.W.Write.contents l.writer.end) (take l.at l.text);
   within : l.at ≤ length l.text;
   fine : l.writer.notes.failed ≡ false;
-  patient : l.writer.notes.interrupted < PATIENCE;
+  patient : l.writer.notes.interrupted < patience;
+  fresh : Cleared l.fn.writer.resets l.writer.resets;
 }
 
 -- each write moves a byte, or is one more of those in a row that were interrupted

@@ -3,11 +3,16 @@ use Rattle.std.proofs.Common.{◌≡◌, ◌++◌, ◌∷◌, [], Some, option_m
 use Rattle.cmark_grammar.specs.Labels.{fold}
 use Rattle.cmark_grammar.specs.References.{first_with}
 use Rattle.cmark_grammar.specs.Derivation.{reference_of}
-use Rattle.cmark_references.specs.Definitions.{definition, shown_definition, first_of, at_label}
+use Rattle.cmark_references.specs.Definitions.{definition, entry_of, first_of, at_label, shown_entry}
+use Rattle.cmark_references.proofs.EntrySteps.{looked_up}
+use Rattle.cmark_references.proofs.SpellingSteps.{at}
+use Rattle.cmark_references.specs.declared.definitions.LinkDef.{LinkDef}
+use Rattle.cmark_text_parts.specs.Labelled.{link_key}
+use Rattle.cmark_text_parts.specs.declared.label.LinkLabel.{LinkLabel}
 use Rattle.cmark_definitions.specs.Shown.{written}
-use Rattle.cmark_blocks.specs.Runs.{Runs, shown_reference}
+use Rattle.cmark_blocks.specs.Runs.{Runs}
 use Rattle.cmark_blocks.proofs.DefinitionSteps.{runs-references}
-use Rattle.cmark_blocks.proofs.ReferenceSteps.{fold-again, with-more, with-known, known-some, known-reference}
+use Rattle.cmark_blocks.proofs.ReferenceSteps.{fold-again, shown-first, with-more, with-known, known-some, known-reference}
 use Rattle.cmark_blocks.proofs.state.Pass.keep_definition.Goals as goal
 
 pub returns-clause-runs : goal.returns-clause-runs
@@ -18,15 +23,18 @@ returns-clause-runs g c =
     let opened = subst (Runs replacement text options lookup m) (sym c.self.view_is) runs in
     let found = written c.args.definition.now in
     let reference = reference_of lookup found c.args.span.start c.args.span.end in
-    let kept = c.in_ok-label.kept in
+    let kept : LinkLabel × LinkDef = (c.in_ok-label.label, c.in_ok-label.kept) in
     let made = c.in_ok-label.ensures in
     runs-references replacement text options lookup m _ c.insert.new.self (m.references ++ reference ∷ []) opened
     (λ folded.
-    ap (option_map shown_definition) (stays folded
-    ∙ ap (first_of _) (ap (λ key. at_label key kept folded) (made.key ∙ sym (fold-again found.label))))
-    ∙ with-more folded m.references reference _ kept (opened.references folded)
-    (ap shown_reference (made.value ∙ ap (λ k. reference_of k found c.args.span.start c.args.span.end) opened.lookup_is))))
-    c.insert.ensures.first_stays
+    ap (option_map shown_entry) (stays folded)
+    ∙ shown-first shown_entry _ (link_key kept.0) kept folded
+    ∙ ap (λ before. first_of before (at_label (link_key kept.0) (shown_entry kept) folded)) (opened.references folded)
+    ∙ ap (λ key. first_of (first_with fold folded m.references) (at_label key (shown_entry kept) folded)) (made.key ∙ sym (fold-again found.label))
+    ∙ ap (λ r. first_of (first_with fold folded m.references) (at_label (fold reference.label) r folded))
+    (made.value ∙ ap (λ k. reference_of k found c.args.span.start c.args.span.end) opened.lookup_is)
+    ∙ with-more folded m.references reference))
+    c.insert.ensures.spelled
 
 pub returns-then-is_some-clause-runs : goal.returns-then-is_some-clause-runs
 returns-then-is_some-clause-runs g c text options lookup m runs =
@@ -37,7 +45,9 @@ returns-then-is_some-clause-runs g c text options lookup m runs =
     let table = before.builder.allocations.references in
     let there_is = ap (λ pass. definition pass.builder.allocations.references (fold found.label)) c.self.view_is in
     let there = known-some c.in_ok-known.known (definition table (fold found.label)) (sym c.is_some.ensures ∙ c.if-is_some.true) (c.in_ok-known.ensures ∙ there_is) in
-    let known = known-reference (definition table (fold found.label)) there.0 (first_with fold (fold found.label) m.references) there.1 (runs.references (fold found.label)) in
+    let known =
+    known-reference (definition table (fold found.label)) there.0 (entry_of table (fold found.label)) (first_with fold (fold found.label) m.references) there.1
+    (looked_up (at link_key (fold found.label)) table) (runs.references (fold found.label)) in
     let same : first_with fold (fold reference.label) m.references ≡ Some known.0 = ap (λ key. first_with fold key m.references) (fold-again found.label) ∙ known.1 in
     runs-references replacement text options lookup m before table (m.references ++ reference ∷ []) runs
-    (λ folded. runs.references folded ∙ ap (option_map shown_reference) (sym (with-known folded m.references reference known.0 same)))
+    (λ folded. runs.references folded ∙ sym (with-known folded m.references reference known.0 same))

@@ -3,7 +3,8 @@ use Rattle.std.proofs.lemmas.Grind.{common_steps}
 use Rattle.std.specs.List.{prefix_len}
 use Rattle.cmark_grammar.specs.Formulas.{no_braces}
 use Rattle.cmark_finds.specs.declared.dollars.Dollar.{Dollar}
-use Rattle.cmark_finds.proofs.DollarSteps.{stands_before, listed-at}
+use Rattle.cmark_finds.specs.Dollars.{stands_before}
+use Rattle.cmark_finds.proofs.DollarSteps.{listed-at}
 use Rattle.cmark_finds.proofs.dollars.Dollars.index_of.Goals as goal
 
 pub returns-after-loop-index-clause-within : goal.returns-after-loop-index-clause-within

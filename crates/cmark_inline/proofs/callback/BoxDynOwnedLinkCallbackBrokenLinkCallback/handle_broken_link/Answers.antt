@@ -4,8 +4,8 @@ use Rattle.cmark_inline.proofs.BoxedCallbacks.{said_at_home}
 use Rattle.cmark_inline.proofs.callback.BoxDynOwnedLinkCallbackBrokenLinkCallback.handle_broken_link.Goals as goal
 
 -- src/callback.rt:93:5
-pub returns : goal.returns
-returns g c =
+pub returns-clause-answers : goal.returns-clause-answers
+returns-clause-answers g c =
     let link = c.args.link in
     said_at_home {F = λ k. (g.dyn-1.0.entry k).0.Denot}
     (λ k before after. (g.dyn-1.0.entry k).1.says before link.span.start link.span.end link.link_type (text_bytes link.reference) c.handle_owned.result after)

@@ -12,4 +12,4 @@ returns-clause-stands c = IfOk-weaker c.push_slot.result _ _ (λ _ pushed.
     let w : Brackets = c.args.self.now.doubled in
     let n : ℕ = bytes_of c.args.self.now.delimiters.placed.items in
     let k : Keeps c.args.text.now c.args.place c.push_slot.new.slots.items v w n = keeps-push c.args.text.now c.args.place c.args.place c.args.self.now.slots.items c.push_slot.new.slots.items c.args.slot v w n (record { slots = h.slots; brackets = h.brackets; few = h.few; free = h.free; doubled = h.doubled; doubled_free = h.doubled_free; runs = h.runs }) (omega arith) c.requires.room c.requires.kind c.requires.slot pushed in
-    record { slots = k.slots; brackets = k.brackets; few = k.few; free = k.free; doubled = k.doubled; doubled_free = k.doubled_free; runs = k.runs }) c.push_slot.ensures
+    record { slots = k.slots; brackets = k.brackets; few = k.few; free = k.free; doubled = k.doubled; doubled_free = k.doubled_free; runs = k.runs; examined = h.examined }) c.push_slot.ensures

@@ -1,4 +1,5 @@
 use Rattle.std.proofs.Common.{arith, ◌≡◌, rules, ℕ, ◌+◌, ◌-◌, List, ◌∷◌, [], ◌++◌, sym, subst, refl, ap, ◌∙◌, length}
+use Rattle.cmark_grammar.specs.Siblings.{address_type}
 use Rattle.cmark_grammar.specs.Tokens.{slice}
 use Rattle.cmark_inline.specs.Stands.{Stands}
 use Rattle.cmark_slots.specs.declared.slot.Element.TheVariants as element
@@ -8,7 +9,7 @@ use Rattle.cmark_inline.specs.declared.state.InlineState.{InlineState}
 use Rattle.cmark_inline.proofs.state.InlineState.autolink.Goals as goal
 
 pub put-requires-clause-stands : goal.put-requires-clause-stands
-put-requires-clause-stands c = let s = c.requires.stands in record { slots = s.slots; brackets = s.brackets; few = s.few; free = s.free; doubled = s.doubled; doubled_free = s.doubled_free; runs = s.runs }
+put-requires-clause-stands c = let s = c.requires.stands in record { slots = s.slots; brackets = s.brackets; few = s.few; free = s.free; doubled = s.doubled; doubled_free = s.doubled_free; runs = s.runs; examined = s.examined }
 
 pub add-requires-clause-stands : goal.add-requires-clause-stands
 add-requires-clause-stands c = subst (λ (p : ℕ). Stands c.args.text.now p c.put.new.self) c.in_ok-next.ensures.end c.in_ok-next.ensures.moves.stands
@@ -38,7 +39,7 @@ pub returns-clause-link : goal.returns-clause-link
 returns-clause-link c =
     let value = c.in_ok-dest_url.ensures.value ∙ ap (λ (t : List ℕ). slice t (c.args.here.at + 1) (c.args.end - 1)) (sym c.requires.same) in (
       _,
-      record { form = refl; destination = value; title = refl; id = refl },
+      record { form = c.address_type.ensures ∙ ap address_type c.range.ensures.value; destination = value; title = refl; id = refl },
       ap (λ v. v.items) (c.in_ok-add-2.ensures.table ∙ c.in_ok-add.ensures.table ∙ c.in_ok-next.ensures.table) ∙ c.in_ok-push.ensures.items,
     )
 

@@ -63,6 +63,7 @@ returns-clause-token c = λ o l is.
 pub returns-in-Some-clause-reads_on : goal.returns-in-Some-clause-reads_on
 returns-in-Some-clause-reads_on c = record {
   expansion_left = c.put_onto_words.ensures.expansion_left;
+  steps = search rules;
   keeps = IfOk-weaker c.put_onto_words.result _ _ (λ _ slots. keeps-puts c.args.self.now c.put_onto_words.new.self c.put_onto_words.ensures.others c.args.here.pending c.args.here.at _ slots ((refl, refl, refl), λ i. refl)) c.put_onto_words.ensures.slots;
   moves = c.put_onto_words.ensures.moves;
 }
@@ -70,6 +71,7 @@ returns-in-Some-clause-reads_on c = record {
 pub returns-then-not-is_escape-clause-reads_on : goal.returns-then-not-is_escape-clause-reads_on
 returns-then-not-is_escape-clause-reads_on c = record {
   expansion_left = refl;
+  steps = refl;
   keeps = keeps-same c.args.self.now;
   moves = record { stands = subst (λ (p : ℕ). Stands c.args.text.now p c.args.self.now) (sym c.pass.ensures.pending) c.requires.byte.stands; cursor = c.pass.ensures.cursor; further = c.pass.ensures.further };
 }
@@ -77,6 +79,7 @@ returns-then-not-is_escape-clause-reads_on c = record {
 pub returns-then-is_lone_backtick-clause-reads_on : goal.returns-then-is_lone_backtick-clause-reads_on
 returns-then-is_lone_backtick-clause-reads_on c = record {
   expansion_left = c.put.ensures.expansion_left;
+  steps = search rules;
   keeps = IfOk-weaker c.put.result _ _ (λ _ slots. keeps-puts c.args.self.now c.put.new.self c.put.ensures.others c.args.here.pending c.args.here.at _ slots ((refl, refl, refl), λ i. refl)) c.put.ensures.slots;
   moves = c.put.ensures.moves;
 }
@@ -84,6 +87,7 @@ returns-then-is_lone_backtick-clause-reads_on c = record {
 pub returns-then-is_pipe_escape-clause-reads_on : goal.returns-then-is_pipe_escape-clause-reads_on
 returns-then-is_pipe_escape-clause-reads_on c = record {
   expansion_left = c.in_ok-flush.ensures.expansion_left;
+  steps = search rules;
   keeps = keeps-pending c.args.self.now c.flush.new.self c.in_ok-flush.ensures.others c.args.here.pending c.args.here.at c.in_ok-flush.ensures.slots;
   moves = search rules;
 }
@@ -91,6 +95,7 @@ returns-then-is_pipe_escape-clause-reads_on c = record {
 pub returns-clause-reads_on : goal.returns-clause-reads_on
 returns-clause-reads_on c = record {
   expansion_left = c.in_ok-flush.ensures.expansion_left;
+  steps = search rules;
   keeps = keeps-pending c.args.self.now c.flush.new.self c.in_ok-flush.ensures.others c.args.here.pending c.args.here.at c.in_ok-flush.ensures.slots;
   moves = search rules;
 }

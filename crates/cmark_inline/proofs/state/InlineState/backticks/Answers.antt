@@ -1,6 +1,6 @@
 use Rattle.std.specs.Option.{IfSome}
-use Rattle.std.specs.Prelude.{option_map}
-use Rattle.std.proofs.Common.{inl, refl, sym, ap, subst, ◌∙◌}
+use Rattle.std.specs.Prelude.{is_some, option_map}
+use Rattle.std.proofs.Common.{rules, inl, ◌<◌, refl, sym, ap, subst, ◌∙◌, true≢false}
 use Rattle.cmark_finds.specs.Shown.{shown_code, IsCodeAt}
 use Rattle.cmark_inline.proofs.Appended.{code-appends, ticks-make}
 use Rattle.cmark_inline.proofs.Keeping.{keeps-puts}
@@ -23,6 +23,7 @@ returns-clause-token c = λ o l cell is. ok-by-three c.put-2.result _ _ _ _ c.pu
 pub returns-in-Some-clause-reads_on : goal.returns-in-Some-clause-reads_on
 returns-in-Some-clause-reads_on c = record {
   expansion_left = c.put.ensures.expansion_left;
+  steps = search rules;
   keeps = IfOk-weaker c.put.result _ _ (λ _ slots. keeps-puts c.args.self.now c.put.new.self c.put.ensures.others c.args.here.pending c.args.here.at _ slots ((refl, refl, refl), λ i. refl)) c.put.ensures.slots;
   moves = c.put.ensures.moves;
 }
@@ -30,6 +31,13 @@ returns-in-Some-clause-reads_on c = record {
 pub returns-clause-reads_on : goal.returns-clause-reads_on
 returns-clause-reads_on c = record {
   expansion_left = c.put-2.ensures.expansion_left;
+  steps = search rules;
   keeps = IfOk-weaker c.put-2.result _ _ (λ _ slots. keeps-puts c.args.self.now c.put-2.new.self c.put-2.ensures.others c.args.here.pending c.text_start-start.result _ slots ((refl, refl, refl), λ i. refl)) c.put-2.ensures.slots;
   moves = c.put-2.ensures.moves;
 }
+
+pub returns-in-Some-clause-least : goal.returns-in-Some-clause-least
+returns-in-Some-clause-least c = IfOk-weaker c.put.result _ _ (λ _ _ found. subst (λ r. IfSome r (λ span. c.args.runs.now.visited < c.code_span.new.self.visited)) c.in-Some.is c.in_ok-span.ensures.least) c.put.ensures.slots
+
+pub returns-clause-least : goal.returns-clause-least
+returns-clause-least c = IfOk-weaker c.put-2.result _ _ (λ _ _ found. absurd (true≢false (sym found ∙ ap is_some (sym (ap (option_map (shown_code c.args.text.now)) (sym c.in_default.is) ∙ c.in_ok-span.ensures.value))))) c.put-2.ensures.slots

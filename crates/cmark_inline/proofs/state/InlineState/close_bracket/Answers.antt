@@ -21,6 +21,7 @@ use Rattle.cmark_inline.proofs.Keeping.{keeps-pending, keeps-puts, some-taken}
 use Rattle.cmark_slots.specs.Standing.{AreEnded}
 use Rattle.std.proofs.lemmas.Result.{IfOk-weaker}
 use Rattle.cmark_inline.proofs.LastCalls.{ok-by-three}
+use Rattle.cmark_inline.proofs.UsesCounted.{kept-rise, none-counted}
 use Rattle.cmark_inline.proofs.state.InlineState.close_bracket.Goals as goal
 
 pub returns-in-Some-clause-closes : goal.returns-in-Some-clause-closes
@@ -34,11 +35,11 @@ returns-in-Some-clause-closes g c = λ reader read place closer s bs r at shows.
     let i = taken-stage o l refs notes c.args.leaf.now c.args.text.now c.requires.same reader read place closer s bs c.args.here.at r at c.args.self.now shows c.flush.new.self took c.take_bracket-taken.result c.in_ok-flush.ensures.others c.take_bracket-taken.ensures.others c.take_bracket-taken.ensures.takes in
     let next = subst (λ (x : Option Cursor). IfSome x (λ (next : Cursor). (next.pending ≡ c.args.here.at + 2) × (next.at ≡ c.args.here.at + 2))) c.in-Some.is c.in_ok-next.ensures.next in
     wikilink-closes o l refs notes c.args.leaf.now c.args.text.now c.requires.same reader read place closer s bs c.args.here.at r at c.args.self.now shows
-    g.F.BrokenLinkCallback.answers c.in-Some.next new c.args.callback.now c.args.callback.now c.args.here.pending took i.view
+    g.F.BrokenLinkCallback.answers c.in-Some.next c.args.footnotes.now new c.args.callback.now c.args.callback.now c.args.here.pending took i.view
     (ap is_some (sym c.in-Some.is) ∙ c.in_ok-next.ensures.forms)
     (subst (λ (x : Option Cursor). IfSome x (λ next. IfSome (nearest took.doubled) (λ tried. LeavesWikilink tried.0.start took new))) c.in-Some.is c.in_ok-next.ensures.leaves)
     (remembers-on o l refs notes c.args.leaf.now c.args.text.now c.requires.same reader read place closer s bs c.args.here.at r at c.args.self.now shows took new i.remembers c.wikilink.ensures.expansion_left c.wikilink.ensures.label_close)
-    next.1 (next.0 ∙ sym next.1) refl
+    next.1 (next.0 ∙ sym next.1) refl (λ folded. refl)
     c.flush.new.self (record { pushes = c.in_ok-flush.ensures.slots; others = c.in_ok-flush.ensures.others }) (rows-brackets c.flush.new.self took c.take_bracket-taken.ensures.others) c.take_bracket-taken.ensures.sound c.take_bracket-taken.ensures.stands
     (subst (λ (x : Option Cursor). IfSome x (λ next. IfSome (nearest took.doubled) (λ tried. WritesWikilink o c.args.leaf.now c.args.text.now tried.0 c.args.here.at took new))) c.in-Some.is c.in_ok-next.ensures.writes)
 
@@ -55,12 +56,12 @@ returns-in-Some-2-clause-closes g c = λ reader read place closer s bs r at show
     let j = tried-stage o l refs notes c.args.leaf.now c.args.text.now c.requires.same reader read place closer s bs c.args.here.at r at c.args.self.now shows took st c.take_bracket-taken.result i (c.in_ok-next.ensures.others c.in_default.is) (c.in_ok-next.ensures.tries c.in_default.is) (ap is_some (sym c.in_default.is) ∙ c.in_ok-next.ensures.forms) in
     let next = subst (λ (x : Option Cursor). IfSome x (λ (next : Cursor). (next.pending ≡ c.args.here.at + 1) × (next.at ≡ c.args.here.at + 1))) c.in-Some-2.is c.in_ok-next-2.ensures.next in
     footnote-closes o l refs notes c.args.leaf.now c.args.text.now c.requires.same reader read place closer s bs c.args.here.at r at c.args.self.now shows
-    g.F.BrokenLinkCallback.answers c.in-Some-2.next new c.args.callback.now c.args.callback.now c.args.here.pending st c.take_bracket-taken.result j.ready j.taken_as j.remembers
+    g.F.BrokenLinkCallback.answers c.in-Some-2.next c.footnote.new.footnotes new c.args.callback.now c.args.callback.now c.args.here.pending st c.take_bracket-taken.result j.ready j.taken_as j.remembers
     (ap is_some (sym c.in-Some-2.is) ∙ c.in_ok-next-2.ensures.forms)
     (inside-up c.args.text.now c.args.here.at c.take_bracket-taken.result c.take_bracket-taken.ensures.bracket)
     (subst (λ (x : Option Cursor). IfSome x (λ next. IfSome c.take_bracket-taken.result (λ (bracket : Bracket). LeavesFootnote bracket.start st new))) c.in-Some-2.is c.in_ok-next-2.ensures.leaves)
     (remembers-on o l refs notes c.args.leaf.now c.args.text.now c.requires.same reader read place closer s bs c.args.here.at r at c.args.self.now shows st new j.remembers c.footnote.ensures.expansion_left c.footnote.ensures.label_close)
-    next.1 (next.0 ∙ sym next.1) refl (subst (λ (x : Option Cursor). IfSome x (λ next. IfSome (footnote_of o (is_cell_of c.args.leaf.now) (is_there c.args.here.at st.label_close) c.args.text.now c.args.here.at c.take_bracket-taken.result) (λ label. KeepsLabel label st.texts.items new.texts.items))) c.in-Some-2.is c.in_ok-next-2.ensures.label) j.texts
+    next.1 (next.0 ∙ sym next.1) refl c.in_ok-next-2.ensures.counts (subst (λ (x : Option Cursor). IfSome x (λ next. IfSome (footnote_of o (is_cell_of c.args.leaf.now) (is_there c.args.here.at st.label_close) c.args.text.now c.args.here.at c.take_bracket-taken.result) (λ label. KeepsLabel label st.texts.items new.texts.items))) c.in-Some-2.is c.in_ok-next-2.ensures.label) j.texts
     c.flush.new.self (record { pushes = c.in_ok-flush.ensures.slots; others = c.in_ok-flush.ensures.others })
     (rows-on c.flush.new.self took st (rows-brackets c.flush.new.self took c.take_bracket-taken.ensures.others) (rows-doubled took st (c.in_ok-next.ensures.others c.in_default.is)))
     (subst (λ (x : Option Cursor). IfSome x (λ next. IfSome c.take_bracket-taken.result (λ (bracket : Bracket). IfSome (footnote_of o (is_cell_of c.args.leaf.now) (is_there c.args.here.at st.label_close) c.args.text.now c.args.here.at c.take_bracket-taken.result) (λ label. WritesReference bracket (normal_form label) (c.args.here.at + 1) st new)))) c.in-Some-2.is c.in_ok-next-2.ensures.writes)
@@ -79,10 +80,12 @@ returns-in-Some-3-clause-closes g c = λ reader read place closer s bs r at show
     let k = subst (λ (x : InlineState). IsTriedStage o l refs notes c.args.leaf.now c.args.text.now c.requires.same reader read place closer s bs c.args.here.at r at c.args.self.now shows x c.take_bracket-taken.result) (sym same) j in
     let moves = subst (λ (x : Option Cursor). IfSome x (Moves c.args.text.now c.args.here.at c.link.new.self)) c.in-Some-3.is c.in_ok-next-3.ensures.moves in
     linked-closes o l refs notes c.args.leaf.now c.args.text.now c.requires.same reader read place closer s bs c.args.here.at r at c.args.self.now shows
-    g.F.BrokenLinkCallback.answers c.in-Some-3.next c.link.new.self c.args.callback.now c.link.new.callback c.args.here.pending c.footnote.new.self c.take_bracket-taken.result k.ready k.taken_as k.remembers
+    g.F.BrokenLinkCallback.answers c.in-Some-3.next c.footnote.new.footnotes c.link.new.self c.args.callback.now c.link.new.callback c.args.here.pending c.footnote.new.self c.take_bracket-taken.result k.ready k.taken_as k.remembers
     (subst (λ (x : InlineState). false ≡ forms_footnote o notes (footnote_of o (is_cell_of c.args.leaf.now) (is_there c.args.here.at x.label_close) c.args.text.now c.args.here.at c.take_bracket-taken.result)) (sym same) (ap is_some (sym c.in_default-2.is) ∙ c.in_ok-next-2.ensures.forms))
     (subst (λ (x : Option Cursor). LinksTaken g.F.BrokenLinkCallback.answers o l refs c.args.leaf.now c.args.text.now c.take_bracket-taken.result c.args.here.at c.footnote.new.self c.link.new.self x c.args.callback.now c.link.new.callback) c.in-Some-3.is c.in_ok-next-3.ensures.links)
-    moves.further moves.cursor.at.0 k.table c.flush.new.self (record { pushes = c.in_ok-flush.ensures.slots; others = c.in_ok-flush.ensures.others })
+    moves.further moves.cursor.at.0 k.table
+    (none-counted o (footnote_of o (is_cell_of c.args.leaf.now) (is_there c.args.here.at st.label_close) c.args.text.now c.args.here.at c.take_bracket-taken.result) notes c.footnote.new.footnotes (ap is_some (sym c.in_default-2.is) ∙ c.in_ok-next-2.ensures.forms) c.in_ok-next-2.ensures.counts)
+    c.flush.new.self (record { pushes = c.in_ok-flush.ensures.slots; others = c.in_ok-flush.ensures.others })
     (rows-on c.flush.new.self took c.footnote.new.self (rows-brackets c.flush.new.self took c.take_bracket-taken.ensures.others) (rows-on took st c.footnote.new.self (rows-doubled took st (c.in_ok-next.ensures.others c.in_default.is)) (rows-same st c.footnote.new.self same)))
     (subst (λ (x : InlineState). IfSome c.take_bracket-taken.result (IsTakenFrom x)) (sym same) (some-taken c.take_bracket-taken.result took st (c.in_ok-next.ensures.taken c.in_default.is) c.take_bracket-taken.ensures.taken))
 
@@ -99,16 +102,18 @@ returns-clause-closes g c = ok-by-three c.put.result _ _ _ _ c.put.ensures.at c.
     let same : c.footnote.new.self ≡ st = c.in_ok-next-2.ensures.others c.in_default-2.is in
     let k = subst (λ (x : InlineState). IsTriedStage o l refs notes c.args.leaf.now c.args.text.now c.requires.same reader read place closer s bs c.args.here.at r at c.args.self.now shows x c.take_bracket-taken.result) (sym same) j in
     let put = c.put.ensures.others in
-    text-closes o l refs notes c.args.leaf.now c.args.text.now c.requires.same reader read place closer s bs c.args.here.at r at c.args.self.now shows
-    g.F.BrokenLinkCallback.answers next c.put.new.self c.args.callback.now c.link.new.callback c.args.here.pending c.footnote.new.self c.link.new.self c.take_bracket-taken.result k.ready k.taken_as k.remembers
-    (subst (λ (x : InlineState). false ≡ forms_footnote o notes (footnote_of o (is_cell_of c.args.leaf.now) (is_there c.args.here.at x.label_close) c.args.text.now c.args.here.at c.take_bracket-taken.result)) (sym same) (ap is_some (sym c.in_default-2.is) ∙ c.in_ok-next-2.ensures.forms))
-    (subst (λ (x : Option Cursor). LinksTaken g.F.BrokenLinkCallback.answers o l refs c.args.leaf.now c.args.text.now c.take_bracket-taken.result c.args.here.at c.footnote.new.self c.link.new.self x c.args.callback.now c.link.new.callback) c.in_default-3.is c.in_ok-next-3.ensures.links)
-    (ap (λ (x : InlineState). x.brackets) put) (ap (λ (x : InlineState). x.doubled) put) (ap (λ (x : InlineState). x.expansion_left) put) (ap (λ (x : InlineState). x.label_close) put)
-    (reached ∙ c.behind-behind_it.ensures.value) (ended ∙ sym reached) (ap (λ (x : InlineState). x.links) put) k.table
-    (λ after comes.
     let links = subst (λ (x : Option Cursor). LinksTaken g.F.BrokenLinkCallback.answers o l refs c.args.leaf.now c.args.text.now c.take_bracket-taken.result c.args.here.at c.footnote.new.self c.link.new.self x c.args.callback.now c.link.new.callback) c.in_default-3.is c.in_ok-next-3.ensures.links in
     let rows : SameRows c.flush.new.self c.link.new.self = rows-on c.flush.new.self took c.link.new.self (rows-brackets c.flush.new.self took c.take_bracket-taken.ensures.others) (rows-on took st c.link.new.self (rows-doubled took st (c.in_ok-next.ensures.others c.in_default.is)) (rows-on st c.footnote.new.self c.link.new.self (rows-same st c.footnote.new.self same)
     (rows-unlinked g.F.BrokenLinkCallback.answers o l refs c.args.leaf.now c.args.text.now c.take_bracket-taken.result c.args.here.at c.footnote.new.self c.link.new.self c.args.callback.now c.link.new.callback links))) in
+    text-closes o l refs notes c.args.leaf.now c.args.text.now c.requires.same reader read place closer s bs c.args.here.at r at c.args.self.now shows
+    g.F.BrokenLinkCallback.answers next c.footnote.new.footnotes c.put.new.self c.args.callback.now c.link.new.callback c.args.here.pending c.footnote.new.self c.link.new.self c.take_bracket-taken.result k.ready k.taken_as k.remembers
+    (subst (λ (x : InlineState). false ≡ forms_footnote o notes (footnote_of o (is_cell_of c.args.leaf.now) (is_there c.args.here.at x.label_close) c.args.text.now c.args.here.at c.take_bracket-taken.result)) (sym same) (ap is_some (sym c.in_default-2.is) ∙ c.in_ok-next-2.ensures.forms))
+    links
+    (ap (λ (x : InlineState). x.brackets) put) (ap (λ (x : InlineState). x.doubled) put) (ap (λ (x : InlineState). x.expansion_left) put) (ap (λ (x : InlineState). x.label_close) put)
+    (reached ∙ c.behind-behind_it.ensures.value) (ended ∙ sym reached) (ap (λ (x : InlineState). x.links) put) k.table
+    (none-counted o (footnote_of o (is_cell_of c.args.leaf.now) (is_there c.args.here.at st.label_close) c.args.text.now c.args.here.at c.take_bracket-taken.result) notes c.footnote.new.footnotes (ap is_some (sym c.in_default-2.is) ∙ c.in_ok-next-2.ensures.forms) c.in_ok-next-2.ensures.counts)
+    (let e = ap (λ (x : InlineState). x.delimiters.examined) put ∙ rows.examined ∙ ap (λ (x : InlineState). x.delimiters.examined) c.in_ok-flush.ensures.others in omega (arith, e))
+    (λ after comes.
     text-reads c.args.leaf.now reader read place closer s bs c.args.here.pending c.args.here.at c.args.self.now c.flush.new.self c.link.new.self c.put.new.self (record { pushes = c.in_ok-flush.ensures.slots; others = c.in_ok-flush.ensures.others }) rows
     c.args.text.now c.requires.same at (puts-one c.args.here.at _ c.link.new.self.slots.items c.put.new.self.slots.items slots ∙ ap (λ n. c.link.new.self.slots.items ++ (record { kind = kind.Text; start = c.args.here.at; end = n } ∷ [])) c.behind-behind_it.ensures.value)
     (ap (λ (x : InlineState). x.texts.items) put) (ap (λ (x : InlineState). x.links.items) put) (ap (λ (x : InlineState). x.delimiters.placed.items) put) (ap (λ (x : InlineState). x.quotes.placed.items) put) after comes))
@@ -127,7 +132,7 @@ link-requires g c =
     let stands : Stands c.args.text.now c.args.here.at c.footnote.new.self = subst (λ (s : InlineState). Stands c.args.text.now c.args.here.at s) (sym same) (c.in_ok-next.ensures.stands c.in_default.is) in
     let free = subst (λ (s : InlineState). IfSome c.take_bracket-taken.result (λ (bracket : Bracket). bracket.is_image ≡ false → HoldNoLink s.slots.items bracket.slot)) (sym (same ∙ c.in_ok-next.ensures.others c.in_default.is)) c.take_bracket-taken.ensures.link in
     let close = subst (IsPart c.args.text.now c.args.here.at) c.behind-behind_it.ensures.value c.behind-behind_it.ensures.part in
-    λ k. ((refl, tt), (stands, (c.take_bracket-taken.ensures.bracket, (free, (close, (c.requires.read, (c.requires.same, (c.in_ok-next-2.ensures.sound, taken))))))))
+    λ k. ((refl, tt), (stands, (c.take_bracket-taken.ensures.bracket, (free, (close, (c.requires.read, (c.requires.same, (c.in_ok-next-2.ensures.sound, (taken, c.requires.ready)))))))))
 
 pub returns-clause-sound : goal.returns-clause-sound
 returns-clause-sound g c = IfOk-weaker c.put.result _ _ (λ _ slots. (keeps-puts c.link.new.self c.put.new.self c.put.ensures.others c.args.here.at c.args.here.at _ slots ((refl, refl, refl), λ i. refl)).sound c.in_ok-next-3.ensures.sound) c.put.ensures.slots
@@ -283,3 +288,27 @@ footnote-requires-clause-sound g c = c.in_ok-next.ensures.sound
 
 pub footnote-requires-clause-bracket : goal.footnote-requires-clause-bracket
 footnote-requires-clause-bracket g c = c.take_bracket-taken.ensures.bracket
+
+pub returns-in_err-flush-clause-rise : goal.returns-in_err-flush-clause-rise
+returns-in_err-flush-clause-rise g c = kept-rise 1 c.args.footnotes.now c.args.footnotes.now (λ folded. refl)
+
+pub returns-in_err-next-clause-rise : goal.returns-in_err-next-clause-rise
+returns-in_err-next-clause-rise g c = kept-rise 1 c.args.footnotes.now c.args.footnotes.now (λ folded. refl)
+
+pub returns-in-Some-clause-rise : goal.returns-in-Some-clause-rise
+returns-in-Some-clause-rise g c = kept-rise 1 c.args.footnotes.now c.args.footnotes.now (λ folded. refl)
+
+pub returns-in_err-next-2-clause-rise : goal.returns-in_err-next-2-clause-rise
+returns-in_err-next-2-clause-rise g c = c.footnote.ensures.rise
+
+pub returns-in-Some-2-clause-rise : goal.returns-in-Some-2-clause-rise
+returns-in-Some-2-clause-rise g c = c.footnote.ensures.rise
+
+pub returns-in_err-next-3-clause-rise : goal.returns-in_err-next-3-clause-rise
+returns-in_err-next-3-clause-rise g c = c.footnote.ensures.rise
+
+pub returns-in-Some-3-clause-rise : goal.returns-in-Some-3-clause-rise
+returns-in-Some-3-clause-rise g c = c.footnote.ensures.rise
+
+pub returns-clause-rise : goal.returns-clause-rise
+returns-clause-rise g c = c.footnote.ensures.rise

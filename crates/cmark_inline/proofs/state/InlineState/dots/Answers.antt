@@ -1,4 +1,4 @@
-use Rattle.std.proofs.Common.{inl, inr, refl, sym, ap, ◌∙◌, drop, subst, ℕ}
+use Rattle.std.proofs.Common.{rules, inl, inr, refl, sym, ap, ◌∙◌, drop, subst, ℕ}
 use Rattle.cmark_grammar.specs.InlineTokens.{item_at}
 use Rattle.cmark_grammar.specs.Items.{Plain}
 use Rattle.cmark_inline.specs.Stands.{Stands}
@@ -28,6 +28,7 @@ returns-clause-token c = λ o l cell smart is.
 pub returns-then-not-starts_with-clause-reads_on : goal.returns-then-not-starts_with-clause-reads_on
 returns-then-not-starts_with-clause-reads_on c = record {
   expansion_left = refl;
+  steps = refl;
   keeps = keeps-same c.args.self.now;
   moves = record { stands = subst (λ (p : ℕ). Stands c.args.text.now p c.args.self.now) (sym c.pass.ensures.pending) c.requires.byte.stands; cursor = c.pass.ensures.cursor; further = c.pass.ensures.further };
 }
@@ -35,6 +36,7 @@ returns-then-not-starts_with-clause-reads_on c = record {
 pub returns-clause-reads_on : goal.returns-clause-reads_on
 returns-clause-reads_on c = record {
   expansion_left = c.put.ensures.expansion_left;
+  steps = search rules;
   keeps = IfOk-weaker c.put.result _ _ (λ _ slots. keeps-puts c.args.self.now c.put.new.self c.put.ensures.others c.args.here.pending c.args.here.at _ slots ((refl, refl, refl), λ i. refl)) c.put.ensures.slots;
   moves = c.put.ensures.moves;
 }

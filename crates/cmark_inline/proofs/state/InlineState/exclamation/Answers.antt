@@ -46,6 +46,7 @@ returns-then-is_followed_by-clause-token c = λ l cell is.
 pub returns-clause-reads_on : goal.returns-clause-reads_on
 returns-clause-reads_on c = record {
   expansion_left = refl;
+  steps = refl;
   keeps = keeps-same c.args.self.now;
   moves = search rules;
 }

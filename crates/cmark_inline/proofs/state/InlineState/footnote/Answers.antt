@@ -10,6 +10,7 @@ use Rattle.cmark_inline.specs.Closers.{LeavesFootnote}
 use Rattle.cmark_inline.specs.Footnoted.{CountsOf, KeepsLabel, footnote_of, forms_footnote}
 use Rattle.cmark_inline.specs.Hiding.{WritesReference}
 use Rattle.cmark_inline.proofs.FootnoteSteps.{keeps-named, label-of-taken, writes-named}
+use Rattle.cmark_inline.proofs.UsesCounted.{kept-rise}
 use Rattle.cmark_inline.proofs.state.InlineState.footnote.Goals as goal
 
 pub returns-in_default-2-clause-forms : goal.returns-in_default-2-clause-forms
@@ -68,3 +69,6 @@ returns-clause-writes c =
     subst (λ (t : Option Bracket). IfSome t (λ bracket. IfSome (footnote_of (shown_options c.args.options) (is_cell_of c.args.leaf.now) there c.args.text.now c.args.close c.args.taken) (λ l. WritesReference bracket (normal_form l) (c.args.close + 1) c.args.self.now c.form_footnote.new.self))) (sym c.in-Some.is)
     (subst (λ o. IfSome o (λ l. WritesReference c.in-Some.bracket (normal_form l) (c.args.close + 1) c.args.self.now c.form_footnote.new.self)) same
     (writes-named label c.in-Some-2.name c.in-Some.bracket (c.args.close + 1) c.args.self.now c.form_footnote.new.self named c.in_ok-form_footnote.ensures.writes))
+
+pub returns-in_default-clause-rise : goal.returns-in_default-clause-rise
+returns-in_default-clause-rise c = kept-rise 1 c.args.footnotes.now c.args.footnotes.now (λ folded. refl)

@@ -1,4 +1,4 @@
-use Rattle.std.proofs.Common.{rules, ◌≡◌, ◌≤◌, ◌<◌, ◌+◌, ◌++◌, ◌∷◌, [], true, List, ℕ, Some, drop, length, set, get_or, refl, sym, ap, subst, ◌∙◌, arith}
+use Rattle.std.proofs.Common.{rules, ◌≡◌, ◌≤◌, ◌<◌, ◌+◌, ◌*◌, ◌++◌, ◌∷◌, [], true, List, ℕ, Some, drop, length, set, get_or, refl, sym, ap, subst, ◌∙◌, arith}
 use Rattle.std.specs.Prelude.{if◌then◌else◌}
 use Rattle.std.proofs.lemmas.List.{length_push}
 use Rattle.cmark_inline.specs.Closers.{Drops}
@@ -51,6 +51,8 @@ returns-clause-stands c =
     let i = c.begin.ensures.length in
     let j = c.in_ok-finish.ensures.length in
     let r = c.in_ok-finish.ensures.runs in
+    let seen = s.examined in
+    let looked = c.in_ok-finish.ensures.examined in
     let plain = λ (is : image ≡ true). ap is_link c.linked_element-element.ensures.value ∙ ap (λ z. is_link (if z then element.Image c.len.result else element.Link c.len.result)) is in
     subst (Stands text resume) (sym d.others) (record {
       slots = c.in_ok-finish.ensures.slots text resume (c.begin.ensures.slots text resume (slots-on text c.args.close resume ss s.slots le) t.ends o) (last-slot text c.args.close c.args.target c.requires.close t);
@@ -63,6 +65,7 @@ returns-clause-stands c =
       doubled_free = still-free image formed.slots.items formed.doubled new.doubled d.doubled (λ is. subst (λ (w : Brackets). AreFree formed.slots.items w.standing.items w.inactive_below) (sym c.finish.ensures.doubled)
           (free-on ss formed.slots.items dropped.standing.items dropped.inactive_below (c.drop_behind.ensures.free ss s.doubled_free) (λ from h. c.in_ok-finish.ensures.links from (c.begin.ensures.links (plain is) from h))));
       runs = (let q : bytes_of formed.delimiters.placed.items ≤ length formed.slots.items = omega (arith, i, j, r, fewer) in q);
+      examined = (let q : formed.delimiters.examined + 15 * length formed.delimiters.placed.items ≤ 15 * resume = omega (arith, seen, looked, le) in q);
     })
 
 pub returns-clause-link : goal.returns-clause-link
@@ -149,4 +152,4 @@ returns-clause-writes c =
     subst (WritesElement (shown_options c.args.options) b c.args.target old) (sym c.deactivate_behind.ensures.others)
     (writes-element (shown_options c.args.options) b c.args.target old (record formed { brackets = new.brackets; doubled = new.doubled }) c.linked_element-element.result p.there c.args.close c.args.text.now c.requires.stands.slots t.behind c.requires.sound.named can texts links
     (ap (shown_element (old.links.items ++ (c.args.target.link ∷ []))) c.linked_element-element.ensures.value ∙ linked-shown b.is_image old.links.items c.args.target.link c.len.result index) f.placed f.quotes
-    (λ leaf pairs spans emphasis. f.dressed leaf formed.texts.items formed.links.items pairs spans emphasis ∙ ap (λ l. dressed_behind (shown_options c.args.options) b pairs old.delimiters.placed.items old.quotes.placed.items (shown_slots leaf formed.texts.items formed.links.items (l ++ (end_slot c.args.close c.args.target.end ∷ [])))) begins))
+    (λ leaf pairs spans emphasis. f.dressed leaf formed.texts.items formed.links.items pairs spans emphasis ∙ ap (λ l. dressed_behind (shown_options c.args.options) b pairs old.delimiters.placed.items old.quotes.placed.items (shown_slots leaf formed.texts.items formed.links.items (l ++ (end_slot c.args.close c.args.target.end ∷ [])))) begins) f.least)

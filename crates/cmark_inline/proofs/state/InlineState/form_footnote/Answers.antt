@@ -1,5 +1,5 @@
-use Rattle.std.proofs.Common.{rules, ◌≡◌, ◌≤◌, ◌+◌, List, ℕ, length, take, refl, sym, ap, subst, ◌∙◌, arith}
-use Rattle.std.proofs.lemmas.List.{length_push}
+use Rattle.std.proofs.Common.{rules, ◌≡◌, ◌≤◌, ◌+◌, ◌*◌, List, ℕ, length, take, refl, sym, ap, subst, ◌∙◌, arith}
+use Rattle.std.proofs.lemmas.List.{length_push, length-take}
 use Rattle.cmark_slots.specs.Doubled.{DropsBehind}
 use Rattle.cmark_inline.specs.Footnoted.{PutsReference, reference_as}
 use Rattle.cmark_leaf_text.specs.Reads.{IsPart}
@@ -32,6 +32,11 @@ returns-clause-stands c =
     let most = put.length in
     let least = put.longer in
     let cut = c.truncate-2.ensures.bytes in
+    let seen = s.examined in
+    let looked = c.truncate-2.ensures.examined in
+    let less = ap length c.truncate-2.ensures.placed ∙ length-take c.args.bracket.runs c.put_reference.new.self.delimiters.placed.items in
+    let same-seen = ap (λ (s : InlineState). s.delimiters.examined) c.put_reference.ensures.others in
+    let same-count = ap (λ (s : InlineState). length s.delimiters.placed.items) c.put_reference.ensures.others in
     let kept = ap (λ (s : InlineState). bytes_of s.delimiters.placed.items) c.put_reference.ensures.others in
     let same = ap (λ (s : InlineState). s.doubled) c.put_reference.ensures.others in
     let before = b.before in
@@ -49,6 +54,7 @@ returns-clause-stands c =
       doubled = c.drop_behind.ensures.brackets text resume (subst (λ (v : Brackets). AreBrackets text resume v.standing.items) (sym same) (brackets-on text close resume c.args.self.now.doubled.standing.items s.doubled le));
       doubled_free = c.drop_behind.ensures.free ss (subst (λ (v : Brackets). AreFree ss v.standing.items v.inactive_below) (sym same) (free-on old ss c.args.self.now.doubled.standing.items c.args.self.now.doubled.inactive_below s.doubled_free put.links));
       runs = (let q : bytes_of c.truncate-2.new.self.placed.items ≤ length ss = omega (arith, cut, kept, fewer, least) in q);
+      examined = (let q : c.truncate-2.new.self.examined + 15 * length c.truncate-2.new.self.placed.items ≤ 15 * resume = omega (arith, seen, looked, less, same-seen, same-count) in q);
     }
 
 pub returns-clause-sound : goal.returns-clause-sound
@@ -83,6 +89,7 @@ returns-clause-writes c =
     writes-reference b c.args.name (c.args.close + 1) old _ c.requires.taken.placed.there c.requires.sound.named puts
     (ap (λ (s : InlineState). s.texts.items) o ∙ c.in_ok-push.ensures.items) (ap (λ (s : InlineState). s.links.items) o)
     (c.truncate-2.ensures.placed ∙ ap (λ (s : InlineState). take b.runs s.delimiters.placed.items) o) (c.truncate.ensures ∙ ap (λ (s : InlineState). take b.quotes s.quotes.placed.items) o)
+    (let e = c.truncate-2.ensures.examined ∙ ap (λ (s : InlineState). s.delimiters.examined) o in omega (arith, e))
 
 pub returns-clause-leaves : goal.returns-clause-leaves
 returns-clause-leaves c =

@@ -1,5 +1,5 @@
-use Rattle.std.proofs.Common.{rules, ◌≡◌, ◌++◌, ◌∷◌, ◌≤◌, ◌<◌, ◌+◌, List, [], ℕ, Some, drop, take, length, get_or, set, refl, sym, ap, subst, ◌∙◌, arith}
-use Rattle.std.proofs.lemmas.List.{length_push}
+use Rattle.std.proofs.Common.{rules, ◌≡◌, ◌++◌, ◌∷◌, ◌≤◌, ◌<◌, ◌+◌, ◌*◌, List, [], ℕ, Some, drop, take, length, get_or, set, refl, sym, ap, subst, ◌∙◌, arith}
+use Rattle.std.proofs.lemmas.List.{length_push, length-take}
 use Rattle.cmark_grammar.specs.Emphasis.{IsEmphasis}
 use Rattle.cmark_text_parts.specs.Shown.{shown_options}
 use Rattle.cmark_slots.specs.Doubled.{DropsBehind}
@@ -35,6 +35,12 @@ returns-clause-stands c =
     let j = c.in_ok-finish.ensures.length in
     let r = c.in_ok-finish.ensures.runs in
     let t = c.truncate-2.ensures.bytes in
+    let seen = s.examined in
+    let looked = c.in_ok-finish.ensures.examined in
+    let kept-seen = c.truncate-2.ensures.examined in
+    let less = ap length c.truncate-2.ensures.placed ∙ length-take c.args.doubled.runs c.finish.new.self.delimiters.placed.items in
+    let same-seen = ap (λ (s : InlineState). s.delimiters.examined) c.show.ensures.others in
+    let same-count = ap (λ (s : InlineState). length s.delimiters.placed.items) c.show.ensures.others in
     let kept = ap (λ (s : InlineState). bytes_of s.delimiters.placed.items) c.show.ensures.others in
     let same = c.finish.ensures.brackets ∙ ap (λ (s : InlineState). s.brackets) c.show.ensures.others in
     let ss : List Slot = c.finish.new.self.slots.items in
@@ -48,6 +54,7 @@ returns-clause-stands c =
       doubled = subst (AreBrackets text resume) (sym c.clear.ensures.standing) (λ k d lt. absurd (omega (arith, lt)));
       doubled_free = subst (λ (l : List Bracket). AreFree ss l c.clear.new.self.inactive_below) (sym c.clear.ensures.standing) (λ k d le lt. absurd (omega (arith, lt)));
       runs = (let q : bytes_of c.truncate-2.new.self.placed.items ≤ length ss = omega (arith, b, i, j, r, t, kept, fewer) in q);
+      examined = (let q : c.truncate-2.new.self.examined + 15 * length c.truncate-2.new.self.placed.items ≤ 15 * resume = omega (arith, seen, looked, kept-seen, less, same-seen, same-count) in q);
     }
 
 pub returns-clause-link : goal.returns-clause-link
@@ -171,6 +178,7 @@ returns-clause-writes c =
     (record {
       runs = c.truncate-2.ensures.placed ∙ ap (take d.runs) f.placed ∙ take-fewer d.runs inside.runs shown.delimiters.placed.items i.runs ∙ ap (λ (x : InlineState). take d.runs x.delimiters.placed.items) o;
       quotes = c.truncate.ensures ∙ ap (take d.quotes) f.quotes ∙ take-fewer d.quotes inside.quotes shown.quotes.placed.items i.quotes ∙ ap (λ (x : InlineState). take d.quotes x.quotes.placed.items) o;
+      examined = (let e = c.truncate-2.ensures.examined in let l = f.least in let s = ap (λ (x : InlineState). x.delimiters.examined) o in omega (arith, e, l, s));
     })
     (λ leaf pairs spans emphasis.
     f.dressed leaf new.texts.items new.links.items pairs spans (subst (λ (x : InlineState). IsEmphasis (siblings_from 0 (drop inside.runs x.delimiters.placed.items)) pairs spans) (sym o) emphasis)

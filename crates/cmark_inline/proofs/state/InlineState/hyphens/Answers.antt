@@ -28,6 +28,7 @@ returns-clause-token c = λ o l cell smart is. ok-by-three c.put.result _ _ _ _ 
 pub returns-then-size-lt2-clause-reads_on : goal.returns-then-size-lt2-clause-reads_on
 returns-then-size-lt2-clause-reads_on c = record {
   expansion_left = refl;
+  steps = refl;
   keeps = keeps-same c.args.self.now;
   moves = record { stands = subst (λ (p : ℕ). Stands c.args.text.now p c.args.self.now) (sym c.pass.ensures.pending) c.requires.byte.stands; cursor = c.pass.ensures.cursor; further = c.pass.ensures.further };
 }
@@ -35,6 +36,7 @@ returns-then-size-lt2-clause-reads_on c = record {
 pub returns-clause-reads_on : goal.returns-clause-reads_on
 returns-clause-reads_on c = record {
   expansion_left = c.put.ensures.expansion_left;
+  steps = search rules;
   keeps = IfOk-weaker c.put.result _ _ (λ _ slots. keeps-owned c.args.self.now (record c.args.self.now { texts = c.push.new.self }) c.put.new.self c.args.here.pending c.args.here.at _ slots c.in_ok-owned.owned c.in_ok-push.ensures.items c.put.ensures.others refl (ap Some (let q : c.len.result ≡ length c.args.self.now.texts.items = search rules in q)) refl refl (λ i. refl)) c.put.ensures.slots;
   moves = c.put.ensures.moves;
 }

@@ -1,26 +1,37 @@
-use Rattle.std.proofs.Common.{ℕ, refl, sym, subst, ◌∙◌, arith}
+use Rattle.std.specs.Prelude.{drop, is_some}
+use Rattle.std.proofs.Common.{◌≡◌, ◌+◌, ℕ, List, inl, refl, sym, ap, subst, ◌∙◌, arith, true≢false}
+use Rattle.cmark_grammar.specs.Autolinks.{autolink_in}
+use Rattle.cmark_grammar.specs.InlineTokens.{item_at}
+use Rattle.cmark_grammar.specs.Items.{Plain}
+use Rattle.cmark_leaf_text.specs.Reads.{is_cell_of}
+use Rattle.cmark_text_parts.specs.Shown.{shown_options}
+use Rattle.cmark_inline.specs.Tokens.{begins_at, opens_markup}
+use Rattle.cmark_inline.proofs.AngleSteps.{less-plain}
 use Rattle.std.proofs.lemmas.Str.{IsCharBoundary-after_ascii}
 use Rattle.cmark_inline.specs.Stands.{Stands}
 use Rattle.std.proofs.lemmas.Result.{IfOk-weaker}
 use Rattle.cmark_inline.proofs.AngleMakes.{by-autolink, by-html, by-none}
 use Rattle.cmark_inline.proofs.Keeping.{found-alone, keeps-autolink, keeps-puts, keeps-source, ended-puts}
 use Rattle.cmark_inline.proofs.LastCalls.{ok-by-two, ok-by-three, ok-by-four}
+use Rattle.cmark_inline.proofs.LeastCounted.{always-ok}
+use Rattle.cmark_inline.proofs.MarkupTokens.{no-slash-there}
+use Rattle.cmark_inline.proofs.PaidSteps.{paid-on}
 use Rattle.cmark_inline.proofs.SourceOrder.{found-ends}
 use Rattle.cmark_inline.proofs.state.InlineState.less_than.Goals as goal
 
 pub returns-in-Some-clause-token : goal.returns-in-Some-clause-token
-returns-in-Some-clause-token c = λ o l is. ok-by-four c.autolink.result _ _ _ _ _ c.autolink.ensures.at c.autolink.ensures.slots c.autolink.ensures.link c.autolink.ensures.others (λ next at slots link others.
+returns-in-Some-clause-token c = λ l is. let o = shown_options c.args.options in ok-by-four c.autolink.result _ _ _ _ _ c.autolink.ensures.at c.autolink.ensures.slots c.autolink.ensures.link c.autolink.ensures.others (λ next at slots link others.
     by-autolink o l c.args.leaf.now c.args.here c.args.self.now c.autolink.new.self next c.args.text.now c.requires.same
     (c.requires.byte.cursor.ordered, c.requires.byte.within, is, sym c.if-is_followed_by.ensures.value) c.in-Some.end c.in-Some.ensures.value c.in-Some.ensures.whole at slots link others)
 
 pub returns-in-Some-inline_html-clause-token : goal.returns-in-Some-inline_html-clause-token
-returns-in-Some-inline_html-clause-token c = λ o l is. ok-by-two c.put_onto_words.result _ _ _ c.put_onto_words.ensures.at c.put_onto_words.ensures.slots (λ next at slots.
+returns-in-Some-inline_html-clause-token c = λ l is. let o = shown_options c.args.options in ok-by-two c.put_onto_words.result _ _ _ c.put_onto_words.ensures.at c.put_onto_words.ensures.slots (λ next at slots.
     by-html o l c.args.leaf.now c.args.here c.args.self.now c.put_onto_words.new.self next c.args.text.now c.requires.same
     (c.requires.byte.cursor.ordered, c.requires.byte.within, is, sym c.if-is_followed_by.ensures.value) c.in_default.ensures.value at.0 c.put_onto_words.ensures.others
     c.in-Some-inline_html.found c.in-Some-inline_html.ensures.is c.in-Some-inline_html.ensures.part at.1 slots)
 
 pub returns-clause-token : goal.returns-clause-token
-returns-clause-token c = λ o l is. ok-by-three c.put.result _ _ _ _ c.put.ensures.end c.put.ensures.at c.put.ensures.slots (λ next end at slots.
+returns-clause-token c = λ l is. let o = shown_options c.args.options in ok-by-three c.put.result _ _ _ _ c.put.ensures.end c.put.ensures.at c.put.ensures.slots (λ next end at slots.
     by-none o l c.args.leaf.now c.args.here c.args.self.now c.put.new.self next c.args.text.now c.requires.same
     (c.requires.byte.cursor.ordered, c.requires.byte.within, is, sym c.if-is_followed_by.ensures.value) c.in_default.ensures.value (end ∙ sym at) c.put.ensures.others
     (c.in_default-inline_html.ensures.none refl) c.behind.result c.behind.ensures.value at slots)
@@ -55,4 +66,56 @@ returns-then-is_followed_by-clause-moves c = record { stands = subst (λ (p : �
 pub inline_html-requires : goal.inline_html-requires
 inline_html-requires c =
     let edge = IsCharBoundary-after_ascii c.args.text.now c.args.here.at c.utf8.text c.requires.byte.within c.requires.byte.ascii in
-    record { read = c.requires.read; same = c.requires.same; part = record { some = omega arith; within = edge.0; starts = c.requires.byte.cursor.at; ends = edge }; kept = c.requires.kept }
+    record { read = c.requires.read; same = c.requires.same; part = record { some = omega arith; within = edge.0; starts = c.requires.byte.cursor.at; ends = edge }; kept = c.requires.kept; paid = c.requires.paid }
+
+pub returns-then-is_followed_by-clause-paid : goal.returns-then-is_followed_by-clause-paid
+returns-then-is_followed_by-clause-paid c = let further = c.pass.ensures.further in paid-on c.args.leaf.now c.requires.read c.args.here.at c.pass.result.at c.args.unclosed.now (omega (arith, further)) c.requires.paid
+
+pub returns-in-Some-clause-paid : goal.returns-in-Some-clause-paid
+returns-in-Some-clause-paid c = IfOk-weaker c.autolink.result _ _ (λ next m. let further = m.further in paid-on c.args.leaf.now c.requires.read c.args.here.at next.at c.args.unclosed.now (omega (arith, further)) c.requires.paid) c.autolink.ensures.moves
+
+pub returns-in-Some-inline_html-clause-paid : goal.returns-in-Some-inline_html-clause-paid
+returns-in-Some-inline_html-clause-paid c = IfOk-weaker c.put_onto_words.result _ _ (λ next order.
+    paid-on c.args.leaf.now c.requires.read c.in-Some-inline_html.found.end next.at c.inline_html.new.self order c.in-Some-inline_html.ensures.paid) c.put_onto_words.ensures.order
+
+pub returns-then-is_followed_by-clause-token : goal.returns-then-is_followed_by-clause-token
+returns-then-is_followed_by-clause-token c = λ l is.
+    let o = shown_options c.args.options in
+    let leaf = c.args.leaf.now in
+    let at : ℕ = c.args.here.at in
+    let slash = sym c.is_followed_by.ensures.value ∙ c.if-is_followed_by.true in
+    inl (record {
+      token = subst (λ (t : List ℕ). begins_at o l (is_cell_of leaf) t at ≡ item_at Plain at (at + 1)) c.requires.same (less-plain o l (is_cell_of leaf) c.args.text.now at c.requires.byte.within is slash) ∙ ap (item_at Plain at) (sym c.pass.ensures.at);
+      pending = c.pass.ensures.pending;
+      same = refl;
+    })
+
+pub returns-then-is_followed_by-clause-passes : goal.returns-then-is_followed_by-clause-passes
+returns-then-is_followed_by-clause-passes c = record {
+  grows = omega arith;
+  markup = λ is none opens.
+      (let slash = sym c.is_followed_by.ensures.value ∙ c.if-is_followed_by.true in
+      let there = ap (λ (t : List ℕ). opens_markup (drop (c.args.here.at + 1) t)) c.requires.same ∙ opens in
+      absurd (true≢false (sym slash ∙ no-slash-there (drop (c.args.here.at + 1) c.args.text.now) there)));
+}
+
+pub returns-in-Some-clause-passes : goal.returns-in-Some-clause-passes
+returns-in-Some-clause-passes c = always-ok c.autolink.result (record {
+  grows = omega arith;
+  markup = λ is none opens.
+      (let o = shown_options c.args.options in
+      let link = c.in-Some.ensures.value ∙ ap (λ (t : List ℕ). autolink_in o.email_autolinks (drop (c.args.here.at + 1) t)) c.requires.same ∙ none in
+      absurd (true≢false (ap is_some link)));
+})
+
+pub returns-in-Some-inline_html-clause-passes : goal.returns-in-Some-inline_html-clause-passes
+returns-in-Some-inline_html-clause-passes c = always-ok c.put_onto_words.result (record {
+  grows = c.in-Some-inline_html.ensures.grows;
+  markup = λ is none opens. c.in-Some-inline_html.ensures.passes (ap (λ (t : List ℕ). opens_markup (drop (c.args.here.at + 1) t)) c.requires.same ∙ opens);
+})
+
+pub returns-clause-passes : goal.returns-clause-passes
+returns-clause-passes c = always-ok c.put.result (record {
+  grows = c.in_default-inline_html.ensures.grows;
+  markup = λ is none opens. c.in_default-inline_html.ensures.passes (ap (λ (t : List ℕ). opens_markup (drop (c.args.here.at + 1) t)) c.requires.same ∙ opens);
+})

@@ -1,4 +1,4 @@
-use Rattle.std.proofs.Common.{◌-◌, ℕ, List, sym, ap, subst, ◌∙◌, take, drop, refl}
+use Rattle.std.proofs.Common.{rules, ◌-◌, ℕ, List, sym, ap, subst, ◌∙◌, take, drop, refl}
 use Rattle.cmark_grammar.specs.LineBreaks.{ends_with_two_spaces}
 use Rattle.cmark_inline.specs.Stands.{Stands}
 use Rattle.cmark_inline.proofs.Appended.{break-appends}
@@ -20,6 +20,7 @@ returns-clause-token c = λ o l cell ends.
 pub returns-in_default-clause-reads_on : goal.returns-in_default-clause-reads_on
 returns-in_default-clause-reads_on c = record {
   expansion_left = refl;
+  steps = refl;
   keeps = keeps-same c.args.self.now;
   moves = record { stands = subst (λ (p : ℕ). Stands c.args.text.now p c.args.self.now) (sym c.pass.ensures.pending) c.requires.byte.stands; cursor = c.pass.ensures.cursor; further = c.pass.ensures.further };
 }
@@ -27,6 +28,7 @@ returns-in_default-clause-reads_on c = record {
 pub returns-clause-reads_on : goal.returns-clause-reads_on
 returns-clause-reads_on c = record {
   expansion_left = c.put_onto_words.ensures.expansion_left;
+  steps = search rules;
   keeps = IfOk-weaker c.put_onto_words.result _ _ (λ _ slots. keeps-puts c.args.self.now c.put_onto_words.new.self c.put_onto_words.ensures.others c.args.here.pending c.before_blanks-text_end.result c.break_slot-slot.result slots (subst (λ (s : Slot). StandsAlone s.kind) (sym c.break_slot-slot.ensures) (break-alone c.ends_with_two_spaces-is_hard.result))) c.put_onto_words.ensures.slots;
   moves = c.put_onto_words.ensures.moves;
 }

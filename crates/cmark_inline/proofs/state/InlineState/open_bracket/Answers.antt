@@ -34,6 +34,7 @@ returns-clause-opens c =
 pub returns-clause-reads_on : goal.returns-clause-reads_on
 returns-clause-reads_on c = record {
   expansion_left = search rules;
+  steps = search rules;
   keeps = (let old : InlineState = c.args.self.now in
       let mid : InlineState = c.flush.new.self in
       let new : InlineState = record mid { slots = c.push_slot.new.slots; brackets = c.push.new.self; doubled = c.double.new.self } in
@@ -78,6 +79,7 @@ returns-clause-reads_on c = record {
           doubled = c.in_ok-double.ensures.brackets text inside k.brackets k.doubled is;
           doubled_free = c.in_ok-double.ensures.free ts k.free k.doubled_free;
           runs = k.runs;
+          examined = (let e = s.examined in omega (arith, e, lt));
         };
         cursor = record { pending = p.ends; at = p.ends; ordered = (let q : inside ≤ inside = omega arith in q) };
         further = lt;

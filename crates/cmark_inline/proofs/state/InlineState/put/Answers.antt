@@ -20,6 +20,7 @@ add-requires-clause-stands c =
       doubled = brackets-on text c.args.text_end end flushed.doubled.standing.items s.doubled le;
       doubled_free = s.doubled_free;
       runs = s.runs;
+      examined = (let e = s.examined in omega (arith, e, le));
     }
 
 pub returns-clause-moves : goal.returns-clause-moves

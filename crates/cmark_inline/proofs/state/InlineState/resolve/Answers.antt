@@ -1,222 +1,33 @@
-use Rattle.std.specs.Prelude.{map}
-use Rattle.std.proofs.Common.{rules, ◌≡◌, ◌≤◌, ℕ, List, [], drop, get_or, length, refl, sym, ap, ◌∙◌, subst, arith, true≢false}
-use Rattle.std.proofs.lemmas.Str.{IsCharBoundary-start}
-use Rattle.cmark_grammar.specs.EmphasisModel.{pairs_of, spans_of}
-use Rattle.cmark_grammar.proofs.EmphasisSound.{sound as emphasis}
+use Rattle.std.specs.Prelude.{Result, Ok, Err, OnOk, OnErr}
+use Rattle.std.proofs.Common.{◌≡◌, ◌≤◌, arith, refl, subst, sym}
 use Rattle.cmark_leaf_text.specs.Reads.{text_of}
-use Rattle.cmark_text_parts.specs.Shown.{shown_options}
-use Rattle.cmark_inline_model.specs.SlotRows.{marked, marks_by, quoted}
-use Rattle.cmark_inline.specs.CursorProgress.{HasCome}
-use Rattle.cmark_slots.specs.SlotViews.{shown_slots}
-use Rattle.cmark_inline.proofs.ComeLoops.{begin-comes, comes-further}
-use Rattle.cmark_inline.proofs.ComeEnds.{end-reads}
-use Rattle.cmark_inline.specs.Asking.{AsksUpTo, closing_brackets}
-use Rattle.cmark_slots.specs.MarkedSlots.{AreWhole, EndWithin, HaveBytes, places_of, siblings_from}
-use Rattle.cmark_slots.specs.QuoteSlots.{characters_of, with_characters}
-use Rattle.cmark_slots.specs.Standing.{AreEnded, NamesNoMore}
-use Rattle.cmark_inline.specs.Sound.{IsSound}
-use Rattle.cmark_slots.specs.Slots.{AreSlots, PushesText}
-use Rattle.cmark_slots.specs.declared.delimiter.PlacedRun.{PlacedRun}
-use Rattle.cmark_slots.specs.declared.quote.PlacedQuote.{PlacedQuote}
-use Rattle.cmark_slots.specs.declared.slot.Slot.{Slot}
-use Rattle.cmark_inline.specs.declared.state.InlineState.{InlineState}
-use Rattle.cmark_inline.proofs.Keeping.{keeps-pending}
-use Rattle.cmark_slots.proofs.Naming.{ended-on, named-on, no-more-on}
-use Rattle.cmark_inline.proofs.SourceOrder.{ends-behind, left-of}
-use Rattle.cmark_slots.proofs.Settling.{letters-name, letters-settle}
-use Rattle.cmark_slots.proofs.Soundness.{sound-settles-all}
-use Rattle.cmark_inline.proofs.Questions.{asks-all, asks-on}
+use Rattle.cmark_leaf_text.specs.declared.leaf_text.LeafText.{LeafText}
+use Rattle.cmark_inline.specs.Asking.{closing_brackets}
+use Rattle.cmark_inline.specs.Counted.{Counts}
+use Rattle.cmark_inline.specs.declared.steps.Steps.{Steps}
+use Rattle.cmark_inline.proofs.Questions.{up-to}
+use Rattle.cmark_inline.proofs.UsesCounted.{kept-rise}
 use Rattle.cmark_inline.proofs.state.InlineState.resolve.Goals as goal
 
-pub loop-cursor-init : goal.loop-cursor-init
-loop-cursor-init g c =
-    let b = IsCharBoundary-start c.as_str-text.result.now c.as_str-text.utf8 in
-    (c.clear.ensures.stands c.as_str-text.result.now, record { pending = b; at = b; ordered = omega arith }, refl, (λ none. (refl, none)), search rules, c.none.ensures c.args.leaf.now 0, search rules, (λ folded. refl), c.clear.ensures.sound, subst (AreEnded c.args.leaf.now) (sym c.clear.ensures.slots) (λ k d lt. absurd (omega (arith, lt))), λ set. begin-comes g.F.BrokenLinkCallback.answers (shown_options c.args.reader.now.options) (g.E.EntityLookup.replacement c.args.reader.now.entities.now) c.args.reader.now.references.now c.args.footnotes.now c.args.leaf.now c.args.callback.now c.clear.new.self c.clear.ensures.cleared, λ none. (refl, c.clear.ensures.cleared.quotes, c.clear.ensures.cleared.runs))
+none-counted : (leaf : LeafText) (steps : Steps) → Counts leaf steps steps
+none-counted leaf steps = record { html_grows = omega arith; openers_grow = omega arith; closers_grow = omega arith; found = omega arith; opened = omega arith }
 
-pub returns-clause-slots : goal.returns-clause-slots
-returns-clause-slots g c =
-    let text : List ℕ = c.as_str-text.result.now in
-    subst (λ (text : List ℕ). AreSlots text (length text) c.resolve-2.new.slots.items) c.as_str-text.ensures
-    (c.in_ok-resolve-2.ensures.slots text (length text) (c.in_ok-resolve.ensures.slots text (length text) c.in_ok-flush.ensures.stands.slots))
+-- where memory was refused, nothing was counted
+either-counted : {A E : Type 0} (leaf : LeafText) (old new : Steps) (result : Result A E) → OnOk result (Counts leaf old new) → OnErr result (new ≡ old) → Counts leaf old new
+either-counted leaf old new (Ok done) counts same = counts
+either-counted leaf old new (Err error) counts same = subst (Counts leaf old) (sym same) (none-counted leaf old)
 
-pub loop-cursor-preserved : goal.loop-cursor-preserved
-loop-cursor-preserved g c =
-    let i = c.loop-cursor.invariant in
-    let m = c.in_ok-cursor.ensures.moves in
-    let a : ℕ = c.loop-cursor.cursor.at in
-    let b : ℕ = c.in_ok-cursor.cursor.at in
-    let lt = m.further in (
-      m.stands,
-      m.cursor,
-      asks-on g.F.BrokenLinkCallback.answers c.as_str-text.result.now a b c.args.callback.now c.loop-cursor.callback c.step.new.callback i.2 (let q : a ≤ b = omega (arith, lt) in q) c.in_ok-cursor.ensures.asks_here,
-      (λ none. let p = i.3 none in let q = c.step.ensures.spent p.1 in (q.0 ∙ p.0, q.1)),
-      c.step.ensures.runs,
-      c.in_ok-cursor.ensures.kept,
-      c.step.ensures.dollars,
-      (λ folded. c.step.ensures.footnotes folded ∙ i.7 folded),
-      c.in_ok-cursor.ensures.sound,
-      c.in_ok-cursor.ensures.ends i.9,
-      (λ set. comes-further g.F.BrokenLinkCallback.answers (shown_options c.args.reader.now.options) (g.E.EntityLookup.replacement c.args.reader.now.entities.now) c.args.reader.now.references.now c.args.footnotes.now c.loop-cursor.footnotes c.args.leaf.now c.clear.new.self.expansion_left c.args.callback.now
-          c.loop-cursor.cursor c.in_ok-cursor.cursor c.loop-cursor.self c.step.new.self c.loop-cursor.callback c.step.new.callback i.7 (i.10 set) (c.in_ok-cursor.ensures.come set) i.9),
-      (λ none. absurd (let size = ap length none in let more = c.loop-cursor-test.true in let d : ⊥ = omega (arith, size, more) in d)),
-    )
+pub returns-then-self-clause-asks : goal.returns-then-self-clause-asks
+returns-then-self-clause-asks g c =
+    let brackets = closing_brackets (text_of c.args.leaf.now) in
+    let callback = c.args.callback.now in
+    up-to g.F.BrokenLinkCallback.answers 0 brackets callback callback (let q : 0 ≤ brackets = omega arith in q) refl
 
-pub returns-in_err-cursor-clause-asks : goal.returns-in_err-cursor-clause-asks
-returns-in_err-cursor-clause-asks g c =
-    let i = c.loop-cursor.invariant in
-    let answers = g.F.BrokenLinkCallback.answers in
-    let text : List ℕ = c.as_str-text.result.now in
-    subst (λ (t : List ℕ). AsksUpTo answers (closing_brackets t) c.args.callback.now c.step.new.callback) c.as_str-text.ensures
-    (asks-all answers text (length text) c.args.callback.now c.step.new.callback
-    (asks-on answers text c.loop-cursor.cursor.at (length text) c.args.callback.now c.loop-cursor.callback c.step.new.callback i.2 i.1.at.0 c.step.ensures.asks))
+pub returns-then-self-clause-counts : goal.returns-then-self-clause-counts
+returns-then-self-clause-counts g c = none-counted c.args.leaf.now c.args.self.now.steps
 
-pub returns-clause-whole : goal.returns-clause-whole
-returns-clause-whole g c =
-    let mid : InlineState = c.flush.new.self in
-    let one : List Slot = mid.slots.items in
-    let two : List Slot = c.resolve.new.slots.items in
-    let new : List Slot = c.resolve-2.new.slots.items in
-    let runs : List PlacedRun = drop 0 mid.delimiters.placed.items in
-    let quotes : List PlacedQuote = drop 0 mid.quotes.placed.items in
-    let sound : IsSound mid = (keeps-pending c.loop-cursor.self mid c.in_ok-flush.ensures.others c.loop-cursor.cursor.pending _ c.in_ok-flush.ensures.slots).sound c.loop-cursor.invariant.8 in
-    let can = sound-settles-all (length mid.texts.items) (length mid.links.items) one mid.delimiters.placed.items mid.quotes.placed.items mid.brackets.standing.items mid.doubled.standing.items sound in
-    let v : two ≡ with_characters quotes (characters_of quotes) one = c.in_ok-resolve.ensures.value in
-    let t = letters-settle 0 one runs quotes can (characters_of quotes) in
-    let whole : AreWhole two = subst AreWhole (sym v) t.0 in
-    let within : EndWithin two = subst EndWithin (sym v) t.1 in
-    let bytes : HaveBytes two 0 0 runs = subst (λ l. HaveBytes l 0 0 runs) (sym v) t.2 in
-    let marks = c.in_ok-resolve-2.ensures in
-    (marks.whole, marks.within within)
+pub returns-clause-counts : goal.returns-clause-counts
+returns-clause-counts g c = either-counted c.args.leaf.now c.args.self.now.steps c.read_leaf-done.new.self.steps c.read_leaf-done.result c.read_leaf-done.ensures.counts c.read_leaf-done.ensures.refused
 
-pub returns-clause-left : goal.returns-clause-left
-returns-clause-left g c =
-    let mid : InlineState = c.flush.new.self in
-    let one : List Slot = mid.slots.items in
-    let two : List Slot = c.resolve.new.slots.items in
-    let new : List Slot = c.resolve-2.new.slots.items in
-    let runs : List PlacedRun = drop 0 mid.delimiters.placed.items in
-    let quotes : List PlacedQuote = drop 0 mid.quotes.placed.items in
-    let sound : IsSound mid = (keeps-pending c.loop-cursor.self mid c.in_ok-flush.ensures.others c.loop-cursor.cursor.pending _ c.in_ok-flush.ensures.slots).sound c.loop-cursor.invariant.8 in
-    let can = sound-settles-all (length mid.texts.items) (length mid.links.items) one mid.delimiters.placed.items mid.quotes.placed.items mid.brackets.standing.items mid.doubled.standing.items sound in
-    let v : two ≡ with_characters quotes (characters_of quotes) one = c.in_ok-resolve.ensures.value in
-    let t = letters-settle 0 one runs quotes can (characters_of quotes) in
-    let whole : AreWhole two = subst AreWhole (sym v) t.0 in
-    let within : EndWithin two = subst EndWithin (sym v) t.1 in
-    let bytes : HaveBytes two 0 0 runs = subst (λ l. HaveBytes l 0 0 runs) (sym v) t.2 in
-    let marks = c.in_ok-resolve-2.ensures in
-    let names : NamesNoMore one new = (no-more-on one two new (subst (NamesNoMore one) (sym v) (letters-name 0 one runs quotes can (characters_of quotes))) marks.names) in
-    let named = named-on one new names (length mid.texts.items) (length mid.links.items) sound.named in
-    let leaf = c.args.leaf.now in
-    let ended = ended-on one new names leaf ((keeps-pending c.loop-cursor.self mid c.in_ok-flush.ensures.others c.loop-cursor.cursor.pending _ c.in_ok-flush.ensures.slots).ends leaf c.loop-cursor.invariant.9) in
-    let text : List ℕ = c.as_str-text.result.now in
-    let slots = c.in_ok-resolve-2.ensures.slots text (length text) (c.in_ok-resolve.ensures.slots text (length text) c.in_ok-flush.ensures.stands.slots) in
-    left-of leaf mid.texts.items mid.links.items new named (λ k d lt. ends-behind leaf (get_or new k d) (get_or new k d).kind (slots k d lt).part.some (ended k d lt))
-
-pub returns-clause-reads : goal.returns-clause-reads
-returns-clause-reads g c = λ set reader read place same places.
-    let mid : InlineState = c.flush.new.self in
-    let one : List Slot = mid.slots.items in
-    let two : List Slot = c.resolve.new.slots.items in
-    let new : List Slot = c.resolve-2.new.slots.items in
-    let runs : List PlacedRun = drop 0 mid.delimiters.placed.items in
-    let quotes : List PlacedQuote = drop 0 mid.quotes.placed.items in
-    let sound : IsSound mid = (keeps-pending c.loop-cursor.self mid c.in_ok-flush.ensures.others c.loop-cursor.cursor.pending _ c.in_ok-flush.ensures.slots).sound c.loop-cursor.invariant.8 in
-    let can = sound-settles-all (length mid.texts.items) (length mid.links.items) one mid.delimiters.placed.items mid.quotes.placed.items mid.brackets.standing.items mid.doubled.standing.items sound in
-    let v : two ≡ with_characters quotes (characters_of quotes) one = c.in_ok-resolve.ensures.value in
-    let t = letters-settle 0 one runs quotes can (characters_of quotes) in
-    let whole : AreWhole two = subst AreWhole (sym v) t.0 in
-    let bytes : HaveBytes two 0 0 runs = subst (λ l. HaveBytes l 0 0 runs) (sym v) t.2 in
-    let leaf = c.args.leaf.now in
-    let marks = c.in_ok-resolve-2.ensures.marks leaf mid.texts.items mid.links.items (pairs_of (siblings_from 0 runs)) (spans_of (siblings_from 0 runs)) (emphasis (siblings_from 0 runs)) in
-    let letters = c.in_ok-resolve.ensures.quotes leaf mid.texts.items mid.links.items in
-    let cursor = c.loop-cursor.cursor in
-    let le = c.loop-cursor.invariant.1.at.0 in
-    let over = c.loop-cursor-test.false in
-    let size = ap length c.as_str-text.ensures in
-    let at : cursor.at ≡ length (text_of leaf) = omega (arith, le, over, size) in
-    end-reads leaf reader read place places g.F.BrokenLinkCallback.answers c.args.self.now.expansion_left c.args.callback.now c.loop-cursor.callback cursor c.loop-cursor.self mid
-    (subst (λ n. HasCome g.F.BrokenLinkCallback.answers leaf reader read place (record { expansion_left = n; asked = [] }) c.args.callback.now cursor c.loop-cursor.self c.loop-cursor.callback) c.clear.ensures.expansion_left (c.loop-cursor.invariant.10 set reader read place same places))
-    at (subst (λ n. PushesText cursor.pending n c.loop-cursor.self.slots.items mid.slots.items) size c.in_ok-flush.ensures.slots) c.in_ok-flush.ensures.others same.source (record mid { slots = c.resolve-2.new.slots })
-    (marks ∙ ap (λ l. marked (shown_options c.args.reader.now.options) (places_of runs) (marks_by (length (places_of runs)) (pairs_of (siblings_from 0 runs))) l []) letters
-    ∙ ap (λ o. marked o (places_of runs) (marks_by (length (places_of runs)) (pairs_of (siblings_from 0 runs))) (quoted (map (λ (q : PlacedQuote). q.slot) quotes) (characters_of quotes) (shown_slots leaf mid.texts.items mid.links.items one)) []) (sym same.options_are))
-    refl
-
-pub resolve-requires-clause-texts : goal.resolve-requires-clause-texts
-resolve-requires-clause-texts g c =
-    let mid : InlineState = c.flush.new.self in
-    ((keeps-pending c.loop-cursor.self mid c.in_ok-flush.ensures.others c.loop-cursor.cursor.pending _ c.in_ok-flush.ensures.slots).sound c.loop-cursor.invariant.8).quotes_are
-
-pub resolve-requires-2-clause-bytes : goal.resolve-requires-2-clause-bytes
-resolve-requires-2-clause-bytes g c =
-    let mid : InlineState = c.flush.new.self in
-    let runs : List PlacedRun = drop 0 mid.delimiters.placed.items in
-    let quotes : List PlacedQuote = drop 0 mid.quotes.placed.items in
-    let sound : IsSound mid = (keeps-pending c.loop-cursor.self mid c.in_ok-flush.ensures.others c.loop-cursor.cursor.pending _ c.in_ok-flush.ensures.slots).sound c.loop-cursor.invariant.8 in
-    let can = sound-settles-all (length mid.texts.items) (length mid.links.items) mid.slots.items mid.delimiters.placed.items mid.quotes.placed.items mid.brackets.standing.items mid.doubled.standing.items sound in
-    subst (λ l. HaveBytes l 0 0 runs) (sym c.in_ok-resolve.ensures.value) (letters-settle 0 mid.slots.items runs quotes can (characters_of quotes)).2
-
-pub resolve-requires-2-clause-whole : goal.resolve-requires-2-clause-whole
-resolve-requires-2-clause-whole g c =
-    let mid : InlineState = c.flush.new.self in
-    let runs : List PlacedRun = drop 0 mid.delimiters.placed.items in
-    let quotes : List PlacedQuote = drop 0 mid.quotes.placed.items in
-    let sound : IsSound mid = (keeps-pending c.loop-cursor.self mid c.in_ok-flush.ensures.others c.loop-cursor.cursor.pending _ c.in_ok-flush.ensures.slots).sound c.loop-cursor.invariant.8 in
-    let can = sound-settles-all (length mid.texts.items) (length mid.links.items) mid.slots.items mid.delimiters.placed.items mid.quotes.placed.items mid.brackets.standing.items mid.doubled.standing.items sound in
-    subst AreWhole (sym c.in_ok-resolve.ensures.value) (letters-settle 0 mid.slots.items runs quotes can (characters_of quotes)).0
-
-pub returns-in_err-cursor-clause-succeeds : goal.returns-in_err-cursor-clause-succeeds
-returns-in_err-cursor-clause-succeeds g c = λ none. absurd (let size = ap length (c.as_str-text.ensures ∙ none) in let more = c.loop-cursor-test.true in let d : ⊥ = omega (arith, size, more) in d)
-
-pub returns-in_err-flush-clause-succeeds : goal.returns-in_err-flush-clause-succeeds
-returns-in_err-flush-clause-succeeds g c = λ none.
-    let text : List ℕ = c.as_str-text.result.now in
-    let size : length text ≡ 0 = ap length (c.as_str-text.ensures ∙ none) in
-    absurd (true≢false (sym (c.in_err-flush.ensures.succeeds (omega (arith, size)))))
-
-pub returns-in_err-resolve-clause-succeeds : goal.returns-in_err-resolve-clause-succeeds
-returns-in_err-resolve-clause-succeeds g c = λ none.
-    let i = c.loop-cursor.invariant.11 (c.as_str-text.ensures ∙ none) in
-    let size : length c.flush.new.self.quotes.placed.items ≡ 0 = ap (λ (s : InlineState). length s.quotes.placed.items) c.in_ok-flush.ensures.others ∙ ap length i.1 in
-    absurd (true≢false (sym (c.in_err-resolve.ensures.succeeds (omega (arith, size)))))
-
-pub returns-in_err-resolve-2-clause-succeeds : goal.returns-in_err-resolve-2-clause-succeeds
-returns-in_err-resolve-2-clause-succeeds g c = λ none.
-    let i = c.loop-cursor.invariant.11 (c.as_str-text.ensures ∙ none) in
-    let size : length c.flush.new.self.delimiters.placed.items ≡ 0 = ap (λ (s : InlineState). length s.delimiters.placed.items) c.in_ok-flush.ensures.others ∙ ap length i.2 in
-    absurd (true≢false (sym (c.in_err-resolve-2.ensures.succeeds (omega (arith, size)))))
-
-pub returns-clause-asks : goal.returns-clause-asks
-returns-clause-asks g c =
-    let answers = g.F.BrokenLinkCallback.answers in
-    subst (λ (t : List ℕ). AsksUpTo answers (closing_brackets t) c.args.callback.now c.loop-cursor.callback) c.as_str-text.ensures
-    (asks-all answers c.as_str-text.result.now c.loop-cursor.cursor.at c.args.callback.now c.loop-cursor.callback c.loop-cursor.invariant.2)
-
-pub returns-clause-spent : goal.returns-clause-spent
-returns-clause-spent g c = λ none. (c.loop-cursor.invariant.3 (c.clear.ensures.expansion_left ∙ none)).0
-
-pub returns-in_err-flush-clause-asks : goal.returns-in_err-flush-clause-asks
-returns-in_err-flush-clause-asks g c =
-    let answers = g.F.BrokenLinkCallback.answers in
-    subst (λ (t : List ℕ). AsksUpTo answers (closing_brackets t) c.args.callback.now c.loop-cursor.callback) c.as_str-text.ensures
-    (asks-all answers c.as_str-text.result.now c.loop-cursor.cursor.at c.args.callback.now c.loop-cursor.callback c.loop-cursor.invariant.2)
-
-pub returns-in_err-flush-clause-spent : goal.returns-in_err-flush-clause-spent
-returns-in_err-flush-clause-spent g c = λ none. (c.loop-cursor.invariant.3 (c.clear.ensures.expansion_left ∙ none)).0
-
-pub returns-in_err-resolve-clause-asks : goal.returns-in_err-resolve-clause-asks
-returns-in_err-resolve-clause-asks g c =
-    let answers = g.F.BrokenLinkCallback.answers in
-    subst (λ (t : List ℕ). AsksUpTo answers (closing_brackets t) c.args.callback.now c.loop-cursor.callback) c.as_str-text.ensures
-    (asks-all answers c.as_str-text.result.now c.loop-cursor.cursor.at c.args.callback.now c.loop-cursor.callback c.loop-cursor.invariant.2)
-
-pub returns-in_err-resolve-clause-spent : goal.returns-in_err-resolve-clause-spent
-returns-in_err-resolve-clause-spent g c = λ none. (c.loop-cursor.invariant.3 (c.clear.ensures.expansion_left ∙ none)).0
-
-pub returns-in_err-resolve-2-clause-asks : goal.returns-in_err-resolve-2-clause-asks
-returns-in_err-resolve-2-clause-asks g c =
-    let answers = g.F.BrokenLinkCallback.answers in
-    subst (λ (t : List ℕ). AsksUpTo answers (closing_brackets t) c.args.callback.now c.loop-cursor.callback) c.as_str-text.ensures
-    (asks-all answers c.as_str-text.result.now c.loop-cursor.cursor.at c.args.callback.now c.loop-cursor.callback c.loop-cursor.invariant.2)
-
-pub returns-in_err-resolve-2-clause-spent : goal.returns-in_err-resolve-2-clause-spent
-returns-in_err-resolve-2-clause-spent g c = λ none. (c.loop-cursor.invariant.3 (c.clear.ensures.expansion_left ∙ none)).0
+pub returns-then-self-clause-rise : goal.returns-then-self-clause-rise
+returns-then-self-clause-rise g c = kept-rise (closing_brackets (text_of c.args.leaf.now)) c.args.footnotes.now c.args.footnotes.now (λ folded. refl)

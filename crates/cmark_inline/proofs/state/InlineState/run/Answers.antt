@@ -1,12 +1,13 @@
 use Rattle.std.proofs.Common.{◌≡◌, ◌||◌, ◌-◌, inl, inr, true, false, not, Bool, true≢false, ℕ, [], ◌∷◌, ◌++◌, length, refl, sym, ap, ◌∙◌, rules, arith}
 use Rattle.std.proofs.lemmas.Bool.{or_left, or_right}
+use Rattle.std.proofs.lemmas.List.{length_push}
 use Rattle.cmark_emphasis.specs.Shown.{shown_flanking}
 use Rattle.cmark_emphasis.specs.declared.run.Run.{Run}
 use Rattle.cmark_slots.specs.declared.delimiter.Delimiters.{Delimiters}
 use Rattle.cmark_inline.specs.declared.state.InlineState.{InlineState}
 use Rattle.cmark_text_parts.specs.Shown.{shown_options}
 use Rattle.cmark_grammar.specs.Flanking.{Flanking}
-use Rattle.cmark_inline.proofs.SpecialSteps.{others-flank, others-last, others-stand}
+use Rattle.cmark_inline.proofs.SpecialSteps.{flanks-known, others-flank, others-last, others-stand}
 use Rattle.cmark_inline.proofs.MarkSteps.{run-content, run-stays, run-begins-there}
 use Rattle.cmark_inline.proofs.Keeping.{keeps-run, keeps-same}
 use Rattle.cmark_inline.proofs.state.InlineState.run.Goals as goal
@@ -67,6 +68,7 @@ returns-clause-token c = λ l cell is delimiter.
           c.in_ok-push.ensures.placed
           ∙ ap (λ (d : Delimiters). d.placed.items ++ (record { slot = c.len-first.result; run = run } ∷ [])) (c.in_ok-push_bytes.ensures.delimiters ∙ ap (λ (s : InlineState). s.delimiters) c.in_ok-flush.ensures.others)
           ∙ ap (λ (n : ℕ). c.args.self.now.delimiters.placed.items ++ (record { slot = n; run = run } ∷ [])) (sym same);
+      examined = c.push.ensures.examined ∙ ap (λ (d : Delimiters). d.examined) (c.in_ok-push_bytes.ensures.delimiters ∙ ap (λ (s : InlineState). s.delimiters) c.in_ok-flush.ensures.others);
       others = ap (λ (s : InlineState). record s { slots = c.push_bytes.new.self.slots; delimiters = c.push.new.self }) (c.in_ok-push_bytes.ensures.others ∙ ap (λ (s : InlineState). record s { slots = c.push_bytes.new.self.slots }) c.in_ok-flush.ensures.others);
     })
 
@@ -93,6 +95,7 @@ returns-clause-others c = λ l cell is other.
 pub returns-then-not-flanking-2-clause-reads_on : goal.returns-then-not-flanking-2-clause-reads_on
 returns-then-not-flanking-2-clause-reads_on c = record {
   expansion_left = refl;
+  steps = refl;
   keeps = keeps-same c.args.self.now;
   moves = search rules;
 }
@@ -100,13 +103,39 @@ returns-then-not-flanking-2-clause-reads_on c = record {
 pub returns-clause-reads_on : goal.returns-clause-reads_on
 returns-clause-reads_on c = record {
   expansion_left = search rules;
+  steps = search rules;
   keeps = (let same : length c.flush.new.self.slots.items ≡ c.len-first.result = search rules in
       let run : Run = record { delimiter = c.args.delimiter; run_length = c.run_end-end.result - c.args.here.at; at = 0; left = c.run_end-end.result - c.args.here.at; opens = c.flanking_of-flanking.result.opens; closes = c.flanking_of-flanking.result.closes } in
       let further = c.run_end-end.ensures.further in
+      let some : (c.flanking_of-flanking.result.opens || c.flanking_of-flanking.result.closes) ≡ true = elim c.else-not-flanking.branch [
+        | else-not-flanking-via-then-not-flanking+else-not-flanking-2 w ↦ or_right c.flanking_of-flanking.result.opens c.flanking_of-flanking.result.closes (not-no c.flanking_of-flanking.result.closes w.if-not-flanking-2.false)
+        | else-not-flanking-via-else-not-flanking w ↦ or_left c.flanking_of-flanking.result.opens c.flanking_of-flanking.result.closes (not-no c.flanking_of-flanking.result.opens w.if-not-flanking.false)
+      ] in
+      let known = flanks-known (shown_options c.args.options) c.args.delimiter (c.run_end-end.result - c.args.here.at) c.character_before-before.result c.character_at-after.result (shown_flanking c.flanking_of-flanking.result) c.flanking_of-flanking.ensures some in
       keeps-run c.args.self.now (record c.push_bytes.new.self { delimiters = c.push.new.self }) c.flush.new.self.slots.items c.args.here.pending c.args.here.at (record { slot = c.len-first.result; run = run }) c.args.text.now
       c.in_ok-flush.ensures.slots c.in_ok-push_bytes.ensures.bytes
       (c.in_ok-push.ensures.placed ∙ ap (λ (d : Delimiters). d.placed.items ++ (record { slot = c.len-first.result; run = run } ∷ [])) (c.in_ok-push_bytes.ensures.delimiters ∙ ap (λ (s : InlineState). s.delimiters) c.in_ok-flush.ensures.others))
       (ap (λ (s : InlineState). record s { slots = c.push_bytes.new.self.slots; delimiters = c.push.new.self }) (c.in_ok-push_bytes.ensures.others ∙ ap (λ (s : InlineState). record s { slots = c.push_bytes.new.self.slots }) c.in_ok-flush.ensures.others))
-      (omega (arith, further)) (sym same) c.in_ok-flush.ensures.stands.slots);
-  moves = search rules;
+      (omega (arith, further)) known (sym same) c.in_ok-flush.ensures.stands.slots);
+  moves = (let s = c.in_ok-flush.ensures.stands in
+      let seen = s.examined in
+      let further = c.run_end-end.ensures.further in
+      let same = ap (λ (d : Delimiters). d.examined) c.in_ok-push_bytes.ensures.delimiters in
+      let count = ap (λ (d : Delimiters). length d.placed.items) c.in_ok-push_bytes.ensures.delimiters in
+      let kept = c.push.ensures.examined in
+      let more = ap length c.in_ok-push.ensures.placed ∙ length_push c.push_bytes.new.self.delimiters.placed.items _ in
+      record {
+        stands = record {
+          slots = search rules;
+          brackets = search rules;
+          few = search rules;
+          free = search rules;
+          doubled = search rules;
+          doubled_free = search rules;
+          runs = search rules;
+          examined = omega (arith, seen, further, same, count, kept, more);
+        };
+        cursor = search rules;
+        further = search rules;
+      });
 }

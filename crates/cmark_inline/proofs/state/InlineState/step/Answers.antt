@@ -5,6 +5,7 @@ use Rattle.cmark_grammar.specs.Options.{Options}
 use Rattle.cmark_text_parts.specs.Shown.{shown_options}
 use Rattle.cmark_inline.specs.Closers.{Closes}
 use Rattle.cmark_inline.specs.CursorProgress.{ComesOn}
+use Rattle.cmark_inline.specs.LeastSteps.{PassesAt, VisitsAt}
 use Rattle.cmark_inline.specs.SpecialReads.{ReadsSpecial}
 use Rattle.cmark_inline.specs.Stands.{Flushes, Moves}
 use Rattle.cmark_inline.specs.declared.state.InlineState.{InlineState}
@@ -12,7 +13,9 @@ use Rattle.cmark_inline.specs.declared.step.Cursor.{Cursor}
 use Rattle.cmark_inline.proofs.ComeCalls.{IsNextAt, both-ok, close-comes, rest-comes, span-comes, special-there}
 use Rattle.std.proofs.lemmas.Result.{IfOk-weaker}
 use Rattle.cmark_grammar.specs.SpecialBytes.{is_special}
+use Rattle.cmark_inline.proofs.PaidSteps.{all-on}
 use Rattle.cmark_inline.proofs.StillUnclosed.{still-unclosed}
+use Rattle.cmark_inline.proofs.UsesCounted.{none-between, one-between}
 use Rattle.cmark_inline.proofs.state.InlineState.step.Goals as goal
 
 pub returns-then-at-bytes-clause-come : goal.returns-then-at-bytes-clause-come
@@ -23,7 +26,7 @@ returns-then-at-bytes-clause-come g c = λ set.
     let at : ℕ = c.next-at.result in
     let there : IsNextAt rows c.args.text.now c.args.cursor.at at = subst (λ (t : List ℕ). IsNextAt rows t c.args.cursor.at at) is (record { value = n.value; plain = n.plain; order = n.behind; within = n.within; ascii = n.ascii }) in
     rest-comes g.F.BrokenLinkCallback.answers (shown_options c.args.reader.now.options) (g.E.EntityLookup.replacement c.args.reader.now.entities.now) c.args.reader.now.references.now c.args.footnotes.now c.args.leaf.now rows c.args.text.now c.requires.same
-    c.args.cursor c.args.self.now at set there c.args.callback.now (length c.as_bytes-bytes.result.now) (ap length is) c.if-at-bytes.true c.requires.more
+    c.args.cursor c.args.self.now at set there c.args.sought.now c.args.callback.now (length c.as_bytes-bytes.result.now) (ap length is) c.if-at-bytes.true c.requires.more
 
 pub returns-then-bytes-at-eq93-clause-come : goal.returns-then-bytes-at-eq93-clause-come
 returns-then-bytes-at-eq93-clause-come g c = λ set.
@@ -42,14 +45,15 @@ returns-then-bytes-at-eq93-clause-come g c = λ set.
     let leaf = c.args.leaf.now in
     let references = c.args.reader.now.references.now in
     let notes = c.args.footnotes.now in
+    let others = c.close_bracket.new.footnotes in
     let cursor : Cursor = c.args.cursor in
     let callback = c.args.callback.now in
     let later = c.close_bracket.new.callback in
-    both-ok c.close_bracket.result (λ (next : Cursor). Moves c.args.text.now at new next) (λ (next : Cursor). Flushes cursor.pending at old × Closes answers o l references notes leaf c.args.text.now cursor.pending at old new next callback later)
-    (λ (next : Cursor). ComesOn answers o l references notes leaf cursor next old new callback later)
-    (λ next m k. close-comes answers o l references notes leaf rows c.args.text.now c.requires.same cursor old at set there callback new next lt c.requires.sound m later byte k.0 k.1) c.close_bracket.ensures.moves
-    (both-ok c.close_bracket.result (λ (next : Cursor). Flushes cursor.pending at old) (λ (next : Cursor). Closes answers o l references notes leaf c.args.text.now cursor.pending at old new next callback later)
-    (λ (next : Cursor). Flushes cursor.pending at old × Closes answers o l references notes leaf c.args.text.now cursor.pending at old new next callback later) (λ next f k. (f, k)) c.close_bracket.ensures.flushes c.close_bracket.ensures.closes)
+    both-ok c.close_bracket.result (λ (next : Cursor). Moves c.args.text.now at new next) (λ (next : Cursor). Flushes cursor.pending at old × Closes answers o l references notes others leaf c.args.text.now cursor.pending at old new next callback later)
+    (λ (next : Cursor). ComesOn answers o l references notes others leaf c.args.sought.now c.args.sought.now cursor next old new callback later)
+    (λ next m k. close-comes answers o l references notes leaf rows c.args.text.now c.requires.same cursor old at set there callback new next lt c.requires.sound m c.args.sought.now others later byte k.0 k.1) c.close_bracket.ensures.moves
+    (both-ok c.close_bracket.result (λ (next : Cursor). Flushes cursor.pending at old) (λ (next : Cursor). Closes answers o l references notes others leaf c.args.text.now cursor.pending at old new next callback later)
+    (λ (next : Cursor). Flushes cursor.pending at old × Closes answers o l references notes others leaf c.args.text.now cursor.pending at old new next callback later) (λ next f k. (f, k)) c.close_bracket.ensures.flushes c.close_bracket.ensures.closes)
 
 pub returns-clause-come : goal.returns-clause-come
 returns-clause-come g c = λ set.
@@ -71,9 +75,13 @@ returns-clause-come g c = λ set.
     let notes = c.args.footnotes.now in
     let cursor : Cursor = c.args.cursor in
     let callback = c.args.callback.now in
-    both-ok c.span.result (λ (next : Cursor). Moves c.args.text.now at new next) (λ (next : Cursor). ReadsSpecial o l leaf (record { pending = cursor.pending; at = at }) old new next)
-    (λ (next : Cursor). ComesOn answers o l references notes leaf cursor next old new callback callback)
-    (λ next m k. span-comes answers o l references notes leaf rows c.args.text.now c.requires.same cursor old at set there callback new next lt c.requires.sound m k) c.span.ensures.moves
+    let visits = VisitsAt c.args.text.now at c.args.sought.now c.span.new.sought in
+    let passes = PassesAt o.email_autolinks leaf at c.args.sought.now.unclosed c.span.new.sought.unclosed in
+    both-ok c.span.result (λ (next : Cursor). visits × passes × Moves c.args.text.now at new next) (λ (next : Cursor). ReadsSpecial o l leaf (record { pending = cursor.pending; at = at }) old new next)
+    (λ (next : Cursor). ComesOn answers o l references notes notes leaf c.args.sought.now c.span.new.sought cursor next old new callback callback)
+    (λ next m k. span-comes answers o l references notes leaf rows c.args.text.now c.requires.same cursor old at set there callback new next lt c.requires.sound m.2 c.args.sought.now c.span.new.sought m.0 m.1 k)
+    (both-ok c.span.result (λ (next : Cursor). visits) (λ (next : Cursor). passes × Moves c.args.text.now at new next) (λ (next : Cursor). visits × passes × Moves c.args.text.now at new next) (λ next v m. (v, m.0, m.1)) c.span.ensures.visits
+    (both-ok c.span.result (λ (next : Cursor). passes) (λ (next : Cursor). Moves c.args.text.now at new next) (λ (next : Cursor). passes × Moves c.args.text.now at new next) (λ next p m. (p, m)) c.span.ensures.passes c.span.ensures.moves))
     (c.span.ensures.token (special-there o rows c.args.text.now cursor.at at set there lt) other)
 
 pub returns-then-at-bytes-clause-kept : goal.returns-then-at-bytes-clause-kept
@@ -189,3 +197,49 @@ returns-clause-token g c = λ k e low special other.
     let o : Options = shown_options c.args.reader.now.options in
     let l : Lookup = g.E.EntityLookup.replacement c.args.reader.now.entities.now in
     subst (λ (i : ℕ). is_special o (get_or text i 0) ≡ true → (get_or text i 0 == 93) ≡ false → IfOk c.span.result (ReadsSpecial o l c.args.leaf.now (record { pending = c.args.cursor.pending; at = i }) c.args.self.now c.span.new.self)) (value ∙ sym e) c.span.ensures.token special other
+
+pub returns-then-at-bytes-clause-paid : goal.returns-then-at-bytes-clause-paid
+returns-then-at-bytes-clause-paid g c =
+    let size = ap length c.as_bytes-bytes.ensures.value in
+    let more = c.requires.more in
+    all-on c.args.leaf.now c.requires.read c.args.cursor.at (length c.as_bytes-bytes.result.now) c.args.sought.now (omega (arith, size, more)) c.requires.paid
+
+pub returns-then-bytes-at-eq93-clause-paid : goal.returns-then-bytes-at-eq93-clause-paid
+returns-then-bytes-at-eq93-clause-paid g c =
+    let behind = c.next-at.ensures.behind in
+    IfOk-weaker c.close_bracket.result _ _ (λ next m. let further = m.further in all-on c.args.leaf.now c.requires.read c.args.cursor.at next.at c.args.sought.now (omega (arith, behind, further)) c.requires.paid) c.close_bracket.ensures.moves
+
+pub span-requires-clause-paid : goal.span-requires-clause-paid
+span-requires-clause-paid g c = all-on c.args.leaf.now c.requires.read c.args.cursor.at c.next-at.result c.args.sought.now c.next-at.ensures.behind c.requires.paid
+
+pub returns-then-at-bytes-clause-rise : goal.returns-then-at-bytes-clause-rise
+returns-then-at-bytes-clause-rise g c = none-between c.args.text.now c.args.cursor.at (length c.args.text.now) c.args.footnotes.now
+
+pub returns-then-at-bytes-clause-rise_here : goal.returns-then-at-bytes-clause-rise_here
+returns-then-at-bytes-clause-rise_here g c = none-between c.args.text.now c.args.cursor.at _ c.args.footnotes.now
+
+pub returns-clause-rise : goal.returns-clause-rise
+returns-clause-rise g c = none-between c.args.text.now c.args.cursor.at (length c.args.text.now) c.args.footnotes.now
+
+pub returns-clause-rise_here : goal.returns-clause-rise_here
+returns-clause-rise_here g c = IfOk-weaker c.span.result _ _ (λ next _. none-between c.args.text.now c.args.cursor.at next.at c.args.footnotes.now) c.span.ensures.moves
+
+pub returns-then-bytes-at-eq93-clause-rise : goal.returns-then-bytes-at-eq93-clause-rise
+returns-then-bytes-at-eq93-clause-rise g c =
+    let text : List ℕ = c.args.text.now in
+    let at : ℕ = c.next-at.result in
+    let is = c.as_bytes-bytes.ensures.value in
+    let behind = c.next-at.ensures.behind in
+    let lt : at < length text = subst (λ (t : List ℕ). at < length t) is c.if-at-bytes.false in
+    let byte : get_or text at 0 ≡ 93 = ap (λ (t : List ℕ). get_or t at 0) (sym is) ∙ c.if-bytes-at-eq93.true in
+    one-between text c.args.cursor.at at (length text) c.args.footnotes.now c.close_bracket.new.footnotes behind lt lt byte c.close_bracket.ensures.rise
+
+pub returns-then-bytes-at-eq93-clause-rise_here : goal.returns-then-bytes-at-eq93-clause-rise_here
+returns-then-bytes-at-eq93-clause-rise_here g c =
+    let text : List ℕ = c.args.text.now in
+    let at : ℕ = c.next-at.result in
+    let is = c.as_bytes-bytes.ensures.value in
+    let behind = c.next-at.ensures.behind in
+    let lt : at < length text = subst (λ (t : List ℕ). at < length t) is c.if-at-bytes.false in
+    let byte : get_or text at 0 ≡ 93 = ap (λ (t : List ℕ). get_or t at 0) (sym is) ∙ c.if-bytes-at-eq93.true in
+    IfOk-weaker c.close_bracket.result _ _ (λ next m. one-between text c.args.cursor.at at next.at c.args.footnotes.now c.close_bracket.new.footnotes behind m.further lt byte c.close_bracket.ensures.rise) c.close_bracket.ensures.moves

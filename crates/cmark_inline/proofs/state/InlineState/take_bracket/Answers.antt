@@ -8,16 +8,16 @@ use Rattle.cmark_slots.proofs.Opening.{is-taken, last-nearest, sound-taken}
 use Rattle.cmark_inline.proofs.state.InlineState.take_bracket.Goals as goal
 
 pub returns-in_err-bracket-clause-stands : goal.returns-in_err-bracket-clause-stands
-returns-in_err-bracket-clause-stands c = record { slots = c.requires.stands.slots; brackets = c.take.ensures.brackets c.args.text.now c.args.at c.requires.stands.brackets; few = c.requires.stands.few; free = c.take.ensures.free c.args.self.now.slots.items c.requires.stands.free; doubled = c.requires.stands.doubled; doubled_free = c.requires.stands.doubled_free; runs = c.requires.stands.runs }
+returns-in_err-bracket-clause-stands c = record { slots = c.requires.stands.slots; brackets = c.take.ensures.brackets c.args.text.now c.args.at c.requires.stands.brackets; few = c.requires.stands.few; free = c.take.ensures.free c.args.self.now.slots.items c.requires.stands.free; doubled = c.requires.stands.doubled; doubled_free = c.requires.stands.doubled_free; runs = c.requires.stands.runs; examined = c.requires.stands.examined }
 
 pub returns-then-forms-clause-stands : goal.returns-then-forms-clause-stands
-returns-then-forms-clause-stands c = record { slots = c.requires.stands.slots; brackets = c.take.ensures.brackets c.args.text.now c.args.at c.requires.stands.brackets; few = c.requires.stands.few; free = c.take.ensures.free c.args.self.now.slots.items c.requires.stands.free; doubled = c.requires.stands.doubled; doubled_free = c.requires.stands.doubled_free; runs = c.requires.stands.runs }
+returns-then-forms-clause-stands c = record { slots = c.requires.stands.slots; brackets = c.take.ensures.brackets c.args.text.now c.args.at c.requires.stands.brackets; few = c.requires.stands.few; free = c.take.ensures.free c.args.self.now.slots.items c.requires.stands.free; doubled = c.requires.stands.doubled; doubled_free = c.requires.stands.doubled_free; runs = c.requires.stands.runs; examined = c.requires.stands.examined }
 
 pub returns-then-forms-clause-bracket : goal.returns-then-forms-clause-bracket
 returns-then-forms-clause-bracket c = c.in_ok-bracket.ensures.bracket c.args.text.now c.args.at c.requires.stands.brackets
 
 pub returns-else-forms-clause-stands : goal.returns-else-forms-clause-stands
-returns-else-forms-clause-stands c = record { slots = c.requires.stands.slots; brackets = c.take.ensures.brackets c.args.text.now c.args.at c.requires.stands.brackets; few = c.requires.stands.few; free = c.take.ensures.free c.args.self.now.slots.items c.requires.stands.free; doubled = c.requires.stands.doubled; doubled_free = c.requires.stands.doubled_free; runs = c.requires.stands.runs }
+returns-else-forms-clause-stands c = record { slots = c.requires.stands.slots; brackets = c.take.ensures.brackets c.args.text.now c.args.at c.requires.stands.brackets; few = c.requires.stands.few; free = c.take.ensures.free c.args.self.now.slots.items c.requires.stands.free; doubled = c.requires.stands.doubled; doubled_free = c.requires.stands.doubled_free; runs = c.requires.stands.runs; examined = c.requires.stands.examined }
 
 pub returns-in_err-bracket-clause-takes : goal.returns-in_err-bracket-clause-takes
 returns-in_err-bracket-clause-takes c = λ wikilinks place openers bs h.

@@ -70,7 +70,7 @@ reference-requires g c =
     let before = c.requires.bracket.before in
     let behind = link_reference.behind in
     let part : IsPart c.args.text.now c.args.bracket.start c.in-Some-link_reference_at.link_reference.end = record { some = omega (arith, opens, before, behind); within = link_reference.ends.0; starts = c.requires.bracket.part.starts; ends = link_reference.ends } in
-    λ k. ((refl, tt), (part, (c.requires.read, c.requires.same)))
+    λ k. ((refl, tt), (part, (c.requires.read, (c.requires.same, c.requires.ready))))
 
 pub returns-in-Some-clause-target : goal.returns-in-Some-clause-target
 returns-in-Some-clause-target g c =

@@ -40,7 +40,7 @@ returns-then-not-forms-clause-sound c =
 pub returns-then-not-forms-clause-stands : goal.returns-then-not-forms-clause-stands
 returns-then-not-forms-clause-stands c =
     let old : InlineState = c.args.self.now in
-    λ none. let s = c.requires.stands in record { slots = s.slots; brackets = s.brackets; few = s.few; free = s.free; doubled = c.take.ensures.brackets c.args.text.now c.args.close s.doubled; doubled_free = c.take.ensures.free c.args.self.now.slots.items s.doubled_free; runs = s.runs }
+    λ none. let s = c.requires.stands in record { slots = s.slots; brackets = s.brackets; few = s.few; free = s.free; doubled = c.take.ensures.brackets c.args.text.now c.args.close s.doubled; doubled_free = c.take.ensures.free c.args.self.now.slots.items s.doubled_free; runs = s.runs; examined = s.examined }
 
 pub returns-then-not-forms-clause-taken : goal.returns-then-not-forms-clause-taken
 returns-then-not-forms-clause-taken c =
@@ -55,7 +55,7 @@ returns-in_default-wikilink_at-clause-sound c =
 pub returns-in_default-wikilink_at-clause-stands : goal.returns-in_default-wikilink_at-clause-stands
 returns-in_default-wikilink_at-clause-stands c =
     let old : InlineState = c.args.self.now in
-    λ none. let s = c.requires.stands in record { slots = s.slots; brackets = s.brackets; few = s.few; free = s.free; doubled = c.take.ensures.brackets c.args.text.now c.args.close s.doubled; doubled_free = c.take.ensures.free c.args.self.now.slots.items s.doubled_free; runs = s.runs }
+    λ none. let s = c.requires.stands in record { slots = s.slots; brackets = s.brackets; few = s.few; free = s.free; doubled = c.take.ensures.brackets c.args.text.now c.args.close s.doubled; doubled_free = c.take.ensures.free c.args.self.now.slots.items s.doubled_free; runs = s.runs; examined = s.examined }
 
 pub returns-in_default-wikilink_at-clause-taken : goal.returns-in_default-wikilink_at-clause-taken
 returns-in_default-wikilink_at-clause-taken c =
@@ -75,7 +75,7 @@ form_wikilink-requires-clause-doubled c =
 pub form_wikilink-requires-clause-stands : goal.form_wikilink-requires-clause-stands
 form_wikilink-requires-clause-stands c =
     let old : InlineState = c.args.self.now in
-    let s = c.requires.stands in record { slots = s.slots; brackets = s.brackets; few = s.few; free = s.free; doubled = c.take.ensures.brackets c.args.text.now c.args.close s.doubled; doubled_free = c.take.ensures.free c.args.self.now.slots.items s.doubled_free; runs = s.runs }
+    let s = c.requires.stands in record { slots = s.slots; brackets = s.brackets; few = s.few; free = s.free; doubled = c.take.ensures.brackets c.args.text.now c.args.close s.doubled; doubled_free = c.take.ensures.free c.args.self.now.slots.items s.doubled_free; runs = s.runs; examined = s.examined }
 
 pub form_wikilink-requires-clause-sound : goal.form_wikilink-requires-clause-sound
 form_wikilink-requires-clause-sound c =
@@ -113,7 +113,7 @@ returns-in_default-clause-sound c =
 pub returns-in_default-clause-stands : goal.returns-in_default-clause-stands
 returns-in_default-clause-stands c =
     let old : InlineState = c.args.self.now in
-    λ none. let s = c.requires.stands in record { slots = s.slots; brackets = s.brackets; few = s.few; free = s.free; doubled = c.take.ensures.brackets c.args.text.now c.args.close s.doubled; doubled_free = c.take.ensures.free c.args.self.now.slots.items s.doubled_free; runs = s.runs }
+    λ none. let s = c.requires.stands in record { slots = s.slots; brackets = s.brackets; few = s.few; free = s.free; doubled = c.take.ensures.brackets c.args.text.now c.args.close s.doubled; doubled_free = c.take.ensures.free c.args.self.now.slots.items s.doubled_free; runs = s.runs; examined = s.examined }
 
 pub returns-in_default-clause-taken : goal.returns-in_default-clause-taken
 returns-in_default-clause-taken c =

@@ -22,7 +22,7 @@ unfolding row_of
 with_front-requires c =
     let rest = c.args.self in
     let step = c.scan_space_upto-indent in
-    ap (λ r. r.content_end) (c.scan_list_marker_with_indent.ensures.rest rest.start rest.line_end) ∙ content_end_entered (row_from rest.start rest.line_end step.new.self) ∙ ap (λ r. r.content_end) (step.ensures.rest rest.start rest.line_end)
+    ap (λ r. r.content_end) (c.scan_item_marker.ensures.rest rest.start rest.line_end) ∙ content_end_entered (row_from rest.start rest.line_end step.new.self) ∙ ap (λ r. r.content_end) (step.ensures.rest rest.start rest.line_end)
 
 pub returns-clause-item : goal.returns-clause-item
 unfolding row_of
@@ -41,5 +41,5 @@ returns-clause-inside c =
     item-inside (row_of rest) (row_of c.with_front.result) c.in_ok-delimiter.delimiter c.in_ok-delimiter.number c.in_ok-delimiter.width
     (c.in_ok-delimiter.ensures.found rest.start rest.line_end
     ∙ numbers-is (row_of rest) (row_from rest.start rest.line_end step.new.self) step.result (step.ensures.count rest.start) (step.ensures.rest rest.start rest.line_end))
-    (c.with_front.ensures ∙ c.scan_list_marker_with_indent.ensures.rest rest.start rest.line_end
+    (c.with_front.ensures ∙ c.scan_item_marker.ensures.rest rest.start rest.line_end
     ∙ ap (λ r. entered (item_in r) r) (shallow-is (row_of rest) (row_from rest.start rest.line_end step.new.self) step.result (step.ensures.count rest.start) (step.ensures.rest rest.start rest.line_end)))

@@ -4,23 +4,23 @@ use Rattle.cmark_parser.proofs.ParseSteps.{gives-or-err, gives-over, going, read
 use Rattle.cmark_parser.proofs.parse.Parser.next_short.Goals as goal
 
 pub next_short-given-requires : goal.next_short-given-requires
-next_short-given-requires g c κs = ((refl, tt), going g.E.EntityLookup.replacement c.args.self.now c.if-not-self.true c.requires)
+next_short-given-requires g c κs = ((refl, tt), (going g.E.EntityLookup.replacement c.args.self.now c.if-not-self.true c.requires.goes, c.requires.ready))
 
-pub returns-then-is_last : goal.returns-then-is_last
-returns-then-is_last g c =
+pub returns-then-is_last-clause-gives : goal.returns-then-is_last-clause-gives
+returns-then-is_last-clause-gives g c =
     let replacement = g.E.EntityLookup.replacement in
     let old = c.args.self.now in
     let e = c.next_short-given.ensures in
-    gives-or-err g.F.BrokenLinkCallback.answers replacement old _ c.if-not-self.true e.source e.definitions e.footnotes c.next_short-given.result (sym c.if-is_last.true ∙ c.is_last.ensures)
-    (e.given (reader_for replacement old) (read-by replacement old c.if-not-self.true c.requires)) e.fewer e.ends e.asked
+    gives-or-err g.F.BrokenLinkCallback.answers replacement old _ c.if-not-self.true e.source e.definitions e.footnotes e.counted c.next_short-given.result (sym c.if-is_last.true ∙ c.is_last.ensures)
+    (e.given (reader_for replacement old) (read-by replacement old c.if-not-self.true c.requires.goes)) e.fewer e.ends e.asked
 
-pub returns-else-is_last : goal.returns-else-is_last
-returns-else-is_last g c =
+pub returns-else-is_last-clause-gives : goal.returns-else-is_last-clause-gives
+returns-else-is_last-clause-gives g c =
     let replacement = g.E.EntityLookup.replacement in
     let old = c.args.self.now in
     let e = c.next_short-given.ensures in
-    gives-or-err g.F.BrokenLinkCallback.answers replacement old _ c.if-not-self.true e.source e.definitions e.footnotes c.next_short-given.result (c.if-not-self.true ∙ sym c.if-is_last.false ∙ c.is_last.ensures)
-    (e.given (reader_for replacement old) (read-by replacement old c.if-not-self.true c.requires)) e.fewer e.ends e.asked
+    gives-or-err g.F.BrokenLinkCallback.answers replacement old _ c.if-not-self.true e.source e.definitions e.footnotes e.counted c.next_short-given.result (c.if-not-self.true ∙ sym c.if-is_last.false ∙ c.is_last.ensures)
+    (e.given (reader_for replacement old) (read-by replacement old c.if-not-self.true c.requires.goes)) e.fewer e.ends e.asked
 
-pub returns : goal.returns
-returns g c = gives-over g.F.BrokenLinkCallback.answers g.E.EntityLookup.replacement c.args.self.now c.if-not-self.false
+pub returns-clause-gives : goal.returns-clause-gives
+returns-clause-gives g c = gives-over g.F.BrokenLinkCallback.answers g.E.EntityLookup.replacement c.args.self.now c.if-not-self.false c.requires.goes.counted

@@ -1,4 +1,4 @@
-use Rattle.std.proofs.Common.{refl}
+use Rattle.std.proofs.Common.{[], refl}
 use Rattle.cmark_parser.specs.Parsing.{reader_for}
 use Rattle.cmark_parser.proofs.ParseSteps.{gives-error, gives-next-start, going, link-going, link-walked, read-by}
 use Rattle.cmark_parser.proofs.parse.Parser.pass_link.Goals as goal
@@ -8,15 +8,15 @@ pass_link-requires g c κs =
     let old = c.args.self.now in
     ((refl, tt), (going g.E.EntityLookup.replacement old (link-going old c.requires.ahead) c.requires.goes, link-walked old c.requires.ahead))
 
-pub returns-in-Ok : goal.returns-in-Ok
-returns-in-Ok g c =
+pub returns-in-Ok-clause-gives : goal.returns-in-Ok-clause-gives
+returns-in-Ok-clause-gives g c =
     let replacement = g.E.EntityLookup.replacement in
     let old = c.args.self.now in
     let going = link-going old c.requires.ahead in
     let e = c.in-Ok.ensures in
-    gives-next-start g.F.BrokenLinkCallback.answers replacement old _ going e.source e.definitions e.footnotes going (e.given (reader_for replacement old) (read-by replacement old going c.requires.goes)) e.fewer
+    gives-next-start g.F.BrokenLinkCallback.answers replacement old _ going e.source e.definitions e.footnotes e.counted going (e.given (reader_for replacement old) (read-by replacement old going c.requires.goes)) e.fewer
 
-pub returns-in-Err : goal.returns-in-Err
-returns-in-Err g c =
+pub returns-in-Err-clause-gives : goal.returns-in-Err-clause-gives
+returns-in-Err-clause-gives g c =
     let e = c.in-Err.ensures in
-    gives-error g.F.BrokenLinkCallback.answers g.E.EntityLookup.replacement c.args.self.now _ c.in-Err.error (link-going c.args.self.now c.requires.ahead) refl e.ends e.asked e.source e.definitions e.footnotes
+    gives-error g.F.BrokenLinkCallback.answers g.E.EntityLookup.replacement c.args.self.now _ c.in-Err.error (link-going c.args.self.now c.requires.ahead) refl e.ends ([], e.callback) e.source e.definitions e.footnotes e.counted

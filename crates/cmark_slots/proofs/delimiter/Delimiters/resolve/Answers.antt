@@ -1,9 +1,12 @@
 use Rattle.std.proofs.Common.{rules, ◌≡◌, ◌∷◌, ◌≤◌, ℕ, List, [], length, drop, refl, sym, ap, subst, ◌∙◌, arith}
 use Rattle.std.specs.Prelude.{map, reverse}
+use Rattle.cmark_emphasis.specs.Least.{least_examined}
 use Rattle.cmark_emphasis.specs.Slots.{AreBalanced}
+use Rattle.cmark_emphasis.proofs.LeastSteps.{one-least}
+use Rattle.cmark_grammar.specs.Emphasis.{runs_of}
 use Rattle.cmark_inline_model.specs.SlotRows.{marked, marks_by}
 use Rattle.cmark_text_parts.specs.Shown.{shown_options}
-use Rattle.cmark_slots.specs.MarkedSlots.{AreReady, BeganFrom, places_of, shown_mark}
+use Rattle.cmark_slots.specs.MarkedSlots.{AreReady, BeganFrom, places_of, shown_mark, siblings_from}
 use Rattle.cmark_slots.specs.SlotViews.{shown_slots}
 use Rattle.cmark_slots.specs.declared.delimiter.PlacedRun.{PlacedRun}
 use Rattle.cmark_slots.proofs.Naming.{no-more-on, no-more-same}
@@ -96,3 +99,15 @@ returns-then-len-first-eq1-clause-marks c = λ leaf texts links pairs spans e.
     let mine : List PlacedRun = drop c.args.first c.args.self.now.placed.items in
     let lone : length mine ≡ 1 = omega (arith, length-drop c.args.first c.args.self.now.placed.items, c.len-2.ensures, c.if-len-first-eq1.true) in
     lone-marked (shown_options c.args.options) mine pairs spans (shown_slots leaf texts links c.args.slots.now.items) lone e
+
+lone-least : (mine : List PlacedRun) → length mine ≡ 1 → least_examined (runs_of (siblings_from 0 mine)) ≡ 0
+lone-least [] e = refl
+lone-least (p ∷ []) e = one-least (record { delimiter = p.run.delimiter; run_length = p.run.run_length; at = 0; left = p.run.run_length; opens = p.run.opens; closes = p.run.closes })
+lone-least (p ∷ q ∷ ps) e = absurd (omega (arith, e))
+
+pub returns-then-len-first-eq1-clause-least : goal.returns-then-len-first-eq1-clause-least
+returns-then-len-first-eq1-clause-least c =
+    let mine : List PlacedRun = drop c.args.first c.args.self.now.placed.items in
+    let lone : length mine ≡ 1 = omega (arith, length-drop c.args.first c.args.self.now.placed.items, c.len-2.ensures, c.if-len-first-eq1.true) in
+    let none = lone-least mine lone in
+    omega (arith, none)

@@ -1,21 +1,53 @@
-use Rattle.std.proofs.Common.{[], length, true≢false, refl, sym, ap, subst, ◌∙◌}
+use Rattle.std.proofs.Common.{ℕ, ◌≤◌, ◌*◌, List, [], length, true≢false, refl, sym, ap, subst, ◌∙◌}
+use Rattle.cmark_inline.specs.Counted.{total}
 use Rattle.cmark_inline.specs.Resolved.{ResolvesAs}
 use Rattle.cmark_inline_model.specs.TextPlaces.{place_in}
 use Rattle.cmark_leaf_text.specs.Reads.{text_of}
 use Rattle.cmark_leaf_text.specs.Stretches.{leaf_bytes}
 use Rattle.cmark_slots.specs.Slots.{AreSlots}
 use Rattle.cmark_text_parts.specs.Shown.{shown_options}
+use Rattle.cmark_walk.specs.Walking.{AreLinesOf}
+use Rattle.cmark_span_walk.specs.Walking.{source_of}
+use Rattle.cmark_span_walk.proofs.LeafCounts.{extent-within, text-within}
 use Rattle.cmark_span_walk.proofs.LeafReads.{leaf-same, place-same, read-places, text-same}
 use Rattle.cmark_span_walk.proofs.Readings.{asked-up-to}
-use Rattle.cmark_span_walk.proofs.Walks.{enters}
+use Rattle.cmark_span_walk.proofs.Walks.{enters, leaf-counted}
 use Rattle.cmark_span_walk.proofs.span_walk.SpanWalk.enter_leaf.Goals as goal
 
 pub returns-clause-enters : goal.returns-clause-enters
 returns-clause-enters g c =
+    let walk = c.args.self.now in
     let leaf = c.read.new.self in
+    let lines = c.as_slice.result.now in
     let begun = c.begin_leaf.ensures in
-    enters c.args.self.now leaf _ c.begin_leaf.new.self c.resolve.new.footnotes c.resolve.new.callback c.args.is_cell c.in-Ok.ensures.read c.in-Ok.ensures.source
+    let text = c.in-Ok.ensures.text in
+    λ one others before.
+    let are = subst (AreLinesOf (source_of walk) one) (sym c.as_slice.ensures.value) before.lines in
+    enters walk leaf _ c.begin_leaf.new.self c.resolve.new.footnotes c.resolve.new.callback c.args.is_cell c.in-Ok.ensures.read c.in-Ok.ensures.source
     (subst (λ slots. AreSlots (text_of leaf) (length (text_of leaf)) slots) (sym (ap (λ v. v.items) begun.slots)) c.in-Ok-resolve.ensures.slots) begun.opened (begun.left leaf c.in-Ok-resolve.ensures.left)
+    c.resolve.ensures.counts c.in-Ok-resolve.ensures.live one others before (extent-within (source_of walk) one lines are leaf text c.in-Ok.ensures.places) (text-within (source_of walk) one lines are leaf text)
+
+pub returns-in_default-resolve-clause-counted : goal.returns-in_default-resolve-clause-counted
+returns-in_default-resolve-clause-counted g c =
+    let walk = c.args.self.now in
+    let leaf = c.read.new.self in
+    let lines = c.as_slice.result.now in
+    let before = c.requires.before.2 in
+    let text = c.in-Ok.ensures.text in
+    let are = subst (AreLinesOf (source_of walk) c.requires.before.0) (sym c.as_slice.ensures.value) before.lines in
+    subst (λ (s : List ℕ). total c.resolve.new.self.steps ≤ 128 * length s) (sym c.in-Ok.ensures.source)
+    (leaf-counted walk.inline c.resolve.new.self (source_of walk) c.requires.before.0 c.requires.before.1 leaf before.able c.resolve.ensures.counts (extent-within (source_of walk) c.requires.before.0 lines are leaf text c.in-Ok.ensures.places) (text-within (source_of walk) c.requires.before.0 lines are leaf text))
+
+pub returns-clause-counted : goal.returns-clause-counted
+returns-clause-counted g c =
+    let walk = c.args.self.now in
+    let leaf = c.read.new.self in
+    let lines = c.as_slice.result.now in
+    let before = c.requires.before.2 in
+    let text = c.in-Ok.ensures.text in
+    let are = subst (AreLinesOf (source_of walk) c.requires.before.0) (sym c.as_slice.ensures.value) before.lines in
+    subst (λ (s : List ℕ). total c.resolve.new.self.steps ≤ 128 * length s) (sym c.in-Ok.ensures.source)
+    (leaf-counted walk.inline c.resolve.new.self (source_of walk) c.requires.before.0 c.requires.before.1 leaf before.able c.resolve.ensures.counts (extent-within (source_of walk) c.requires.before.0 lines are leaf text c.in-Ok.ensures.places) (text-within (source_of walk) c.requires.before.0 lines are leaf text))
 
 pub returns-clause-reads : goal.returns-clause-reads
 returns-clause-reads g c = λ reader leaf others before placed same.
@@ -48,7 +80,7 @@ returns-in_default-clause-lines g c = (λ none. true≢false (sym (c.in_default.
 
 pub returns-in_default-resolve-clause-lines : goal.returns-in_default-resolve-clause-lines
 returns-in_default-resolve-clause-lines g c = (λ none.
-    true≢false (sym (c.in_default-resolve.ensures.succeeds (c.in-Ok.ensures.text ∙ ap (leaf_bytes c.args.self.now.leaf.source.now) (c.as_slice.ensures.value ∙ none)))))
+    true≢false (sym (c.in_default-resolve.ensures.succeeds c.requires.before.2.able.live (c.in-Ok.ensures.text ∙ ap (leaf_bytes c.args.self.now.leaf.source.now) (c.as_slice.ensures.value ∙ none)))))
 
 pub returns-in_default-clause-asked : goal.returns-in_default-clause-asked
 returns-in_default-clause-asked g c = ([], refl)

@@ -1,5 +1,5 @@
 use Rattle.std.specs.Prelude.{is_some, IfSome}
-use Rattle.std.proofs.Common.{[], ◌∷◌, refl, ap, ◌∙◌, subst, ◌<◌, OnSome}
+use Rattle.std.proofs.Common.{[], ◌∷◌, refl, ap, ◌∙◌, subst, sym, ◌<◌, OnSome}
 use Rattle.cmark_grammar.specs.SpanDocuments.{Content, Given as GivenOf}
 use Rattle.cmark_references.specs.Footnotes.{footnote}
 use Rattle.cmark_walk.specs.Walking as walking
@@ -14,7 +14,8 @@ use Rattle.cmark_span_walk.proofs.span_walk.SpanWalk.next.Goals as goal
 
 pub loop-span-init : goal.loop-span-init
 loop-span-init g c = record {
-  lasts = lasts-none c.args.self.now c.requires;
+  ready = c.requires.ready;
+  lasts = lasts-none c.args.self.now c.requires.stands;
   reads = λ reader r. passes-none g.F.BrokenLinkCallback.answers g.E.EntityLookup.replacement reader c.args.self.now r;
   ends = λ reader exchanges events m b. m;
   asked = ([], refl);
@@ -58,7 +59,8 @@ enter_leaf-requires g c κs =
     let s = c.in-Ok.ensures.stands in
     let out = c.in-Ok.ensures.outside (ap is_some c.in_default-span.is) in
     let gives = subst (λ m. walking.Gives s.0 m c.next.new.lines.items c.next.new.self) c.in-Leaf.is (c.in-Ok-next.ensures.given s.0 s.1.blocks.remains) in
-    ((refl, tt), (gives.0, gives.1, before-leaf mid c.next.new.self c.next.new.lines out c.in-Ok-next.ensures.text c.in-Leaf.is_cell _ s.0 gives.0 gives.1 s.1 gives.2 gives.3 gives.4 gives.5 refl))
+    let ready = subst g.F.BrokenLinkCallback.ready (sym c.in-Ok.ensures.around.callback) c.loop-span.invariant.ready in
+    ((refl, tt), ((gives.0, gives.1, before-leaf mid c.next.new.self c.next.new.lines out c.in-Ok-next.ensures.text c.in-Leaf.is_cell _ s.0 gives.0 gives.1 s.1 gives.2 gives.3 gives.4 gives.5 refl), ready))
 
 pub loop-span-preserved : goal.loop-span-preserved
 loop-span-preserved g c =
@@ -72,6 +74,7 @@ loop-span-preserved g c =
     let gives = subst (λ m. walking.Gives s.0 m c.next.new.lines.items c.next.new.self) c.in-Leaf.is (m.given s.0 s.1.blocks.remains) in
     let before = before-leaf mid c.next.new.self c.next.new.lines out m.text c.in-Leaf.is_cell _ s.0 gives.0 gives.1 s.1 gives.2 gives.3 gives.4 gives.5 refl in
     record {
+      ready = e.ready;
       lasts = lasts-leaf mid c.next.new.self c.next.new.lines out m.text c.args.self.now head new s.0 gives.0 gives.1 s.1 c.loop-span.invariant.lasts c.in-Ok.ensures.around.budget
           (e.definitions ∙ m.definitions ∙ c.in-Ok.ensures.around.definitions)
           (λ folded. e.footnotes folded ∙ ap (λ t. is_some (footnote t folded)) c.in-Ok.ensures.around.footnotes) c.in-Ok.ensures.around.source gives.2 (e.enters gives.0 gives.1 before) e.source e.budget;

@@ -86,13 +86,13 @@ returns-clause-few g c = λ inside. c.in-Ok.ensures.few
 
 -- what is around the leaf stays
 pub returns-then-not-self-clause-around : goal.returns-then-not-self-clause-around
-returns-then-not-self-clause-around g c = record { callback = refl; budget = refl; source = refl; definitions = refl; footnotes = refl }
+returns-then-not-self-clause-around g c = record { callback = refl; inline = refl; budget = refl; source = refl; definitions = refl; footnotes = refl }
 
 pub returns-in_default-clause-around : goal.returns-in_default-clause-around
-returns-in_default-clause-around g c = record { callback = refl; budget = refl; source = refl; definitions = refl; footnotes = refl }
+returns-in_default-clause-around g c = record { callback = refl; inline = refl; budget = refl; source = refl; definitions = refl; footnotes = refl }
 
 pub returns-in-Over-clause-around : goal.returns-in-Over-clause-around
-returns-in-Over-clause-around g c = record { callback = refl; budget = refl; source = refl; definitions = refl; footnotes = refl }
+returns-in-Over-clause-around g c = record { callback = refl; inline = refl; budget = refl; source = refl; definitions = refl; footnotes = refl }
 
 pub returns-clause-around : goal.returns-clause-around
-returns-clause-around g c = record { callback = refl; budget = refl; source = refl; definitions = refl; footnotes = refl }
+returns-clause-around g c = record { callback = refl; inline = refl; budget = refl; source = refl; definitions = refl; footnotes = refl }

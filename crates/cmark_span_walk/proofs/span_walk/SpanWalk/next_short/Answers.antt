@@ -20,7 +20,7 @@ use Rattle.cmark_span_walk.proofs.span_walk.SpanWalk.next_short.Goals as goal
 
 pub loop-span-init : goal.loop-span-init
 loop-span-init g c =
-    record { lasts = lasts-none c.args.self.now c.requires; reads = λ reader r. passes-none g.F.BrokenLinkCallback.answers g.E.EntityLookup.replacement reader c.args.self.now r; ends = λ reader exchanges events m b. m; asked = ([], refl) }
+    record { ready = c.requires.ready; lasts = lasts-none c.args.self.now c.requires.stands; reads = λ reader r. passes-none g.F.BrokenLinkCallback.answers g.E.EntityLookup.replacement reader c.args.self.now r; ends = λ reader exchanges events m b. m; asked = ([], refl) }
 
 pub returns-in-Short-clause-given : goal.returns-in-Short-clause-given
 returns-in-Short-clause-given g c = λ reader r.
@@ -207,7 +207,8 @@ enter_leaf-requires g c κs =
     let s = e.stands in
     let given = subst (λ (b : Brief). walking.GivesBrief mid.walk b lines.items walk) c.in-Leaf.is m.given in
     let gives = given s.0 s.1.blocks.remains in
-    ((refl, tt), (gives.0, gives.1, before-leaf mid walk lines out m.text c.in-Leaf.is_cell _ s.0 gives.0 gives.1 s.1 gives.2 gives.3 gives.4 gives.5 refl))
+    let ready = subst g.F.BrokenLinkCallback.ready (sym c.in-Ok.ensures.around.callback) c.loop-span.invariant.ready in
+    ((refl, tt), ((gives.0, gives.1, before-leaf mid walk lines out m.text c.in-Leaf.is_cell _ s.0 gives.0 gives.1 s.1 gives.2 gives.3 gives.4 gives.5 refl), ready))
 
 pub loop-span-preserved : goal.loop-span-preserved
 loop-span-preserved g c =
@@ -226,6 +227,7 @@ loop-span-preserved g c =
     let new = c.enter_leaf.new.self in
     let before = before-leaf mid walk lines out m.text c.in-Leaf.is_cell _ s.0 gives.0 gives.1 s.1 gives.2 gives.3 gives.4 gives.5 refl in
     record {
+      ready = entered.ready;
       lasts = lasts-leaf mid walk lines out m.text old head new s.0 gives.0 gives.1 s.1 c.loop-span.invariant.lasts e.around.budget (entered.definitions ∙ m.definitions ∙ e.around.definitions)
           (λ folded. entered.footnotes folded ∙ ap (λ t. is_some (footnote t folded)) e.around.footnotes) e.around.source gives.2 (entered.enters gives.0 gives.1 before) entered.source entered.budget;
       reads = λ reader r.

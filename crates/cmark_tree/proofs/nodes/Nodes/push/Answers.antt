@@ -1,9 +1,27 @@
-use Rattle.std.proofs.Common.{arith}
+use Rattle.std.proofs.Common.{◌≡◌, ◌++◌, ◌∷◌, [], arith, ap, ◌∙◌}
 use Rattle.cmark_tree.proofs.Entries.{push_grows, same_nodes, on_err}
 use Rattle.cmark_tree.proofs.nodes.Nodes.push.Goals as goal
+use Rattle.cmark_tree.proofs.nodes.Nodes.push.Goals.{then-len-self+in_ok-grow, else-len-self}
 
-pub returns-in_err-push-clause-err : goal.returns-in_err-push-clause-err
-returns-in_err-push-clause-err g c = on_err c.from_residual.result _ (same_nodes c.args.self.now _ c.in_err-push.ensures.items)
+pub returns-in_err-grow-clause-err : goal.returns-in_err-grow-clause-err
+returns-in_err-grow-clause-err g c = on_err c.from_residual.result _ (same_nodes c.args.self.now _ c.grow.ensures.items c.grow.ensures.nexts c.grow.ensures.children)
 
 pub returns-clause-ok : goal.returns-clause-ok
-returns-clause-ok g c = push_grows c.args.self.now _ c.len.result c.args.item c.in_ok-push.ensures.items (omega (arith, c.len.ensures, c.push.new.self.ok.0))
+returns-clause-ok g c =
+    let items : c.if-len-self.self.items.items ≡ c.args.self.now.items.items = elim c.if-len-self.branch [
+      | then-len-self+in_ok-grow w ↦ ap (λ v. v.items.items) w.self-is ∙ w.grow.ensures.items
+      | else-len-self w ↦ ap (λ v. v.items.items) w.self-is
+    ] in
+    let nexts : c.if-len-self.self.nexts.items ≡ c.args.self.now.nexts.items = elim c.if-len-self.branch [
+      | then-len-self+in_ok-grow w ↦ ap (λ v. v.nexts.items) w.self-is ∙ w.grow.ensures.nexts
+      | else-len-self w ↦ ap (λ v. v.nexts.items) w.self-is
+    ] in
+    let children : c.if-len-self.self.children.items ≡ c.args.self.now.children.items = elim c.if-len-self.branch [
+      | then-len-self+in_ok-grow w ↦ ap (λ v. v.children.items) w.self-is ∙ w.grow.ensures.children
+      | else-len-self w ↦ ap (λ v. v.children.items) w.self-is
+    ] in
+    push_grows c.args.self.now _ c.len-2.result c.args.item
+    (c.push_reserved.ensures.items ∙ ap (λ l. l ++ c.args.item ∷ []) items)
+    (c.push_reserved-2.ensures.items ∙ ap (λ l. l ++ 0 ∷ []) nexts)
+    (c.push_reserved-3.ensures.items ∙ ap (λ l. l ++ 0 ∷ []) children)
+    (omega (arith, c.len-2.ensures, c.push_reserved.new.self.ok.0))

@@ -1,0 +1,180 @@
+//! Markdown to HTML and to events, by a library that is proved.
+//!
+//! The library is written in Rattle, a Rust with contracts, and linked as an archive. What it writes is proved to be the HTML, or the
+//! events, of the reading of the text by a written grammar. This crate is not proved: it hands texts over, and takes the answers back.
+//!
+//! ```
+//! use pulldown_cmark_proved::{events_json, html, safe_html, Options};
+//!
+//! assert_eq!(html("~~Hi~~, *you*", Options::STRIKETHROUGH)?, "<p><del>Hi</del>, <em>you</em></p>\n");
+//! assert_eq!(safe_html("<b>", Options::NONE, &[])?, "<p>&lt;b&gt;</p>\n");
+//! assert_eq!(events_json("***", Options::NONE)?, "{\"range\":[0,3],\"event\":[\"Rule\"]}\n");
+//! # Ok::<(), pulldown_cmark_proved::OutOfMemory>(())
+//! ```
+#![warn(missing_docs)]
+
+mod native;
+
+use std::fmt;
+use std::ops::{BitOr, BitOrAssign};
+
+/// The rules beyond CommonMark. Join them by `|`.
+#[derive(Clone, Copy, Debug, Default, PartialEq, Eq, Hash)]
+pub struct Options(u32);
+
+impl Options {
+    /// CommonMark alone.
+    pub const NONE: Options = Options(0);
+    /// Tables.
+    pub const TABLES: Options = Options(2);
+    /// Footnotes as GitHub reads them.
+    pub const FOOTNOTES: Options = Options(4);
+    /// Strikethrough: `~a~` and `~~a~~`.
+    pub const STRIKETHROUGH: Options = Options(8);
+    /// Task list items: `- [x] a`.
+    pub const TASKLISTS: Options = Options(16);
+    /// Typographic quotes, dashes and ellipses.
+    pub const SMART_PUNCTUATION: Options = Options(32);
+    /// Attributes of headings: `# a {#b .c}`.
+    pub const HEADING_ATTRIBUTES: Options = Options(64);
+    /// Metadata between lines of `---`.
+    pub const YAML_STYLE_METADATA_BLOCKS: Options = Options(128);
+    /// Metadata between lines of `+++`.
+    pub const PLUSES_DELIMITED_METADATA_BLOCKS: Options = Options(256);
+    /// Footnotes as they were read before; it has the bit of `FOOTNOTES` too.
+    pub const OLD_FOOTNOTES: Options = Options(516);
+    /// Formulas: `$a$` and `$$a$$`.
+    pub const MATH: Options = Options(1024);
+    /// Alerts alone: `> [!NOTE]`. For what GitHub reads take `GITHUB`.
+    pub const GFM: Options = Options(2048);
+    /// Definition lists.
+    pub const DEFINITION_LIST: Options = Options(4096);
+    /// Superscript: `^a^`.
+    pub const SUPERSCRIPT: Options = Options(8192);
+    /// Subscript: `~a~`.
+    pub const SUBSCRIPT: Options = Options(16384);
+    /// Links by name: `[[page]]`.
+    pub const WIKILINKS: Options = Options(32768);
+    /// Highlighted text: `==a==`.
+    pub const HIGHLIGHT: Options = Options(65536);
+    /// Links by email address: `<a@b.c>`.
+    pub const EMAIL_AUTOLINKS: Options = Options(131072);
+    /// What GitHub reads: tables, footnotes, strikethrough, task lists, alerts and links by email address.
+    pub const GITHUB: Options = Options(2 | 4 | 8 | 16 | 2048 | 131072);
+
+    /// The bits of the options.
+    pub const fn bits(self) -> u32 {
+        self.0
+    }
+}
+
+impl BitOr for Options {
+    type Output = Options;
+
+    fn bitor(self, other: Options) -> Options {
+        Options(self.0 | other.0)
+    }
+}
+
+impl BitOrAssign for Options {
+    fn bitor_assign(&mut self, other: Options) {
+        self.0 |= other.0;
+    }
+}
+
+/// The library was refused memory.
+#[derive(Clone, Copy, Debug, PartialEq, Eq)]
+pub struct OutOfMemory;
+
+impl fmt::Display for OutOfMemory {
+    fn fmt(&self, f: &mut fmt::Formatter<'_>) -> fmt::Result {
+        f.write_str("the library was refused memory")
+    }
+}
+
+impl std::error::Error for OutOfMemory {}
+
+/// The HTML of a text.
+///
+/// It is not safe to show for a text of a stranger: raw HTML stands in it as it is, links may lead to `javascript:`, and headings may
+/// have attributes as `onclick`. [`safe_html`] is for such texts.
+pub fn html(text: &str, options: Options) -> Result<String, OutOfMemory> {
+    native::html(text, options.bits())
+}
+
+/// HTML that is safe to show for a text of a stranger.
+///
+/// HTML of the text is shown as text, and a heading has no attribute but its anchor. Addresses are relative or begin with `http:`,
+/// `https:`, `mailto:` or one of these schemes, of which `javascript`, `vbscript`, `data` and `file` are never taken; others are empty.
+pub fn safe_html(text: &str, options: Options, schemes: &[&str]) -> Result<String, OutOfMemory> {
+    native::safe_html(text, options.bits(), &schemes.join(" "))
+}
+
+/// The events of a text: for each a line of JSON, `{"range":[FROM,TO],"event":[NAME,DATA..]}`, with a range of bytes of the text.
+pub fn events_json(text: &str, options: Options) -> Result<String, OutOfMemory> {
+    native::events_json(text, options.bits())
+}
+
+/// The version of the library, which ends with `+not.proved` where it was built without proofs.
+pub fn library_version() -> String {
+    let version = native::version();
+    let label = if version >> 31 == 1 {
+        "+not.proved"
+    } else {
+        ""
+    };
+    format!(
+        "{}.{}.{}{label}",
+        version >> 16 & 0x7fff,
+        version >> 8 & 255,
+        version & 255
+    )
+}
+
+#[cfg(test)]
+mod tests {
+    use super::*;
+
+    #[test]
+    fn answers_longer_than_the_first_room_are_whole() {
+        let text = "> ".repeat(400) + "a";
+        let html = html(&text, Options::NONE).unwrap();
+        assert_eq!(html.matches("<blockquote>").count(), 400);
+        assert_eq!(html.matches("</blockquote>").count(), 400);
+        assert_eq!(
+            events_json(&text, Options::NONE).unwrap().lines().count(),
+            803
+        );
+    }
+
+    #[test]
+    fn a_text_may_be_empty() {
+        assert_eq!(html("", Options::NONE), Ok(String::new()));
+        assert_eq!(events_json("", Options::NONE), Ok(String::new()));
+    }
+
+    #[test]
+    fn schemes_are_taken_but_for_some() {
+        let text = "[a](tel:1) [b](data:c)";
+        assert_eq!(
+            safe_html(text, Options::NONE, &["tel", "data"]).unwrap(),
+            "<p><a href=\"tel:1\">a</a> <a href=\"\">b</a></p>\n"
+        );
+    }
+
+    #[test]
+    fn options_join() {
+        let mut options = Options::TABLES;
+        options |= Options::FOOTNOTES
+            | Options::STRIKETHROUGH
+            | Options::TASKLISTS
+            | Options::GFM
+            | Options::EMAIL_AUTOLINKS;
+        assert_eq!(options, Options::GITHUB);
+    }
+
+    #[test]
+    fn the_version_is_that_of_the_crate() {
+        assert_eq!(library_version(), env!("CARGO_PKG_VERSION"));
+    }
+}

@@ -1,0 +1,5 @@
+pub mod Names
+pub mod SafeEvents
+pub mod SafeHtml
+pub mod Schemes
+pub mod Streams

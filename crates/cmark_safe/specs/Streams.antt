@@ -1,0 +1,49 @@
+-- What a stream of safe events gives.
+use Rattle.std.specs.Prelude.{◌≡◌, ℕ, Bool, true, false, List, MatchBool, Option, Some, None, Result, Ok, Err}
+use Rattle.std.specs.declared.alloc.AllocError.{AllocError}
+use Rattle.std.specs.declared.ops.Range.{Range}
+use Rattle.std.specs.Iterator.{Count, count_unless}
+use Rattle.cmark_text.specs.declared.event.Event.{Event}
+use Rattle.cmark_text.specs.Shown.{shown}
+use Rattle.cmark_safe.specs.declared.stream.SafeEvents.{SafeEvents}
+use Rattle.cmark_safe.specs.Names.{HasName}
+use Rattle.cmark_safe.specs.SafeEvents.{safe}
+
+-- an event is the safe form of another
+abbrev pub IsSafeForm : (further : List ℕ) → (event made : Event) → Type 0
+IsSafeForm further event made = shown made ≡ safe further (shown event)
+
+-- so it is with ranges, which are the same
+abbrev pub IsSafeRanged : (further : List ℕ) → (item made : Event × Range ℕ) → Type 0
+IsSafeRanged further item made = IsSafeForm further item.0 made.0 × (made.1 ≡ item.1)
+
+abbrev pub RangedHasName : Event × Range ℕ → Type 0
+RangedHasName item = HasName item.0
+
+-- the iterator gave an item, and this is given for it: the safe form, or the same error item. Where memory is refused for a name, it is an
+-- error item, and the stream is over
+abbrev pub GivesFor : {T : Type 0} → (IsMade : T → T → Type 0) → (HasName : T → Type 0) → (item given : Option (Result T AllocError)) → (is_over : Bool) → Type 0
+GivesFor IsMade HasName None given is_over = (given ≡ None) × (is_over ≡ false)
+GivesFor IsMade HasName (Some (Err e)) given is_over = (given ≡ Some (Err e)) × (is_over ≡ false)
+GivesFor IsMade HasName (Some (Ok x)) None is_over = ⊥
+GivesFor IsMade HasName (Some (Ok x)) (Some (Ok made)) is_over = IsMade x made × (is_over ≡ false)
+GivesFor IsMade HasName (Some (Ok x)) (Some (Err e)) is_over = HasName x × (is_over ≡ true)
+
+module _ {S T : Type 0} (IsMade : List ℕ → T → T → Type 0) (HasName : T → Type 0) where
+  -- one call, of a stream that is not over
+  pub record GivesOne (steps : S → Option (Result T AllocError) → S → Type 0) (old : SafeEvents S) (given : Option (Result T AllocError)) (new : SafeEvents S) : Type 0 where
+    pub item : Option (Result T AllocError)
+    pub step : steps old.iter item new.iter
+    pub gives : GivesFor (IsMade old.further.now) HasName item given new.is_over
+    pub further : new.further.now ≡ old.further.now
+
+  -- a stream that is over gives nothing
+  abbrev pub Gives : (S → Option (Result T AllocError) → S → Type 0) → SafeEvents S → Option (Result T AllocError) → SafeEvents S → Type 0
+  Gives steps old given new = MatchBool old.is_over ((given ≡ None) × (new ≡ old)) (GivesOne steps old given new)
+
+-- the iterator may be asked, unless the stream is over
+abbrev pub CanGo : {S : Type 0} → (S → Type 0) → SafeEvents S → Type 0
+CanGo can s = s.is_over ≡ false → can s.iter
+
+abbrev pub items_left : {S : Type 0} → (S → Count) → SafeEvents S → Count
+items_left remaining s = count_unless s.is_over (remaining s.iter)

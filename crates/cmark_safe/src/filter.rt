@@ -1,0 +1,169 @@
+//! The safe form of an event.
+
+ghost use Rattle.std.specs.Prelude.{◌≡◌, ℕ, List, IfErr, IfOk, IsSome, option_map, string_bytes};
+ghost use Rattle.cmark_grammar.specs.Tag as grammar;
+ghost use Rattle.cmark_text.specs.Short.{shown_short};
+ghost use Rattle.cmark_text.specs.Shown.{shown, shown_end, shown_tag};
+ghost use Rattle.cmark_text_parts.specs.Shown.{level_number, text_bytes};
+ghost use Rattle.cmark_safe.specs.Names.{HasName, TagHasName};
+ghost use Rattle.cmark_safe.specs.SafeEvents.{anchored, own_name, safe, safe_destination, safe_end, safe_tag};
+
+use crate::scheme::is_allowed;
+use cmark_text::{CowStr, Event, Excerpt, HeadingLevel, PlainTag, Short, Tag, TagEnd};
+use std::alloc::{AllocError, Global};
+
+/// The safe form of an event: the HTML of safe forms is safe, whatever events they are. `further` names further schemes that addresses may
+/// have, with white space between them; `javascript`, `vbscript`, `data` and `file` are never taken from it.
+///
+/// Raw HTML becomes text, and an HTML block a paragraph. A heading keeps its level and its anchor, and no other attribute. An anchor and
+/// the name of a footnote get the prefix `user-content-`; memory is asked for that alone. A destination becomes empty unless its address is
+/// relative or has an allowed scheme.
+pub fn safe_event<'a>(
+    alloc: Global,
+    further: &str,
+    event: Event<'a>,
+) -> Result<Event<'a>, AllocError>
+    ensures value { IfOk result (λ made. shown made ≡ safe further.now (shown event.entry)) }
+    ensures refused { IfErr result (λ error. HasName event.entry) }
+{
+    match event {
+        Event::Start(tag) => safe_tag(alloc, further, tag).map(Event::Start),
+        Event::End(end) => Ok(Event::End(safe_end(end))),
+        Event::Html(text) => Ok(Event::Text(text)),
+        Event::InlineHtml(text) => Ok(Event::Text(text)),
+        Event::FootnoteReference(name) => own_name(alloc, name).map(Event::FootnoteReference),
+        other => Ok(other),
+    }
+}
+
+/// The safe form of an event that owns nothing.
+#[inline(always)]
+pub fn safe_short(short: Short<'_>) -> Short<'_>
+    ensures { (further : List ℕ) → shown_short result ≡ safe further (shown_short short.entry) }
+{
+    match short {
+        Short::Html(text) => Short::Text(Excerpt::whole(text)),
+        Short::InlineHtml(text) => Short::Text(Excerpt::whole(text)),
+        Short::Start(PlainTag::HtmlBlock) => Short::Start(PlainTag::Paragraph),
+        Short::End(TagEnd::HtmlBlock) => Short::End(TagEnd::Paragraph),
+        other => other,
+    }
+}
+
+/// The safe form of a destination: the same, or an empty one where it is not allowed.
+pub fn safe_destination<'x>(further: &str, destination: &'x str) -> &'x str
+    ensures { result.now ≡ safe_destination further.now destination.entry.now }
+{
+    if is_allowed(further, destination) {
+        destination
+    } else {
+        ""
+    }
+}
+
+/// The safe form of a start.
+fn safe_tag<'a>(alloc: Global, further: &str, tag: Tag<'a>) -> Result<Tag<'a>, AllocError>
+    ensures value { IfOk result (λ made. shown_tag made ≡ safe_tag further.now (shown_tag tag.entry)) }
+    ensures refused { IfErr result (λ error. TagHasName tag.entry) }
+{
+    match tag {
+        Tag::HtmlBlock => Ok(Tag::Paragraph),
+        Tag::Heading {
+            level,
+            id,
+            classes,
+            attrs,
+        } => {
+            drop(classes);
+            drop(attrs);
+            safe_heading(alloc, level, id)
+        }
+        Tag::FootnoteDefinition(name) => own_name(alloc, name).map(Tag::FootnoteDefinition),
+        Tag::Link {
+            link_type,
+            dest_url,
+            title,
+            id,
+        } => Ok(Tag::Link {
+            link_type,
+            dest_url: kept_if_allowed(further, dest_url),
+            title,
+            id,
+        }),
+        Tag::Image {
+            link_type,
+            dest_url,
+            title,
+            id,
+        } => Ok(Tag::Image {
+            link_type,
+            dest_url: kept_if_allowed(further, dest_url),
+            title,
+            id,
+        }),
+        other => Ok(other),
+    }
+}
+
+/// The safe form of an end.
+fn safe_end(end: TagEnd) -> TagEnd
+    ensures { shown_end result ≡ safe_end (shown_end end) }
+{
+    match end {
+        TagEnd::HtmlBlock => TagEnd::Paragraph,
+        other => other,
+    }
+}
+
+/// A heading of this level with this anchor, which gets a prefix, and no other attribute.
+fn safe_heading<'a>(
+    alloc: Global,
+    level: HeadingLevel,
+    id: Option<CowStr<'a>>,
+) -> Result<Tag<'a>, AllocError>
+    ensures value { IfOk result (λ made. shown_tag made ≡ grammar.Heading (level_number level) (anchored (option_map text_bytes id.entry))) }
+    ensures refused { IfErr result (λ error. IsSome id.entry) }
+{
+    let id = match id {
+        Some(name) => Some(own_name(alloc, name)?),
+        None => None,
+    };
+    Ok(Tag::Heading {
+        level,
+        id,
+        classes: Vec::new(alloc),
+        attrs: Vec::new(alloc),
+    })
+}
+
+/// The destination, or an empty one where it is not allowed.
+fn kept_if_allowed<'a>(further: &str, destination: CowStr<'a>) -> CowStr<'a>
+    ensures { text_bytes result ≡ safe_destination further.now (text_bytes destination.entry) }
+{
+    if is_allowed(further, destination.as_str()) {
+        return destination;
+    }
+    drop(destination);
+    CowStr::Borrowed("")
+}
+
+/// A name of the text's own, with a prefix.
+fn own_name<'a>(alloc: Global, name: CowStr<'a>) -> Result<CowStr<'a>, AllocError>
+    ensures { IfOk result (λ made. text_bytes made ≡ own_name (text_bytes name.entry)) }
+{
+    let made = prefixed(alloc, name.as_str());
+    drop(name);
+    match made {
+        Ok(text) => CowStr::from_string(text),
+        Err(error) => Err(error),
+    }
+}
+
+/// The name after the prefix.
+fn prefixed(alloc: Global, name: &str) -> Result<String, AllocError>
+    ensures { IfOk result (λ made. string_bytes made ≡ own_name name.now) }
+{
+    let mut text = String::from_str(alloc, "user-content-")?;
+    text.push_str(name)?;
+    Ok(text)
+}

@@ -1,0 +1,78 @@
+-- What finds of markup in the same bytes remember: marks of kinds whose closers were sought in vain.
+use Rattle.std.specs.Prelude.{◌≡◌, ℕ, ◌+◌, ◌-◌, ◌<◌, ◌≤◌, true, nat_lt, if◌then◌else◌, List, ◌∷◌, ◌++◌, drop, length, min, codes, Option, Some, None}
+use Rattle.cmark_grammar.specs.InlineHtml.{Find, behind_comment}
+use Rattle.cmark_grammar.specs.Letters.{behind_first, first_is, is_letter, starts}
+use Rattle.cmark_scan_parts.specs.declared.inline_html.HtmlScanGuard.{HtmlScanGuard}
+use Rattle.cmark_scan_parts.specs.declared.inline_html.MarkupKind.{MarkupKind}
+use Rattle.cmark_scan_parts.specs.declared.inline_html.MarkupKind.TheVariants as kind
+
+-- ## Kinds
+
+-- what opens behind `<!`, if anything does
+abbrev pub kind_in : List ℕ → Option MarkupKind
+kind_in bs =
+    if starts (codes "--") bs then Some kind.Comment
+    else if first_is is_letter bs then Some kind.Declaration
+    else if starts (codes "[CDATA[") bs then Some kind.Cdata
+    else None
+
+-- markup of this kind opens in front, and this is inside
+abbrev pub OpensWith : MarkupKind → (bs inside : List ℕ) → Type 0
+OpensWith kind.Comment bs inside = bs ≡ codes "--" ++ inside
+OpensWith kind.Processing bs inside = bs ≡ inside
+OpensWith kind.Declaration bs inside = (letter : ℕ) × (is_letter letter ≡ true) × (bs ≡ letter ∷ inside)
+OpensWith kind.Cdata bs inside = bs ≡ codes "[CDATA[" ++ inside
+
+-- behind the closer of what opened, if it is closed
+abbrev pub closed_by : MarkupKind → (inside : List ℕ) → Option (List ℕ)
+closed_by kind.Comment inside = behind_comment inside
+closed_by kind.Processing inside = behind_first (codes "?>") inside
+closed_by kind.Declaration inside = behind_first (codes ">") inside
+closed_by kind.Cdata inside = behind_first (codes "]]>") inside
+
+abbrev pub closer_of : MarkupKind → List ℕ
+closer_of kind.Comment = codes "-->"
+closer_of kind.Processing = codes "?>"
+closer_of kind.Declaration = codes ">"
+closer_of kind.Cdata = codes "]]>"
+
+-- ## Marks
+
+abbrev pub mark_of : HtmlScanGuard → MarkupKind → ℕ
+mark_of guard kind.Comment = guard.comment
+mark_of guard kind.Processing = guard.processing
+mark_of guard kind.Declaration = guard.declaration
+mark_of guard kind.Cdata = guard.cdata
+
+abbrev pub marked : MarkupKind → (place : ℕ) → HtmlScanGuard → HtmlScanGuard
+marked kind.Comment place guard = record guard { comment = place }
+marked kind.Processing place guard = record guard { processing = place }
+marked kind.Declaration place guard = record guard { declaration = place }
+marked kind.Cdata place guard = record guard { cdata = place }
+
+-- a mark beyond a place of the bytes says that no closer of its kind follows that place
+pub record AreMarks (bytes : List ℕ) (at : ℕ) (guard : HtmlScanGuard) : Type 0 where
+  pub cdata : at < guard.cdata → behind_first (codes "]]>") (drop at bytes) ≡ None
+  pub processing : at < guard.processing → behind_first (codes "?>") (drop at bytes) ≡ None
+  pub declaration : at < guard.declaration → behind_first (codes ">") (drop at bytes) ≡ None
+  pub comment : at < guard.comment → behind_first (codes "-->") (drop at bytes) ≡ None
+
+pub record AreWithin (size : ℕ) (guard : HtmlScanGuard) : Type 0 where
+  pub cdata : guard.cdata ≤ size
+  pub processing : guard.processing ≤ size
+  pub declaration : guard.declaration ≤ size
+  pub comment : guard.comment ≤ size
+
+-- ## Finds
+
+-- the find from a place on, where this opens there: where its mark is beyond the place, at most seven bytes are passed
+abbrev pub guarded : HtmlScanGuard → Option MarkupKind → (bytes : List ℕ) → (at : ℕ) → Find → Find
+guarded guard None bytes at find = find
+guarded guard (Some kind) bytes at find = if nat_lt at (mark_of guard kind) then record { end = None; passed = min (length bytes - at) 7 } else find
+
+-- a kind whose mark stands before the end may still be sought in vain once, over so many bytes
+abbrev pub may_pass_by : (width size mark : ℕ) → ℕ
+may_pass_by width size mark = if nat_lt mark size then width else 0
+
+abbrev pub may_pass : (width size : ℕ) → HtmlScanGuard → ℕ
+may_pass width size guard = may_pass_by width size guard.cdata + may_pass_by width size guard.processing + may_pass_by width size guard.declaration + may_pass_by width size guard.comment

@@ -1,0 +1,53 @@
+"""What the ways through many documents share: which files are left, one conversion, and what is said meanwhile."""
+import os
+import pathlib
+import sys
+import time
+
+import pulldown_cmark
+
+OPTIONS = pulldown_cmark.Options.TABLES | pulldown_cmark.Options.STRIKETHROUGH | pulldown_cmark.Options.TASKLISTS
+
+
+def left(source, target):
+    """The files of a folder that are not done, each with where its HTML goes: it is missing there, or older than its text."""
+    for text in sorted(source.rglob("*.md")):
+        html = target / text.relative_to(source).with_suffix(".html")
+        if not html.exists() or html.stat().st_mtime < text.stat().st_mtime:
+            yield str(text), str(html)
+
+
+def convert(pair):
+    """Writes the HTML of one file; the file and why that failed, or None. A file that is there is whole, also where the run was stopped."""
+    text, html = pair
+    try:
+        made = pulldown_cmark.html(pathlib.Path(text).read_bytes(), options=OPTIONS)
+        place = pathlib.Path(html)
+        place.parent.mkdir(parents=True, exist_ok=True)
+        begun = place.with_name(f".{place.name}.{os.getpid()}")
+        begun.write_bytes(made.encode("utf-8"))
+        begun.replace(place)
+    except (OSError, UnicodeError, MemoryError) as error:
+        return text, f"{type(error).__name__}: {error}"
+    return text, None
+
+
+def convert_all(pairs):
+    """The same of several files, as one task of a worker."""
+    return [convert(it) for it in pairs]
+
+
+def report(results, total):
+    """Draws a bar as results come in, and lists the files that failed; the status of the command."""
+    failed, began, drawn = [], time.monotonic(), 0.0
+    for done, (text, fault) in enumerate(results, 1):
+        if fault:
+            failed.append((text, fault))
+        if time.monotonic() - drawn > 0.1 or done == total:
+            drawn = time.monotonic()
+            width = 40 * done // total
+            print(f"\r[{'#' * width}{'.' * (40 - width)}] {done} of {total}, {len(failed)} failed", end="", file=sys.stderr, flush=True)
+    print(f"\n{total - len(failed)} written in {time.monotonic() - began:.1f} s, {len(failed)} failed", file=sys.stderr)
+    for text, fault in failed:
+        print(f"{text}: {fault}")
+    return 1 if failed else 0

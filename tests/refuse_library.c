@@ -1,0 +1,16 @@
+/* Refuses one allocation of the shared library that this is linked into: refuse says which, counted from 1 from there on, and was_refused
+   whether it came. The linker puts the last two in the place of malloc and realloc (--wrap), of the library alone. */
+#include <stddef.h>
+
+extern void *__real_malloc(size_t), *__real_realloc(void *, size_t);
+
+static long left;
+
+void refuse(long number) { left = number; }
+
+int was_refused(void) { return left == 0; }
+
+static int is_refused(void) { return left > 0 && --left == 0; }
+
+void *__wrap_malloc(size_t size) { return is_refused() ? NULL : __real_malloc(size); }
+void *__wrap_realloc(void *held, size_t size) { return is_refused() ? NULL : __real_realloc(held, size); }
