@@ -15,7 +15,7 @@ pub record Attributes : Type 0 where
 abbrev pub no_attributes : Attributes
 no_attributes = record { id = None; classes = []; others = [] }
 
--- one more byte before the parts. White space begins an empty part; any other byte becomes the first byte of the first part
+-- another byte before the parts. White space begins an empty part; any other byte becomes the first byte of the first part
 abbrev pub put_byte : (parts_words : Bool) → ℕ → List (List ℕ) → List (List ℕ)
 put_byte true b ws = [] ∷ ws
 put_byte false b [] = (b ∷ []) ∷ []
@@ -38,7 +38,7 @@ value_behind (b ∷ bs) = Some bs
 abbrev pub attribute_of : List ℕ → Attribute
 attribute_of bs = record { name = take_while is_no_equals bs; value = value_behind (drop (length (take_while is_no_equals bs)) bs) }
 
--- one more word: `#id` (the last one counts), `.class`, or an attribute. A word of one byte is ignored
+-- another word: `#id` (the last one counts), `.class`, or an attribute. A word of one byte is ignored
 abbrev pub with_word : Attributes → List ℕ → Attributes
 with_word a [] = a
 with_word a (b ∷ []) = a

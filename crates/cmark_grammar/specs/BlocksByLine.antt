@@ -107,7 +107,7 @@ lines_kept_or (Some s) is_lazy on off = on
 lines_kept_or None true on off = on
 lines_kept_or None false on off = off
 
--- one more line of a leaf whose lines are judged one by one; off: the open block if the line does not belong to the leaf
+-- the next line of a leaf whose lines are judged one by one; off: the open block if the line does not belong to the leaf
 abbrev pub verbatim_line : Continuation → Blocks → Verbatim → Row → (had waiting : List Row) → Row → (off : OpenLines) → OpenLines
 verbatim_line GoesOn closed verbatim first had waiting r off = InVerbatim closed verbatim first ((had ++ waiting) ++ r ∷ []) []
 verbatim_line Closes closed verbatim first had waiting r off = InLeaf closed (leaf_in verbatim) first ((had ++ waiting) ++ r ∷ []) 0
@@ -126,7 +126,7 @@ module _ (options : Options) where
   unfoldable pub lines_begin : Blocks → Row → List Row → OpenLines
   lines_begin closed r ahead = lines_begin_at (place_behind Apart closed) closed r ahead
 
-  -- one more line, with these lines ahead
+  -- the next line, with these lines ahead
   abbrev pub lines_feed : OpenLines → Row → List Row → OpenLines
   lines_feed (Between closed) r ahead = lines_begin closed r ahead
   lines_feed BehindTag r ahead = lines_begin_at BehindLazy Nil r ahead

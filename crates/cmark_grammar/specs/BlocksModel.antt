@@ -1,4 +1,4 @@
--- The blocks of lines, line by line: each line is added to what is open.
+-- The blocks of lines, line by line: each line is added to the open block.
 use Rattle.std.specs.Prelude.{ℕ, zero, suc, Bool, true, false, ◌&&◌, List, [], ◌∷◌, ◌++◌, length, Option, Some, None}
 use Rattle.cmark_grammar.specs.Rows.{Row, rows, shown}
 use Rattle.cmark_grammar.specs.Leaves.{underlines}
@@ -84,7 +84,7 @@ module _ (options : Options) where
   unfoldable pub begin : Blocks → Row → List Row → Open
   begin closed r ahead = begin_at (place_behind Apart closed) closed r ahead
 
-  -- one more line, with these lines ahead
+  -- the next line, with these lines ahead
   abbrev pub feed : Open → Row → List Row → Open
   feed (Between closed) r ahead = begin closed r ahead
   feed BehindTag r ahead = begin_at BehindLazy Nil r ahead

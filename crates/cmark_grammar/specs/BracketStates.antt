@@ -14,9 +14,9 @@ pub record Opener : Type 0 where
   pub doubles : Bool
   pub is_inactive : Bool
 
--- the place reached; what is left of the reference expansion limit; the closing bracket, if any, of a full reference's label, which closes
--- no shortcut or collapsed reference; the questions asked, with their answers; and the opening brackets that are texts in the list being
--- read, the nearest first
+-- the place reached; the rest of the reference expansion limit; the closing bracket, if any, of a full reference's label, which closes no
+-- shortcut or collapsed reference; the questions asked, with their answers; and the opening brackets that are texts in the list being read,
+-- the nearest first
 pub record State : Type 0 where
   pub at : ℕ
   pub expansion_left : ℕ

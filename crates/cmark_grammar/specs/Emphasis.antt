@@ -49,7 +49,7 @@ runs_of (Delimiter run ∷ siblings) = run ∷ runs_of siblings
 abbrev pub can_both : Run → Bool
 can_both run = run.opens && run.closes
 
--- if one of the runs can both open and close, the sum of their lengths is not a multiple of 3 unless both lengths are (CommonMark 6.2,
+-- if a run of the two can both open and close, the sum of their lengths is not a multiple of 3 unless both lengths are (CommonMark 6.2,
 -- rules 9 and 10)
 abbrev pub keeps_rule_of_three : (opener closer : Run) → Bool
 keeps_rule_of_three opener closer =

@@ -32,7 +32,7 @@ abbrev pub left_to : List ℕ → Braces → Braces
 left_to [] braces = record { entered = []; outermost = braces.next % 256; next = suc braces.next }
 left_to (c ∷ cs) braces = record { entered = cs; outermost = braces.outermost; next = braces.next }
 
--- the braces after one more byte, unless a backslash escapes it
+-- the braces after another byte, unless a backslash escapes it
 abbrev pub behind_byte : (escaped : Bool) → ℕ → Braces → Braces
 behind_byte true b braces = braces
 behind_byte false b braces = if b == 123 then entered braces else if b == 125 then left_to braces.entered braces else braces

@@ -51,7 +51,7 @@ abbrev pub ends_in_blanks : Option (List ℕ) → Bool
 ends_in_blanks None = false
 ends_in_blanks (Some rest) = are_blank rest
 
--- kind 7: one complete opening or closing tag and then only blanks; its name is none of kind 1
+-- kind 7: one complete opening or closing tag and then only blanks; its name is not a name of kind 1
 abbrev pub is_lone_tag : List ℕ → Bool
 is_lone_tag bs = ends_in_blanks (behind_tag_start no_prefix bs) && not (is_among (map lower (take_while is_name_byte (behind_slash bs))) raw_names)
 

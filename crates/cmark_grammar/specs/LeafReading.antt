@@ -12,7 +12,7 @@ use Rattle.cmark_grammar.specs.Questions.{Exchange, Saying}
 use Rattle.cmark_grammar.specs.Readers.{Reader}
 use Rattle.cmark_grammar.specs.Siblings.{Inline, AreSpans}
 
--- the state between two leaves: what is left of the reference expansion limit, and the questions asked so far, with their answers
+-- the state between two leaves: the rest of the reference expansion limit, and the questions asked so far, with their answers
 pub record Between : Type 0 where
   pub expansion_left : ℕ
   pub asked : List Exchange

@@ -3,7 +3,7 @@ use Rattle.std.specs.Prelude.{ℕ, zero, suc, Bool, true, false, ◌==◌, ◌&&
 use Rattle.cmark_grammar.specs.Columns.{is_blank_byte, drop_end}
 use Rattle.cmark_grammar.specs.Rows.{Row, is_blank_line, indent_of, words_of}
 
--- the effect of one more line on a leaf. GoesOn: it belongs to the leaf, which continues. Closes: it belongs to the leaf and ends it.
+-- the effect of the next line on a leaf. GoesOn: it belongs to the leaf, which continues. Closes: it belongs to the leaf and ends it.
 -- Waits: it belongs to the leaf only if a later line does. Stops: the leaf has ended before it
 pub data Continuation : Type 0 where
   GoesOn : Continuation

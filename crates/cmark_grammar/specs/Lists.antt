@@ -59,8 +59,8 @@ behind_blank Other = Other
 behind_blank (ItemWith m) = ItemWith m
 
 -- whether a blank line separates two of these blocks. The items of one list are one block, and so are titles with their definitions. Blank:
--- a blank line comes directly before. Before the first block there is never one that counts: an item begins with at most one blank line,
--- the rest of its marker's line (CommonMark 5.2), and so does a definition
+-- a blank line comes directly before. No blank line before the first block counts: an item begins with at most one blank line, the rest of
+-- its marker's line (CommonMark 5.2), and so does a definition
 abbrev pub parted : Before → (blank : Bool) → Blocks → Bool
 parted before blank Nil = false
 parted before blank (BlankLine line after) = parted (behind_blank before) (is_line before) after

@@ -34,7 +34,7 @@ abbrev pub is_ended : MetadataBlockKind → List Row → Bool
 is_ended kind [] = false
 is_ended kind (r ∷ ahead) = ends_metadata kind r || is_ended kind ahead
 
--- whether the lines ahead belong to a metadata block: one of them ends it, and the first one is not blank and does not end it
+-- whether the lines ahead belong to a metadata block: a line among them ends it, and the first one is not blank and does not end it
 abbrev pub holds_metadata : MetadataBlockKind → List Row → Bool
 holds_metadata kind [] = false
 holds_metadata kind (r ∷ ahead) = not (is_blank_line r || ends_metadata kind r) && is_ended kind ahead

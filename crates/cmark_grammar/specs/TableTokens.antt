@@ -26,7 +26,7 @@ abbrev pub row_tokens : (text : List ℕ) → (columns : ℕ) → List Row → B
 row_tokens text columns [] = Nil
 row_tokens text columns (r ∷ rs) = Node (node TableRow (start_of r) r.line_end) (row_cells text columns r) (row_tokens text columns rs)
 
--- the head, and the rows after the delimiter row, which belongs to none of them
+-- the head, and the rows after the delimiter row, which belongs neither to the head nor to a row
 abbrev pub table_tokens : (text : List ℕ) → (columns : ℕ) → Row → List Row → BlockDocument
 table_tokens text columns head more =
     Node (node TableHead (start_of head) head.line_end) (row_cells text columns head) (row_tokens text columns (drop 1 more))
