@@ -8,27 +8,27 @@ use Rattle.cmark_grammar.specs.BlockDocument.{Reference}
 use Rattle.cmark_grammar.specs.MetadataBlockKind.{MetadataBlockKind}
 use Rattle.cmark_block_model.specs.Drawing.{Drawing, nothing_drawn}
 
--- a list that may get further items, or titles and definitions: its character, the number of its first item, whether it is known to be
--- loose, and the end of its last item
+-- a list that may get further items, or titles and definitions. It has its character and the number of its first item; whether it is known
+-- to be loose; and the end of its last item
 pub record OpenList : Type 0 where
   pub delimiter : ℕ
   pub number : Option ℕ
   pub loose : Bool
   pub end : ℕ
 
--- the state before a paragraph that a definition may make a title: the definition list that was open, in which the paragraph is then drawn,
--- and whether a blank line separated two blocks
+-- the state before a paragraph that a definition may make a title. List: the definition list that was open; the paragraph is then drawn in
+-- it. Parted: a blank line separated two blocks
 pub record Title : Type 0 where
   pub list : Option OpenList
   pub parted : Bool
 
--- the blocks of a container so far:
+-- The blocks of a container so far.
 --
--- - has_line: it has a block, a blank line, or only blanks after its marker;
--- - blank: a blank line is at the end; parted: a blank line separates two of the blocks. The blanks after the marker do not count as a line;
--- - list: the list of which the last block is an item;
--- - title: the state before the last block, if that is a paragraph, which may be a title. A definition list to which the paragraph may
---   belong stays open, but the paragraph is not an item of `list`
+-- - Has_line: it has a block, a blank line, or only blanks after its marker.
+-- - Blank: a blank line is at the end. Parted: a blank line separates two of the blocks. The blanks after the marker do not count as a line.
+-- - List: the list of which the last block is an item.
+-- - Title: the state before the last block, if that is a paragraph, which may be a title. A definition list to which the paragraph may
+--   belong stays open, but the paragraph is not an item of `list`.
 pub record Siblings : Type 0 where
   pub has_line : Bool
   pub blank : Bool
@@ -74,8 +74,8 @@ takes_lazy (InFenced fence waits) = false
 takes_lazy (InHtml kind) = false
 takes_lazy (InMetadata kind waits) = false
 
--- the state of the pass: the drawing; the innermost siblings; the containers around them, the outermost first; whether the last line was
--- the blank first line of an item, which is the innermost container; the leaf; the place at which the next line begins; the link reference
+-- the state of the pass: the drawing; the innermost siblings; the containers around them, the outermost first. Bare: the last line was the
+-- blank first line of an item, which is the innermost container. Then the leaf; the place at which the next line begins; the link reference
 -- definitions; and the labels of the footnote definitions, in order
 pub record Pass : Type 0 where
   pub drawing : Drawing

@@ -65,7 +65,7 @@ IsLastRead text (leaf.Html kind) = Unit {0}
 IsLastRead text (leaf.Metadata kind waits) = Unit {0}
 
 module _ {E : Type 0} where
-  -- the facts that hold of the pass in every case, also after memory was refused: nodes can be added, the next line begins at a character
+  -- the facts that hold of the pass in every case, also after memory was refused. Nodes can be added, the next line begins at a character
   -- boundary, and the kept lines are read from the text
   pub record IsGood (pass : Pass E) : Type 0 where
     pub placed : IsPlaced pass.builder.tree

@@ -15,7 +15,7 @@ use std::alloc::AllocError;
 use std::mem;
 use std::ops::Range;
 
-/// Whether a line after its indent shows that no definition begins there, whatever lines follow: the label of its bracket ends in the line
+/// Whether a line after its indent shows that no definition begins there, whatever lines follow. The label of its bracket ends in the line
 /// without a colon after it, or another bracket opens in the label.
 fn begins_no_definition(words: &[u8]) -> bool
     ensures { result ≡ begins_none words.now }

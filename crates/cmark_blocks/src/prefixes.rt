@@ -118,8 +118,8 @@ pub fn scan_containers(tree: &Tree<Item>, line: &mut LineStart<'_>, options: Opt
     count
 }
 
-/// The number of bytes of the open containers' prefixes at the beginning of the line in these bytes, which ends before the first LF or CR:
-/// the bytes that `scan_containers` passes. A tab that belongs to a prefix in part is counted.
+/// The number of prefix bytes of the open containers at the beginning of the line in `bytes`, which ends before the first LF or CR.
+/// `scan_containers` passes these bytes. A tab that belongs to a prefix in part is counted.
 pub fn skip_container_prefixes(tree: &Tree<Item>, bytes: &[u8], options: Options) -> usize
     requires { IsTree tree.now }
     ensures { (z : Zip Item) → Holds tree.now z → (at line_end : ℕ) → begin_of (kept (containers_of (shown_options options) z.up) (line_of at line_end bytes.now)).rest ≡ at + result }

@@ -206,7 +206,7 @@ abbrev state_at : (at expansion_left : ℕ) → List Opener → State
 state_at at expansion_left openers = record { at = at; expansion_left = expansion_left; label_close = None; asked = []; openers = openers }
 
 -- the result of a closing bracket: nothing; or the number of nearer opening brackets, the place at which reading resumes, and the brackets
--- that are then alive, doubled and inactive
+-- that are then neither used up nor dropped, doubled and inactive
 pub data Came : Type 0 where
   ToNothing : Came
   ToLink : (nearer : ℕ) → (destination : List ℕ) → (resume : ℕ) → Came
@@ -231,7 +231,7 @@ left (Asks question answered) = []
 abbrev decided : Options → (text : List ℕ) → (close expansion_left : ℕ) → List Opener → Decision
 decided options text close expansion_left openers = decide (reading options text) (whole text) (state_at close expansion_left openers) (closing close)
 
--- a closing bracket takes the nearest opening one that is alive
+-- a closing bracket takes the nearest opening one that is not used up
 nearest_that_stands : comes_as (decided no_options (codes "[[a] b](u)") 6 100 (used 1 ∷ fresh 0 ∷ [])) ≡ ToLink 1 (codes "u") 10
 unfolding caseless encode chars decide ucd_category
 nearest_that_stands = refl

@@ -13,11 +13,14 @@ pub record Reference : Type 0 where
   pub start : ℕ
   pub end : ℕ
 
--- the kinds of nodes. A paragraph directly in an item of a tight list is not an element. Data: the attributes of a heading; the kind of a
--- block quote, if it is an alert; the number of an ordered list's first item; the alignments of a table's columns; the normal form of a
--- footnote definition's label; whether a definition list is tight. A text and an HTML line are bytes of the text; an owned text is the
--- spaces that are left of a tab. The texts of a paragraph or heading are raw, with their line endings: the inline pass reads them. A task
--- marker comes before the paragraph or heading that it belongs to (GFM 5.3)
+-- The kinds of nodes. A paragraph directly in an item of a tight list is not an element.
+--
+-- A heading has its attributes; a block quote has its kind, if it is an alert. An ordered list has the number of its first item, a table
+-- the alignments of its columns. A footnote definition has its label's normal form; a definition list, whether it is tight.
+--
+-- A text and an HTML line are bytes of the text; an owned text is the spaces that are left of a tab. The texts of a paragraph or heading
+-- are raw, with their line endings: the inline pass reads them. A task marker comes before the paragraph or heading that it belongs to (GFM
+-- 5.3)
 pub data BlockKind : Type 0 where
   Paragraph : BlockKind
   TightParagraph : BlockKind

@@ -8,8 +8,8 @@ use Rattle.cmark_grammar.specs.Event as event
 use Rattle.cmark_grammar.specs.Event.{Event, Start, End, Rule, TaskListMarker, Ranged}
 use Rattle.cmark_grammar.specs.BlockDocument.{BlockKind, Paragraph, TightParagraph, Heading, ThematicBreak, IndentedCode, FencedCode, HtmlBlock, LinkDefinition, MetadataBlock, BlockQuote, BlockList, ListItem, TaskMarker, FootnoteDefinition, DefinitionList, DefinitionListTitle, DefinitionListDefinition, Text, OwnedText, Html, BlockNode, BlockDocument, Nil, Node, Table, TableHead, TableRow, TableCell}
 
--- the reading of a node: an element around the events inside it, only the events inside it, one event, an event that comes first in the
--- element that follows, or no event
+-- the reading of a node: an element around the events inside it; only these events; one event; an event that comes first in the element
+-- that follows; or no event
 pub data Reads : Type 0 where
   Around : Tag → Reads
   Inside : Reads
@@ -85,8 +85,8 @@ abbrev pub begins_title : BlockDocument → Bool
 begins_title Nil = false
 begins_title (Node node inside after) = title_as (is_title node.kind) (read_as node.kind) (begins_title after)
 
--- the number of starts before the text of a node of this kind: one in a paragraph, heading or title, two in a definition list that begins
--- with a title, and zero otherwise
+-- the number of starts before the text of a node of this kind: one in a paragraph, heading or title. It is two in a definition list that
+-- begins with a title, and zero otherwise
 abbrev pub starts_of : BlockKind → (titled : Bool) → ℕ
 starts_of (DefinitionList tight) titled = if titled then 2 else 1
 starts_of kind titled = if is_leaf kind then 1 else 0

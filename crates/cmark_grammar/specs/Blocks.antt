@@ -53,7 +53,7 @@ behind_container (Item delimiter number width task) = Apart
 behind_container (Footnote label old size) = Apart
 behind_container (ListDefinition width) = BehindTitle
 
--- whether a lazy line may follow these blocks: their last line is in a paragraph, or is an alert's tag, or is in a leaf after which a lazy
+-- whether a lazy line may follow these blocks. Their last line is in a paragraph, or is an alert's tag, or is in a leaf after which a lazy
 -- line may begin a paragraph. So: the value if there is no block
 abbrev pub ends_lazily : (so : Bool) → Blocks → Bool
 ends_lazily so Nil = so

@@ -37,8 +37,8 @@ abbrev pub continuation_if : (is_lazy : Bool) → Verbatim → Row → Continuat
 continuation_if true verbatim r = Stops
 continuation_if false verbatim r = continuation_in verbatim r
 
--- the open block: nothing, a paragraph, a leaf with `left` more lines, a leaf whose lines are judged one by one, or a container; or the
--- place directly after an alert's tag. The waiting blank lines belong to a leaf only if a later line does
+-- the open block: nothing, a paragraph, a leaf with `left` more lines, a leaf whose lines are judged one by one, or a container. Directly
+-- after an alert's tag no block is open yet. The waiting blank lines belong to a leaf only if a later line does
 pub data OpenLines : Type 0 where
   Between : (closed : Blocks) → OpenLines
   BehindTag : OpenLines

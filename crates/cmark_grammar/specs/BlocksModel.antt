@@ -8,8 +8,8 @@ use Rattle.cmark_grammar.specs.Blocks.{Blocks, Nil, BlankLine, Paragraph, Setext
 use Rattle.cmark_grammar.specs.Options.{Options}
 use Rattle.cmark_grammar.specs.Places.{Place, Apart, BehindLazy, BehindTitle, allows_lazy, over_blank}
 
--- the blocks that have ended, and after them the open block: nothing, a paragraph, a leaf with lines to come, or a container; or the place
--- directly after an alert's tag
+-- the blocks that have ended, and after them the open block: nothing, a paragraph, a leaf with lines to come, or a container. Directly
+-- after an alert's tag no block is open yet
 pub data Open : Type 0 where
   Between : (closed : Blocks) → Open
   BehindTag : Open

@@ -5,18 +5,18 @@ use Rattle.cmark_grammar.specs.Items.{Bracket}
 use Rattle.cmark_grammar.specs.Parts.{Formed}
 use Rattle.cmark_grammar.specs.Questions.{Question, Exchange}
 
--- an opening bracket that is a text. It is alive until a closing bracket uses it up (CommonMark 6.3) or a footnote reference drops it. It
--- is doubled until a wikilink tries it as the first of two brackets (both this profile's own). It is inactive if a link was formed after
--- it, since a link contains no link
+-- an opening bracket that is a text. Stands: no closing bracket used it up (CommonMark 6.3), and no footnote reference dropped it. Doubles:
+-- no wikilink tried it as the first of two brackets (both this profile's own). Is_inactive: a link was formed after it, since a link
+-- contains no link
 pub record Opener : Type 0 where
   pub bracket : Bracket
   pub stands : Bool
   pub doubles : Bool
   pub is_inactive : Bool
 
--- the place reached; the rest of the reference expansion limit; the closing bracket, if any, of a full reference's label, which closes no
--- shortcut or collapsed reference; the questions asked, with their answers; and the opening brackets that are texts in the list being read,
--- the nearest first
+-- the state of reading a leaf: the place reached, and the rest of the reference expansion limit. Label_close: the closing bracket of a full
+-- reference's label, if any; it closes no shortcut or collapsed reference. Asked: the questions so far, with their answers. Openers: the
+-- opening brackets that are texts in the list being read, the nearest first
 pub record State : Type 0 where
   pub at : ℕ
   pub expansion_left : ℕ

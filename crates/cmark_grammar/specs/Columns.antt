@@ -7,8 +7,8 @@ tab = 9
 abbrev pub space : ℕ
 space = 32
 
--- a column of a line: its byte, the place of that byte in the text, and the number of columns of the same byte before it (zero, except in a
--- tab)
+-- a column of a line: its byte, and the place of that byte in the text. Part: the number of columns of the same byte before it, which is
+-- zero except in a tab
 pub record Column : Type 0 where
   pub byte : ℕ
   pub at : ℕ

@@ -51,7 +51,7 @@ delimited ds [] = None
 delimited ds (b ∷ bs) =
     if nat_lt 0 (length ds) && (nat_le (length ds) 9 && is_delimiter b) then Some (record { delimiter = b; number = Some (number_of ds); size = suc (length ds) }) else None
 
--- a bullet, or else an ordered list marker
+-- a bullet, or else an ordered list marker (CommonMark 5.2). Examples: `-`, `12.`
 abbrev pub marker_of : List ℕ → Option Marker
 marker_of [] = None
 marker_of (b ∷ bs) = if is_bullet b then Some (record { delimiter = b; number = None; size = 1 }) else delimited (digits (b ∷ bs)) (drop (length (digits (b ∷ bs))) (b ∷ bs))
@@ -79,7 +79,7 @@ abbrev pub begins_with : ℕ → List ℕ → Bool
 begins_with b [] = false
 begins_with b (c ∷ cs) = c == b
 
--- at most three columns of indent, and `>` (CommonMark 5.1)
+-- at most three columns of indent, and `>` (CommonMark 5.1). Example: `> a`
 abbrev pub is_block_quote : Row → Bool
 is_block_quote r = nat_le (indent_of r) 3 && begins_with 62 (words_of r)
 
@@ -92,7 +92,7 @@ one_blank (c ∷ cs) = if is_blank c then 1 else 0
 abbrev pub block_quote_width : Row → ℕ
 block_quote_width r = suc (indent_of r + one_blank (drop (suc (indent_of r)) r.columns))
 
--- the container that begins on a line which is indented by at most three columns
+-- the container that begins on a line with at most three columns of indent
 abbrev pub container_with : Option Container → (quoted : Bool) → (alert : Option BlockQuoteKind) → Option Container
 container_with (Some k) quoted alert = Some k
 container_with None quoted alert = if quoted then Some (BlockQuote alert) else None

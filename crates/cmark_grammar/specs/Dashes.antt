@@ -6,8 +6,8 @@ pub record Dashes : Type 0 where
   pub em : ℕ
   pub en : ℕ
 
--- an em dash replaces three hyphens and an en dash two: only em dashes if 3 divides the number; else only en dashes if it is even; else em
--- dashes and then as few en dashes as possible
+-- an em dash replaces three hyphens and an en dash two. Only em dashes appear if 3 divides the number, else only en dashes if it is even.
+-- Else there are em dashes, and then as few en dashes as possible
 abbrev pub dashes_of : (hyphens : ℕ) → Dashes
 dashes_of n =
     if (n % 3) == 0 then record { em = n / 3; en = 0 }

@@ -2,8 +2,8 @@
 use Rattle.std.specs.Prelude.{◌≡◌, ℕ, zero, suc, ◌+◌, ◌-◌, ◌%◌, Bool, true, false, not, ◌==◌, ◌&&◌, ◌||◌, nat_lt, if◌then◌else◌, List, [], ◌∷◌, ◌++◌, map}
 use Rattle.cmark_grammar.specs.Spans.{SpanKind, Emphasis, Strong, SingleTilde, DoubleTilde, Caret, DoubleEquals, span_width, Spans, Nil, Single, Around, join, singles}
 
--- the rest of a delimiter run: its delimiter, its original length, the place of the first byte that is left, the number of bytes that are
--- left, and whether it can open and close
+-- the rest of a delimiter run: its delimiter and its original length; the place of the first byte that is left, and the number of bytes
+-- left; and whether it can open and close
 pub record Run : Type 0 where
   pub delimiter : ℕ
   pub run_length : ℕ
@@ -12,7 +12,8 @@ pub record Run : Type 0 where
   pub opens : Bool
   pub closes : Bool
 
--- the last `count` bytes of an opening delimiter run, directly before a place, and as many bytes of a closing one, from a place on
+-- the last `count` bytes of an opening delimiter run, directly before the place `from`, and the first `count` bytes of a closing one, from
+-- the place `to` on
 pub record Pair : Type 0 where
   pub delimiter : ℕ
   pub from : ℕ
@@ -49,8 +50,8 @@ runs_of (Delimiter run ∷ siblings) = run ∷ runs_of siblings
 abbrev pub can_both : Run → Bool
 can_both run = run.opens && run.closes
 
--- if a run of the two can both open and close, the sum of their lengths is not a multiple of 3 unless both lengths are (CommonMark 6.2,
--- rules 9 and 10)
+-- if either run can both open and close, the sum of their lengths is not a multiple of 3 unless both lengths are multiples of 3 (CommonMark
+-- 6.2, rules 9 and 10)
 abbrev pub keeps_rule_of_three : (opener closer : Run) → Bool
 keeps_rule_of_three opener closer =
     not (can_both opener || can_both closer)

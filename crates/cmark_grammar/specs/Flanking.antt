@@ -40,8 +40,8 @@ is_right_flanking before after =
 abbrev pub is_run_delimiter : ℕ → Bool
 is_run_delimiter b = (b == 42) || ((b == 95) || ((b == 126) || ((b == 94) || (b == 61))))
 
--- `run_length` bytes of a delimiter are a delimiter run: `*` and `_` in any number, one or two `~` with strikethrough or subscript, one `^`
--- with superscript, and two `=` with highlight (GFM 6.5, and this profile's own)
+-- `run_length` bytes of a delimiter are a delimiter run. There may be any number of `*` or `_`, one or two `~` with strikethrough or
+-- subscript, one `^` with superscript, and two `=` with highlight (GFM 6.5, and this profile's own)
 abbrev pub is_delimiter_run : Options → (delimiter run_length : ℕ) → Bool
 is_delimiter_run options delimiter run_length =
     (((delimiter == 42) || (delimiter == 95)) && nat_lt 0 run_length)
@@ -49,8 +49,8 @@ is_delimiter_run options delimiter run_length =
     || (((delimiter == 94) && (options.superscript && (run_length == 1)))
     || ((delimiter == 61) && (options.highlight && (run_length == 2)))))
 
--- a run of it can open and close inside a word too (CommonMark 6.2, rules 1 to 8): every delimiter but `_`, and but a single `~` without
--- the subscript option (this profile's own)
+-- a run of it can open and close inside a word too (CommonMark 6.2, rules 1 to 8). This holds of every delimiter except `_`, and except a
+-- single `~` if subscript is off (this profile's own)
 abbrev pub is_intraword : Options → (delimiter run_length : ℕ) → Bool
 is_intraword options delimiter run_length = not (delimiter == 95) && (not (delimiter == 126) || ((run_length == 2) || options.subscript))
 

@@ -38,7 +38,7 @@ abbrev pub behind_caret : List ℕ → Option Parsed
 behind_caret [] = None
 behind_caret (b ∷ bs) = if b == 94 then label_then_colon (label_if (up_to false 93 91 false bs)) else None
 
--- the label of the marker at the beginning of these bytes, and the bytes after the marker
+-- the label of the marker at the beginning of these bytes, and the bytes after the marker. Example: the label of `[^a]: b` is `a`
 abbrev pub footnote_in : List ℕ → Option Parsed
 footnote_in [] = None
 footnote_in (b ∷ bs) = if b == 91 then behind_caret bs else None

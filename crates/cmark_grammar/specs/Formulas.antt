@@ -11,8 +11,8 @@ is_dollar b = b == 36
 abbrev pub is_ink : ℕ → Bool
 is_ink b = not (is_ascii_whitespace b)
 
--- the contexts between the braces of a leaf, numbered modulo 256: the contexts that are entered, the inner ones first; the number of the
--- outermost context, which is 255 at first; and the number of the next context
+-- the contexts between the braces of a leaf, numbered modulo 256. Entered: the contexts that are entered, the inner ones first. Outermost:
+-- the number of the outermost context, which is 255 at first. Next: the number of the next context
 pub record Braces : Type 0 where
   pub entered : List ℕ
   pub outermost : ℕ
@@ -55,10 +55,10 @@ formula_to is_display context escaped last braces (b ∷ bs) =
     else put b (formula_to is_display context (escapes_next escaped b) b (behind_byte escaped b braces) bs)
 
 -- the formula after one dollar sign and these braces, up to the dollar sign that closes it. It begins with a byte that is not white space,
--- so it is not empty
+-- so it is not empty. Example: `$a + b$`
 abbrev pub inline_in : Braces → List ℕ → Option Parsed
 inline_in braces bs = if first_is is_ink bs then formula_to false (context_of braces) false 36 braces bs else None
 
--- the formula after two dollar signs, which may be empty
+-- the formula after two dollar signs, which may be empty. Example: `$$a$$`
 abbrev pub display_in : Braces → List ℕ → Option Parsed
 display_in braces bs = formula_to true (context_of braces) false 36 braces bs

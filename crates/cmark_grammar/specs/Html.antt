@@ -20,8 +20,8 @@ pub record OpenImage : Type 0 where
   pub depth : ℕ
   pub title : List ℕ
 
--- the table that is being written: whether its cells are those of the head, until the head has ended; the alignments of its columns, until
--- the next table begins; and the number of cells of the row that have ended
+-- the table that is being written. Its cells are those of the head, until the head has ended. It has the alignments of its columns, until
+-- the next table begins, and the number of cells of the row that have ended
 pub record TableState : Type 0 where
   pub in_head : Bool
   pub alignments : List Alignment

@@ -4,7 +4,7 @@ use Rattle.std.specs.Prelude.{ℕ, ◌+◌, ◌-◌, ◌≤◌, Bool, nat_lt, if
 use Rattle.cmark_grammar.specs.Tokens.{slice}
 
 -- Lines that touch in the source, with their line endings. A line begins after the prefixes of its containers, with the spaces and tabs
--- before its words: code, formulas and tags keep these (this profile's own), and a line break removes them. A tab that a prefix takes in
+-- before its words. Code, formulas and tags keep these blanks (this profile's own); a line break removes them. A tab that a prefix takes in
 -- part belongs to the prefix. The first line of a leaf begins with its words, and the last line ends with them
 pub record Stretch : Type 0 where
   pub start : ℕ

@@ -49,7 +49,7 @@ is_break_of b bs = nat_le 3 (count_by (λ c. c == b) bs) && all_pass (λ c. (c =
 abbrev pub is_thematic_break : List ℕ → Bool
 is_thematic_break bs = is_break_of 42 bs || (is_break_of 45 bs || is_break_of 95 bs)
 
--- an opening sequence of 1 to 6 `#`, then a blank or the line's end (CommonMark 4.2)
+-- an opening sequence of 1 to 6 `#`, then a blank or the line's end (CommonMark 4.2). Example: `## a`
 abbrev pub is_atx_heading : List ℕ → Bool
 is_atx_heading bs = nat_lt 0 (run 35 bs) && (nat_le (run 35 bs) 6 && is_parted (drop (run 35 bs) bs))
 
@@ -67,7 +67,7 @@ trimmed bs = drop_end is_blank_byte (drop (length (take_while is_blank_byte bs))
 abbrev pub fence_with : ℕ → ℕ → List ℕ → Fence
 fence_with indented b bs = record { indented = indented; delimiter = b; run_length = run b bs; info = trimmed (drop (run b bs) bs) }
 
--- three or more backticks without a backtick in the info string, or three or more tildes (CommonMark 4.5)
+-- three or more backticks without a backtick in the info string, or three or more tildes (CommonMark 4.5). Example: `~~~ rust`
 abbrev pub fence_of : ℕ → List ℕ → Option Fence
 fence_of indented bs =
     if nat_le 3 (run 96 bs) && (count_by (λ c. c == 96) (drop (run 96 bs) bs) == 0) then Some (fence_with indented 96 bs)
@@ -91,6 +91,7 @@ is_run_of b bs = nat_lt 0 (run b bs) && are_blank (drop (run b bs) bs)
 abbrev pub underline_of : List ℕ → Option ℕ
 underline_of bs = if is_run_of 61 bs then Some 1 else if is_run_of 45 bs then Some 2 else None
 
--- the level of the heading that the line makes of a paragraph, if the line is a setext heading underline (CommonMark 4.3)
+-- the level of the heading that the line makes of a paragraph, if the line is a setext heading underline (CommonMark 4.3). Examples: 1 for
+-- `===`, 2 for `---`
 unfoldable pub underlines : Row → Option ℕ
 underlines r = if r.lazy || nat_le 4 (indent_of r) then None else underline_of (words_of r)

@@ -27,11 +27,12 @@ title_behind (Some destination) = title_in (behind_separator destination.behind)
 abbrev pub tail_inside : List ℕ → Option LinkTail
 tail_inside bs = with_title (link_destination_in (behind_separator bs)) (title_behind (link_destination_in (behind_separator bs)))
 
--- the parentheses after the bracket: a destination, which may be empty, and a title, if there is one
+-- the parentheses after the bracket (CommonMark 6.3): a destination, which may be empty, and a title, if there is one. Example: `(/url
+-- "title")`
 abbrev pub link_tail_in : List ℕ → Option LinkTail
 link_tail_in bs = and_then (behind_if (λ b. b == 40) bs) tail_inside
 
--- the label of a full reference, after the bracket
+-- the label of a full reference, after the bracket (CommonMark 6.3). Example: `[label]`
 abbrev pub reference_label_in : List ℕ → Option Parsed
 reference_label_in bs = and_then (behind_if (λ b. b == 91) bs) label_in
 

@@ -94,8 +94,8 @@ loose_from delimiter blank (ContainerBlock (Item m number width task) first more
 loose_from delimiter blank (ContainerBlock (ListDefinition width) first more inside after) =
     (definition_delimiter == delimiter) && (blank || (is_parted_item inside || loose_from delimiter (ends_blank true false inside) after))
 
--- whether the list that begins with this item, or definition, is tight (CommonMark 5.3): no blank line separates two of its items, and none
--- separates two blocks that an item contains directly
+-- whether the list that begins with this item, or definition, is tight (CommonMark 5.3). Then no blank line separates two of its items, or
+-- two blocks that an item contains directly
 abbrev pub is_tight : (delimiter : ℕ) → (inside after : Blocks) → Bool
 is_tight delimiter inside after = not (is_parted_item inside || loose_from delimiter (ends_blank true false inside) after)
 

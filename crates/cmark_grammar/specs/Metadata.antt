@@ -11,7 +11,7 @@ use Rattle.cmark_grammar.specs.Options.{Options}
 abbrev pub is_line_of : (delimiter bs : List ℕ) → Bool
 is_line_of delimiter bs = starts delimiter bs && are_blank (drop (length delimiter) bs)
 
--- the kind of the metadata block that a line begins, if a later line ends it
+-- the kind of the metadata block that a line begins, if a later line ends it: `---` or `+++`
 abbrev pub metadata_of : List ℕ → Option MetadataBlockKind
 metadata_of bs =
     if is_line_of (codes "---") bs then Some YamlStyle
@@ -23,7 +23,7 @@ abbrev pub closes_metadata : MetadataBlockKind → List ℕ → Bool
 closes_metadata YamlStyle bs = is_line_of (codes "---") bs || is_line_of (codes "...") bs
 closes_metadata PlusesStyle bs = is_line_of (codes "+++") bs
 
--- whether a line ends one, from its first column on
+-- whether a line ends a metadata block of this kind: the closing delimiter is in its first column
 abbrev pub ends_metadata : MetadataBlockKind → Row → Bool
 ends_metadata kind r = closes_metadata kind (bytes_of r.columns)
 

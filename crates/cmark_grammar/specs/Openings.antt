@@ -130,8 +130,8 @@ module _ (options : Options) where
   definition_of r ahead =
       if begins_no_link (footnotes_in options) (words_of r) then Plain else defined_if (length (text_lines ahead)) (definition_in (bytes_over r (text_lines ahead)))
 
-  -- the number of rows of a table with `columns` columns (GFM 4.10): the lines ahead up to the first that interrupts it, as each list
-  -- marker does, or for which more than `left` cells would be filled in. No table interrupts a table
+  -- the number of rows of a table with `columns` columns (GFM 4.10). The rows end before the first line that interrupts the table, as each
+  -- list marker does, or for which more than `left` cells would be filled in. No table interrupts a table
   abbrev pub count_rows : (columns left : ℕ) → List Row → ℕ
   count_rows columns left ahead = count_rows_until (interrupts false) columns left ahead
 

@@ -9,8 +9,8 @@ pub record Target : Type 0 where
   pub linked : Linked
   pub end : ℕ
 
--- the element that a closing and an opening bracket form: a link or an image (CommonMark 6.3 and 6.4); a footnote reference; or a wikilink,
--- which shows its name or the text from a place on (both this profile's own)
+-- the element that a closing and an opening bracket form: a link or an image (CommonMark 6.3 and 6.4), a footnote reference, or a wikilink.
+-- A wikilink shows its name, or the text from a place on (the last two are this profile's own)
 pub data Formed : Type 0 where
   Linking : (target : Target) → Formed
   Footnote : (label : List ℕ) → (end : ℕ) → Formed

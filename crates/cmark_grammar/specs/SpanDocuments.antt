@@ -15,8 +15,8 @@ use Rattle.cmark_grammar.specs.Readers.{Reader}
 use Rattle.cmark_grammar.specs.References.{references, first_with}
 use Rattle.cmark_grammar.specs.TagEnd.{end_of}
 
--- the settings for a text: the options, the entities, the number of bytes of destinations and titles that references may take, and whether
--- there is a callback for labels without a definition
+-- the settings for a text: the options and the entities. Reference_expansion_limit: the number of bytes of destinations and titles that
+-- references may take. Has_callback: whether there is a callback for labels without a definition
 pub record Profile : Type 0 where
   pub options : Options
   pub lookup : Lookup

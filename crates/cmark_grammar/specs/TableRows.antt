@@ -21,7 +21,7 @@ without_blank_end [] = []
 without_blank_end (part ∷ []) = if are_blank part then [] else part ∷ []
 without_blank_end (part ∷ (next ∷ more)) = part ∷ without_blank_end (next ∷ more)
 
--- the cells of a row without its indent: one pipe may precede them, and one may follow them
+-- the cells of a row without its indent: one pipe may precede them, and one may follow them (GFM 4.10). Example: `| a | b |` has two cells
 abbrev pub cells_of : (words : List ℕ) → List (List ℕ)
 cells_of words = without_blank_end (parts false (without_first_pipe words))
 

@@ -59,7 +59,7 @@ without_last_pipe [] = []
 without_last_pipe (b ∷ []) = if b == pipe then [] else b ∷ []
 without_last_pipe (b ∷ c ∷ bs) = b ∷ without_last_pipe (c ∷ bs)
 
--- the alignments of a table's columns, if this line is a delimiter row: cells with at least one pipe, which may also precede and follow the
--- cells (that there must be a pipe is this profile's own). Example: `|:--|--:|`
+-- the alignments of a table's columns, if this line is a delimiter row: cells with at least one pipe. A pipe may also precede and follow
+-- the cells (that there must be a pipe is this profile's own). Example: `|:--|--:|`
 abbrev pub delimiter_row : List ℕ → Option (List Alignment)
 delimiter_row bs = if holds (codes "|") bs then alignments (cells (without_last_pipe (without_first_pipe (trimmed bs)))) else None

@@ -14,8 +14,8 @@ pub record Linked : Type 0 where
   pub title : List ℕ
   pub id : List ℕ
 
--- the data of tags: the level of a heading, 1 to 6; the kind of a block quote, if it is an alert; the first number of a list, if it is
--- ordered; the alignments of a table's columns
+-- the tags of elements. A heading has its level, 1 to 6; a block quote has its kind, if it is an alert. An ordered list has its first
+-- number, a table the alignments of its columns
 pub data Tag : Type 0 where
   Paragraph : Tag
   Heading : (level : ℕ) → (attributes : Attributes) → Tag

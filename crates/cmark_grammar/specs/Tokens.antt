@@ -61,7 +61,7 @@ named lookup name behind = if not (is_empty name) && first_is (λ b. b == 59) be
 abbrev pub named_in : Lookup → List ℕ → Option Entity
 named_in lookup bs = named lookup (take_while is_alphanumeric bs) (drop (length (take_while is_alphanumeric bs)) bs)
 
--- the entity or numeric character reference after `&` (CommonMark 2.5)
+-- the entity or numeric character reference after `&` (CommonMark 2.5). Examples: `amp;`, `#65;`, `#x41;`
 abbrev pub entity_in : Lookup → List ℕ → Option Entity
 entity_in lookup bs = if first_is (λ b. b == 35) bs then numeric_in (drop 1 bs) else named_in lookup bs
 
@@ -114,7 +114,7 @@ abbrev pub resolved : Lookup → List ℕ → List ℕ
 resolved lookup bs = resolved_from lookup false 0 bs
 
 -- the lines of a title: each line ending becomes a line feed, and the blanks after it are removed (this profile's own). In_front: only
--- these bytes were read since the last line ending
+-- blanks were read since the last line ending
 abbrev pub title_lines : (in_front : Bool) → List ℕ → List ℕ
 title_lines in_front [] = []
 title_lines in_front (b ∷ bs) =

@@ -29,8 +29,8 @@ is_tight flags = (flags.0 % 2) == 1
 abbrev pub list_number : (delimiter number : ℕ) → Option ℕ
 list_number delimiter number = if is_delimiter delimiter then Some number else None
 
--- the form of an item as a node: an element; a text at an index; a slice of the text; or a paragraph or a title with one text inside, from
--- its start up to a place. Other items are not nodes of a document
+-- the form of an item as a node: an element; a text at an index; a slice of the text; or a paragraph or a title with one text inside. That
+-- text begins at the item's start and ends at a place. Other items are not nodes of a document
 pub data Shape : Type 0 where
   Element : (kind : BlockKind) → Shape
   Spelt : (kind : List ℕ → BlockKind) → (index : ℕ) → Shape

@@ -25,8 +25,8 @@ fn words_end(rest: LineRest<'_>) -> usize
     rest.content_end() - (words.len() - without_trailing_blanks(words).len())
 }
 
-/// Adds the last touching lines of a paragraph, from byte offset `from` to the end of the last line's words, as a node after the last
-/// sibling, unless they are empty. If memory is refused, the tree is unchanged.
+/// Adds the last touching lines of a paragraph as a node after the last sibling, unless they are empty. They are the bytes from offset
+/// `from` to the end of the last line's words. If memory is refused, the tree is unchanged.
 #[inline(always)]
 pub fn draw_last_lines(
     builder: &mut Builder<'_>,

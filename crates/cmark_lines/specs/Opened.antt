@@ -19,8 +19,8 @@ use Rattle.cmark_lines.specs.Starts.{shown_start, inside_of, Enters, HasMarker}
 use Rattle.cmark_lines.specs.declared.opening.Opening.{Opening}
 use Rattle.cmark_lines.specs.declared.opening.Opening.TheVariants.{Blank, Nests, IndentedCode, Html, ThematicBreak, AtxHeading, FencedCode, Bracket, Plain}
 
--- the beginning of a line whose bracket may belong to a link: a link reference definition, if this line and those ahead form one, and else
--- a table or a paragraph
+-- the beginning of a line whose bracket may belong to a link. It is a link reference definition, if this line and those ahead form one, and
+-- else a table or a paragraph
 abbrev pub bracket_of : Options → Row → List Row → grammar.Opening
 bracket_of options r ahead = or_else (defined_if (length (text_lines options ahead)) (definition_in (bytes_over r (text_lines options ahead)))) (table_if options (table_head options r ahead) ahead)
 

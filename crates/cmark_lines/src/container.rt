@@ -171,8 +171,8 @@ fn block_quote_start<'a>(rest: LineRest<'a>) -> Option<ContainerStart<'a>>
     Some(ContainerStart::BlockQuote(inside))
 }
 
-/// The list item that a line begins whose words do not begin with the marker of a block quote, indented by at most three columns, and the
-/// line after its marker.
+/// The list item that a line begins, indented by at most three columns, and the line after its marker. The line's words do not begin with
+/// the marker of a block quote.
 #[inline(always)]
 fn item_start<'a>(rest: LineRest<'a>) -> Option<ContainerStart<'a>>
     requires { begins_with 62 (words_of (row_of rest)) ≡ false }

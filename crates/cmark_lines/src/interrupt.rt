@@ -144,9 +144,9 @@ fn html_interrupts(words: &[u8]) -> bool
     }
 }
 
-/// The level of the heading that the line makes of the paragraph before it, if it is a setext heading underline (CommonMark 4.3): a run of
-/// `=` or of `-`, indented by at most three columns, and then only blanks. The line must be in the same container as the paragraph: a line
-/// that lacks a prefix underlines nothing.
+/// The level of the heading that the line makes of the paragraph before it, if it is a setext heading underline (CommonMark 4.3). An
+/// underline is a run of `=` or of `-`, indented by at most three columns, and then only blanks. The line must be in the same container as
+/// the paragraph: a line that lacks a prefix underlines nothing.
 #[inline]
 #[tactic(auto, unfolding(cmark_grammar::specs::Leaves::underlines, crate::specs::Rests::row_of))]
 pub fn underlines(rest: LineRest<'_>) -> Option<HeadingLevel>

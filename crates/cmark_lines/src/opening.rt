@@ -46,8 +46,8 @@ pub enum Opening<'a> {
         /// The fence; its places are byte offsets from the line's words.
         fence: CodeFence,
     },
-    /// No other kind of opening, and the words begin with `[`: a link reference definition (CommonMark 4.7), if this line and those ahead
-    /// form one, and else a table or a paragraph.
+    /// No other kind of opening, and the words begin with `[`. It is a link reference definition (CommonMark 4.7), if this line and those
+    /// ahead form one, and else a table or a paragraph.
     Bracket,
     /// A table (GFM 4.10), if this line is its head, and else a paragraph (CommonMark 4.8).
     Plain,

@@ -87,7 +87,7 @@ fn has_bracket(bytes: &[u8]) -> bool
     false
 }
 
-/// Whether the text between two brackets can be the label of a collapsed or shortcut reference (CommonMark 6.3): it has 1 to 999
+/// Whether the text between two brackets can be the label of a collapsed or shortcut reference (CommonMark 6.3). It has 1 to 999
 /// characters, at least one of which is not white space, and no unescaped bracket.
 pub fn is_bracketed_label(text: &str) -> bool
     ensures { result ≡ is_bracketed_label text.now }

@@ -97,8 +97,8 @@ fn heading_level(hashes: usize) -> Option<HeadingLevel>
     }
 }
 
-/// The level of the heading that the line makes of the paragraph before it, if it is a setext heading underline (CommonMark 4.3): one run
-/// of `=` or of `-`, then only blanks.
+/// The level of the heading that the line makes of the paragraph before it, if it is a setext heading underline (CommonMark 4.3). An
+/// underline is one run of `=` or of `-`, then only blanks.
 #[inline]
 pub fn scan_setext_heading(line: &[u8]) -> Option<HeadingLevel>
     ensures { option_map level_number result ≡ underline_of line.now }

@@ -4,7 +4,7 @@ use Rattle.cmark_grammar.specs.LinkDefinitions.{Parsed, put}
 use Rattle.cmark_scan_parts.specs.declared.closed.Step.{Step}
 use Rattle.cmark_scan_parts.specs.declared.closed.Step.TheVariants.{Ends, Fails, GoesOn}
 
--- the part that is read from a byte on, by the effect of the byte and the part read after it: a byte that ends a part is its closer or
+-- the part that is read from a byte on, by the effect of the byte and the part read after it. A byte that ends a part is its closer or
 -- comes after it
 abbrev pub read_closed : Step → ℕ → List ℕ → Option Parsed → Option Parsed
 read_closed Ends b bs found = Some (record { bytes = []; behind = bs })

@@ -106,8 +106,8 @@ fn push_without_pipe_escapes(out: &mut String, text: &str) -> Result<(), AllocEr
     Ok(())
 }
 
-/// The content of code and formulas in a table cell (GFM 4.10): the text with `|` in place of each `\|`, in an owned text; the same value
-/// if there is none. Of `\\|` one backslash remains. Fails only if memory is refused.
+/// The content of code and formulas in a table cell (GFM 4.10): an owned text with `|` in place of each `\|`. If there is none, the same
+/// value is returned. Of `\\|` one backslash remains. Fails only if memory is refused.
 pub fn without_pipe_escapes<'a>(alloc: Global, text: CowStr<'a>) -> Result<CowStr<'a>, AllocError>
     ensures value { IfOk result (λ made. text_bytes made ≡ without_pipe_escapes (text_bytes text.entry)) }
     ensures kept { without_pipe_escapes (text_bytes text.entry) ≡ text_bytes text.entry → result ≡ Ok text.entry }

@@ -355,8 +355,8 @@ pub record GivesOver (old : Walk) (short : Short) (start end : ℕ) (new : Walk)
   pub gives : (left : List Segment) → Remains old left → IsFirst left (record { event = shown_short short; start = start; end = end }) new
   pub lent : IsShortZeroCopy (text_of old) short start end
 
--- the result of a step, which may give nothing: the first of those left, and the others remain; an event of another kind is then the next
--- one, at the focus
+-- the result of a step, which may give nothing. Else it is the first of those left, and the others remain; an event of another kind is then
+-- the next one, at the focus
 abbrev pub GivesShortStep : Walk → BriefStep → List LeafLine → Walk → Type 0
 GivesShortStep old (brief_step.Short short start end) lines new = GivesOver old short start end new
 GivesShortStep old (brief_step.Leaf is_cell) lines new = GivesBrief old (brief.Leaf is_cell) lines new

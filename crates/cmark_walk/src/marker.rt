@@ -22,8 +22,8 @@ use cmark_tree::TreeIndex;
 use std::alloc::AllocError;
 
 impl<'a> Walk<'a> {
-    // Moves past a task marker, which is the first event of the paragraph, heading or title that follows (GFM 5.3): to the lines of that
-    // leaf, or into a definition list that begins with the title.
+    // Moves past a task marker, which is the first event of the paragraph, heading or title that follows (GFM 5.3). The walk is then at the
+    // lines of that leaf, or in the definition list that begins with the title.
     pub(crate) fn pass_marker(
         &mut self,
         ix: TreeIndex,

@@ -41,7 +41,7 @@ pub struct Walk<'a> {
 
 impl<'a> Walk<'a> {
     /// A walk over the tree, from its first node on. If the tree is a document of the text without its link reference definitions, the walk
-    /// gives the events and leaves of that document, with the paragraphs of tight lists settled.
+    /// gives that document's events and leaves, with the paragraphs of tight lists settled.
     pub fn new(
         alloc: Global,
         text: &'a str,

@@ -42,9 +42,9 @@ impl<'a> LineRest<'a> {
         ahead.scan_blockquote_tag()
     }
 
-    /// The task marker at the beginning of this line, which comes after an item's marker, if there is one (GFM 5.3): whether its box is
-    /// checked, and the line after the box. That line begins with a space or a tab and has text (this is this profile's own). With
-    /// `tasklists` false there are no task markers.
+    /// The task marker at the beginning of this line, if there is one (GFM 5.3): whether its box is checked, and the line after the box.
+    /// The line comes after an item's marker. The rest after the box begins with a space or a tab and has text (this is this profile's
+    /// own). With `tasklists` false there are no task markers.
     #[inline]
     pub fn task_marker(self, tasklists: bool) -> Option<(bool, LineRest<'a>)>
         ensures task { (options : Options) → options.tasklists ≡ tasklists → option_map is_checked result ≡ task_in options (row_of self.entry) }
@@ -87,8 +87,8 @@ impl<'a> LineRest<'a> {
         Some(self.with_front(front))
     }
 
-    /// The number of bytes of the label of the footnote definition that the line begins, indented by at most three columns, and the line
-    /// after the blanks that follow the marker (this profile's own).
+    /// The number of bytes of a footnote definition's label, and the line after the blanks that follow the marker (this profile's own). The
+    /// line begins the definition, indented by at most three columns.
     pub(crate) fn behind_footnote_marker(self) -> Option<(usize, LineRest<'a>)>
         ensures label { option_map (label_shown (row_of self.entry)) result ≡ begun_label (row_of self.entry) }
         ensures inside { IfSome result (EntersFootnote (row_of self.entry)) }

@@ -32,8 +32,8 @@ impl<'a> LineStart<'a> {
         true
     }
 
-    /// Takes the rest of the line, if it is the tag of an alert (this profile's own): exactly `[!NOTE]`, `[!TIP]`, `[!IMPORTANT]`,
-    /// `[!WARNING]` or `[!CAUTION]`, in any case, and then only blanks. Else nothing is taken.
+    /// Takes the rest of the line, if it is the tag of an alert (this profile's own): `[!NOTE]`, `[!TIP]`, `[!IMPORTANT]`, `[!WARNING]` or
+    /// `[!CAUTION]`, in any case, and then only blanks. Else nothing is taken.
     pub fn scan_blockquote_tag(&mut self) -> Option<BlockQuoteKind>
         ensures found { (at line_end : ℕ) → option_map shown_block_quote_kind result ≡ alert_in (row_from at line_end self.old) }
         ensures rest { (at line_end : ℕ) → row_from at line_end self.new ≡ behind_alert (row_from at line_end self.old) }
