@@ -23,7 +23,7 @@ use Rattle.cmark_blocks.specs.Footnotes.{HasLabels}
 -- - derived: the text derives the document;
 -- - settles: with the paragraphs of tight lists settled, the drawing is this document without its link reference definitions;
 -- - few: there are at most four nodes for each byte, besides the filled cells of tables;
--- - references: the table has the document's definitions, the first one of each label, in the spelling of that one;
+-- - references: the table has the document's definitions, the first of each label, in the spelling of that definition;
 -- - footnotes: the table has the labels of the document's footnotes, each without a use
 pub record Leaves (text : List ℕ) (options : Options) (lookup : Lookup) (pass : FirstPass) : Type 0 where
   pub forest : Forest Item

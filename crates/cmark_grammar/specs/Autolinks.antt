@@ -23,7 +23,7 @@ is_uri_byte b = not (nat_le b 32 || ((b == 127) || ((b == 60) || (b == 62))))
 
 -- ## Email addresses
 
--- one of ".!#$%&'*+/=?^_`{|}~-"
+-- a byte of ".!#$%&'*+/=?^_`{|}~-"
 abbrev pub is_local_mark : ℕ → Bool
 is_local_mark b =
     (b == 33) || ((nat_le 35 b && nat_le b 39) || ((b == 42) || ((b == 43) || ((nat_le 45 b && nat_le b 47)

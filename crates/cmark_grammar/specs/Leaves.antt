@@ -74,7 +74,7 @@ fence_of indented bs =
     else if nat_le 3 (run 126 bs) then Some (fence_with indented 126 bs)
     else None
 
--- at most three columns of indent, at least as many of the same character, and then only blanks (CommonMark 4.5)
+-- at most three columns of indent, at least as long a run of the same character, and then only blanks (CommonMark 4.5)
 abbrev pub closes_fence : Fence → Row → Bool
 closes_fence fence r = nat_le (indent_of r) 3 && (nat_le fence.run_length (run fence.delimiter (words_of r)) && are_blank (drop (run fence.delimiter (words_of r)) (words_of r)))
 

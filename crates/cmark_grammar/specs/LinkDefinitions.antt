@@ -35,7 +35,7 @@ up_to escaped closer refused over_lines (b ∷ bs) = up_to_byte escaped closer r
 abbrev pub characters : List ℕ → ℕ
 characters bs = count_by (λ b. nat_lt b 128 || nat_le 192 b) bs
 
--- 1 to 999 characters, of which at least one is not ASCII white space (tab, line feed, form feed, carriage return, space)
+-- 1 to 999 characters, not only ASCII white space (tab, line feed, form feed, carriage return, space)
 abbrev pub is_label : List ℕ → Bool
 is_label bs = nat_le (characters bs) 999 && nat_lt 0 (count_by (λ b. not (is_ascii_whitespace b)) bs)
 

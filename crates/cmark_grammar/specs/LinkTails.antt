@@ -45,6 +45,6 @@ abbrev pub has_bracket : (escaped : Bool) → List ℕ → Bool
 has_bracket escaped [] = false
 has_bracket escaped (b ∷ bs) = (not escaped && ((b == 91) || (b == 93))) || has_bracket (escapes_next escaped b) bs
 
--- the text between two brackets is a label: 1 to 999 characters, at least one of them not white space, and no bracket unless it is escaped
+-- the text between two brackets is a label: 1 to 999 characters, not only white space, and no unescaped bracket
 abbrev pub is_bracketed_label : List ℕ → Bool
 is_bracketed_label bs = not (has_bracket false bs) && is_label bs

@@ -4,7 +4,7 @@ use Rattle.std.specs.Prelude.{ℕ, Bool, true, false, ◌==◌, ◌&&◌, ◌||�
 use Rattle.cmark_grammar.specs.Containers.{BlockQuote, Item, Footnote, ListDefinition}
 use Rattle.cmark_grammar.specs.Blocks.{Blocks, Nil, BlankLine, Paragraph, SetextHeading, LeafBlock, ContainerBlock}
 
--- a list is identified by the character of its markers; the one of a definition list is `:`
+-- a list is identified by the character of its markers; that of a definition list is `:`
 abbrev pub definition_delimiter : ℕ
 definition_delimiter = 58
 

@@ -23,7 +23,7 @@ abbrev pub closes_metadata : MetadataBlockKind → List ℕ → Bool
 closes_metadata YamlStyle bs = is_line_of (codes "---") bs || is_line_of (codes "...") bs
 closes_metadata PlusesStyle bs = is_line_of (codes "+++") bs
 
--- whether a line ends a metadata block of this kind: the closing delimiter is in its first column
+-- whether a line ends a metadata block of this kind: the closing delimiter begins in its first column
 abbrev pub ends_metadata : MetadataBlockKind → Row → Bool
 ends_metadata kind r = closes_metadata kind (bytes_of r.columns)
 

@@ -1,4 +1,4 @@
--- The shape of tables: a head and rows; each has as many cells as the table has columns (GFM 4.10).
+-- The shape of tables: a head and rows, whose number of cells is the table's number of columns (GFM 4.10).
 use Rattle.std.specs.Prelude.{◌≡◌, ℕ, zero, suc, length}
 use Rattle.cmark_grammar.specs.BlockDocument.{BlockKind, BlockDocument, Nil, Node, Table, TableHead, TableRow, TableCell}
 

@@ -227,7 +227,7 @@ is_left c = not (c.part == 0)
 abbrev pub left_columns : List Column → ℕ
 left_columns cs = length (take_while is_left cs)
 
--- these columns become as many spaces, whose place is the end of the tab (this profile's own)
+-- each of these columns becomes a space, whose place is the end of the tab (this profile's own)
 abbrev pub spaces_if : ℕ → ℕ → List Piece → List Piece
 spaces_if zero at ps = ps
 spaces_if (suc n) at ps = record { owned = true; bytes = replicate (suc n) 32; start = at; end = at } ∷ ps

@@ -69,7 +69,7 @@ pub fn tight_lists_have_tight_paragraphs()
         → Derives text options lookup document → HasTightParagraphs false document }
 {}
 
-/// Each table has a head and rows, and each of these has as many cells as the table has alignments (GFM 4.10).
+/// Each table has a head and rows, whose number of cells is the table's number of alignments (GFM 4.10).
 pub fn tables_are_rectangular()
     ensures { (text : List ℕ) (options : Options) (lookup : Lookup) (document : BlockDocument)
         → Derives text options lookup document → HasRectangularTables document }
@@ -94,8 +94,8 @@ pub fn ranges_cut_no_character()
         → IsUtf8 text → Derives text options lookup document → AllAt (IsCharBoundary text) document }
 {}
 
-/// A document has at most four nodes for each byte of its text, and 262,144 more for each of its tables: the cells that are filled in. A
-/// text has at most as many tables as bytes.
+/// A document has at most four nodes for each byte of its text, and 262,144 more for each of its tables: the cells that are filled in.
+/// There are no more tables than bytes.
 pub fn nodes_are_few()
     ensures nodes { (text : List ℕ) (options : Options) (lookup : Lookup) (document : BlockDocument)
         → Derives text options lookup document → count_nodes document ≤ 4 * length text + 262144 * count_tables document }

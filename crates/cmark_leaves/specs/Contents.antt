@@ -23,7 +23,7 @@ abbrev pub gathered_bytes : (before : List Row) → (last : Row) → List ℕ
 gathered_bytes [] last = bytes_of last.columns
 gathered_bytes (r ∷ rs) last = bytes_of r.columns ++ 10 ∷ gathered_bytes rs last
 
--- the place in the text of the one of these bytes that has `n` of them before it
+-- the place in the text of the byte that comes after the first `n` of these bytes
 abbrev pub place_in : (before : List Row) → (last : Row) → ℕ → ℕ
 place_in [] last n = begin_of last + n
 place_in (r ∷ rs) last n = if nat_le n (length (bytes_of r.columns)) then begin_of r + n else place_in rs last (n - suc (length (bytes_of r.columns)))

@@ -82,7 +82,7 @@ pub fn draw_lines(
     draw_words(builder, from, last.line_end())
 }
 
-/// Cuts the texts inside the open node at this byte offset, which becomes the end of the last one that is left. The time is proportional to
+/// Cuts the texts inside the open node at this byte offset, which becomes the end of the last remaining text. The time is proportional to
 /// the number of texts. If memory is refused, that last text may be missing.
 pub fn cut_lines(builder: &mut Builder<'_>, at: usize) -> Result<(), AllocError>
     requires { IsPlaced builder.old.tree }

@@ -71,7 +71,7 @@ impl Container {
     /// The line after this container's prefix, if the container keeps the line (CommonMark 5). A block quote keeps the lines with its
     /// marker. An item and a definition keep blank lines and the lines that are indented by their width. A footnote definition keeps blank
     /// lines and the lines that are indented by four columns; in the old style, all lines that are not blank. `bare`: the line before was
-    /// the first one of an item or a definition, and blank after the marker; then a blank line ends the container (CommonMark 5.2).
+    /// the first line of an item or a definition, and blank after the marker; then a blank line ends the container (CommonMark 5.2).
     #[inline(always)]
     pub fn keeps<'a>(self, bare: bool, rest: LineRest<'a>) -> Option<LineRest<'a>>
         ensures row { (k : grammar.Container) → Shows self k → option_map row_of result ≡ keeps k bare (row_of rest.entry) }

@@ -36,7 +36,7 @@ pub struct ReferenceLabel<'t> {
 }
 
 /// The label in brackets at this byte offset of the text, directly after a closing bracket: the label of a full reference (CommonMark 6.3).
-/// A label has 1 to 999 characters, at least one of which is not white space, and no unescaped bracket.
+/// A label has 1 to 999 characters, not only white space, and no unescaped bracket.
 pub fn reference_label(text: &str, at: usize) -> Option<ReferenceLabel<'_>>
     requires { IsCharBoundary text.now at }
     ensures value { option_map (shown_label text.entry.now) result ≡ reference_label_in (drop at text.entry.now) }
@@ -88,7 +88,7 @@ fn has_bracket(bytes: &[u8]) -> bool
 }
 
 /// Whether the text between two brackets can be the label of a collapsed or shortcut reference (CommonMark 6.3). It has 1 to 999
-/// characters, at least one of which is not white space, and no unescaped bracket.
+/// characters, not only white space, and no unescaped bracket.
 pub fn is_bracketed_label(text: &str) -> bool
     ensures { result ≡ is_bracketed_label text.now }
 {

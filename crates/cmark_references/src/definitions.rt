@@ -23,7 +23,7 @@ pub struct LinkDef<'a> {
     pub span: Range<usize>,
 }
 
-/// The link reference definitions of a text: the first one of each label. Two labels are equal if they are equal as a `LinkLabel`.
+/// The link reference definitions of a text: the first definition of each label. Two labels are equal if they are equal as a `LinkLabel`.
 #[derive(Drop)]
 pub struct RefDefs<'a> {
     defs: BTreeMap<LinkLabel, LinkDef<'a>>,

@@ -67,8 +67,8 @@ impl FootnoteDefs {
         Ok(self.defs.contains_key(&label))
     }
 
-    /// The definition of the label in this text, for writing, if there is one. No clause states the effect of a write (`count_use` has one
-    /// that does). If there is no memory for the label's normal form it fails, and nothing changes.
+    /// The definition of the label in this text, for writing, if there is one. No clause states the effect of a write; for the number of
+    /// uses `count_use` has a clause. If there is no memory for the label's normal form it fails, and nothing changes.
     pub fn get_mut(&mut self, label: &str) -> Result<Option<&mut FootnoteDef>, AllocError>
         ensures { IfOk result (λ found. option_copied_mut found ≡ footnote self.old (fold label.now)) }
     {

@@ -87,8 +87,8 @@ fn behind_slash(bytes: &[u8]) -> &[u8]
     }
 }
 
-/// Whether, after `<`, a tag begins whose content is taken literally: one of those names in any case, and then a blank, `>` or the line's
-/// end. The bytes begin with `size` letters and digits.
+/// Whether, after `<`, a tag begins whose content is taken literally: such a name in any case, and then a blank, `>` or the line's end. The
+/// bytes begin with `size` letters and digits.
 fn begins_raw(behind: &[u8], size: usize) -> bool
     requires count { size ≡ prefix_len is_alphanumeric behind.now }
     requires within { size ≤ length behind.now }
@@ -109,8 +109,8 @@ fn begins_block_tag(behind: &[u8], size: usize) -> bool
     }
 }
 
-/// Whether, after `<` or `</`, a tag with a block's name begins: one of those names in any case, and then a blank, `>`, `/>` or the line's
-/// end. The bytes begin with `size` letters and digits.
+/// Whether, after `<` or `</`, a tag with a block's name begins: such a name in any case, and then a blank, `>`, `/>` or the line's end.
+/// The bytes begin with `size` letters and digits.
 fn begins_block(behind: &[u8], size: usize) -> bool
     requires count { size ≡ prefix_len is_alphanumeric behind.now }
     requires within { size ≤ length behind.now }

@@ -129,7 +129,7 @@ impl<'a> LineStart<'a> {
         false
     }
 
-    /// Takes `n` bytes, none of which is a tab.
+    /// Takes `n` bytes, which contain no tab.
     #[inline]
     fn take_bytes(&mut self, n: usize)
         requires whole { self.old.pending ≡ 0 }
@@ -222,7 +222,7 @@ impl<'a> LineStart<'a> {
     }
 
     /// Takes up to `n` columns of spaces and tabs, and returns their number. A tab in the line's first column has four columns:
-    /// `scan_space_upto(1)` takes one of them, and three are left as spaces.
+    /// `scan_space_upto(1)` takes the first, and three are left as spaces.
     #[inline]
     pub fn scan_space_upto(&mut self, n: usize) -> usize
         ensures count { (at : ℕ) → result ≡ min n (indent (columns_from at self.old)) }

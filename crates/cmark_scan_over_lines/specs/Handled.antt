@@ -11,7 +11,7 @@ CutsNoCharacter prefix = (bs : List ℕ) → IsUtf8 bs → IsCharBoundary bs (pr
 -- The results of a handler of line breaks in labels, which gets the bytes after a line ending: the number of prefix bytes, or `None` if the
 -- label ends there.
 module _ {H : Type 0} (f : Shared H (Bor (List ℕ) × Unit {0}) (Option ℕ)) (handler : H) where
-  -- at most as many bytes as there are, and whole characters
+  -- at most the number of bytes there are, and whole characters
   abbrev pub LabelsWithin : Type 0
   LabelsWithin = (behind : Bor (List ℕ)) (n : ℕ) → IsUtf8 behind.now → f.post handler (behind, tt) (Some n) → IsCharBoundary behind.now n
 

@@ -12,6 +12,6 @@ shown_tag tag = record { end = tag.end; buffer = tag.buffer.items }
 abbrev pub shown_label : LinkLabelRest → Part
 shown_label label = record { end = label.end; bytes = text_bytes label.text }
 
--- a label with as many bytes as there are up to its closing bracket, so that none is left out
+-- a label with all bytes up to its closing bracket, so that no byte is left out
 abbrev pub IsWhole : LinkLabelRest → Type 0
 IsWhole label = suc (length (text_bytes label.text)) ≡ label.end

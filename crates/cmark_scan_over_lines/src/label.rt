@@ -131,12 +131,11 @@ fn read_label<'t, H: Fn(&[u8]) -> Option<usize>>(
 }
 
 /// The label of a link whose `[` precedes `text`, if it is valid (CommonMark 4.7). It ends at the first unescaped `]`. It has 1 to 999
-/// characters, at least one of which is not white space, and no unescaped brackets. In a table cell `\|` and `\\|` become `|` in it (GFM
-/// 4.10).
+/// characters, not only white space, and no unescaped brackets. In a table cell `\|` and `\\|` become `|` in it (GFM 4.10).
 ///
 /// `linebreak_handler` gets the bytes after each line ending in the label. It returns the number of them that are prefixes of containers,
-/// in whole characters, or `None` if the label ends there. For the same bytes it always returns the same. At most 1000 characters are read.
-/// If no byte is left out, the text is borrowed; else memory is needed.
+/// in whole characters, or `None` if the label ends there. For equal bytes it always returns the same. At most 1000 characters are read. If
+/// no byte is left out, the text is borrowed; else memory is needed.
 pub fn scan_link_label_rest<'t, H: Fn(&[u8]) -> Option<usize>>(
     alloc: Global,
     text: &'t str,

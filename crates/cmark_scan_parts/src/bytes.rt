@@ -129,7 +129,7 @@ fn ends_value(byte: u8) -> bool
     is_space(byte) || matches!(byte, b'"' | b'\'' | b'<' | b'=' | b'>' | b'`')
 }
 
-/// Whether a byte is one of the signs allowed in the local part of an email address (CommonMark 6.5).
+/// Whether a byte is a sign that is allowed in the local part of an email address (CommonMark 6.5).
 fn is_local_mark(byte: u8) -> bool
     ensures { result ≡ is_local_mark byte }
 {

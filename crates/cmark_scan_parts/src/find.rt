@@ -6,7 +6,7 @@ ghost use Rattle.cmark_grammar.specs.Letters.{first_is, behind_all, behind_if, b
 
 use memchr::{memchr3, memmem};
 
-/// The bytes from the first of these three on; empty if none of the three occurs.
+/// The bytes from the first of these three on; empty if they do not occur.
 pub fn at_first3(one: u8, two: u8, three: u8, bytes: &[u8]) -> &[u8]
     ensures value { result.now ≡ behind_all (λ b. not (is_byte3 one two three b)) bytes.now }
     ensures within { length result.now ≤ length bytes.now }

@@ -25,8 +25,8 @@ fn label_size(bytes: &[u8]) -> Option<usize>
 }
 
 /// The number of bytes of the label, if these bytes begin with the marker of a footnote definition: `[^`, a label on one line, and `]:`.
-/// The label is as for links: 1 to 999 characters, at least one of which is not white space, and no unescaped bracket. It begins after the
-/// first two bytes; the marker is four bytes longer than the label.
+/// The label is as for links: 1 to 999 characters, not only white space, and no unescaped bracket. It begins after the first two bytes; the
+/// marker is four bytes longer than the label.
 pub fn scan_footnote_marker(words: &[u8]) -> Option<usize>
     ensures value { option_map (marked words.now) result ≡ footnote_in words.now }
     ensures closed { IfSome result (IsClosed words.now) }

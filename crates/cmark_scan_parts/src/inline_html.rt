@@ -168,8 +168,8 @@ impl HtmlScanGuard {
 
 /// The end of the comment, declaration or CDATA section whose `<!` ends at byte offset `ix` (CommonMark 6.6). A comment is closed at once
 /// by `>` or `->`, else by the first `-->`. A declaration begins with a letter and is closed by the first `>`. A CDATA section is closed by
-/// the first `]]>`. If none of them opens, or if the mark of its kind is beyond `ix`, `end` is `None` and `passed` counts at most the next
-/// seven bytes. If there is no closer, the mark is set to the end of the bytes.
+/// the first `]]>`. If nothing opens, or if the mark of its kind is beyond `ix`, `end` is `None` and `passed` counts at most the next seven
+/// bytes. If there is no closer, the mark is set to the end of the bytes.
 pub fn scan_inline_html_comment(bytes: &[u8], ix: usize, guard: &mut HtmlScanGuard) -> HtmlFind
     requires place { ix ≤ length bytes.now }
     requires marks { AreMarks bytes.now ix guard.old }

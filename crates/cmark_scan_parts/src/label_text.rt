@@ -29,7 +29,7 @@ fn has_words(bytes: &[u8]) -> bool
         .count()
 }
 
-/// Whether these bytes are the text of a label: 1 to 999 characters, at least one of which is not white space.
+/// Whether these bytes are the text of a label: 1 to 999 characters, not only white space.
 pub fn is_label(bytes: &[u8]) -> bool
     ensures { result ≡ is_label bytes.now }
 {

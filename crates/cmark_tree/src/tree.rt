@@ -22,7 +22,8 @@ use crate::tree_index::TreeIndex;
 use std::alloc::{AllocError, Global};
 use std::slice::Iter;
 
-/// An ordered forest with a path and a focus: siblings, at most one of which is the focus, inside the nodes of the path.
+/// An ordered forest with a path and a focus. The focus is a current sibling, if there is one; the current siblings are inside the nodes of
+/// the path.
 ///
 /// A builder calls `open`, `add` and `close`; a walk calls `cur`, `push`, `next_sibling` and `pop`:
 ///
@@ -151,7 +152,8 @@ impl<T: Drop> Tree<T> {
         self.spine.last().copied()
     }
 
-    /// Moves to the sibling after `ix` and returns it; after the last sibling there is no focus. `ix` is the focus or one of its siblings.
+    /// Moves to the sibling after `ix` and returns it; after the last sibling there is no focus. `ix` is the focus or a sibling of the
+    /// focus.
     pub fn next_sibling(&mut self, ix: TreeIndex) -> Option<TreeIndex>
         requires { IsAtSibling self.old ix.ix }
         ensures past { (z : Zip T) (s : Sibling z ix.ix) → Holds self.old z → Holds self.new (past z ix.ix s) }
