@@ -1,4 +1,4 @@
--- The beginning of a line: the pass begins the same blocks as the model.
+-- The opening of a line: the pass begins the same blocks as the model.
 use Rattle.std.proofs.Common.{◌≡◌, ℕ, zero, suc, ◌≤◌, ◌<◌, ◌==◌, ◌&&◌, Bool, true, false, List, [], ◌∷◌, ◌++◌, length, take, refl, ap, ◌∙◌, sym, append_assoc, append-nil, Option, Some, None, arith, true≢false, subst}
 use Rattle.std.specs.Prelude.{nat_le, if◌then◌else◌}
 use Rattle.cmark_grammar.specs.Answers.{Lookup}
@@ -252,7 +252,7 @@ module _ (text : List ℕ) (options : Options) (lookup : Lookup) where
   not-bare place false r ahead e h ne = refl
   not-bare place true r ahead e h ne = absurd (ne (at-blank place r ahead e (h refl)))
 
-  -- the open blocks after the beginning of a line fit
+  -- the open blocks after the opening of a line fit
   pub begins-fit : (m : ℕ) (place : Place) (closed : Blocks) (r : Row) (ahead : List Row) (b : Bool) (n : ℕ) → r.lazy ≡ false → length r.columns < m → (b ≡ true → is_blank_line r ≡ true) → r.line_end ≡ n
       → Fits b (lines_begin_in options m place closed r ahead) ahead n
   begins-fit zero place closed r ahead b n e f h q = absurd (omega (arith, f))

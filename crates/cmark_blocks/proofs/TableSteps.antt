@@ -148,7 +148,7 @@ less-in_text left missing cells e same = let lt = ltb-true left missing e in ome
 pub fits-in_text : (left missing cells : ℕ) → ltb left missing ≡ false → missing ≡ cells → cells ≤ left
 fits-in_text left missing cells e same = let le = ltb-false left missing e in omega (arith, le, same)
 
--- the beginning of a line that begins no other leaf
+-- the opening of a line that begins no other leaf
 module _ (text : List ℕ) (options : Options) (lookup : Lookup) (m : model.Pass) (inside : Container → model.Pass) (r : Row) (ahead : List Row) (bare : Bool) where
   pub begins-table : (columns : ℕ) (delimiter : Row) (behind : List Row) → IsHead options r ahead columns delimiter behind →
       leaf_begun text options lookup (Table (columns_of (delimiter_row (words_of delimiter)))) (suc (count_rows options columns most_filled behind)) r (delimiter ∷ behind) m

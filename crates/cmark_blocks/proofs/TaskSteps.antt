@@ -134,7 +134,7 @@ none-blank n r le = go n r.columns le
     go n (c ∷ cs) le = absurd (omega (arith, le))
 
 module _ (text : List ℕ) (options : Options) (lookup : Lookup) (columns : ℕ) (next : List Row) (r : Row) (m : model.Pass) where
-  -- the beginning of a line whose first block is this container
+  -- the opening of a line whose first block is this container
   abbrev pub nested : Container → model.Pass
   nested k = inside_begun (is_alert k) (container_begun k r m) (begin_in text options lookup columns (place_in k) (enter k r) next (is_item k) (container_begun k r m))
 

@@ -79,7 +79,7 @@ module _ {E : Type 0} (replacement : E → Lookup) where
       (text : List ℕ) (options : Options) (lookup : Lookup) (m : model.Pass) → Runs replacement text options lookup m pass →
       width ≡ definition_at options (place_of m.inner) (row_of rest)
 
-  -- the beginning of a line was handled, if it is not a container
+  -- the block that a line begins was begun, if it is not a container
   abbrev pub BeginsAs : Opening → (bare : Bool) → LineRest → Pass E → Pass E → Type 0
   BeginsAs open_as bare rest old new =
       (text : List ℕ) (options : Options) (lookup : Lookup) (m : model.Pass) (inside : Container → model.Pass) → Runs replacement text options lookup m old →

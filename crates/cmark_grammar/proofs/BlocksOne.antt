@@ -187,7 +187,7 @@ module _ (options : Options) where
   inside_extends (Item delimiter number width task) o first more inside h body = h body
   inside_extends (ListDefinition width) o first more inside h body = h body
 
-  -- the open block after the beginning of a line grows into these blocks
+  -- the open block after the opening of a line grows into these blocks
   begin_extends : (n : ℕ) (closed : Blocks) (behind : Place) (r : Row) (more : List Row) (all : Blocks) → length r.columns < n → over_blank behind ≡ over_blank (place_behind Apart closed) → Body options behind (r ∷ more) all → Extends (begin_in options n behind closed r (shown more)) more (join closed all)
   begin_extends zero closed behind r more all lt stands b = absurd (omega arith)
   begin_extends (suc n) closed behind r more all lt stands b =

@@ -182,7 +182,7 @@ module _ (options : Options) where
   behind_tag (Item delimiter number width task) r o ahead h = h
   behind_tag (ListDefinition width) r o ahead h = h
 
-  -- the beginning of a line
+  -- the opening of a line
   begin_in_holds : (so : Place) (n : ℕ) (before : List Row) (closed : Blocks) (behind : Place) (r : Row) (ahead : List Row) → length r.columns < n → MayBegin options behind r → shown ahead ≡ ahead → over_blank behind ≡ over_blank (place_behind Apart closed) → Follows so before closed behind (r ∷ []) ahead → Holds so (before ++ r ∷ []) (begin_in options n behind closed r ahead) ahead
   begin_in_holds so zero before closed behind r ahead lt begun still stands follows = absurd (omega arith)
   begin_in_holds so (suc n) before closed behind r ahead lt begun still stands follows =

@@ -86,7 +86,7 @@ rest_of_closer opener closer =
     record closer { at = closer.at + paired_count opener closer; left = closer.left - paired_count opener closer }
 
 -- the spans of a pair, the innermost first (CommonMark 6.2, rules 13 and 14): strong emphasis for each two bytes, and emphasis outermost if
--- the count is odd
+-- the count is odd. Example: `***a***` is `<em><strong>a</strong></em>`
 abbrev pub emphasis_kinds : ℕ → List SpanKind
 emphasis_kinds zero = []
 emphasis_kinds (suc zero) = Emphasis ∷ []

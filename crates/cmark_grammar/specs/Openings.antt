@@ -25,7 +25,8 @@ pub data Leaf : Type 0 where
   MetadataBlock : (kind : MetadataBlockKind) → Leaf
   Table : (alignments : List Alignment) → Leaf
 
--- the beginning of a line: a blank line; a container; a leaf, with the number of lines ahead that belong to it; or else a paragraph
+-- the opening of a line: nothing, if the line is blank; a container; a leaf, with the number of lines ahead that belong to it; or else a
+-- paragraph
 pub data Opening : Type 0 where
   Blank : Opening
   Nests : (container : Container) → Opening
@@ -140,7 +141,7 @@ module _ (options : Options) where
   table_if None ahead = Plain
   table_if (Some alignments) ahead = Takes (Table alignments) (suc (count_rows (length alignments) most_filled (drop 1 ahead)))
 
-  -- the beginning of a line that begins no other leaf
+  -- the opening of a line that begins no other leaf
   abbrev pub text_of : Row → List Row → Opening
   text_of r ahead = or_else (definition_of r ahead) (table_if (table_head options r ahead) ahead)
 
@@ -153,14 +154,14 @@ module _ (options : Options) where
       (or_else (fenced_if (fence_of (indent_of r) (words_of r)) ahead)
       (text_of r ahead))))
 
-  -- the beginning of a line that lacks no prefix: from four columns of indent on, only indented code
+  -- the opening of a line that lacks no prefix: from four columns of indent on, only indented code
   abbrev pub whole_opens : Row → List Row → Opening
   whole_opens r ahead =
       if is_blank_line r then Blank
       else if nat_le 4 (indent_of r) then Takes IndentedCode (counted code_continuation ahead)
       else or_else (nests_if (container_of options r)) (leaf_of r ahead)
 
-  -- the beginning of a line, with these lines ahead. A lazy line can begin only a paragraph. Metadata comes first: its first line is
+  -- the opening of a line, with these lines ahead. A lazy line can begin only a paragraph. Metadata comes first: its first line is
   -- neither blank nor indented, and begins no container
   unfoldable pub opens : Row → List Row → Opening
   opens r ahead = if r.lazy then Plain else or_else (metadata_begun (metadata_kind options r) ahead) (whole_opens r ahead)
@@ -174,6 +175,6 @@ definition_or (Some width) other = Nests (ListDefinition width)
 definition_or None other = other
 
 module _ (options : Options) where
-  -- the beginning of a line at a place, with these lines ahead
+  -- the opening of a line at a place, with these lines ahead
   abbrev pub opens_at : Place → Row → List Row → Opening
   opens_at place r ahead = if is_behind_task place && not r.lazy then text_begun r else definition_or (definition_at options place r) (opens options r ahead)

@@ -32,7 +32,7 @@ abbrev pub footnote_labels : BlockDocument → List (List ℕ)
 footnote_labels Nil = []
 footnote_labels (Node node inside after) = footnote_label node.kind ++ (footnote_labels inside ++ footnote_labels after)
 
--- this label, folded, equals a folded label of the list
+-- the folded label is the folded form of a label in the list
 abbrev pub has_label : (folded : List ℕ) → List (List ℕ) → Bool
 has_label folded [] = false
 has_label folded (label ∷ others) = bytes_eq (fold label) folded || has_label folded others

@@ -112,7 +112,7 @@ module _ (options : Options) (r : Row) (ahead : List Row) where
   pub leaf-plain : html_kind (words_of r) ≡ None → is_thematic_break (words_of r) ≡ false → None ≡ atx_level (words_of r) → None ≡ fence_of (indent_of r) (words_of r) → definition_of options r ahead ≡ Plain → leaf_of options r ahead ≡ table_if options (table_head options r ahead) ahead
   leaf-plain kind broken level fence none = leaf-text kind broken level fence ∙ ap (λ o. or_else o (table_if options (table_head options r ahead) ahead)) none
 
-  -- the beginning of a line that lacks no prefix
+  -- the opening of a line that lacks no prefix
   module _ (whole : r.lazy ≡ false) where
     as_whole : opens options r ahead ≡ or_else (metadata_begun (metadata_kind options r) ahead) (whole_opens options r ahead)
     unfolding opens

@@ -1,4 +1,4 @@
--- The beginning of a line, as the opening of the grammar.
+-- The opening of a line, as that of the grammar.
 use Rattle.std.specs.Prelude.{◌≡◌, ℕ, ◌+◌, ◌<◌, ◌≤◌, Bool, ◌||◌, true, List, length, Some}
 use Rattle.std.specs.Str.{IsCharBoundary}
 use Rattle.cmark_grammar.specs.Options.{Options}
@@ -19,12 +19,12 @@ use Rattle.cmark_lines.specs.Starts.{shown_start, inside_of, Enters, HasMarker}
 use Rattle.cmark_lines.specs.declared.opening.Opening.{Opening}
 use Rattle.cmark_lines.specs.declared.opening.Opening.TheVariants.{Blank, Nests, IndentedCode, Html, ThematicBreak, AtxHeading, FencedCode, Bracket, Plain}
 
--- the beginning of a line whose bracket may belong to a link. It is a link reference definition, if this line and those ahead form one, and
+-- the opening of a line whose bracket may belong to a link. It is a link reference definition, if this line and those ahead form one, and
 -- else a table or a paragraph
 abbrev pub bracket_of : Options → Row → List Row → grammar.Opening
 bracket_of options r ahead = or_else (defined_if (length (text_lines options ahead)) (definition_in (bytes_over r (text_lines options ahead)))) (table_if options (table_head options r ahead) ahead)
 
--- the beginning of the line, with these lines ahead
+-- the opening of the line, with these lines ahead
 abbrev pub opened : Options → Opening → Row → List Row → grammar.Opening
 opened options Blank r ahead = grammar.Blank
 opened options (Nests start) r ahead = grammar.Nests (shown_start options r start)

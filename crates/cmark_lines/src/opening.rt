@@ -1,4 +1,4 @@
-//! The beginning of a line (CommonMark 3 to 5).
+//! The opening of a line: the block that it begins (CommonMark 3 to 5).
 
 ghost use Rattle.std.specs.Prelude.{◌≡◌, ◌==◌, ◌&&◌, not, ℕ, List, IfSome, option_map};
 ghost use Rattle.cmark_grammar.specs.Footnotes.{are_read, footnotes_in, is_footnote_label};
@@ -24,7 +24,7 @@ use cmark_scan_blocks::{
 };
 use cmark_text_parts::{HeadingLevel, Options};
 
-/// The beginning of a line that lacks no prefix of the containers around it, except metadata.
+/// The opening of a line that lacks no prefix of the containers around it, except metadata.
 #[derive(Clone, Copy)]
 pub enum Opening<'a> {
     /// A blank line.
@@ -53,7 +53,7 @@ pub enum Opening<'a> {
     Plain,
 }
 
-/// The beginning of the line, if it begins no metadata. A line that is indented by four columns or more begins an indented code block,
+/// The opening of the line, if it begins no metadata. A line that is indented by four columns or more begins an indented code block,
 /// unless it is blank. With less indent, a container's marker comes first, then the leaf blocks.
 pub fn what_opens<'a>(rest: LineRest<'a>, options: Options) -> Opening<'a>
     ensures opens { (ahead : List Row) → opens (shown_options options) (row_of rest.entry) ahead
