@@ -235,7 +235,7 @@ module _ (text : List ℕ) (options : Options) (lookup : Lookup) where
   abbrev pub heading_closed : (level : ℕ) → (content : List Column) → (end : ℕ) → Drawing → Drawing
   heading_closed level content end d = closed_as (document.Heading level (setext_attributes options.heading_attributes content)) end (unbraced text options.heading_attributes content d.here d.up)
 
-  -- such a paragraph is not a title
+  -- a paragraph that an underline makes a heading; it is not a title
   abbrev pub heading_made : (level : ℕ) → (before : List Row) → (from : ℕ) → (last : Row) → Row → Pass → Pass
   heading_made level before from last r p = let q = with_drawn (last_stretch from last) p in record q {
     drawing = title_released q.inner.title (heading_closed level (content_of (before ++ last ∷ [])) r.line_end q.drawing);

@@ -52,7 +52,7 @@ takes_line (Item delimiter number width (Some is_checked)) = true
 takes_line (Footnote label old size) = false
 takes_line (ListDefinition width) = false
 
--- the whole line of such a container was taken
+-- the whole line of a container that takes it was taken
 abbrev pub line_taken : List ℕ → Options → Lookup → Container → Row → model.Pass → model.Pass
 line_taken text options lookup (BlockQuote alert) r p = record p { leaf = model.BehindTag }
 line_taken text options lookup (Item delimiter number width task) r p = paragraph_begun text options lookup (enter (Item delimiter number width task) r) p

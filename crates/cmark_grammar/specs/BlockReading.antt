@@ -91,7 +91,7 @@ abbrev pub starts_of : BlockKind → (titled : Bool) → ℕ
 starts_of (DefinitionList tight) titled = if titled then 2 else 1
 starts_of kind titled = if is_leaf kind then 1 else 0
 
--- the same number for the next node that has events
+-- the number of starts before the text of the next node that has events
 abbrev pub starts_as : (starts : ℕ) → Reads → (other : ℕ) → ℕ
 starts_as starts (Around tag) other = starts
 starts_as starts Inside other = 0

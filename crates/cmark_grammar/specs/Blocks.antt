@@ -26,7 +26,7 @@ join (SetextHeading level first more underline after) other = SetextHeading leve
 join (LeafBlock leaf first more after) other = LeafBlock leaf first more (join after other)
 join (ContainerBlock container first more inside after) other = ContainerBlock container first more inside (join after other)
 
--- the place of the line directly after such a leaf: after a link reference definition a lazy line may begin a paragraph
+-- the place of the line directly after this leaf: after a link reference definition a lazy line may begin a paragraph
 abbrev pub behind_leaf : Leaf → Place
 behind_leaf ThematicBreak = Apart
 behind_leaf (AtxHeading level) = Apart
@@ -37,7 +37,7 @@ behind_leaf (LinkDefinition definition) = BehindLazy
 behind_leaf (MetadataBlock kind) = Apart
 behind_leaf (Table alignments) = Apart
 
--- the place of the first line inside such a container, or of the line after an alert's tag
+-- the place of the first line inside this container, or of the line after an alert's tag
 abbrev pub place_in : Container → Place
 place_in (BlockQuote None) = Apart
 place_in (BlockQuote (Some kind)) = BehindLazy
@@ -46,7 +46,7 @@ place_in (Item delimiter number width (Some is_checked)) = BehindTask
 place_in (Footnote label old size) = Apart
 place_in (ListDefinition width) = Apart
 
--- the place of the line after such a container: after a definition of a definition list another one may begin
+-- the place of the line after this container: after a definition of a definition list another one may begin
 abbrev pub behind_container : Container → Place
 behind_container (BlockQuote alert) = Apart
 behind_container (Item delimiter number width task) = Apart

@@ -10,7 +10,8 @@ use Rattle.cmark_grammar.specs.Places.{Place, is_behind_title}
 abbrev pub definition_width : Row → Option ℕ
 definition_width r = if begins_with 58 (words_of r) then Some (width_with 1 r) else None
 
--- the same width, if definition lists are asked for and the line lacks no prefix and is indented by at most three columns
+-- the width of the definition that a line may begin, if definition lists are asked for: the line lacks no prefix, and is indented by at
+-- most three columns
 abbrev pub definition_marker : Options → Row → Option ℕ
 definition_marker options r = if options.definition_list && (not r.lazy && nat_le (indent_of r) 3) then definition_width r else None
 

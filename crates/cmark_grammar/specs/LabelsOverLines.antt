@@ -14,7 +14,7 @@ abbrev pub backslash_pair : List ℕ
 backslash_pair = 92 ∷ 92 ∷ []
 
 -- Backslashes are read from the left, in pairs. The backslash of each `\|` is removed, both backslashes of each `\\|` are, and any other
--- pair is kept. Is_second: the first byte is the second one of such a pair
+-- pair is kept. Is_second: the first byte is the second one of a kept pair
 abbrev pub literal_pipes_from : (is_second : Bool) → List ℕ → List ℕ
 literal_pipes_from is_second [] = []
 literal_pipes_from true (b ∷ bs) = b ∷ literal_pipes_from false bs

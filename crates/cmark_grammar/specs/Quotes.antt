@@ -13,14 +13,14 @@ abbrev pub is_closing_bracket_there : Option ℕ → Bool
 is_closing_bracket_there None = false
 is_closing_bracket_there (Some c) = (c == 93) || (c == 41)
 
--- it can open if no white space follows it and white space or punctuation precedes it. For a single quote `]` and `)` do not count as this
+-- a quotation mark can open if no white space follows it and white space or punctuation precedes it. For a single quote `]` and `)` do not count as this
 -- punctuation
 abbrev pub quote_opens : (double : Bool) → (before after : Option ℕ) → Bool
 quote_opens double before after =
     not (is_white_space_there after)
     && (is_white_space_there before || (is_punctuation_there before && (double || not (is_closing_bracket_there before))))
 
--- it can close if no white space precedes it and white space or punctuation follows it
+-- a quotation mark can close if no white space precedes it and white space or punctuation follows it
 abbrev pub quote_closes : (before after : Option ℕ) → Bool
 quote_closes before after = not (is_white_space_there before) && (is_white_space_there after || is_punctuation_there after)
 

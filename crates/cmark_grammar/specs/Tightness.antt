@@ -2,7 +2,7 @@
 use Rattle.std.specs.Prelude.{◌≡◌, Bool, true, false}
 use Rattle.cmark_grammar.specs.BlockDocument.{BlockKind, Paragraph, TightParagraph, Heading, ThematicBreak, IndentedCode, FencedCode, HtmlBlock, LinkDefinition, MetadataBlock, BlockQuote, BlockList, ListItem, TaskMarker, FootnoteDefinition, DefinitionList, DefinitionListTitle, DefinitionListDefinition, Text, OwnedText, Html, BlockDocument, Nil, Node, Table, TableHead, TableRow, TableCell}
 
--- whether the content of such a node is in the items or definitions of a tight list, or directly in an item or definition of one
+-- whether the content of a node of this kind is in the items or definitions of a tight list, or directly in an item or definition of one
 abbrev pub tight_within : Bool → BlockKind → Bool
 tight_within tight (BlockList number t) = t
 tight_within tight ListItem = tight

@@ -134,7 +134,7 @@ fn read_label<'t, H: Fn(&[u8]) -> Option<usize>>(
 /// characters, not only white space, and no unescaped brackets. In a table cell `\|` and `\\|` become `|` in it (GFM 4.10).
 ///
 /// `linebreak_handler` gets the bytes after each line ending in the label. It returns the number of them that are prefixes of containers,
-/// in whole characters, or `None` if the label ends there. For equal bytes it always returns the same. At most 1000 characters are read. If
+/// in whole characters, or `None` if the label ends there. It must return the same for the same bytes. At most 1000 characters are read. If
 /// no byte is left out, the text is borrowed; else memory is needed.
 pub fn scan_link_label_rest<'t, H: Fn(&[u8]) -> Option<usize>>(
     alloc: Global,

@@ -97,8 +97,8 @@ fn own_text<H: Fn(&[u8]) -> usize>(
 }
 
 /// The open or closing tag at the beginning, if there is one (CommonMark 6.6). White space in it has at most one line ending.
-/// `newline_handler` gets the bytes after each line ending in the tag and returns the number of them that are prefixes of containers. For
-/// the same bytes it always returns the same. If the bytes are UTF-8, `end` is a character boundary; if the handler's results are
+/// `newline_handler` gets the bytes after each line ending in the tag and returns the number of them that are prefixes of containers. It
+/// must return the same for the same bytes. If the bytes are UTF-8, `end` is a character boundary; if the handler's results are
 /// boundaries too, `buffer` is UTF-8.
 pub fn scan_html_block_inner<H: Fn(&[u8]) -> usize>(
     alloc: Global,

@@ -241,7 +241,7 @@ MayBeginWithEnd (Content leaf ∷ others) = leaf.stretches ≡ []
 abbrev pub NoEndIsNext : Walk → Type 0
 NoEndIsNext walk = (left : List Segment) → Remains walk left → MayBeginWithEnd left → ⊥
 
--- the same is left, and it does not begin with an end: the case of a call that is refused memory
+-- after a call that was refused memory: the same events and leaves are left, and the first is not an end
 pub record LeavesTheSame (old new : Walk) : Type 0 where
   pub remains : (left : List Segment) → Remains old left → Remains new left
   pub no_end : NoEndIsNext old
@@ -323,7 +323,7 @@ abbrev pub task_body : ItemBody → Option Bool
 task_body (body.TaskListMarker is_checked) = Some is_checked
 task_body _ = None
 
--- the event of such an item is not a short one
+-- the event of this item is not a short one
 abbrev pub is_long : ItemBody → Bool
 is_long (body.TaskListMarker is_checked) = true
 is_long (body.SynthesizeText index) = true
