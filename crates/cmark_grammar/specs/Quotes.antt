@@ -13,8 +13,8 @@ abbrev pub is_closing_bracket_there : Option ℕ → Bool
 is_closing_bracket_there None = false
 is_closing_bracket_there (Some c) = (c == 93) || (c == 41)
 
--- a quotation mark can open if no white space follows it and white space or punctuation precedes it. For a single quote `]` and `)` do not count as this
--- punctuation
+-- a quotation mark can open if no white space follows it and white space or punctuation precedes it. For a single quote `]` and `)` do not
+-- count as this punctuation
 abbrev pub quote_opens : (double : Bool) → (before after : Option ℕ) → Bool
 quote_opens double before after =
     not (is_white_space_there after)
