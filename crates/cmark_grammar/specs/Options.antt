@@ -1,4 +1,4 @@
--- The options of a parser: which extensions of CommonMark are read.
+-- The options of a parser: the extensions of CommonMark that are read.
 use Rattle.std.specs.Prelude.{Bool, false}
 
 pub record Options : Type 0 where

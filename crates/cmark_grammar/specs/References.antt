@@ -28,12 +28,12 @@ reference_of_kind (Text bytes) = []
 reference_of_kind (OwnedText bytes) = []
 reference_of_kind (Html bytes) = []
 
--- all definitions of a document, in its order
+-- all definitions of a document, in order
 abbrev pub references : BlockDocument → List Reference
 references Nil = []
 references (Node node inside after) = reference_of_kind node.kind ++ (references inside ++ references after)
 
--- the first of these that has the folded label
+-- the first of these definitions that has the folded label
 abbrev pub found_or : Bool → Reference → Option Reference → Option Reference
 found_or true reference other = Some reference
 found_or false reference other = other
@@ -56,7 +56,7 @@ abbrev pub table : (fold : List ℕ → List ℕ) → List Reference → List Re
 table fold [] = []
 table fold (reference ∷ rs) = reference ∷ without_label fold (fold reference.label) (table fold rs)
 
--- each folded label stands once
+-- each folded label occurs once
 abbrev pub EachOnce : (fold : List ℕ → List ℕ) → List Reference → Type 0
 EachOnce fold [] = Unit {0}
 EachOnce fold (reference ∷ rs) = (first_with fold (fold reference.label) rs ≡ None) × EachOnce fold rs

@@ -22,7 +22,7 @@ use Rattle.cmark_walk.specs.Walking.{Drawn, Gives, Goes, HoldsLines, IsFirst, Is
 use Rattle.cmark_walk.proofs.WalkSteps.{Focus, IsFocusAt, IsItem, at-item, at_range, beyond, left-staged, moved, over-range, passed, remains-before, staged}
 use Rattle.cmark_walk.proofs.LeaveSteps.{EndsAs, leaving-none, leaving-some}
 
--- the lines of the leaf are met, and what stands behind them is left
+-- the lines of the leaf are met, and the events after them are left
 pub meets-leaf : (walk : Walk) (item : Item) (ix : TreeIndex) (cell : Bool) (lines : List LeafLine) → IsFocusAt walk ix → IsItem walk.tree ix item
     → ((text : List ℕ) (texts : List CowStr) (node : BlockNode) → Drawn text texts item node → cell ≡ is_cell node.kind) → walk.stage ≡ stage.Lines → HoldsLines walk lines
     → (left : List Segment) → Remains walk left → Gives left (met.Leaf cell) lines (staged walk stage.Behind)

@@ -62,7 +62,7 @@ abbrev pub IsNextAt : Walk → TreeIndex → Option TreeIndex → Type 0
 IsNextAt walk ix next = (e : Entry Item) → entry_at walk.tree ix.ix ≡ Some e → next ≡ index_at e.next
 
 module _ (walk : Walk) where
-  -- the first node inside the focus, where that has no text of its own
+  -- the first node inside the focus, if the focus has no text of its own
   pub begins-lines : (item : Item) (ix : TreeIndex) (child : Option TreeIndex) (lines : List LeafLine) → IsFocusAt walk ix → IsItemAt walk ix item → own_text_end item.body ≡ None → IsChildAt walk ix child → lines ≡ [] → Gathered walk lines child
   begins-lines item ix child lines at is own c none z here above s =
       let l = leads-inside walk ix item child at is own c z here above s in
