@@ -1,5 +1,4 @@
-//! What the programs are told beside the text: the words of the command line, and the file of entities that they name; and
-//! what they end with.
+//! The settings of the programs: the words of the command line, the file of entities that they name, and the end of a program.
 #![tactic(auto)]
 
 mod ending;

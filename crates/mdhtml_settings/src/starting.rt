@@ -1,4 +1,4 @@
-//! What a program does before its run: it reads the words of its command line, and the file that they name.
+//! The start of a program: it reads the words of its command line, and the file that they name.
 
 ghost use Rattle.std.specs.Prelude.{◌≡◌, ◌⊎◌, ℕ, List, true, map, None, Some, is_some, IfOk, IfErr, IfSome, IsOk};
 ghost use Rattle.clap.specs.Words.{fault_of, matches_of, takes};
@@ -27,7 +27,7 @@ use std::io::{ErrorKind, Read};
 use std::rt::Files;
 use std::{env, fs, io};
 
-/// What a run is told beside the text.
+/// The settings of a run.
 #[derive(Drop)]
 pub struct RunSettings {
     /// The options whose flags were given.
@@ -43,9 +43,9 @@ pub struct RunSettings {
 pub enum Stop {
     /// The words ask for a text: the help or the version.
     Help(String),
-    /// The words are not the command's.
+    /// The words are not accepted.
     BadLine,
-    /// Memory was refused, or the file of entities is none.
+    /// Memory was refused, or the file of entities cannot be used.
     Fault(RunFault),
 }
 
@@ -83,10 +83,10 @@ impl From<LineFault> for Stop {
     }
 }
 
-/// Reads a file of entities to its end, at most as many bytes as the program takes of a text.
+/// Reads a file of entities to its end, within the limit for input.
 ///
-/// The notes of the reader start afresh. Answers `Entities` where the file cannot be read, is too long, or is no such object as
-/// [`read_entities`] takes, and `Memory` where memory was refused.
+/// The notes of the reader are cleared first. Fails with `Entities` if the file cannot be read, is too long, or is refused by
+/// [`read_entities`], and with `Memory` if memory is refused.
 #[inline(never)]
 pub fn read_entity_file<R: Read>(
     alloc: Global,
@@ -149,7 +149,7 @@ fn opened<H: Files>(host: &H, path: Option<String>) -> Result<Option<Watched<H::
     }
 }
 
-/// The look-up of a file of entities, or of the eleven names alone where there is none.
+/// The look-up of a file of entities, or of the eleven names alone if there is no file.
 fn look_up<R: Read + Drop>(
     alloc: Global,
     file: Option<Watched<R>>,
@@ -165,7 +165,7 @@ fn look_up<R: Read + Drop>(
     read_entity_file(alloc, &mut reader)
 }
 
-/// What a run of a program is told by these words, of which the first is its own name, and by the file of entities that they name.
+/// The settings of a run, from these words and from the file of entities that they name. The first word is the program's name.
 pub fn start_with<H: Files + AllocGlobal, S: AsStr>(
     host: &H,
     program: Program,
@@ -190,7 +190,7 @@ pub fn start_with<H: Files + AllocGlobal, S: AsStr>(
     })
 }
 
-/// The same by the words that the program was started with.
+/// Like `start_with`, for the words with which the program was started.
 pub fn start<H: Env + Files + AllocGlobal>(host: &H, program: Program) -> Result<RunSettings, Stop>
     ensures { IfErr result IsStop }
 {
