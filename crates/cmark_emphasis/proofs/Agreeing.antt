@@ -1,4 +1,4 @@
--- What an open run and one that agrees with it have in common.
+-- Common properties of an open run and a closing run that agrees with it.
 use Rattle.std.proofs.Common.{◌≡◌, ◌⊎◌, inl, inr, ℕ, ◌+◌, ◌%◌, ◌<◌, Bool, true, false, ◌&&◌, ◌||◌, ◌==◌, not, nat_lt, if◌then◌else◌, Some, None, refl, sym, ap, ◌∙◌, arith, true≢false, eqb-true}
 use Rattle.std.proofs.lemmas.Bool.{and_parts, ltb-true}
 use Rattle.cmark_grammar.specs.Emphasis.{Run, agrees, can_both, has_same_delimiter, is_tilde_or_caret, is_tilde_or_equals, keeps_rule_of_three}
@@ -25,7 +25,7 @@ some_same a b e = cc
 none_some : (n : ℕ) → None ≡ Some n → ⊥
 none_some n e = cc
 
--- what a run of each class is: of `*`, of `_`, or two `=`
+-- the runs of each class: `*`, `_`, or two `=`
 abbrev OfClass : Run → ℕ → Type 0
 OfClass run class =
     (run.delimiter ≡ 42) × (class ≡ rank run) ⊎ ((run.delimiter ≡ 95) × (class ≡ 6 + rank run) ⊎ (run.delimiter ≡ 61) × (run.run_length ≡ 2) × (class ≡ 12))
