@@ -175,7 +175,7 @@ module _ (texts links : ℕ) (before : List Slot) (runs : List PlacedRun) (quote
 
 -- ## What a closing bracket leaves
 
--- the brackets that are left are some first ones of those that stood
+-- the brackets that are left are the first ones of the old list
 module _ (texts links : ℕ) (slots : List Slot) (runs : List PlacedRun) (quotes : List PlacedQuote) (standing doubled : List Bracket) (h : AreSound texts links slots runs quotes standing doubled) where
   pub sound-fewer : (n m : ℕ) → AreSound texts links slots runs quotes (take n standing) (take m doubled)
   sound-fewer n m = record {
@@ -211,7 +211,7 @@ module _ (texts links : ℕ) (slots : List Slot) (runs : List PlacedRun) (quotes
           subst (λ (x : Bracket). x.inside < (get_or (take n bs) j d).inside) (sym (get_or-take n bs i d low))
           (subst (λ (y : Bracket). (get_or bs i d).inside < y.inside) (sym (get_or-take n bs j d high)) (e i j d less (let q : j < length bs = omega (arith, lt, a) in q)))
 
-  -- the slots before a bracket stay, and what stands behind it is forgotten
+  -- the slots before a bracket stay, and the runs, quotes and brackets after it are removed
   pub sound-back : (bracket : Bracket) → IsPlaced slots runs quotes bracket → All (λ (b : Bracket). b.slot < bracket.slot) standing → All (λ (d : Bracket). d.slot < bracket.slot) doubled
       → (more_texts more_links : ℕ) (new : List Slot) → length slots ≤ length new → SameBefore bracket.slot slots new → AreNamed more_texts more_links new → AreWhole new → EndWithin new
       → AreSound more_texts more_links new (take bracket.runs runs) (take bracket.quotes quotes) standing doubled
@@ -253,7 +253,7 @@ module _ (texts links : ℕ) (slots : List Slot) (runs : List PlacedRun) (quotes
           let t = p.there in
           placed-slots slots (take bracket.runs runs) (take bracket.quotes quotes) b (placed-cut slots runs quotes b q bracket p lt) new (omega (arith, lt, t, le)) (λ d. same b.slot d lt)
 
-  -- quotes and runs behind a bracket can be settled
+  -- quotes and runs after a bracket can be settled
   pub sound-settles : (bracket : Bracket) → IsPlaced slots runs quotes bracket → CanSettle (bracket.slot + 1) slots (drop bracket.runs runs) (drop bracket.quotes quotes)
   sound-settles bracket p = record {
     whole = h.whole;
