@@ -1,5 +1,5 @@
--- A lower bound of the open runs that searches examine: the runs down to the one that a search takes; if it takes none, the runs of its
--- delimiter that were added since the last such search.
+-- A lower bound of the open runs that searches examine: the runs down to the one that a search takes. A search that takes nothing examines
+-- at least the runs of its delimiter that were added since the last such search.
 use Rattle.std.specs.Prelude.{◌≡◌, ◌⊎◌, ℕ, zero, suc, ◌+◌, ◌<◌, ◌≤◌, Bool, true, false, not, ◌==◌, ◌&&◌, nat_lt, if◌then◌else◌, List, [], ◌∷◌, length, get_or, map, filter, reverse}
 use Rattle.cmark_grammar.specs.Emphasis.{Run, agrees, deactivates, is_tilde_or_caret, rest_of_closer, rest_of_opener}
 use Rattle.cmark_emphasis.specs.Bottoms.{bottom_of}
@@ -97,8 +97,8 @@ pub record AreStanding (bottoms : OpenersBottom) (stack : List code_run.Run) (st
 abbrev pub IsOfKind : (closer other : Run) → Type 0
 IsOfKind closer other = (other.delimiter ≡ closer.delimiter) ⊎ (deactivates closer ≡ true) × (is_tilde_or_caret other.delimiter ≡ true)
 
--- the searches of a run among these open runs are over: `rest` is left of it, the other runs are open on this stack, and at least as many
--- runs were examined as the lower bound says
+-- the searches of a run among these open runs are over: `rest` is left of it, the other runs are open on this stack, and the count grew by
+-- at least the lower bound
 pub record HasSought (closer : Run) (standing : List Standing) (before after : ℕ) (bottoms : OpenersBottom) (stack : List code_run.Run) (rest : Run) : Type 0 where
   pub rest_is : (sought closer standing).rest ≡ rest
   pub stand : AreStanding bottoms stack (sought closer standing).standing

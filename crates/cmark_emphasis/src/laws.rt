@@ -24,7 +24,7 @@ pub fn spans_take_the_places()
     ensures { (siblings : List Sibling) → StandFrom 0 siblings → TakePlaces 0 (spans_of siblings) (places_taken siblings) }
 {}
 
-/// The slots of the spans of siblings, read from left to right, describe these spans: `Begin` opens a span at its index, and `End` ends the
+/// The slots of the spans of siblings, read from left to right, describe these spans. `Begin` opens a span at its index. `End` ends the
 /// span that was opened last, after its own index.
 pub fn slots_say_the_spans()
     ensures { (siblings : List Sibling) → StandFrom 0 siblings → read_slots (slots_of (spans_of siblings)) ≡ spans_of siblings }
