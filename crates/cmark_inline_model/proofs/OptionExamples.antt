@@ -1,4 +1,4 @@
--- Texts with the options, computed as HTML. A footnote reference stands as its label, the footnote is `1`, and the definition `[x]: /u`.
+-- Texts with the options, computed as HTML. A footnote reference is shown as its label, the footnote is `1`, and the definition `[x]: /u`.
 use Rattle.std.specs.Prelude.{◌≡◌, true, [], ◌∷◌, ◌++◌, codes}
 use Rattle.std.specs.Str.{chars}
 use Rattle.std.proofs.Common.{refl}
@@ -158,7 +158,7 @@ escaped_dots : html_with smart (codes "No ellipses\\.\\.\\.") ≡ codes "No elli
 unfolding caseless encode chars token decide ucd_category is_unicode_white_space is_unicode_punctuation agrees pair_of rest_of_opener rest_of_closer kinds_of deactivates closed
 escaped_dots = refl
 
--- a dollar sign opens in front of no white space
+-- a dollar sign before white space opens nothing
 spaced_dollar : html_with math (codes "$ a$") ≡ codes "$ a$"
 unfolding caseless encode chars token decide ucd_category is_unicode_white_space is_unicode_punctuation agrees pair_of rest_of_opener rest_of_closer kinds_of deactivates closed
 spaced_dollar = refl
@@ -173,7 +173,7 @@ contexts : html_with math (codes "}{$b}$") ≡ codes "}{$b}$"
 unfolding caseless encode chars token decide ucd_category is_unicode_white_space is_unicode_punctuation agrees pair_of rest_of_opener rest_of_closer kinds_of deactivates closed
 contexts = refl
 
--- a formula keeps its line endings, and the blanks behind them
+-- a formula keeps its line endings, and the blanks after them
 blanks_in_formula : html_with math (codes "$a\n   b$") ≡ codes "<span class=\"math math-inline\">a\n   b</span>"
 unfolding caseless encode chars token decide ucd_category is_unicode_white_space is_unicode_punctuation agrees pair_of rest_of_opener rest_of_closer kinds_of deactivates closed
 blanks_in_formula = refl
@@ -243,7 +243,7 @@ farther_opener : html_with wikilinks (codes "[x [[a] b] c]](u)") ≡ codes "[x <
 unfolding caseless encode chars token decide ucd_category is_unicode_white_space is_unicode_punctuation agrees pair_of rest_of_opener rest_of_closer kinds_of deactivates closed
 farther_opener = refl
 
--- a doubled bracket one of which became a link opens nothing
+-- a doubled bracket opens nothing if one of its brackets became a link
 link_in_doubled : html_with wikilinks (codes "![[a](b)c]]") ≡ codes "![<a href=\"b\">a</a>c]]"
 unfolding caseless encode chars token decide ucd_category is_unicode_white_space is_unicode_punctuation agrees pair_of rest_of_opener rest_of_closer kinds_of deactivates closed
 link_in_doubled = refl
@@ -257,7 +257,7 @@ unknown_footnote : html_with footnotes (codes "no such note[^x]") ≡ codes "no 
 unfolding caseless encode chars token decide ucd_category is_unicode_white_space is_unicode_punctuation agrees pair_of rest_of_opener rest_of_closer kinds_of deactivates closed
 unknown_footnote = refl
 
--- a label over lines is none of a footnote
+-- a label with a line ending is not a footnote's
 label_over_lines : html_defining footnotes (codes "[^1\nb]") ≡ codes "[^1\nb]"
 unfolding caseless encode chars token decide ucd_category is_unicode_white_space is_unicode_punctuation agrees pair_of rest_of_opener rest_of_closer kinds_of deactivates closed
 label_over_lines = refl

@@ -172,7 +172,7 @@ wikilink_in_cell : events_in wikilinks (codes "a|b\n-|-\n[[a\\|b]]|c") (cell 8 1
 unfolding caseless encode chars token decide ucd_category is_unicode_white_space is_unicode_punctuation agrees pair_of rest_of_opener rest_of_closer kinds_of deactivates closed
 wikilink_in_cell = refl
 
--- in a cell an escaped pipe is a literal one, in code too, and behind two backslashes
+-- in a cell an escaped pipe is a literal one, in code too, and after two backslashes
 pipes_in_cell : events_in no_options (codes "`a\\|b` \\| \\\\| c") (cell 0 15) ≡ at 0 6 (Code (codes "a|b")) ∷ (says 6 7 (codes " ") ∷ (says 8 10 (codes "| ") ∷ (says 12 15 (codes "| c") ∷ [])))
 unfolding caseless encode chars token decide ucd_category is_unicode_white_space is_unicode_punctuation agrees pair_of rest_of_opener rest_of_closer kinds_of deactivates closed
 pipes_in_cell = refl
