@@ -32,7 +32,7 @@ impl<'a, E: EntityLookup> Render for Html<'a, E> {
     }
 }
 
-/// Renders a text as safe HTML: nothing in it runs, whoever wrote the text.
+/// Renders a text as HTML of which nothing runs, whoever wrote the text.
 #[derive(Drop)]
 pub struct SafeHtml<'a, E> {
     /// The options with which the text is read.
@@ -51,10 +51,11 @@ impl<'a, E: EntityLookup> Render for SafeHtml<'a, E> {
     }
 }
 
-/// Reads all Markdown from a reader, writes its HTML with these options, and flushes. `entities` gives the texts of entity names.
+/// Reads all of a reader's Markdown, writes its HTML with these options and flushes. `entities` says what the entity names
+/// stand for.
 ///
-/// After `Write` a beginning of the HTML was written, and after any other fault nothing. `mdhtml_parts::run::run` lists the causes of each
-/// fault.
+/// After a fault but `Write` nothing was written, and after `Write` a beginning of the HTML; `mdhtml_parts::run::run` says
+/// when each fault is answered.
 pub fn run<R: Read, W: Write, E: EntityLookup>(
     alloc: Global,
     reader: &mut Watched<R>,
@@ -72,10 +73,10 @@ pub fn run<R: Read, W: Write, E: EntityLookup>(
     mdhtml_parts::run::run(alloc, reader, writer, &Html { options, entities })
 }
 
-/// Like [`run`], but writes safe HTML if `safe` is true: nothing in it runs, whoever wrote the Markdown. Its addresses are relative, or
-/// have the scheme `http`, `https` or `mailto`.
+/// Does what [`run`] does, but writes safe HTML if `safe` is true: HTML of which nothing runs, whoever wrote the Markdown. Its
+/// addresses are relative, or have the scheme `http`, `https` or `mailto`.
 ///
-/// After `Write` a beginning of the HTML was written, and after any other fault nothing.
+/// After a fault but `Write` nothing was written, and after `Write` a beginning of the HTML.
 pub fn run_filtered<R: Read, W: Write, E: EntityLookup>(
     alloc: Global,
     reader: &mut Watched<R>,
@@ -101,7 +102,7 @@ pub fn run_filtered<R: Read, W: Write, E: EntityLookup>(
     run(alloc, reader, writer, options, entities)
 }
 
-/// Reads, renders and writes as [`run_filtered`] does if `safe` is true.
+/// The same where safe HTML is asked for.
 fn run_safe<R: Read, W: Write, E: EntityLookup>(
     alloc: Global,
     reader: &mut Watched<R>,

@@ -145,8 +145,8 @@ pub fn text_given<'a>(matches: &ArgMatches<'a>, name: &str) -> Option<&'a str>
 
 /// Whether the words had the flag `--name`.
 ///
-/// The value of a flag is the text `true` or `false`. It is compared as a text, because the clauses of `get_flag` do not say what it
-/// returns for any other text.
+/// The value of a flag is the text `true` or `false`. It is compared as a text, since the clauses of `get_flag` leave open
+/// what it answers for any other.
 pub fn has_flag(matches: &ArgMatches<'_>, name: &str) -> bool
     ensures { result ≡ is_given name.now (rows_of (found_of matches.now)) }
 {

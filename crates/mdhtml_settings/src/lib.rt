@@ -1,4 +1,5 @@
-//! The settings of the programs: the words of the command line, the file of entities that they name, and the end of a program.
+//! What the programs are told beside the text: the words of the command line, and the file of entities that they name; and
+//! what they end with.
 #![tactic(auto)]
 
 mod ending;

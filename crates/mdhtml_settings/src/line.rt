@@ -14,7 +14,7 @@ use cmark_text_parts::Options;
 use std::alloc::{AllocError, Global};
 use std::convert::AsStr;
 
-/// The version that `--version` prints: the version of the crate whose API this library has.
+/// The version that `--version` answers: that of the crate whose calls stand here.
 const VERSION: &str = "0.13.6";
 
 /// The flag for safe HTML, without its hyphens.
@@ -32,7 +32,7 @@ pub struct Settings {
 }
 
 impl Settings {
-    /// The settings of a line without further words.
+    /// Those that no word asks for.
     fn none() -> Settings
         ensures options { option_bits result.options ≡ 0 }
         ensures safe { result.safe ≡ false }
@@ -49,9 +49,9 @@ impl Settings {
 /// Why the words of a command line give no settings.
 #[derive(Drop)]
 pub enum LineFault {
-    /// They ask for the help or the version. The text is the help or the version, and ends in a line feed.
+    /// They ask for the help or the version. The text is the answer, with its last line ended.
     Help(String),
-    /// They are not accepted: an unknown flag, a flag given twice, a file that is missing, or a further word.
+    /// They are not the command's: a flag that it lacks, one given twice, a file that is missing, or a word beside them.
     Bad,
     /// Memory was refused.
     Memory,
@@ -126,7 +126,7 @@ fn file_arg<'a>(alloc: Global) -> Arg<'a>
         .help("The texts of entity names: a JSON object of texts")
 }
 
-/// The settings that the matches of the words ask for.
+/// What the matches of the words ask for.
 fn settings_of(alloc: Global, matches: &ArgMatches<'_>) -> Result<Settings, AllocError>
     ensures options { IfOk result (λ s. option_bits s.options ≡ bits_given flags (rows_of (found_of matches.now))) }
     ensures safe { IfOk result (λ s. s.safe ≡ is_safe_given (rows_of (found_of matches.now))) }
@@ -159,9 +159,9 @@ fn line_fault(alloc: Global, error: &Error) -> LineFault
     }
 }
 
-/// Reads the words of a program's command line. The first word is the program's name. The others are flags, one for each option, and
-/// `--entities FILE`; a program that writes HTML takes `--safe` too. `-h` and `--help` ask for the help, `-V` and `--version` for the
-/// version.
+/// Reads the words of a program's command line, of which the first is its own name: flags, one for each option, and
+/// `--entities FILE`; a program that writes HTML takes `--safe` too. `-h` and `--help` ask for the help, `-V` and `--version`
+/// for the version.
 ///
 /// ```text
 /// parse_line(alloc, Program::Mdhtml, &["mdhtml", "--tables"])?.options == Options::ENABLE_TABLES
@@ -186,7 +186,7 @@ pub fn parse_line<'a, S: AsStr>(
     read_words(alloc, program, words)
 }
 
-/// Reads the words with a command. This is a function of its own, so that a run without words needs no stack for the command.
+/// The same, by a command that reads the words. It is apart, so that a run without words needs no stack for the command.
 #[inline(never)]
 fn read_words<'a, S: AsStr>(
     alloc: Global,

@@ -43,9 +43,9 @@ pub struct RunSettings {
 pub enum Stop {
     /// The words ask for a text: the help or the version.
     Help(String),
-    /// The words are not accepted.
+    /// The words are not the command's.
     BadLine,
-    /// Memory was refused, or the file of entities cannot be used.
+    /// Memory was refused, or the file of entities is none.
     Fault(RunFault),
 }
 
@@ -83,10 +83,10 @@ impl From<LineFault> for Stop {
     }
 }
 
-/// Reads a file of entities to its end, within the limit for input.
+/// Reads a file of entities to its end, at most as many bytes as the program takes of a text.
 ///
-/// The notes of the reader are cleared first. Fails with `Entities` if the file cannot be read, is too long, or is refused by
-/// [`read_entities`], and with `Memory` if memory is refused.
+/// The notes of the reader start afresh. Answers `Entities` where the file cannot be read, is too long, or is no such object as
+/// [`read_entities`] takes, and `Memory` where memory was refused.
 #[inline(never)]
 pub fn read_entity_file<R: Read>(
     alloc: Global,
@@ -149,7 +149,7 @@ fn opened<H: Files>(host: &H, path: Option<String>) -> Result<Option<Watched<H::
     }
 }
 
-/// The look-up of a file of entities, or of the eleven names alone if there is no file.
+/// The look-up of a file of entities, or of the eleven names alone where there is none.
 fn look_up<R: Read + Drop>(
     alloc: Global,
     file: Option<Watched<R>>,
@@ -165,7 +165,7 @@ fn look_up<R: Read + Drop>(
     read_entity_file(alloc, &mut reader)
 }
 
-/// The settings of a run, from these words and from the file of entities that they name. The first word is the program's name.
+/// What a run of a program is told by these words, of which the first is its own name, and by the file of entities that they name.
 pub fn start_with<H: Files + AllocGlobal, S: AsStr>(
     host: &H,
     program: Program,
@@ -190,7 +190,7 @@ pub fn start_with<H: Files + AllocGlobal, S: AsStr>(
     })
 }
 
-/// Like `start_with`, for the words with which the program was started.
+/// The same by the words that the program was started with.
 pub fn start<H: Env + Files + AllocGlobal>(host: &H, program: Program) -> Result<RunSettings, Stop>
     ensures { IfErr result IsStop }
 {

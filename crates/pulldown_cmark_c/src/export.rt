@@ -1,4 +1,4 @@
-//! The functions that C calls.
+//! What C calls.
 
 ghost use Rattle.std.specs.Prelude.{◌≡◌, [], IsUtf8};
 ghost use Rattle.cmark_grammar.specs.Entities.{basic_entity};
@@ -15,10 +15,10 @@ use mdevents_run::EventLines;
 use mdhtml_run::{Html, SafeHtml};
 use std::alloc::Global;
 
-/// Writes the HTML of a text, read with the options of these bits, to the beginning of `room`, if it fits, and its size in bytes to `size`
-/// in any case. The known entity names are the eleven of `BasicEntities`.
+/// Writes the HTML of a text, read with the options of these bits, at the beginning of `room`, and into `size` how many bytes
+/// it has, also where the room is too small. The entity names that are known are the eleven of `BasicEntities`.
 ///
-/// `alloc` is not a parameter in C.
+/// `alloc` takes no place among the parameters of C.
 #[unsafe(no_mangle)]
 pub extern "C" fn pcm_html(
     alloc: Global,
@@ -36,7 +36,7 @@ pub extern "C" fn pcm_html(
     answer(alloc, &html, text, room, size)
 }
 
-/// Like `pcm_html`, but writes safe HTML: nothing in it runs, whoever wrote the text.
+/// Writes the HTML of a text of which nothing runs, whoever wrote the text, and else what `pcm_html` says.
 #[unsafe(no_mangle)]
 pub extern "C" fn pcm_safe_html(
     alloc: Global,
@@ -50,8 +50,8 @@ pub extern "C" fn pcm_safe_html(
     safe_answer(alloc, text, options, "", room, size)
 }
 
-/// Like `pcm_safe_html`, but addresses may have these further schemes too. They are names separated by white space. If the list is not
-/// UTF-8, the status is the same as for a text that is not UTF-8.
+/// The same, where addresses may have these further schemes too, which are names with white space between them. Where their list is not
+/// UTF-8, the status is that of a text that is not.
 #[unsafe(no_mangle)]
 pub extern "C" fn pcm_safe_html_with(
     alloc: Global,
@@ -71,7 +71,7 @@ pub extern "C" fn pcm_safe_html_with(
     safe_answer(alloc, text, options, further, room, size)
 }
 
-/// The result of `pcm_safe_html_with` once the list of schemes is known to be UTF-8.
+/// The same with a list that is UTF-8.
 fn safe_answer(
     alloc: Global,
     text: &[u8],
@@ -92,7 +92,7 @@ fn safe_answer(
     answer(alloc, &renderer, text, room, size)
 }
 
-/// Like `pcm_html`, but writes a line of JSON for each event of a text, as `mdevents` does.
+/// Writes a line of JSON for each event of a text, as `mdevents` does, and else what `pcm_html` says.
 #[unsafe(no_mangle)]
 pub extern "C" fn pcm_events_json(
     alloc: Global,
@@ -110,7 +110,7 @@ pub extern "C" fn pcm_events_json(
     answer(alloc, &lines, text, room, size)
 }
 
-/// The version of the library, equal to the header's `PCM_VERSION`.
+/// The version of the library, as the header's `PCM_VERSION`.
 #[unsafe(no_mangle)]
 pub extern "C" fn pcm_version() -> u32
     ensures { result ≡ version_number 0 13 6 }

@@ -1,4 +1,4 @@
-//! The parser for C, as `include/pulldown_cmark.h` documents it.
+//! The parser for C, as `include/pulldown_cmark.h` tells of it.
 #![tactic(auto)]
 
 mod export;

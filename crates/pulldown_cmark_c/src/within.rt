@@ -28,8 +28,8 @@ impl Render for Within {
     }
 }
 
-/// Like `pcm_html`, within a reference expansion limit. Once the destinations and titles of references have `limit` bytes in all, no
-/// definition is looked up.
+/// Writes the HTML within a reference expansion limit, and else does what `pcm_html` does. Once the destinations and titles of references
+/// have `limit` bytes, no definition is looked up.
 #[unsafe(no_mangle)]
 pub extern "C" fn pcm_html_within(
     alloc: Global,

@@ -1,4 +1,4 @@
-//! Tests of a walk that continues, which no program shows: definitions at each point of it, and ranges from the middle of it.
+//! Tests of a reading that goes on, which no program shows: definitions at each point of it, and ranges from the midst of it.
 #![tactic(auto)]
 
 #[cfg(test)]
