@@ -90,7 +90,7 @@ class-delimiter c d class e f = go (classed c class e) (classed d class f)
     go (inr (inr x)) (inr (inl y)) = absurd (omega (arith, x.2, y.1, rank_low d))
     go (inr (inr x)) (inr (inr y)) = y.0 ∙ sym x.0
 
--- an open run that a closing run of a class has passed agrees with none of the class
+-- an open run that a closing run of a class has passed agrees with no run of the class
 pub class_misses : (o c d : Run) (class : ℕ) → class_of c ≡ Some class → class_of d ≡ Some class → IsClosing c → agrees o c ≡ false → agrees o d ≡ false
 class_misses o c d class e f h miss = go (agrees o d) refl
   where

@@ -10,7 +10,7 @@ use Rattle.cmark_inline_model.specs.BracketPass.{Pass, pass, outcome_by, formed_
 use Rattle.cmark_inline_model.specs.Progress.{Always, FitsBy, Fits, IsForward}
 use Rattle.cmark_inline_model.proofs.PartCuts.{openings-join, Cuts, cuts}
 
--- a list with more such brackets than are to be nearer has a cut
+-- a list with more than `nearer` such brackets has a cut
 abbrev IsThere : ℕ → ℕ → Option Cut → Type 0
 IsThere nearer size None = size ≤ nearer
 IsThere nearer size (Some cut) = ℕ

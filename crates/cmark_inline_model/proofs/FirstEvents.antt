@@ -1,4 +1,4 @@
--- A leaf with a byte is read as some event, and one without a byte as none; the events of a leaf never begin with the end of an element.
+-- A leaf with a byte has some event, and an empty leaf has no event; the events of a leaf never begin with the end of an element.
 use Rattle.std.specs.Prelude.{zero, suc, ◌-◌, ◌==◌, ◌&&◌, ◌||◌, max, get_or}
 use Rattle.std.proofs.Common.{◌≡◌, ◌≢◌, ℕ, ◌+◌, ◌<◌, ◌≤◌, Bool, true, false, List, [], ◌∷◌, ◌++◌, length, Option, Some, None, refl, sym, ap, subst, ◌∙◌, arith, true≢false}
 use Rattle.cmark_grammar.specs.BracketDecisions.{decide}

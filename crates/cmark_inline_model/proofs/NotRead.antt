@@ -153,7 +153,7 @@ abbrev pub places : List Exchange → List ℕ
 places [] = []
 places (x ∷ xs) = x.question.start ∷ x.question.end ∷ places xs
 
--- no reading of the whole text puts these questions, and none else
+-- no reading of the whole text puts exactly these questions
 abbrev pub NeverAsked : Reader → Between → (wrong : List Exchange) → Type 0
 NeverAsked reader before wrong = (events : List Ranged) (after : Between) → ReadsLeaf reader (IsNext wrong) (whole reader.source) before events after → after.asked ≡ wrong → ⊥
 

@@ -49,7 +49,7 @@ footnotes_wikilinks = record no_options { footnotes = true; wikilinks = true }
 abbrev old_footnotes : Options
 old_footnotes = record no_options { footnotes = true; old_footnotes = true }
 
--- a closing tilde or caret that finds none closes the others
+-- a closing tilde or caret that finds no opening one closes the others
 tilde_and_caret : html_with strikethrough_superscript (codes "^a b~ c^") ≡ codes "^a b~ c^"
 unfolding caseless encode chars token decide ucd_category is_unicode_white_space is_unicode_punctuation agrees pair_of rest_of_opener rest_of_closer kinds_of deactivates closed
 tilde_and_caret = refl
@@ -103,12 +103,12 @@ highlight_closes_emphasis : html_with highlight (codes "==a *b== c*") ≡ codes 
 unfolding caseless encode chars token decide ucd_category is_unicode_white_space is_unicode_punctuation agrees pair_of rest_of_opener rest_of_closer kinds_of deactivates closed
 highlight_closes_emphasis = refl
 
--- a closing tilde that finds none closes no equals signs
+-- a closing tilde that finds no opening one closes no equals signs
 equals_stay_open : html_with strikethrough_highlight (codes "==a b~ c==") ≡ codes "<mark>a b~ c</mark>"
 unfolding caseless encode chars token decide ucd_category is_unicode_white_space is_unicode_punctuation agrees pair_of rest_of_opener rest_of_closer kinds_of deactivates closed
 equals_stay_open = refl
 
--- and closing equals signs that find none close no tilde
+-- and closing equals signs that find no opening ones close no tilde
 tildes_stay_open : html_with strikethrough_highlight (codes "~a b== c~") ≡ codes "<del>a b== c</del>"
 unfolding caseless encode chars token decide ucd_category is_unicode_white_space is_unicode_punctuation agrees pair_of rest_of_opener rest_of_closer kinds_of deactivates closed
 tildes_stay_open = refl
@@ -163,7 +163,7 @@ spaced_dollar : html_with math (codes "$ a$") ≡ codes "$ a$"
 unfolding caseless encode chars token decide ucd_category is_unicode_white_space is_unicode_punctuation agrees pair_of rest_of_opener rest_of_closer kinds_of deactivates closed
 spaced_dollar = refl
 
--- a no-break space is none
+-- a no-break space is not white space here
 no_break_space : html_with math (codes "$" ++ ((194 ∷ 160 ∷ []) ++ (codes "a$"))) ≡ codes "<span class=\"math math-inline\">" ++ ((194 ∷ 160 ∷ []) ++ (codes "a</span>"))
 unfolding caseless encode chars token decide ucd_category is_unicode_white_space is_unicode_punctuation agrees pair_of rest_of_opener rest_of_closer kinds_of deactivates closed
 no_break_space = refl
@@ -233,7 +233,7 @@ image_at_pipe : html_with wikilinks (codes "[[a ![b|c](u)]]") ≡ codes "<a href
 unfolding caseless encode chars token decide ucd_category is_unicode_white_space is_unicode_punctuation agrees pair_of rest_of_opener rest_of_closer kinds_of deactivates closed
 image_at_pipe = refl
 
--- brackets of a formed image open nothing any more
+-- brackets of a formed image open nothing
 doubled_in_image : html_with wikilinks (codes "![x [[y] z] w](u) q]]") ≡ codes "<img src=\"u\" alt=\"x [[y] z] w\" /> q]]"
 unfolding caseless encode chars token decide ucd_category is_unicode_white_space is_unicode_punctuation agrees pair_of rest_of_opener rest_of_closer kinds_of deactivates closed
 doubled_in_image = refl
@@ -262,7 +262,7 @@ label_over_lines : html_defining footnotes (codes "[^1\nb]") ≡ codes "[^1\nb]"
 unfolding caseless encode chars token decide ucd_category is_unicode_white_space is_unicode_punctuation agrees pair_of rest_of_opener rest_of_closer kinds_of deactivates closed
 label_over_lines = refl
 
--- but of an old one, which needs no footnote
+-- a reference to an old footnote needs no definition of its label
 old_label : html_defining old_footnotes (codes "[^7 b]") ≡ codes "{^7 b}"
 unfolding caseless encode chars token decide ucd_category is_unicode_white_space is_unicode_punctuation agrees pair_of rest_of_opener rest_of_closer kinds_of deactivates closed
 old_label = refl

@@ -307,7 +307,7 @@ module _ (reader : Reader) (leaf : Leaf) (text : List ℕ) (place : ℕ → ℕ)
   longest_is (Closes b) k o s p = refl
   longest_is Ends k o s p = refl
 
-  -- the token there, but for markup that is sought in the source
+  -- the token there, except for markup that is searched in the source
   pub token-at : (k : ℕ) → k ≤ length text → may_open_markup reader.options.email_autolinks (drop k text) ≡ false → token reader leaf (place k) ≡ placed place (token one alone k)
   unfolding token
   token-at k le none =

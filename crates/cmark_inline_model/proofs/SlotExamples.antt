@@ -1,4 +1,4 @@
--- Texts of one leaf, read off the slots into which their pairs write, computed as HTML.
+-- Texts of one leaf, read from the slots into which their pairs write, computed as HTML.
 use Rattle.std.specs.Prelude.{◌≡◌, true, List, ℕ, [], ◌∷◌, ◌++◌, codes, length}
 use Rattle.std.specs.Str.{chars}
 use Rattle.std.proofs.Common.{refl}

@@ -1,4 +1,4 @@
--- The slots that the marks of a list of siblings' spans make, and the events that are read off slots.
+-- The slots that the marks of a list of siblings' spans make, and the events that are read from slots.
 use Rattle.std.proofs.Common.{◌≡◌, ℕ, zero, suc, ◌+◌, ◌-◌, List, [], ◌∷◌, ◌++◌, length, set, get_or, refl, sym, ap, ◌∙◌, subst, arith, append_assoc, append-nil, length-append, Option, Some, None}
 use Rattle.std.specs.Prelude.{map}
 use Rattle.std.proofs.lemmas.List.{length-set, map-append}

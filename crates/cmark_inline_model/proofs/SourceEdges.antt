@@ -137,7 +137,7 @@ module _ (reader : Reader) (leaf : Leaf) (at : IsPlaced reader leaf) (utf8 : IsU
           subst Edge (ap place (let q : e ≡ suc (e - 1) = omega arith in q) ∙ n) (place-edge e edge)
       go false c = behind-ascii (place (e - 1)) (ascii-there (e - 1) lt (ends-low (get_or text (e - 1) 0) c))
 
-  -- ## Behind markup, which is sought in the source
+  -- ## After markup that is searched in the source
 
   record Cut (x n : ℕ) : Type 0 where
     count : ℕ
@@ -309,7 +309,7 @@ module _ (reader : Reader) (leaf : Leaf) (at : IsPlaced reader leaf) (utf8 : IsU
       bytes items.SoftBreak b = tt
       bytes items.HardBreak b = tt
 
-  -- ## Where markup may open that is sought in the source
+  -- ## Where markup may open that is searched in the source
 
   module _ (k : ℕ) (within : k ≤ length text) (edge : TextEdge k) (bs : List ℕ) (here : drop k text ≡ 60 ∷ bs) where
     there : from reader leaf (place k) ≡ 60 ∷ bs

@@ -128,7 +128,7 @@ module _ (place : ℕ) where
   spent-inside opener inside closer (Wiki name display end) after h k =
       let e = total-append (prices priced_to price_to to-is-priced inside) (prices priced_to price_to to-is-priced after) in omega arith
 
-  -- and no form costs more than it takes off the limit
+  -- and no form costs more than is subtracted from the limit
   pub spent-form-less : (opener : Bracket) (inside : Parts) (closer : Bracket) (formed : Formed) (after : Parts)
       → spent_to (Form opener inside closer formed after) ≤ total (costs inside) + (total (cost formed) + spent_to after)
   spent-form-less opener inside closer (Linking target) after =

@@ -431,7 +431,7 @@ module _ (options : Options) (lookup : Lookup) (is_cell : Bool) (text : List ℕ
       go [] f = tt
       go (b ∷ bs) f = begins-edged k b bs f e
 
-  -- ## Texts that go on
+  -- ## Texts that continue
 
   -- a text that continues begins inside a character
   high-plain : (k b : ℕ) (bs : List ℕ) → 128 ≤ b → begins one alone k (b ∷ bs) ≡ item_at Plain k (suc k)

@@ -1,4 +1,4 @@
--- Where highlight is off, at each place of a leaf begins what the grammar without highlight says.
+-- If highlight is off, the tokens of a leaf are those of the grammar without highlight.
 use Rattle.std.specs.Prelude.{zero, suc, ◌==◌, ◌&&◌, ◌||◌, not, nat_lt, if◌then◌else◌, cond, codes}
 use Rattle.std.specs.List.{prefix_len}
 use Rattle.std.proofs.Common.{◌≡◌, ℕ, ◌+◌, ◌<◌, ◌≤◌, Bool, true, false, List, [], ◌∷◌, length, Option, refl, sym, ap, subst, ◌∙◌, arith, eqb-true}

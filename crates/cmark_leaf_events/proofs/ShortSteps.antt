@@ -71,7 +71,7 @@ get_or-any [] i d e lt = absurd (omega (arith, lt))
 get_or-any (x ∷ xs) zero d e lt = refl
 get_or-any (x ∷ xs) (suc i) d e lt = get_or-any xs i d e (omega (arith, lt))
 
--- an end, or none
+-- an end, or nothing
 pub passes : (source : List ℕ) (old new : List Opened) (n : Next) → GivesNext source old n new → PassesShort source old n new
 passes source old new (next.Short s) h = h
 passes source old new next.Long h = h

@@ -8,7 +8,7 @@ use Rattle.std.proofs.lemmas.Bool.Decides.{eqb_tells}
 use Rattle.cmark_grammar.specs.Escapes.{is_url_byte, href_byte, hexadecimal_digit, percent_encoded, escaped_href}
 use Rattle.cmark_safe.specs.Schemes.{is_among, is_allowed, is_allowed_if_any, is_allowed_scheme, is_before_sign, is_scheme_byte, if_colon, scheme_of, unwritten_scheme}
 
--- the scheme goes on
+-- the scheme continues
 scheme_off : (b : ℕ) (rest : List ℕ) → (b == 58) ≡ false → is_among (codes "/?#&") b ≡ false → scheme_of (b ∷ rest) ≡ option_map (λ name. b ∷ name) (scheme_of rest)
 scheme_off b rest h k = rw h (rw k refl)
 

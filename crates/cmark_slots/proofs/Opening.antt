@@ -65,7 +65,7 @@ doubles-are o brackets is_image start inside old new e = go (not is_image && o.w
     go true t None s = inl (e ∙ ap (λ z. if z then with_double (touching start brackets) inside old else old) t ∙ ap (λ f. with_double f inside old) s)
     go true t (Some first) s = inr (first, touching-is start brackets first s, e ∙ ap (λ z. if z then with_double (touching start brackets) inside old else old) t ∙ ap (λ f. with_double f inside old) s)
 
--- ## A bracket more
+-- ## One more bracket
 
 module _ (texts links : ℕ) (before : List Slot) (runs : List PlacedRun) (quotes : List PlacedQuote) (standing doubled : List Bracket) (h : AreSound texts links before runs quotes standing doubled)
     (text : List ℕ) (pending : ℕ) (are : AreBrackets text pending standing) (pairs : AreBrackets text pending doubled) (s : Slot) (is : s.kind ≡ kind.Text) (b : Bracket) (behind : pending ≤ b.start) (some : b.start < b.inside)

@@ -16,7 +16,7 @@ becomes [] at character d lt = absurd (omega (arith, lt))
 becomes (slot ∷ slots) zero character d lt = refl
 becomes (slot ∷ slots) (suc at) character d lt = ap (λ (l : List Slot). slot ∷ l) (becomes slots at character d (let q : at < length slots = omega (arith, lt) in q))
 
--- one quote more has its character
+-- one more quote has its character
 pub one-more : (placed : List PlacedQuote) (characters : List ℕ) (slots : List Slot) (at : ℕ) (d : PlacedQuote) (character : ℕ) → at < length placed → length characters ≡ length placed → character ≡ get_or characters at character
     → with_characters (drop (at + 1) placed) (drop (at + 1) characters) (with_character (get_or placed at d).slot character slots) ≡ with_characters (drop at placed) (drop at characters) slots
 one-more placed characters slots at d character lt many made =

@@ -112,7 +112,7 @@ alone-marked options placed pairs spans slots e =
     sym (ap (λ ps. marked options (places_of (placed ∷ [])) (marks_by (length (places_of (placed ∷ []))) ps) slots []) ((one (siblings_from 0 (placed ∷ [])) pairs spans e).0 ∙ no-pairs placed)
     ∙ stay-marked options (places_of (placed ∷ [])) (length (places_of (placed ∷ []))) slots)
 
--- the last of the runs makes none
+-- the last of the runs makes no pair
 pub lone-marked : (options : Options) (placed : List PlacedRun) (pairs : List Pair) (spans : Spans) (slots : List row.Slot) → length placed ≡ 1 → IsEmphasis (siblings_from 0 placed) pairs spans
     → slots ≡ marked options (places_of placed) (marks_by (length (places_of placed)) pairs) slots []
 lone-marked options [] pairs spans slots one_long e = absurd (omega arith)

@@ -118,7 +118,7 @@ are-lettered (p ∷ placed) (c ∷ characters) slots k d = go (one-character p.s
     go (inr (at_it, lt, made)) (inl f) = inr (0, (let q : 0 < length (p ∷ placed) = omega arith in q), sym at_it, lt, (c, ap (λ (s : Slot). s.kind) f ∙ made))
 
 module _ (low : ℕ) (slots : List Slot) (runs : List PlacedRun) (quotes : List PlacedQuote) (h : CanSettle low slots runs quotes) where
-  -- a slot more
+  -- one more slot
   pub can-push : (s : Slot) → ((i : ℕ) → last_in s.kind i ≡ i) → CanSettle low (slots ++ (s ∷ [])) runs quotes
   can-push s alone =
       let new : List Slot = slots ++ (s ∷ []) in

@@ -62,7 +62,7 @@ module _ (texts links : ℕ) (slots : List Slot) (runs : List PlacedRun) (quotes
   pub sound-link : (s : Slot) → ((i : ℕ) → last_in s.kind i ≡ i) → text_named s.kind ≡ None → link_named s.kind ≡ Some links → AreSound texts (links + 1) (slots ++ (s ∷ [])) runs quotes standing doubled
   sound-link s alone bare is = sound-push texts (links + 1) s alone (named-link (length slots) s slots (slots ++ (s ∷ [])) (adds-push slots s) texts links h.named bare is)
 
--- there is one link more, which is not named yet
+-- there is one more link, which is not named yet
 pub sound-more : (texts links more : ℕ) (slots : List Slot) (runs : List PlacedRun) (quotes : List PlacedQuote) (standing doubled : List Bracket) → links ≤ more → AreSound texts links slots runs quotes standing doubled → AreSound texts more slots runs quotes standing doubled
 sound-more texts links more slots runs quotes standing doubled le h = record {
   named = named-more texts links more slots le h.named;
@@ -129,7 +129,7 @@ module _ (texts links : ℕ) (before : List Slot) (runs : List PlacedRun) (quote
           subst (λ (x : PlacedQuote). x.slot < (get_or (quotes ++ (q ∷ [])) j d).slot) (sym (get_or_append_left quotes (q ∷ []) d i low))
           (subst (λ (y : PlacedQuote). (get_or quotes i d).slot < y.slot) (sym (get_or_push quotes q d j (let k : length quotes ≡ j = omega (arith, g, most) in k))) (let k : (get_or quotes i d).slot < q.slot = omega (arith, t, at) in k))
 
--- each byte is a slot more
+-- each byte adds a slot
 pub sound-bytes : (texts links : ℕ) (slots : List Slot) (runs : List PlacedRun) (quotes : List PlacedQuote) (standing doubled : List Bracket) (start size : ℕ) → AreSound texts links slots runs quotes standing doubled
     → AreSound texts links (slots ++ byte_slots start size) runs quotes standing doubled
 sound-bytes texts links slots runs quotes standing doubled start zero h = subst (λ l. AreSound texts links l runs quotes standing doubled) (sym (append-none slots)) h
