@@ -10,7 +10,7 @@ use bitflags::Flags;
 use cmark_text_parts::Options;
 use std::alloc::{AllocError, Global};
 
-/// An opening bracket that no closing bracket has matched yet.
+/// An opening bracket that no closing bracket has taken yet.
 #[derive(Clone, Copy)]
 pub struct Bracket {
     /// The index of its slot.
