@@ -44,7 +44,7 @@ pub struct Delimiters {
     room: PairingRoom,
     marks: Vec<Mark>,
     begun: Vec<usize>,
-    /// The number of open runs that were examined to pair runs, since the value was made.
+    /// The number of open runs that were examined to pair runs, since the last `clear`.
     pub examined: u128,
 }
 
