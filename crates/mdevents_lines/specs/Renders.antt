@@ -1,4 +1,4 @@
--- What a text is rendered as.
+-- The output for a text.
 use Rattle.std.specs.Prelude.{◌≡◌, ℕ, false, List, [], map, Option, None, Ok}
 use Rattle.std.specs.Iterator.{YieldsThen}
 use Rattle.std.specs.declared.ops.Range.{Range}
@@ -21,7 +21,7 @@ pub record AreLinesOf (text : List ℕ) (options : Options) (lookup : Lookup) (o
   pub reading : IsReading text (profile text options lookup false) [] events
   pub output_is : output ≡ lines events
 
--- what the callback answers that stands for none
+-- the steps of a callback that is absent: it always returns None
 abbrev pub says-nothing : DefaultBrokenLinkCallback → BrokenLink → Option (CowStr × CowStr) → DefaultBrokenLinkCallback → Type 0
 says-nothing before link answer after = answer ≡ None
 

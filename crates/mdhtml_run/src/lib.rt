@@ -18,9 +18,9 @@ use std::io::{Read, Write};
 /// Renders a text as HTML.
 #[derive(Drop)]
 pub struct Html<'a, E> {
-    /// The options that the text is read with.
+    /// The options with which the text is read.
     pub options: Options,
-    /// What the entity names stand for.
+    /// The texts of entity names.
     pub entities: &'a E,
 }
 
@@ -35,9 +35,9 @@ impl<'a, E: EntityLookup> Render for Html<'a, E> {
 /// Renders a text as HTML of which nothing runs, whoever wrote the text.
 #[derive(Drop)]
 pub struct SafeHtml<'a, E> {
-    /// The options that the text is read with.
+    /// The options with which the text is read.
     pub options: Options,
-    /// What the entity names stand for.
+    /// The texts of entity names.
     pub entities: &'a E,
     /// The names of further schemes that addresses may have, with white space between them.
     pub further: &'a str,

@@ -1,4 +1,4 @@
-//! What a program ends with: a text that its words asked for, a line on standard error, an exit status.
+//! The end of a program: a text that its words asked for, a line on standard error, an exit status.
 
 ghost use Rattle.std.specs.Process.{exit_status};
 ghost use Rattle.mdhtml_parts.specs.Ends.{watched_end, watched_notes};

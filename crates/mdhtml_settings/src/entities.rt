@@ -17,7 +17,7 @@ use std::alloc::Global;
 /// The names of a file, and behind them those of [`BasicEntities`].
 #[derive(Drop)]
 pub struct NamedEntities {
-    /// The object of the file, or null where there is no file.
+    /// The object of the file, or null if there is no file.
     file: Value,
     basic: BasicEntities,
 }

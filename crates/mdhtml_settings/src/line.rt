@@ -20,7 +20,7 @@ const VERSION: &str = "0.13.6";
 /// The flag for safe HTML, without its hyphens.
 const SAFE: &str = "safe";
 
-/// What the words of a command line ask for.
+/// The settings that the words of a command line ask for.
 #[derive(Drop)]
 pub struct Settings {
     /// The options whose flags were given.

@@ -1,4 +1,4 @@
-//! What a program does before its run: it reads the words of its command line, and the file that they name.
+//! The start of a program: it reads the words of its command line, and the file that they name.
 
 ghost use Rattle.std.specs.Prelude.{◌≡◌, ◌⊎◌, ℕ, List, true, map, None, Some, is_some, IfOk, IfErr, IfSome, IsOk};
 ghost use Rattle.clap.specs.Words.{fault_of, matches_of, takes};
@@ -27,7 +27,7 @@ use std::io::{ErrorKind, Read};
 use std::rt::Files;
 use std::{env, fs, io};
 
-/// What a run is told beside the text.
+/// The settings of a run.
 #[derive(Drop)]
 pub struct RunSettings {
     /// The options whose flags were given.

@@ -1,4 +1,4 @@
-//! Theorems over readings and walks, each the contract of a function that does nothing.
+//! Theorems about readings and walks. Each is the contract of a function that does nothing.
 
 ghost use Rattle.std.specs.Prelude.{◌≡◌, ◌≤◌, ◌+◌, ◌*◌, length, ℕ, false, List, [], None, Some, Ok, Err, Option, Result, map};
 ghost use Rattle.std.specs.Iterator.{Drains, Yields};
