@@ -9,6 +9,7 @@ use Rattle.cmark_grammar.specs.Answers.{Lookup}
 use Rattle.cmark_grammar.specs.BlockDocument.{BlockDocument}
 use Rattle.cmark_grammar.specs.Derivation.{Derives}
 use Rattle.cmark_grammar.specs.Event.{Ranged}
+use Rattle.cmark_grammar.specs.Headline.{profile_within}
 use Rattle.cmark_grammar.specs.LeafSpans.{IsRange}
 use Rattle.cmark_grammar.specs.Options.{Options}
 use Rattle.cmark_grammar.specs.Questions.{Exchange, Plan}
@@ -28,7 +29,7 @@ use Rattle.cmark_parser.specs.declared.parse.OffsetIter.{OffsetIter}
 use Rattle.cmark_parser.specs.Parsing.{Left as LeftOf}
 use Rattle.cmark_parser.specs.Parsing.{AreZeroCopy, Asks, AsksRanged, CutNone, Remains, IsOver, Gives, Shows, RemainsRanged, IsRangedOver, GivesRanged, ReadsWithin, ShowsRanged, callback_of, ranged_text, shown_item, text_of, walk_of}
 use Rattle.cmark_parser.specs.Walked.{IsBegun, IsBegunRanged, IsCutShort, IsCutShortRanged, IsDrained, IsDrainedRanged}
-use Rattle.cmark_parser.specs.Walking.{GivesNext, GoesOn, NoEndIsNext, SomeLeft, profile_within}
+use Rattle.cmark_parser.specs.Walking.{GivesNext, GoesOn, NoEndIsNext, SomeLeft}
 use Rattle.cmark_parser.proofs.ParseSteps.{none-answered}
 use Rattle.cmark_parser.proofs.RenderSteps.{asks-on}
 

@@ -3,6 +3,7 @@ use Rattle.std.specs.Prelude.{◌≡◌, ℕ, true, List, [], ◌++◌, map, Opt
 use Rattle.std.specs.declared.ops.Range.{Range}
 use Rattle.cmark_grammar.specs.Answers.{Lookup}
 use Rattle.cmark_grammar.specs.Event.{Ranged}
+use Rattle.cmark_grammar.specs.Headline.{profile_within}
 use Rattle.cmark_grammar.specs.Options.{Options}
 use Rattle.cmark_grammar.specs.Questions.{Exchange, Plan}
 use Rattle.cmark_grammar.specs.SpanDocuments.{IsReading}
@@ -15,7 +16,6 @@ use Rattle.cmark_text_parts.specs.declared.text.CowStr.{CowStr}
 use Rattle.cmark_parser.specs.declared.parse.Parser.{Parser}
 use Rattle.cmark_parser.specs.declared.parse.OffsetIter.{OffsetIter}
 use Rattle.cmark_parser.specs.Parsing.{Asks, AsksRanged, IsOver, IsRangedOver, shown_item}
-use Rattle.cmark_parser.specs.Walking.{profile_within}
 
 -- these events are the first of the reading of the text whose further questions the plan answers, behind these that were put
 pub record Begin (limit : ℕ) (text : List ℕ) (options : Options) (lookup : Lookup) (taken : List Exchange) (given : List Ranged) (plan : Plan) : Type 0 where

@@ -1,26 +1,16 @@
 -- What a walk over a document still has to give, and what one call of it gives.
-use Rattle.std.specs.Prelude.{◌≡◌, ◌⊎◌, ℕ, Bool, true, List, [], ◌∷◌, ◌++◌, length, max, Option, Some, None, Result, Ok, Err}
+use Rattle.std.specs.Prelude.{◌≡◌, ◌⊎◌, ℕ, Bool, true, List, [], ◌∷◌, ◌++◌, Option, Some, None, Result, Ok, Err}
 use Rattle.std.specs.declared.alloc.AllocError.{AllocError}
 use Rattle.cmark_grammar.specs.Answers.{Lookup}
 use Rattle.cmark_grammar.specs.Derivation.{document}
 use Rattle.cmark_grammar.specs.Event.{Ranged}
+use Rattle.cmark_grammar.specs.Headline.{profile, profile_within}
 use Rattle.cmark_grammar.specs.Options.{Options}
 use Rattle.cmark_grammar.specs.Questions.{Exchange, Plan}
 use Rattle.cmark_grammar.specs.Readers.{Reader}
-use Rattle.cmark_grammar.specs.SpanDocuments.{IsReading, Profile, reader_of}
+use Rattle.cmark_grammar.specs.SpanDocuments.{IsReading, reader_of}
 use Rattle.cmark_inline_model.specs.FirstEvents.{BeginWithEnd}
 use Rattle.cmark_inline_model.specs.PlannedAnswers.{AreByPlan}
-
--- what a text is read with, where references take so many bytes of destinations and titles
-abbrev pub profile_within : (limit : ℕ) → Options → Lookup → (has_callback : Bool) → Profile
-profile_within limit options lookup has_callback = record { options = options; lookup = lookup; reference_expansion_limit = limit; has_callback = has_callback }
-
--- they take as many as the text has, or 100,000 where it has fewer, if it is not said how many
-abbrev pub usual_limit : (text : List ℕ) → ℕ
-usual_limit text = max (length text) 100000
-
-abbrev pub profile : (text : List ℕ) → Options → Lookup → (has_callback : Bool) → Profile
-profile text options lookup has_callback = profile_within (usual_limit text) options lookup has_callback
 
 -- what the leaves of its document are read with, where there is a callback
 abbrev pub reader_by : (text : List ℕ) → Options → Lookup → Reader

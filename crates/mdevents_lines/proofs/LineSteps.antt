@@ -5,6 +5,7 @@ use Rattle.std.specs.Iterator.{Drains}
 use Rattle.std.specs.declared.ops.Range.{Range}
 use Rattle.cmark_grammar.specs.Answers.{Lookup}
 use Rattle.cmark_grammar.specs.Event.{Ranged}
+use Rattle.cmark_grammar.specs.Headline.{usual_limit}
 use Rattle.cmark_grammar.specs.Options.{Options}
 use Rattle.cmark_text.specs.declared.event.Event.{Event}
 use Rattle.cmark_text_parts.specs.declared.text.CowStr.{CowStr}
@@ -15,7 +16,6 @@ use Rattle.cmark_parser.specs.declared.parse.OffsetIter.{OffsetIter}
 use Rattle.cmark_parser.specs.declared.parse.Parser.{Parser}
 use Rattle.cmark_parser.specs.Parsing.{GivesRanged, Reads, callback_of, shown_item, walk_of}
 use Rattle.cmark_parser.proofs.WalkSteps.{drained_silent}
-use Rattle.cmark_parser.specs.Walking.{usual_limit}
 
 lines-more : (rs : List Ranged) (r : Ranged) → lines (rs ++ r ∷ []) ≡ lines rs ++ line r
 lines-more [] r = append-nil (line r)

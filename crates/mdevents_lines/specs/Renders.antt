@@ -4,6 +4,7 @@ use Rattle.std.specs.Iterator.{YieldsThen}
 use Rattle.std.specs.declared.ops.Range.{Range}
 use Rattle.cmark_grammar.specs.Answers.{Lookup}
 use Rattle.cmark_grammar.specs.Event.{Ranged}
+use Rattle.cmark_grammar.specs.Headline.{profile}
 use Rattle.cmark_grammar.specs.Options.{Options}
 use Rattle.cmark_grammar.specs.SpanDocuments.{IsReading}
 use Rattle.cmark_inline.specs.declared.callback.BrokenLink.{BrokenLink}
@@ -13,7 +14,6 @@ use Rattle.cmark_text.specs.declared.event.Event.{Event}
 use Rattle.cmark_text_parts.specs.declared.text.CowStr.{CowStr}
 use Rattle.cmark_parser.specs.declared.parse.OffsetIter.{OffsetIter}
 use Rattle.cmark_parser.specs.Parsing.{GivesRanged, shown_item}
-use Rattle.cmark_parser.specs.Walking.{profile}
 
 -- the output is a line for each event of the reading of the text, without a callback
 pub record AreLinesOf (text : List ℕ) (options : Options) (lookup : Lookup) (output : List ℕ) : Type 0 where

@@ -6,7 +6,7 @@ ghost use Rattle.cmark_text_parts.specs.Shown.{shown_options};
 ghost use Rattle.mdhtml_parts.specs.Ends.{watched_end, watched_notes, watched_resets};
 ghost use Rattle.mdhtml_parts.specs.Notes.{Cleared};
 ghost use Rattle.mdhtml_parts.specs.Runs.{Runs};
-ghost use Rattle.cmark_parser.specs.Rendering.{IsHtmlOf};
+ghost use Rattle.cmark_grammar.specs.Headline.{IsHtmlOf};
 ghost use Rattle.mdhtml_run.specs.Safe.{IsSafeAnswer};
 
 use cmark_parser::{to_html, to_safe_html};

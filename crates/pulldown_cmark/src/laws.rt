@@ -8,6 +8,7 @@ ghost use Rattle.cmark_grammar.specs.Answers.{Lookup};
 ghost use Rattle.cmark_grammar.specs.BlockDocument.{BlockDocument};
 ghost use Rattle.cmark_grammar.specs.Derivation.{Derives};
 ghost use Rattle.cmark_grammar.specs.Event.{Ranged};
+ghost use Rattle.cmark_grammar.specs.Headline.{profile_within};
 ghost use Rattle.cmark_grammar.specs.Options.{Options as Extensions};
 ghost use Rattle.cmark_grammar.specs.Questions.{Exchange};
 ghost use Rattle.cmark_grammar.specs.Ranges.{count_tables};
@@ -16,7 +17,6 @@ ghost use Rattle.cmark_inline_model.specs.GivenAnswers.{answers_of};
 ghost use Rattle.cmark_text.specs.declared.event.Event.{Event as Given};
 ghost use Rattle.cmark_parser.specs.Parsing.{AreZeroCopy, CutNone, Gives, GivesRanged, IsOver, IsRangedOver, ReadsWithin, callback_of, ranged_text, shown_item, walk_of};
 ghost use Rattle.cmark_parser.specs.Walked.{IsBegun, IsBegunRanged, IsCutShort, IsCutShortRanged, IsDrained, IsDrainedRanged};
-ghost use Rattle.cmark_parser.specs.Walking.{profile_within};
 ghost use Rattle.cmark_parser.specs.declared.parse.OffsetIter.{OffsetIter as Ranges};
 ghost use Rattle.cmark_parser.specs.declared.parse.Parser.{Parser as Walk};
 
