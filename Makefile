@@ -117,6 +117,7 @@ beside:
 outside:
 	tests/entities
 	tests/refusals
+	tests/refused_calls
 	tests/rows
 	tests/hostile
 	tests/walks 2000 1
