@@ -1,4 +1,5 @@
--- The facts that the caller knows and the text does not contain: the entities, and the answers to questions about labels.
+-- The facts that the caller knows and the text does not contain: the texts of entities (CommonMark 2.5), and the answers to questions about
+-- labels (this profile's own).
 use Rattle.std.specs.Prelude.{ℕ, List, Option}
 
 -- the text of each entity name, if it has one: a function of the name, without `&` and `;`

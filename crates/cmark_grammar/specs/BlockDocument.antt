@@ -1,4 +1,5 @@
--- Documents of blocks with the lines of their leaves: ordered trees (CommonMark 3).
+-- Documents of blocks with the lines of their leaves: ordered trees (CommonMark 3). Example: of `# a` the node is a heading with one text
+-- in it.
 use Rattle.std.specs.Prelude.{ℕ, Bool, List, [], ◌∷◌, ◌++◌, Option}
 use Rattle.cmark_grammar.specs.Alignment.{Alignment}
 use Rattle.cmark_grammar.specs.Attributes.{Attributes}

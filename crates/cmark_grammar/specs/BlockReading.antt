@@ -1,4 +1,4 @@
--- The events of a document of blocks, in preorder: each with the range of its node.
+-- The events of a document of blocks (CommonMark 3 to 5), in preorder: each with the range of its node.
 use Rattle.std.specs.Prelude.{ℕ, zero, suc, Bool, true, false, if◌then◌else◌, List, [], ◌∷◌, ◌++◌, Option, Some, None}
 use Rattle.cmark_grammar.specs.Tag as tag
 use Rattle.cmark_grammar.specs.Tag.{Tag}

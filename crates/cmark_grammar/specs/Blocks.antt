@@ -1,4 +1,5 @@
--- The block structure of lines: the blocks and the lines of each block (CommonMark 3 to 5).
+-- The block structure of lines: the blocks and the lines of each block (CommonMark 3 to 5). Example: the two lines `> a` and `b` are a
+-- block quote around one paragraph.
 use Rattle.std.specs.Prelude.{◌≡◌, ◌⊎◌, ℕ, Bool, true, false, List, [], ◌∷◌, ◌++◌, length, Some, None}
 use Rattle.cmark_grammar.specs.Rows.{Row, shown}
 use Rattle.cmark_grammar.specs.Leaves.{underlines}

@@ -1,4 +1,5 @@
--- The state of reading a leaf's text: the place reached, the opening brackets before it, and the possible results of a closing bracket.
+-- The state of reading a leaf's text (CommonMark 6.3): the place reached, the opening brackets before it, and the possible results of a
+-- closing bracket.
 use Rattle.std.specs.Prelude.{ℕ, true, false, Bool, List, ◌∷◌, Option}
 use Rattle.cmark_grammar.specs.Answers.{Destination}
 use Rattle.cmark_grammar.specs.Items.{Bracket}

@@ -1,4 +1,5 @@
 -- The columns of a line (CommonMark 2.2: a tab is as wide as the spaces up to the next tab stop; tab stops are four columns apart).
+-- Example: after two columns a tab is two columns wide.
 use Rattle.std.specs.Prelude.{ℕ, zero, suc, ◌+◌, ◌-◌, ◌%◌, Bool, true, ◌==◌, ◌||◌, if◌then◌else◌, List, [], ◌∷◌, ◌++◌, length, drop, take_while}
 
 abbrev pub tab : ℕ

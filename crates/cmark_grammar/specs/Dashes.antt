@@ -1,4 +1,4 @@
--- Dashes in place of hyphens, if smart punctuation is on (this profile's own).
+-- Dashes in place of hyphens, if smart punctuation is on (this profile's own). Example: `--` becomes an en dash, and `---` an em dash.
 use Rattle.std.specs.Prelude.{ℕ, zero, suc, ◌==◌, ◌-◌, ◌/◌, ◌%◌, if◌then◌else◌, encode_utf8, List, [], ◌++◌}
 
 -- the number of em dashes (U+2014) and of the en dashes (U+2013) after them

@@ -1,4 +1,5 @@
--- The entity names that are known if the caller passes no other look-up.
+-- The entity names that are known if the caller passes no other look-up (CommonMark 2.5; that these are known is this profile's own).
+-- Example: the text of `amp` is `&`.
 use Rattle.std.specs.Prelude.{Some, None, codes, [], ◌∷◌, if◌then◌else◌}
 use Rattle.std.specs.Str.{bytes_eq}
 use Rattle.cmark_grammar.specs.Answers.{Lookup}

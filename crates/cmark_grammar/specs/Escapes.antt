@@ -1,4 +1,4 @@
--- Escapes: each byte of a text is mapped, and the results are joined.
+-- Escapes in HTML, as the original writes them: each byte of a text is mapped, and the results are joined. Example: `a<b` becomes `a&lt;b`.
 use Rattle.std.specs.Prelude.{ℕ, ◌+◌, ◌/◌, ◌%◌, Bool, ◌||◌, ◌==◌, nat_lt, if◌then◌else◌, List, [], ◌∷◌, flat_map, codes}
 use Rattle.std.specs.Char.{is_ascii_alphanumeric}
 use Rattle.std.specs.List.{list_any}

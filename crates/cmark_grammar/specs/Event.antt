@@ -1,4 +1,5 @@
--- The events of a document.
+-- The events of a document (this profile's own, as in the original). Example: the events of `a` are the start of a paragraph, a text and
+-- the end of the paragraph.
 use Rattle.std.specs.Prelude.{ℕ, Bool, List}
 use Rattle.cmark_grammar.specs.Tag.{Tag}
 use Rattle.cmark_grammar.specs.TagEnd.{TagEnd}

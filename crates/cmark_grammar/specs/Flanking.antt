@@ -1,4 +1,5 @@
--- The characters beside a delimiter run, and whether the run can open or close (CommonMark 2.1 and 6.2).
+-- The characters beside a delimiter run, and whether the run can open or close (CommonMark 2.1 and 6.2). Example: in `a *b*` the first run
+-- can only open, and the second can only close.
 use Rattle.std.specs.Prelude.{ℕ, Bool, true, false, not, ◌==◌, ◌&&◌, ◌||◌, nat_lt, Option, Some, None}
 use Rattle.ucd_category.specs.GeneralCategory.{general_category, general_category_eq}
 use Rattle.ucd_category.specs.GeneralCategoryGroup.{in_group}

@@ -4,6 +4,8 @@
 -- A reading is a list of events with their ranges. It depends on the text, the options, the entity names, the reference expansion limit and
 -- the answers of the callback (`IsReading`). The HTML of events is `html`.
 --
+-- Example: of the text `*a* [b]` the output is `<p><em>a</em> [b]</p>` and a line feed, since no definition has the label `b`.
+--
 -- This file names nothing but the grammar. Every definition that the theorem rests on is imported from here.
 use Rattle.std.specs.Prelude.{◌≡◌, ℕ, Bool, false, List, [], length, map, max}
 use Rattle.cmark_grammar.specs.Answers.{Lookup}

@@ -1,4 +1,4 @@
--- HTML blocks: their seven kinds of start and end (CommonMark 4.6).
+-- HTML blocks: their seven kinds of start and end (CommonMark 4.6). Examples: `<div>` begins a block of kind 6, and `<!-- a` one of kind 2.
 use Rattle.std.specs.Prelude.{ℕ, Bool, false, ◌==◌, ◌&&◌, ◌||◌, not, nat_le, if◌then◌else◌, List, [], ◌∷◌, length, drop, take_while, map, codes, bytes_eq, Option, Some, None}
 use Rattle.cmark_grammar.specs.Columns.{bytes_of}
 use Rattle.cmark_grammar.specs.Rows.{Row, is_blank_line, words_of}

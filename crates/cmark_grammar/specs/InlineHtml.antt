@@ -1,4 +1,4 @@
--- Inline HTML (CommonMark 6.6).
+-- Inline HTML (CommonMark 6.6). Examples: `<!-- a -->`, `<?a?>`, `<a b>`.
 use Rattle.cmark_grammar.specs.Letters.{is_letter, starts, behind_if, behind_start, behind_first}
 use Rattle.std.specs.Prelude.{ℕ, zero, suc, ◌-◌, Bool, ◌==◌, ◌||◌, if◌then◌else◌, List, [], ◌∷◌, length, drop, take, min, codes, Option, Some, None, option_map}
 use Rattle.std.specs.Option.{option_or}

@@ -1,4 +1,4 @@
--- The events of a leaf's spans, each with its range in the source.
+-- The events of a leaf's spans (CommonMark 6), each with its range in the source.
 use Rattle.std.specs.Prelude.{ℕ, List, [], ◌∷◌, ◌++◌}
 use Rattle.cmark_grammar.specs.Event as event
 use Rattle.cmark_grammar.specs.Event.{Event, Start, End, Ranged}

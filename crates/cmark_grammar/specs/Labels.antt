@@ -1,4 +1,4 @@
--- The labels of links and footnotes, and when two labels are equal (CommonMark 4.7).
+-- The labels of links and footnotes, and when two labels are equal (CommonMark 4.7). Example: ` Foo  BAR ` and `foo bar` are equal.
 use Rattle.std.specs.Prelude.{ℕ, Bool, nat_lt, List, length, filter, chars, encode_utf8_all}
 use Rattle.std.specs.Char.{is_ascii_whitespace}
 use Rattle.std.specs.List.{slice_split, join_with_byte}

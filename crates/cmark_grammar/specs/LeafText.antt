@@ -1,5 +1,5 @@
--- The text of a leaf: its lines in the source, without the prefixes of the containers around it (CommonMark 4.2, 4.8 and 5.1).
--- Places are places of the source.
+-- The text of a leaf: its lines in the source, without the prefixes of the containers around it (CommonMark 4.2, 4.8 and 5.1). Places are
+-- places of the source. Example: the two lines `> a` and `> b` are a paragraph of two stretches.
 use Rattle.std.specs.Prelude.{ℕ, ◌+◌, ◌-◌, ◌≤◌, Bool, nat_lt, if◌then◌else◌, min, max, List, [], ◌∷◌, ◌++◌}
 use Rattle.cmark_grammar.specs.Tokens.{slice}
 

@@ -1,4 +1,4 @@
--- ASCII letters and digits, and the beginnings of byte strings.
+-- ASCII letters and digits (named in CommonMark 2.5, 6.5 and 6.6), and the beginnings of byte strings.
 use Rattle.std.specs.Prelude.{ℕ, ◌+◌, Bool, false, ◌&&◌, ◌||◌, nat_le, if◌then◌else◌, List, [], ◌∷◌, length, drop, take, bytes_eq, Option, Some, None}
 use Rattle.std.specs.List.{prefix_len}
 

@@ -1,4 +1,5 @@
--- The grammar, in reading order. Chapters 1 to 12 are the definitions that the theorem rests on; sections are those of CommonMark 0.31.2.
+-- The grammar, in reading order. Chapters 1 to 12 are the definitions that the theorem rests on; docs/GRAMMAR.md has the same chapters.
+-- Sections are those of CommonMark 0.31.2 or, if it is named, of GFM.
 
 -- 1. The theorem, and the conditions under which a text is read
 pub mod Headline
@@ -19,7 +20,6 @@ pub mod Leaves
 pub mod HtmlBlocks
 pub mod CodeBlockKind
 pub mod Labels
-pub mod Destinations
 pub mod LinkDefinitions
 -- 5. Container blocks and lists (CommonMark 5)
 pub mod Containers
@@ -28,17 +28,16 @@ pub mod Lists
 pub mod Openings
 pub mod Blocks
 pub mod BlockDocument
+pub mod Tokens
 pub mod Derivation
 pub mod References
--- 7. What begins in the text of a leaf (CommonMark 6)
+-- 7. The tokens in the text of a leaf (CommonMark 6)
 pub mod LeafText
-pub mod Tokens
 pub mod LineBreaks
 pub mod CodeSpans
 pub mod Tags
 pub mod InlineHtml
 pub mod Autolinks
-pub mod LabelsOverLines
 pub mod Items
 pub mod InlineTokens
 -- 8. Emphasis (CommonMark 6.2)
@@ -48,7 +47,9 @@ pub mod Spans
 pub mod Siblings
 -- 9. Links and images (CommonMark 6.3 and 6.4)
 pub mod LinkType
+pub mod Destinations
 pub mod LinkTails
+pub mod LabelsOverLines
 pub mod OpenBrackets
 pub mod BracketStates
 pub mod BracketDecisions

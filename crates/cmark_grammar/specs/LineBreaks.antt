@@ -1,4 +1,4 @@
--- The breaks between the lines of a leaf (CommonMark 6.7 and 6.8).
+-- The breaks between the lines of a leaf (CommonMark 6.7 and 6.8). Example: two spaces before a line ending make a hard break.
 use Rattle.std.specs.Prelude.{ℕ, ◌-◌, Bool, true, false, ◌==◌, if◌then◌else◌, List, length, drop, take_while, codes, bytes_eq, Option, option_map}
 use Rattle.std.specs.Option.{option_or}
 use Rattle.cmark_grammar.specs.Columns.{is_blank_byte}

@@ -1,4 +1,4 @@
--- The lines of a text (CommonMark 2.1).
+-- The lines of a text (CommonMark 2.1). Example: the bytes `a`, CR, LF and `b` are two lines.
 use Rattle.std.specs.Prelude.{ℕ, Bool, false, ◌==◌, ◌&&◌, ◌||◌, not, if◌then◌else◌, List, [], ◌∷◌, take_while}
 
 abbrev pub line_feed : ℕ

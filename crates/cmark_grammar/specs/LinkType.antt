@@ -1,4 +1,5 @@
--- The written forms of links and images (CommonMark 6.3 to 6.5; wikilinks are this profile's own).
+-- The written forms of links and images (CommonMark 6.3 to 6.5; wikilinks are this profile's own). Examples: `[a](b)` is inline, `[a][b]` a
+-- full reference, `[a][]` a collapsed one and `[a]` a shortcut.
 use Rattle.std.specs.Prelude.{Bool}
 
 -- a reference is unknown if no definition has its label and the caller's code gave its destination. A wikilink has a pothole if it shows a

@@ -1,5 +1,5 @@
 -- Lists: neighbouring items, and whether a list is loose (CommonMark 5.3). Definition lists: titles and definitions in a row (this
--- profile's own).
+-- profile's own). Example: the two lines `- a` and `+ b` are two lists.
 use Rattle.std.specs.Prelude.{ℕ, Bool, true, false, ◌==◌, ◌&&◌, ◌||◌, not, if◌then◌else◌, Option, Some, None}
 use Rattle.cmark_grammar.specs.Containers.{BlockQuote, Item, Footnote, ListDefinition}
 use Rattle.cmark_grammar.specs.Blocks.{Blocks, Nil, BlankLine, Paragraph, SetextHeading, LeafBlock, ContainerBlock}

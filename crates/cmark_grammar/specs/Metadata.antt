@@ -1,4 +1,4 @@
--- Metadata blocks: the lines at their beginning and end (this profile's own).
+-- Metadata blocks: the lines at their beginning and end (this profile's own). Example: `---`, `a: b` and `---` on three lines.
 use Rattle.std.specs.Prelude.{ℕ, Bool, false, ◌&&◌, ◌||◌, not, if◌then◌else◌, List, [], ◌∷◌, length, drop, codes, Option, Some, None}
 use Rattle.cmark_grammar.specs.Columns.{bytes_of}
 use Rattle.cmark_grammar.specs.Rows.{Row, is_blank_line, is_whole_line}

@@ -1,4 +1,5 @@
--- The opening bracket that a closing one takes (CommonMark 6.3, "look for link or image"; wikilinks are this profile's own).
+-- The opening bracket that a closing one takes (CommonMark 6.3, "look for link or image"; wikilinks are this profile's own). Example: in
+-- `[a [b](c)` the closing bracket takes the second opening one.
 use Rattle.std.specs.Prelude.{ℕ, zero, suc, Bool, true, false, not, ◌==◌, ◌&&◌, ◌||◌, if◌then◌else◌, List, [], ◌∷◌, map, Option, Some, None}
 use Rattle.cmark_grammar.specs.BracketStates.{Opener}
 

@@ -1,4 +1,5 @@
--- The blocks that a line begins, and the lines that interrupt a paragraph (CommonMark 3 to 5).
+-- The blocks that a line begins, and the lines that interrupt a paragraph (CommonMark 3 to 5). Example: `# a` begins a heading and
+-- interrupts a paragraph; `2. a` begins an item and does not interrupt one.
 use Rattle.std.specs.Prelude.{ℕ, suc, Bool, true, false, ◌==◌, ◌&&◌, ◌||◌, not, nat_le, if◌then◌else◌, List, Option, Some, None, ◌∷◌, ◌-◌, length, drop, []}
 use Rattle.cmark_grammar.specs.Alignment.{Alignment}
 use Rattle.cmark_grammar.specs.Rows.{Row, is_blank_line, indent_of, words_of, without}

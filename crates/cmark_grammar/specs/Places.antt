@@ -1,4 +1,5 @@
--- The place of a line among the blocks of its container, as far as the block that it begins depends on it.
+-- The place of a line among the blocks of its container, as far as the block that it begins depends on it (for GFM 5.3 and for rules of
+-- this profile's own).
 use Rattle.std.specs.Prelude.{Bool, true, false}
 
 -- the places:

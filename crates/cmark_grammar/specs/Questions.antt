@@ -1,4 +1,5 @@
--- The questions about references whose label no definition has, and their answers (this profile's own).
+-- The questions about references whose label no definition has, and their answers (this profile's own). Example: if no definition has the
+-- label `b`, the callback is asked about `[a][b]`.
 use Rattle.std.specs.Prelude.{◌≡◌, ℕ, List, ◌∷◌, ◌++◌, Option}
 use Rattle.cmark_grammar.specs.Answers.{Destination}
 use Rattle.cmark_grammar.specs.LinkType.{LinkType}

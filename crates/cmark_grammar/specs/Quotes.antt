@@ -1,4 +1,4 @@
--- Quotation marks as typographic ones, if smart punctuation is on (this profile's own).
+-- Quotation marks as typographic ones, if smart punctuation is on (this profile's own). Example: `"a"` becomes `“a”`.
 use Rattle.std.specs.Prelude.{ℕ, Bool, true, false, not, ◌==◌, ◌&&◌, ◌||◌, if◌then◌else◌, Option, Some, None, List, [], ◌∷◌}
 use Rattle.cmark_grammar.specs.Flanking.{is_white_space_there, is_punctuation_there}
 

@@ -1,4 +1,4 @@
--- The data with which all leaves of a source are read.
+-- The data with which all leaves of a source are read (CommonMark 4.7 for the definitions; the callback is this profile's own).
 use Rattle.std.specs.Prelude.{ℕ, Bool, List, Option}
 use Rattle.cmark_grammar.specs.Answers.{Lookup}
 use Rattle.cmark_grammar.specs.BlockDocument.{Reference}

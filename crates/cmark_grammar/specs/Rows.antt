@@ -1,4 +1,4 @@
--- The rest of a line inside containers.
+-- The rest of a line inside containers (CommonMark 2.2 and 5.1). Example: in the block quote `> a` it is `a`.
 use Rattle.std.specs.Prelude.{ℕ, suc, ◌+◌, Bool, true, false, ◌==◌, ◌&&◌, not, if◌then◌else◌, List, [], ◌∷◌, length, drop}
 use Rattle.cmark_grammar.specs.Lines.{lines, content}
 use Rattle.cmark_grammar.specs.Columns.{Column, expand, indent, without_indent, bytes_of}

@@ -1,4 +1,5 @@
--- The attributes of a setext heading (this profile's own): braces at the end of its content, which may span several lines.
+-- The attributes of a setext heading (this profile's own): braces at the end of its content, which may span several lines. Example:
+-- `a {#b}` over a line `===`.
 use Rattle.std.specs.Prelude.{ℕ, Bool, true, false, nat_lt, if◌then◌else◌, List, [], ◌∷◌, ◌++◌, length, drop}
 use Rattle.cmark_grammar.specs.Attributes.{Attributes, no_attributes, before_braces, inside_braces, attributes_of}
 use Rattle.cmark_grammar.specs.BlockDocument.{BlockDocument, Nil, Node}

@@ -1,4 +1,5 @@
--- The events of a text: those of its blocks, with the spans of its leaves, and the questions that were asked on the way.
+-- The events of a text: those of its blocks, with the spans of its leaves, and the questions that were asked on the way. Blocks come first,
+-- and spans are read inside their leaves (CommonMark 3.1).
 use Rattle.std.specs.Prelude.{◌≡◌, ℕ, zero, suc, Bool, true, false, ◌||◌, bytes_eq, if◌then◌else◌, List, [], ◌∷◌, ◌++◌, Option, Some, None}
 use Rattle.cmark_grammar.specs.Answers.{Lookup}
 use Rattle.cmark_grammar.specs.BlockDocument.{BlockKind, TableCell, FootnoteDefinition, BlockNode, BlockDocument, Nil, Node}

@@ -1,4 +1,5 @@
--- Spans around siblings: emphasis, and the spans of tildes, carets and equals signs (CommonMark 6.2, GFM 6.5).
+-- Spans around siblings: emphasis, and the spans of tildes, carets and equals signs (CommonMark 6.2, GFM 6.5). Example: in `*a*` the span
+-- reaches from place 0 to place 3.
 use Rattle.std.specs.Prelude.{◌≡◌, ◌+◌, ℕ, suc, zero, if◌then◌else◌, Option, Some, None}
 use Rattle.cmark_grammar.specs.Options.{Options}
 use Rattle.cmark_grammar.specs.Tag.{Tag}

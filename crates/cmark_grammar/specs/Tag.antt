@@ -1,4 +1,4 @@
--- The tags of the elements that have a start and an end.
+-- The tags of the elements that have a start and an end: blocks (CommonMark 4 and 5), spans (CommonMark 6), and those of the extensions.
 use Rattle.std.specs.Prelude.{ℕ, List, Option}
 use Rattle.cmark_grammar.specs.Alignment.{Alignment}
 use Rattle.cmark_grammar.specs.Attributes.{Attributes}

@@ -1,5 +1,5 @@
 -- Open and closing tags (CommonMark 6.6). Each part is read from the beginning of the bytes: the result is the bytes after it, if it is
--- there.
+-- there. Examples: `<a href="b">`, `</a >`.
 use Rattle.std.specs.Prelude.{ℕ, zero, suc, Bool, ◌==◌, ◌||◌, not, if◌then◌else◌, List, [], ◌∷◌, length, drop, Option, Some, None}
 use Rattle.cmark_grammar.specs.Columns.{is_blank_byte}
 use Rattle.cmark_grammar.specs.Lines.{is_content, ends_line}

@@ -1,4 +1,4 @@
--- Texts without their escapes and entities (CommonMark 2.4 and 2.5; tables: GFM 4.10).
+-- Texts without their escapes and entities (CommonMark 2.4 and 2.5; tables: GFM 4.10). Example: `\*&amp;` becomes `*&`.
 use Rattle.std.specs.Prelude.{ℕ, Bool, if◌then◌else◌, List, [], ◌∷◌}
 use Rattle.cmark_grammar.specs.Answers.{Lookup}
 use Rattle.cmark_grammar.specs.Letters.{starts}
