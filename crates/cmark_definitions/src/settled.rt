@@ -71,8 +71,9 @@ fn label_settles(paragraph: &str) -> bool
     ends_in(text.as_bytes(), b']', b'[') && lacks_colon(label_in(text))
 }
 
-/// Whether the result of `scan_definition` on this text stays the same whatever text follows. It does if a definition ended and something
-/// follows it that is not an unfinished title, and if no colon follows the end of a label. `paragraph` is as for `scan_definition`.
+/// Whether it is known that the result of `scan_definition` on this text stays the same whatever text follows. It is known if a definition
+/// ended and something follows it that is not an unfinished title. It is also known if no colon follows the end of a label. `paragraph` is
+/// as for `scan_definition`.
 pub fn is_settled(paragraph: &str) -> bool
     ensures value { result ≡ settles paragraph.now }
     ensures settled { IsTrue result → IsSettled paragraph.now }

@@ -7,6 +7,7 @@ pub record Attribute : Type 0 where
   pub name : List ℕ
   pub value : Option (List ℕ)
 
+-- the attributes of a heading: its id, its classes, and the others, in order
 pub record Attributes : Type 0 where
   pub id : Option (List ℕ)
   pub classes : List (List ℕ)

@@ -45,9 +45,11 @@ read_as (Text bytes) = Alone (event.Text bytes)
 read_as (OwnedText bytes) = Alone (event.Text bytes)
 read_as (Html bytes) = Alone (event.Html bytes)
 
+-- an event with the range of a node
 abbrev pub over : BlockNode → Event → Ranged
 over node event = record { event = event; start = node.start; end = node.end }
 
+-- the events of a node, by its reading, around the events inside it
 abbrev pub node_events : Reads → BlockNode → List Ranged → List Ranged
 node_events (Around tag) node inside = over node (Start tag) ∷ (inside ++ (over node (End (end_of tag)) ∷ []))
 node_events Inside node inside = inside
@@ -114,6 +116,7 @@ abbrev pub with_first : Option Event → (starts : ℕ) → BlockNode → List R
 with_first None starts node others = others
 with_first (Some event) starts node others = first_in starts (over node event) others
 
+-- the events of a document of blocks, in preorder
 abbrev pub block_reading : BlockDocument → List Ranged
 block_reading Nil = []
 block_reading (Node node inside after) =

@@ -79,6 +79,7 @@ module _ (options : Options) where
   AreText [] rest = Unit {0}
   AreText (r ∷ more) rest = IsText r (shown (more ++ rest)) × AreText more rest
 
+  -- the line ends a paragraph, and is no underline
   abbrev pub IsNoText : Row → List Row → Type 0
   IsNoText r ahead = (texts options r ahead ≡ false) × (underlines r ≡ None)
 
@@ -103,6 +104,7 @@ module _ (options : Options) where
     pub opened : opens_at options place line (shown rest) ≡ Blank
     pub after : After rest
 
+  -- all lines are a paragraph (CommonMark 4.8) and the lines of the blocks after it: the others continue it, and the next line ends it
   pub record HasParagraph (After : List Row → Type 0) (place : Place) (all : List Row) (first : Row) (more : List Row) : Type 0 where
     pub rest : List Row
     pub cut : all ≡ first ∷ (more ++ rest)
@@ -112,6 +114,7 @@ module _ (options : Options) where
     pub stops : Next IsNoText rest
     pub after : After rest
 
+  -- all lines are a setext heading (CommonMark 4.3), whose content is a paragraph, its underline, and the lines of the blocks after it
   pub record HasSetextHeading (After : List Row → Type 0) (place : Place) (all : List Row) (level : ℕ) (first : Row) (more : List Row) (underline : Row) : Type 0 where
     pub rest : List Row
     pub cut : all ≡ first ∷ (more ++ (underline ∷ rest))
@@ -121,12 +124,15 @@ module _ (options : Options) where
     pub underlined : underlines underline ≡ Some level
     pub after : After rest
 
+  -- all lines are a leaf, with the number of further lines that its opening gives, and the lines of the blocks after it
   pub record HasLeaf (After : List Row → Type 0) (place : Place) (all : List Row) (leaf : Leaf) (first : Row) (more : List Row) : Type 0 where
     pub rest : List Row
     pub cut : all ≡ first ∷ (more ++ rest)
     pub opened : opens_at options place first (shown (more ++ rest)) ≡ Takes leaf (length more)
     pub after : After rest
 
+  -- all lines are a container (CommonMark 5) and the lines of the blocks after it. Its later lines have its prefix or are lazy, and the
+  -- next line ends it
   pub record HasContainer (Inside After : List Row → Type 0) (place : Place) (all : List Row) (k : Container) (first : Row) (more : List Row) (inside : Blocks) : Type 0 where
     pub rest : List Row
     pub cut : all ≡ first ∷ (more ++ rest)

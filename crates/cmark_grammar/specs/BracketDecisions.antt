@@ -78,6 +78,7 @@ module _ (reader : Reader) (leaf : Leaf) where
   tail_destination tail =
       record { url = unescaped reader.lookup leaf.is_cell tail.destination; title = unescaped reader.lookup leaf.is_cell (title_lines false (or_empty tail.title)) }
 
+  -- an inline link (CommonMark 6.3), with the destination and the title in parentheses
   abbrev pub inline_link : LinkTail → Taken → State → Outcome
   inline_link tail taken s = links taken (linked Inline (tail_destination tail) []) (place tail.behind) (place tail.behind) s
 
@@ -147,6 +148,7 @@ module _ (reader : Reader) (leaf : Leaf) where
   collapsed_or_shortcut label end None = record { label = label; link_type = Shortcut; end = end; resume = end }
   collapsed_or_shortcut label end (Some rest) = record { label = label; link_type = Collapsed; end = end; resume = place rest }
 
+  -- the text between the brackets is the label: of a footnote reference, or of a collapsed or shortcut reference (CommonMark 6.3)
   abbrev pub by_own_label : (label : List ℕ) → Taken → Bracket → State → Decision
   by_own_label label taken closer s =
       if is_footnote_label label then footnote_reference (as_label (drop 1 label)) taken closer s
@@ -169,10 +171,12 @@ module _ (reader : Reader) (leaf : Leaf) where
   unless_footnote None = None
   unless_footnote (Some found) = if is_footnote_label found.bytes then None else Some found
 
+  -- an inline link, if the parentheses are there, else a reference (CommonMark 6.3)
   abbrev pub link_or : Option LinkTail → Taken → Bracket → State → Decision
   link_or (Some tail) taken closer s = Settled (inline_link tail taken s)
   link_or None taken closer s = reference_or (unless_footnote (reference_label_in (behind closer.end))) taken closer s
 
+  -- without an opening bracket, or with an inactive one, the closing bracket is a text (CommonMark 6.3)
   abbrev pub with_taken : Option Taken → Bracket → State → Decision
   with_taken None closer s = Settled (stays closer s)
   with_taken (Some taken) closer s =
@@ -184,6 +188,7 @@ module _ (reader : Reader) (leaf : Leaf) where
   abbrev pub wiki_text : (first : Taken) → Bracket → List ℕ
   wiki_text first closer = slice reader.source (suc first.opener.bracket.end) closer.start
 
+  -- a wikilink makes the brackets before it inactive, and no longer doubled
   abbrev pub wikilink : (first : Taken) → Bracket → State → Outcome
   wikilink first closer s =
       forms first (Wiki (name_in (wiki_text first closer)) (behind_pipe (suc first.opener.bracket.end) (wiki_text first closer)) (suc closer.end)) (suc closer.end)
@@ -204,5 +209,6 @@ module _ (reader : Reader) (leaf : Leaf) where
       if reader.options.wikilinks && first_is (λ b. b == 93) (behind closer.end) then wikilink_or (doubled s.openers) taken closer s
       else with_taken taken closer s
 
+  -- the decision about a closing bracket
   unfoldable pub decide : State → (closer : Bracket) → Decision
   decide s closer = taking (nearest s.openers) closer (record s { openers = used_up s.openers })

@@ -64,9 +64,12 @@ behind_marker size r = drop (indent_of r + size) r.columns
 abbrev pub padding : List Column → ℕ
 padding cs = if is_bare (without_indent cs) || nat_le 5 (indent cs) then 1 else indent cs
 
+-- the width of an item's prefix: the indent, the marker, and the blanks after it that count (CommonMark 5.2). Example: 3 for ` - a`
 abbrev pub width_with : ℕ → Row → ℕ
 width_with size r = indent_of r + (size + padding (behind_marker size r))
 
+-- the list item that a line begins (CommonMark 5.2): a marker, and then a blank or the line's end, on a line that is not a thematic break.
+-- Example: `1. a`
 abbrev pub item_with : Row → Option Marker → Option Container
 item_with r None = None
 item_with r (Some m) =
@@ -119,6 +122,7 @@ with_task options r (Some (Item delimiter number width task)) = Some (Item delim
 with_task options r (Some (Footnote label old size)) = Some (Footnote label old size)
 with_task options r (Some (ListDefinition width)) = Some (ListDefinition width)
 
+-- the container that a line begins: a footnote definition, else a list item, else a block quote
 abbrev pub container_of : Options → Row → Option Container
 container_of options r = footnote_or (footnote_of (footnotes_in options) r) (container_with (with_task options r (item_of r)) (is_block_quote r) (alert_in options (without (block_quote_width r) r)))
 
@@ -140,6 +144,7 @@ marker_width (Item delimiter number width task) r = width
 marker_width (Footnote label old size) r = footnote_width size r
 marker_width (ListDefinition width) r = width
 
+-- the number of columns of the first line that the container's marker takes, with an item's task marker
 abbrev pub width_of : Container → Row → ℕ
 width_of (BlockQuote alert) r = block_quote_width r
 width_of (Item delimiter number width task) r = behind_box task width
@@ -156,6 +161,8 @@ abbrev pub keep_footnote : (old : Bool) → Row → Option Row
 keep_footnote true r = if is_blank_line r then None else Some (hold r)
 keep_footnote false r = if is_blank_line r || nat_le 4 (indent_of r) then Some (without 4 r) else None
 
+-- a later line after the container's prefix: `>` for a block quote (CommonMark 5.1). A line of an item is blank or indented by the item's
+-- width (CommonMark 5.2)
 abbrev pub keep_as : Container → Row → Option Row
 keep_as (BlockQuote alert) r = if is_block_quote r then Some (without (block_quote_width r) r) else None
 keep_as (Item delimiter number width task) r = if is_blank_line r || nat_le width (indent_of r) then Some (without width r) else None
@@ -182,10 +189,12 @@ strip_as None r = lazy_row r
 abbrev pub strip : Container → Bool → Row → Row
 strip k bare r = strip_as (keeps k bare r) r
 
+-- later lines seen from inside the container
 abbrev pub strips : Container → Bool → List Row → List Row
 strips k bare [] = []
 strips k bare (r ∷ rs) = strip k bare r ∷ strips k false rs
 
+-- after a further line the container is not bare any more
 abbrev pub bare_after : Bool → List Row → Bool
 bare_after bare [] = bare
 bare_after bare (r ∷ rs) = false

@@ -28,6 +28,7 @@ abbrev pub title_of : Lookup → Option (List ℕ) → Option (List ℕ)
 title_of lookup None = None
 title_of lookup (Some title) = Some (resolved lookup (title_lines false title))
 
+-- a link reference definition (CommonMark 4.7): its label's normal form, and its destination and title with escapes and entities resolved
 abbrev pub reference_of : Lookup → Definition → ℕ → ℕ → Reference
 reference_of lookup definition start end = record {
   label = normal_form definition.label;
@@ -63,6 +64,7 @@ list_kind delimiter number tight = if delimiter == definition_delimiter then Def
 abbrev pub new_list : (list : BlockKind) → BlockNode → (inside after : BlockDocument) → BlockDocument
 new_list list item inside after = Node (node list item.start item.end) (Node item inside Nil) after
 
+-- an item before the rest of a document: it joins the list at the beginning of that, or begins a list of its own
 abbrev pub item_then : (joins : Bool) → (list : BlockKind) → BlockNode → (inside after : BlockDocument) → BlockDocument
 item_then false list item inside after = new_list list item inside after
 item_then true list item inside Nil = new_list list item inside Nil
@@ -73,6 +75,7 @@ abbrev pub task_then : Option Bool → (start end : ℕ) → BlockDocument → B
 task_then None start end inside = inside
 task_then (Some is_checked) start end inside = Node (node (TaskMarker is_checked) start end) Nil inside
 
+-- a paragraph directly in an item of a tight list is not an element (CommonMark 5.3)
 abbrev pub paragraph_kind : (direct : Bool) → BlockKind
 paragraph_kind direct = if direct then TightParagraph else Paragraph
 

@@ -92,6 +92,7 @@ emphasis_kinds zero = []
 emphasis_kinds (suc zero) = Emphasis ∷ []
 emphasis_kinds (suc (suc n)) = Strong ∷ emphasis_kinds n
 
+-- the spans of `~`, the innermost first (GFM 6.5, and this profile's own)
 abbrev pub tilde_kinds : ℕ → List SpanKind
 tilde_kinds zero = []
 tilde_kinds (suc zero) = SingleTilde ∷ []
@@ -107,6 +108,7 @@ equals_kinds zero = []
 equals_kinds (suc zero) = Emphasis ∷ []
 equals_kinds (suc (suc n)) = DoubleEquals ∷ equals_kinds n
 
+-- the spans of a pair, by its delimiter
 unfoldable pub kinds_of : (delimiter count : ℕ) → List SpanKind
 kinds_of delimiter count = if delimiter == 126 then tilde_kinds count else if delimiter == 94 then caret_kinds count else if delimiter == 61 then equals_kinds count else emphasis_kinds count
 
@@ -117,6 +119,7 @@ nest (kind ∷ kinds) from to inside =
     nest kinds (from - span_width kind) (to + span_width kind)
     (Around (record { kind = kind; start = from - span_width kind; end = to + span_width kind }) inside Nil)
 
+-- the spans of a pair around the spans inside it
 abbrev pub wrapped : Pair → Spans → Spans
 wrapped pair inside = nest (kinds_of pair.delimiter pair.count) pair.from pair.to inside
 

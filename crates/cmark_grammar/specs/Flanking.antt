@@ -60,10 +60,12 @@ pub record Flanking : Type 0 where
   pub opens : Bool
   pub closes : Bool
 
+-- whether a run can open (CommonMark 6.2, rules 1, 2, 5 and 6)
 abbrev pub opens_beside : (intraword : Bool) → (before after : Option ℕ) → Bool
 opens_beside intraword before after =
     is_left_flanking before after && (intraword || (not (is_right_flanking before after) || is_punctuation_there before))
 
+-- whether a run can close (CommonMark 6.2, rules 3, 4, 7 and 8)
 abbrev pub closes_beside : (intraword : Bool) → (before after : Option ℕ) → Bool
 closes_beside intraword before after =
     is_right_flanking before after && (intraword || (not (is_left_flanking before after) || is_punctuation_there after))

@@ -11,6 +11,7 @@ pub data Footnotes : Type 0 where
   Gfm : Footnotes
   Old : Footnotes
 
+-- the style of footnotes that the options ask for
 abbrev pub footnotes_in : Options → Footnotes
 footnotes_in options = if options.footnotes then (if options.old_footnotes then Old else Gfm) else Off
 

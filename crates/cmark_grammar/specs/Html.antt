@@ -465,5 +465,6 @@ abbrev pub last_piece : Option OpenImage → List ℕ
 last_piece None = []
 last_piece (Some image) = image_end image.title
 
+-- the HTML of a list of events, from the first to the last
 abbrev pub html : List Event → List ℕ
 html events = pieces events ++ last_piece (moved_all at_line_start events).image

@@ -14,9 +14,11 @@ abbrev pub is_among : List ℕ → List (List ℕ) → Bool
 is_among word [] = false
 is_among word (w ∷ words) = bytes_eq word w || is_among word words
 
+-- the names of kind 1 (CommonMark 4.6)
 abbrev pub raw_names : List (List ℕ)
 raw_names = codes "pre" ∷ codes "script" ∷ codes "style" ∷ codes "textarea" ∷ []
 
+-- the names of kind 6 (CommonMark 4.6)
 abbrev pub block_names : List (List ℕ)
 block_names =
     codes "address" ∷ codes "article" ∷ codes "aside" ∷ codes "base" ∷ codes "basefont" ∷ codes "blockquote" ∷ codes "body" ∷ codes "caption" ∷ codes "center"
@@ -67,6 +69,7 @@ kind_behind bs =
     else if is_lone_tag bs then Some 7
     else None
 
+-- the kind of the HTML block that a line begins, if it begins one (CommonMark 4.6)
 abbrev pub html_kind : List ℕ → Option ℕ
 html_kind [] = None
 html_kind (b ∷ bs) = if b == 60 then kind_behind bs else None

@@ -128,6 +128,7 @@ module _ (reader : Reader) (leaf : Leaf) where
   markup_or at (Some rest) other = markup_to at (at + (length (source_from at) - length rest))
   markup_or at None other = other
 
+  -- a `<`: an autolink, else a comment or other markup, else a tag, else a text (CommonMark 6.5 and 6.6)
   abbrev pub less_than : (at : ℕ) → List ℕ → Token
   less_than at bs =
       if first_is (λ c. c == 92) bs then item_at Plain at (suc at)
@@ -140,6 +141,7 @@ module _ (reader : Reader) (leaf : Leaf) where
       then item_at (Delimiters (record { delimiter = delimiter; run_length = run_length; at = 0; left = run_length; opens = beside.opens; closes = beside.closes })) at (at + run_length)
       else item_at Plain at (at + run_length)
 
+  -- a run of delimiters with the characters beside it (CommonMark 6.2)
   abbrev pub run_at : (at delimiter run_length : ℕ) → Token
   run_at at delimiter run_length = run_or at delimiter run_length (flanking reader.options delimiter run_length (character_before at) (character_at (at + run_length)))
 
@@ -162,6 +164,7 @@ module _ (reader : Reader) (leaf : Leaf) where
   abbrev pub quote_at : (at b : ℕ) → Token
   quote_at at b = item_at (Quoted (quote_beside (b == 34) (character_before at) (character_at (suc at)))) at (suc at)
 
+  -- typographic texts, if smart punctuation is on (this profile's own)
   abbrev pub smart_or : (at b : ℕ) → Token
   smart_or at b =
       if b == 46 then dots at
@@ -169,6 +172,7 @@ module _ (reader : Reader) (leaf : Leaf) where
       else if (b == 34) || (b == 39) then quote_at at b
       else item_at Plain at (suc at)
 
+  -- the token that begins with this byte, of which these bytes are the rest: the first byte decides which constructs are tried
   abbrev pub begins : (at : ℕ) → List ℕ → Token
   begins at [] = Ends
   begins at (b ∷ bs) =
@@ -206,5 +210,6 @@ module _ (reader : Reader) (leaf : Leaf) where
   longest (Closes closer) = Closes closer
   longest Ends = Ends
 
+  -- the token at this place, with adjacent literal bytes as one text
   unfoldable pub token : ℕ → Token
   token at = longest (begins_at at)

@@ -46,6 +46,7 @@ run b bs = length (take_while (λ c. c == b) bs)
 abbrev pub is_break_of : ℕ → List ℕ → Bool
 is_break_of b bs = nat_le 3 (count_by (λ c. c == b) bs) && all_pass (λ c. (c == b) || is_blank_byte c) bs
 
+-- a thematic break of `*`, `-` or `_` (CommonMark 4.1)
 abbrev pub is_thematic_break : List ℕ → Bool
 is_thematic_break bs = is_break_of 42 bs || (is_break_of 45 bs || is_break_of 95 bs)
 
@@ -78,6 +79,7 @@ fence_of indented bs =
 abbrev pub closes_fence : Fence → Row → Bool
 closes_fence fence r = nat_le (indent_of r) 3 && (nat_le fence.run_length (run fence.delimiter (words_of r)) && are_blank (drop (run fence.delimiter (words_of r)) (words_of r)))
 
+-- the closing fence ends fenced code (CommonMark 4.5); any other line belongs to it
 abbrev pub fence_continuation : Fence → Row → Continuation
 fence_continuation fence r = if closes_fence fence r then Closes else GoesOn
 
@@ -85,6 +87,7 @@ fence_continuation fence r = if closes_fence fence r then Closes else GoesOn
 abbrev pub code_continuation : Row → Continuation
 code_continuation r = if is_blank_line r then Waits else if nat_le 4 (indent_of r) then GoesOn else Stops
 
+-- one run of the character, and then only blanks (CommonMark 4.3)
 abbrev pub is_run_of : ℕ → List ℕ → Bool
 is_run_of b bs = nat_lt 0 (run b bs) && are_blank (drop (run b bs) bs)
 

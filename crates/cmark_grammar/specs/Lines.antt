@@ -25,6 +25,7 @@ abbrev pub lines : List ℕ → List (List ℕ)
 lines [] = []
 lines (b ∷ bs) = if ends_line b bs then (b ∷ []) ∷ lines bs else onto b (lines bs)
 
+-- a byte that is not part of a line ending (CommonMark 2.1)
 abbrev pub is_content : ℕ → Bool
 is_content b = not (b == line_feed) && not (b == carriage_return)
 

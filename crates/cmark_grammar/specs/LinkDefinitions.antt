@@ -44,6 +44,7 @@ abbrev pub label_if : Option Parsed → Option Parsed
 label_if None = None
 label_if (Some found) = if is_label found.bytes then Some found else None
 
+-- a label after its opening bracket (CommonMark 4.7)
 abbrev pub label_in : List ℕ → Option Parsed
 label_in bs = label_if (up_to false 93 91 true bs)
 
@@ -61,6 +62,7 @@ bare_byte escaped depth b bs found =
     else if not escaped && ((b == 40) && nat_le 32 depth) then None
     else put b found
 
+-- a bare destination (CommonMark 6.3). Depth: the number of open parentheses
 abbrev pub bare_in : (escaped : Bool) → (depth : ℕ) → List ℕ → Option Parsed
 bare_in escaped depth [] = if depth == 0 then Some (record { bytes = []; behind = [] }) else None
 bare_in escaped depth (b ∷ bs) = bare_byte escaped depth b bs (bare_in (escapes_next escaped b) (depth_after escaped depth b) bs)

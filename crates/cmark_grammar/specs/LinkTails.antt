@@ -10,6 +10,7 @@ pub record LinkTail : Type 0 where
   pub title : Option (List ℕ)
   pub behind : List ℕ
 
+-- a closing parenthesis follows the destination and the title
 abbrev pub closed_tail : (destination : List ℕ) → (title : Option (List ℕ)) → List ℕ → Option LinkTail
 closed_tail destination title bs = option_map (λ behind. record { destination = destination; title = title; behind = behind }) (behind_if (λ b. b == 41) (behind_separator bs))
 

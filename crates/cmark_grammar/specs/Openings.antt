@@ -34,6 +34,7 @@ pub data Opening : Type 0 where
   Takes : (leaf : Leaf) → (more : ℕ) → Opening
   Plain : Opening
 
+-- the first opening, or, if that is a paragraph, the second one
 abbrev pub or_else : Opening → Opening → Opening
 or_else Plain other = other
 or_else Blank other = Blank
@@ -101,6 +102,7 @@ abbrev pub heading_if : Bool → (level : ℕ) → Opening
 heading_if true level = Takes (AtxHeading level) 0
 heading_if false level = Plain
 
+-- a metadata block, if the lines ahead belong to one
 abbrev pub metadata_begun : Option MetadataBlockKind → List Row → Opening
 metadata_begun None ahead = Plain
 metadata_begun (Some kind) ahead = if holds_metadata kind ahead then Takes (MetadataBlock kind) (counted (metadata_continuation kind) ahead) else Plain
@@ -167,7 +169,7 @@ module _ (options : Options) where
   unfoldable pub opens : Row → List Row → Opening
   opens r ahead = if r.lazy then Plain else or_else (metadata_begun (metadata_kind options r) ahead) (whole_opens r ahead)
 
--- the text after a task marker always begins a paragraph
+-- the line after a task marker begins a paragraph, unless it is blank
 abbrev pub text_begun : Row → Opening
 text_begun r = if is_blank_line r then Blank else Plain
 

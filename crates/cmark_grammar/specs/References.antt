@@ -39,6 +39,7 @@ abbrev pub found_or : Bool → Reference → Option Reference → Option Referen
 found_or true reference other = Some reference
 found_or false reference other = other
 
+-- the first definition of a folded label (CommonMark 4.7)
 abbrev pub first_with : (fold : List ℕ → List ℕ) → (folded : List ℕ) → List Reference → Option Reference
 first_with fold folded [] = None
 first_with fold folded (reference ∷ rs) = found_or (bytes_eq (fold reference.label) folded) reference (first_with fold folded rs)

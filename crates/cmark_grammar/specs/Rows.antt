@@ -30,9 +30,11 @@ rows text = rows_from 0 (lines text)
 abbrev pub without : ℕ → Row → Row
 without n r = record r { columns = drop n r.columns }
 
+-- the line, marked as lazy
 abbrev pub lazy_row : Row → Row
 lazy_row r = record r { lazy = true }
 
+-- the line, marked as held
 abbrev pub hold : Row → Row
 hold r = record r { held = true }
 

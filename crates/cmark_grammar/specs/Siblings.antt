@@ -47,6 +47,7 @@ with_characters (Around tag start end inside after) cs = Around tag start end in
 with_characters (Single x after) cs =
     quote_as (λ cs. Single (item (Written (encode_utf8 (get_or cs 0 0))) x.start x.end) (with_characters after (drop 1 cs))) (λ cs. Single x (with_characters after cs)) x.kind cs
 
+-- the siblings with a character for each quote
 abbrev pub with_quotes : Inline → Inline
 with_quotes siblings = with_characters siblings (quote_characters [] (quotes_of siblings))
 
@@ -156,6 +157,7 @@ wiki_tag is_image name has_pothole = tag_by is_image (linked (link_type.WikiLink
 abbrev pub name_text : (opener closer : Bracket) → Inline
 name_text opener closer = Single (item Own (suc opener.end) closer.start) Nil
 
+-- the siblings from a place on
 abbrev pub from_place : ℕ → Inline → Inline
 from_place place Nil = Nil
 from_place place (Single x after) = if nat_le x.end place then from_place place after else Single (item x.kind (max x.start place) x.end) after

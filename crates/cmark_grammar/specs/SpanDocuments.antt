@@ -38,6 +38,7 @@ abbrev pub has_label : (folded : List ℕ) → List (List ℕ) → Bool
 has_label folded [] = false
 has_label folded (label ∷ others) = bytes_eq (fold label) folded || has_label folded others
 
+-- the data for the leaves of a text: its definitions and footnotes are those of the document
 abbrev pub reader_of : (text : List ℕ) → Profile → BlockDocument → Reader
 reader_of text profile document = record {
   source = text;
@@ -62,6 +63,7 @@ abbrev pub is_cell : BlockKind → Bool
 is_cell TableCell = true
 is_cell _ = false
 
+-- the leaf of a node with this content
 abbrev pub leaf_of : BlockKind → (content : BlockDocument) → Leaf
 leaf_of kind content = record { stretches = stretches_of content; is_cell = is_cell kind }
 
@@ -86,6 +88,7 @@ abbrev pub with_first_segment : Option Event → (starts : ℕ) → BlockNode �
 with_first_segment None starts node others = others
 with_first_segment (Some event) starts node others = first_of_segments starts (Given (over node event)) others
 
+-- the parts of a document, in preorder: the events of its blocks, and its leaves
 abbrev pub segments : BlockDocument → List Segment
 segments Nil = []
 segments (Node node inside after) =

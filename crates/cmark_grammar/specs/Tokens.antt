@@ -27,6 +27,7 @@ entity_if (Some bytes) size = Some (record { bytes = bytes; size = size })
 abbrev pub is_character : ℕ → Bool
 is_character n = nat_lt 0 n && (nat_le n 1114111 && not (nat_le 55296 n && nat_le n 57343))
 
+-- the UTF-8 of a character; for any other number, of U+FFFD
 abbrev pub character : ℕ → List ℕ
 character n = if is_character n then encode_utf8 n else 239 ∷ 191 ∷ 189 ∷ []
 
@@ -45,9 +46,11 @@ numeric base most size digits behind =
     if nat_lt 0 (length digits) && (nat_le (length digits) most && first_is (λ b. b == 59) behind)
     then Some (record { bytes = character (value_of base digits); size = length digits + size }) else None
 
+-- 1 to 6 hexadecimal digits and a semicolon (CommonMark 2.5)
 abbrev pub hexadecimal_in : List ℕ → Option Entity
 hexadecimal_in bs = numeric 16 6 4 (take_while is_hexadecimal bs) (drop (length (take_while is_hexadecimal bs)) bs)
 
+-- 1 to 7 decimal digits and a semicolon (CommonMark 2.5)
 abbrev pub decimal_in : List ℕ → Option Entity
 decimal_in bs = numeric 10 7 3 (take_while is_number bs) (drop (length (take_while is_number bs)) bs)
 
@@ -58,6 +61,7 @@ numeric_in bs = if first_is (λ b. (b == 120) || (b == 88)) bs then hexadecimal_
 abbrev pub named : Lookup → (name behind : List ℕ) → Option Entity
 named lookup name behind = if not (is_empty name) && first_is (λ b. b == 59) behind then entity_if (lookup name) (length name + 2) else None
 
+-- a name of letters and digits, and a semicolon (CommonMark 2.5)
 abbrev pub named_in : Lookup → List ℕ → Option Entity
 named_in lookup bs = named lookup (take_while is_alphanumeric bs) (drop (length (take_while is_alphanumeric bs)) bs)
 
@@ -207,6 +211,7 @@ attribute_columns true cs = inside_braces (λ c. c.byte) cs
 abbrev pub heading_columns : (attributes : Bool) → (level : ℕ) → Row → List Column
 heading_columns attributes level r = without_closing (without_attributes attributes (content_columns level r))
 
+-- the text of a heading as one node, or none if it is empty
 abbrev pub heading_tokens : List ℕ → (attributes : Bool) → (level : ℕ) → Row → BlockDocument
 heading_tokens text attributes level r =
     let start = first_place r.content_end (behind_hashes level r) in stretch_then text start (end_place start (heading_columns attributes level r)) Nil
@@ -256,6 +261,7 @@ abbrev pub code_pieces : List ℕ → (most : ℕ) → List Row → List Piece
 code_pieces text most [] = []
 code_pieces text most (r ∷ rs) = merge_all (verbatim_line text (code_columns most r) r) (code_pieces text most rs)
 
+-- the texts of lines of code (CommonMark 4.4 and 4.5)
 abbrev pub code_tokens : List ℕ → (most : ℕ) → List Row → BlockDocument
 code_tokens text most rs = texts_then (code_pieces text most rs) Nil
 
@@ -279,6 +285,7 @@ abbrev pub html_then : List Piece → BlockDocument → BlockDocument
 html_then [] after = after
 html_then (p ∷ ps) after = Node (node (html_kind_of p) p.start p.end) Nil (html_then ps after)
 
+-- the nodes of the lines of an HTML block (CommonMark 4.6)
 abbrev pub html_tokens : List ℕ → List Row → BlockDocument
 html_tokens text [] = Nil
 html_tokens text (r ∷ rs) = html_then (verbatim_line text r.columns r) (html_tokens text rs)
