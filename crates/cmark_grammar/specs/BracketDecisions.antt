@@ -155,7 +155,7 @@ module _ (reader : Reader) (leaf : Leaf) where
       else if is_bracketed_label label then refers (collapsed_or_shortcut (as_label label) closer.end (behind_collapsed (behind closer.end))) taken closer s
       else Settled (stays closer s)
 
-  -- the bracket that closes the label of a full reference closes no other reference
+  -- the bracket that closes the label of a full reference forms no reference by the text between its brackets
   abbrev pub full_reference : Parsed → Taken → Bracket → State → Decision
   full_reference found taken closer s =
       let end = place found.behind in
