@@ -23,6 +23,10 @@ module _ {S : Type 0} (Remains : S → List Exchange → List Ranged → Type 0)
   abbrev pub SomeLeft : Plan → S → Type 0
   SomeLeft plan s = (exchanges : List Exchange) × (events : List Ranged) × AreByPlan plan [] exchanges × Remains s exchanges events
 
+  -- with these questions first, and a plan's answers to the further ones, some events are left
+  abbrev pub SomeLeftFrom : (taken : List Exchange) → Plan → S → Type 0
+  SomeLeftFrom taken plan s = (rest : List Exchange) × (events : List Ranged) × AreByPlan plan [] rest × Remains s (taken ++ rest) events
+
   -- whatever is answered, the next event is not the end of an element
   abbrev pub NoEndIsNext : S → Type 0
   NoEndIsNext s = (exchanges : List Exchange) (events : List Ranged) → Remains s exchanges events → BeginWithEnd events → ⊥
@@ -40,13 +44,13 @@ module _ {S : Type 0} (Remains : S → List Exchange → List Ranged → Type 0)
 
 -- Asks says that a callback was asked these questions from one state to another, and answered so; Shows, that an item shows an event
 module _ {S T : Type 0} (Remains : S → List Exchange → List Ranged → Type 0) (IsOver : S → Type 0) (Asks : S → List Exchange → S → Type 0) (Shows : T → Ranged → Type 0) where
-  -- None only where no event was left; the error item only where the next event is no end, and behind it nothing is given; else the first
-  -- event of what was left, however the walk goes on from there
+  -- None: no event was left. The error item: the next event is no end; the questions of this call come first among those of what was left,
+  -- however further ones are answered; nothing is given any more. Else: the first event of what was left, however the walk continues
   abbrev pub GivesFirst : S → (taken : List Exchange) → Option (Result T AllocError) → S → Type 0
   GivesFirst old taken None new = Asks old taken new × Remains old taken [] × IsOver new
   GivesFirst old taken (Some (Ok x)) new =
       Asks old taken new × ((r : Ranged) × Shows x r × ((rest : List Exchange) (events : List Ranged) → Remains new rest events → Remains old (taken ++ rest) (r ∷ events)))
-  GivesFirst old taken (Some (Err e)) new = Asks old taken new × NoEndIsNext Remains old × IsOver new
+  GivesFirst old taken (Some (Err e)) new = Asks old taken new × NoEndIsNext Remains old × IsOver new × ((plan : Plan) → SomeLeftFrom Remains taken plan old)
 
   -- one call, in which these questions were put; behind the end nothing is asked or given
   pub record GivesNext (old : S) (given : Option (Result T AllocError)) (new : S) : Type 0 where

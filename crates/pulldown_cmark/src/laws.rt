@@ -79,8 +79,9 @@ pub fn given_events_are_few<'a, E: EntityLookup, F: BrokenLinkCallback<'a> + Dro
         → length items ≤ 11 * length text + 524288 * count_tables document }
 {}
 
-/// The events that a walk gave before memory was refused are the first ones of a reading, however the callback would answer from there on. The
-/// reading's next event is no end of an element, and the walk gives nothing more.
+/// The events that a walk gave before memory was refused are the first ones of a reading, however the callback would answer from the refused
+/// call on. The questions of the walk, with those of the refused call, are the first ones of a reading with these events, however the
+/// callback would answer later ones. The next event of both is no end of an element, and the walk gives nothing more.
 pub fn a_refused_walk_gives_a_beginning<'a, E: EntityLookup, F: BrokenLinkCallback<'a> + Drop>()
     ensures events { (limit : ℕ) (parser before last : Walk E F) (text : List ℕ) (options : Extensions) (lookup : Lookup) (events : List Given) (e : AllocError)
         → ReadsWithin E.replacement limit text options lookup parser → Yields (Gives F.answers E.replacement) parser (map Ok events) before → Gives F.answers E.replacement before (Some (Err e)) last
