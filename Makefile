@@ -75,6 +75,7 @@ check-dist:
 web: bin/mdhtml bin/mdevents lib
 	tools/web
 	tests/web
+	tests/safe --browser
 
 safe: bin/lib/libpulldown_cmark.a
 	tests/safe
