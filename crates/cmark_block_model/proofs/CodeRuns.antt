@@ -18,7 +18,7 @@ merge-apart : (p : Piece) (ps : List Piece) → p.owned ≡ true → merge p ps 
 merge-apart p [] e = refl
 merge-apart p (q ∷ ps) e = ap (λ z. if not z && (not q.owned && (p.end == q.start)) then record { owned = false; bytes = p.bytes ++ q.bytes; start = p.start; end = q.end } ∷ ps else p ∷ q ∷ ps) e
 
--- a piece before one that it does not touch, and before the pieces merged with that one
+-- a piece before another piece that it does not touch, and before the pieces merged with that
 apart : (p q : Piece) (ps : List Piece) → q.owned ≡ false → touches p q ≡ false → merge p (merge q ps) ≡ p ∷ merge q ps
 apart p q [] f e = ap (λ z. if z then record { owned = false; bytes = p.bytes ++ q.bytes; start = p.start; end = q.end } ∷ [] else p ∷ q ∷ []) e
 apart p q (x ∷ ps) f e = go (touches q x)

@@ -17,7 +17,7 @@ use Rattle.cmark_grammar.specs.Places.{Place}
 use Rattle.cmark_grammar.proofs.BlockLaws.{at-either}
 use Rattle.cmark_block_model.proofs.ListDelimiters.{IsUnmarked, SomeUnmarked, container-unmarked}
 
--- one that begins nothing is blank, an item has no colon for its marker, and a break or heading takes no further line
+-- a line that begins nothing is blank, an item has no colon for its marker, and a break or heading takes no further line
 abbrev pub Tells : Row → Opening → Type 0
 Tells r Blank = (r.lazy ≡ false) × (is_blank_line r ≡ true)
 Tells r (Nests k) = IsUnmarked k

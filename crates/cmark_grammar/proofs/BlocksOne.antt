@@ -84,7 +84,7 @@ module _ (options : Options) where
       up_to b [] (q ∷ qs) s = ap (λ z. show_as z (strip k b q) (shown (strips k false qs))) (ap (λ s. s.lazy) (strip_lazy options k b q s.0))
       up_to b (r ∷ t) q s = ap (show_as (strip k b r).lazy (strip k b r)) (up_to false t q (subst (λ z. Ends options k z inside q) (sym (bare_false options t)) s))
 
-  -- if as many lines are shown as were taken, these lack no prefix
+  -- if all taken lines are shown, they lack no prefix
   all_whole : (took rest : List Row) → length took ≤ length (shown (took ++ rest)) → (AreWhole options) took
   all_whole [] rest le = tt
   all_whole (q ∷ took) rest le = go q.lazy refl le (λ l. all_whole took rest l)

@@ -306,7 +306,7 @@ empty_name : comes_as (decided wikilinks (codes "[[|b]]") 4 100 (fresh 1 ∷ fre
 unfolding caseless encode chars decide ucd_category
 empty_name = refl
 
--- one that was tried is not tried again
+-- a doubled bracket that was tried is not tried again
 undoubled : map Opener.doubles (left (decided wikilinks (codes "[[|b]]") 4 100 (fresh 1 ∷ fresh 0 ∷ []))) ≡ true ∷ (false ∷ [])
 unfolding caseless encode chars decide ucd_category
 undoubled = refl

@@ -26,7 +26,7 @@ abbrev pub ParsedBelow : ℕ → Option Parsed → Type 0
 ParsedBelow n None = Unit {0}
 ParsedBelow n (Some found) = length found.behind < n
 
--- one of two
+-- either of two
 pub either : {A : Type 0} (P : A → Type 0) (b : Bool) (x y : A) → P x → P y → P (if b then x else y)
 either P true x y h k = h
 either P false x y h k = k

@@ -63,7 +63,7 @@ head = refl
 off : head_in no_options (rows (codes "a|b\n-|-\n")) ≡ None
 off = refl
 
--- a delimiter row has as many cells as the head, and at most three columns of indent; a pipe separates the head's cells
+-- a delimiter row has the same number of cells as the head, and at most three columns of indent; a pipe separates the head's cells
 more : head_in tables (rows (codes "a|b\n-|-|-\n")) ≡ None
 more = refl
 

@@ -136,7 +136,7 @@ module _ {T : Type 0} where
       reaches = subst (λ x. to ≤ s.end x) (items (record { item = a.place.item; child = first a.inside; next = first a.after }) a.read) le;
     }
 
-    -- after as many siblings as there are nodes
+    -- after a number of siblings equal to the number of nodes
     pub cut_all : (nodes : Nodes T) (f : Forest (Placed T)) (head last at steps : ℕ) → IsChildren nodes f head → node_count nodes ≤ steps → SoFar f last at steps → IsCut s to f last at
     cut_all nodes f head last at steps h le c = record { done = c.done; rest = c.rest; split = c.split; before = c.before; kept_is = c.last_is; at_is = c.at_is; reaches = go c.rest c.split }
       where
@@ -283,7 +283,7 @@ module _ {T : Type 0} where
     written old new start last at f up left h n r =
         item_written old new start n.done n.place n.inside n.after up r.item (cut_forest old start last at f up h n) (subst (λ k. IsChanged old new k (with_other_item r.item)) (sym n.at_is) r.changed)
 
-    -- if a part of the next one is left
+    -- if a part of the next sibling is left
     pub shortened_left : (old new : Nodes T) (start last at : ℕ) (f : Forest (Placed T)) (up : List (Level T)) (left : Bool) → IsForest (node_at old) start (plug up f) → (n : CutNode f last at) → (r : IsShortened s to old new at n.place.item left) → left ≡ true → IsForest (node_at new) start (plug up (join (join n.done (one (record n.place { item = r.item }) n.inside)) n.after)) × (last_place (join n.done (one (record n.place { item = r.item }) n.inside)) ≡ at) × (truncated s to f ≡ join n.done (one (record n.place { item = r.item }) n.inside))
     shortened_left old new start last at f up left h n r is_left = (
       subst (λ k. IsForest (node_at new) start (plug up k)) (sym (join_assoc n.done (one (record n.place { item = r.item }) n.inside) n.after)) (written old new start last at f up left h n r),

@@ -178,7 +178,7 @@ module _ {T : Type 0} where
           ∙ ap (λ o. entry_of (slice_get v.items.items i) o (slice_get (v.children.items ++ 0 ∷ []) i)) (slice_get-pushed v.nexts.items 0 i (λ q. ne (q ∙ v.even.0)))
           ∙ ap (λ o. entry_of (slice_get v.items.items i) (slice_get v.nexts.items i) o) (slice_get-pushed v.children.items 0 i (λ q. ne (q ∙ v.even.1.0)))
 
-  -- one of the three written at a node
+  -- an item, a next link or a child link is written at a node
   pub item_changes : (v : Nodes T) (ix : ℕ) (x : T) → HasNumber v ix → IsChanged v (with_stored_item v ix x) ix (with_other_item x)
   unfolding node_at node_count
   item_changes v zero x has = absurd (omega (arith, has.0))

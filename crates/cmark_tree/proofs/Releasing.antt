@@ -77,7 +77,7 @@ module _ {T : Type 0} where
           steps_is = omega (arith, c.steps_is, breadth-join c.gone (one q i));
         }
 
-    -- there are not as many siblings before it as there are nodes
+    -- the number of siblings before it is less than the number of nodes
     pub passed_few : (before at steps : ℕ) → node_count nodes ≤ steps → Passed done p inside after before at steps → ⊥
     passed_few before at steps le c =
         let f = join done (Node p inside after) in
@@ -215,7 +215,7 @@ module _ {T : Type 0} where
   before_number nodes head before done p inside h last ne =
       has_number nodes (join done (one p inside)) before h.stands (omega (arith, times-join before done (one p inside), last_in done before last (above_zero before ne)))
 
-  -- there are as many nodes as before
+  -- the number of nodes is unchanged
   pub ended_count : (old mid : Nodes T) (parent before : ℕ) → (before ≡ 0 → IsChanged old mid parent (with_child 0)) → ((before ≡ 0 → ⊥) → IsChanged old mid before (with_next 0)) → node_count mid ≡ node_count old
   ended_count old mid parent zero none some = (none refl).count
   ended_count old mid parent (suc k) none some = (some (λ e. omega (arith, e))).count

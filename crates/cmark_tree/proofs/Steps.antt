@@ -53,7 +53,7 @@ module _ {T : Type 0} where
   new_stands : (old mid : Nodes T) (n : ℕ) (x : T) → IsGrown old mid n x → Stands (node_at mid) (new_one n x)
   new_stands old mid n x g = (g.written, tt, tt)
 
-  -- one more place, which was not there before
+  -- another place, which was not there before
   pub one_more : (f f' : Forest (Placed T)) (n : ℕ) → IsOnce f → times n f ≡ 0 → ((i : ℕ) → times i f' ≡ hit n i + times i f) → IsOnce f'
   one_more f f' n once none more i =
       elim (same_or_not n i) [

@@ -43,7 +43,7 @@ meets-leaf walk item ix cell lines at is in-cell now holds left r = (
 )
 
 module _ (walk : Walk) (item : Item) (ix : TreeIndex) (at : IsFocusAt walk ix) (is : IsItem walk.tree ix item) where
-  -- the focus is one of its siblings
+  -- the focus is among its siblings
   pub leaf-here : Goes walk → IsAtSibling walk.tree ix.ix
   leaf-here g =
       let f = at-item walk item ix at is g.1.z g.1.here g.1.above g.1.stands in

@@ -68,7 +68,7 @@ module _ (walk : Walk) where
       let l = leads-inside walk ix item child at is own c z here above s in
       subst (λ ls. Gathering walk (content_of here) ls child) (sym none) (record { rest = l.forest; left = content_of here; stands = l.stands; draws = l.draws; next_is = l.link_is; are = refl })
 
-  -- a node that is to come is one of the tree
+  -- a node that is to come is a node of the tree
   node-at : (content : BlockDocument) (lines : List LeafLine) (line : TreeIndex) (rest : Forest (Placed Item)) → Stands (entry_at walk.tree) rest → Some line ≡ focus_of rest → HasNode walk.tree line.ix
   node-at content lines line Nil st e = absurd (let q : Some line ≡ None = e in cc)
   node-at content lines line (Node p f g) st e =

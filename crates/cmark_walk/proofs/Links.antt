@@ -86,11 +86,11 @@ module _ (walk : Walk) where
       let entry : Entry Item = record { item = p.item; child = first f; next = first g } in
       node-at to f st.1 (sym e ∙ c entry (subst (λ k. entry_at walk.tree k ≡ Some entry) same st.0) ∙ focus_read walk.tree.nodes f st.1)
 
-  -- the first node below the focus is one of the tree
+  -- the first node below the focus is a node of the tree
   pub leads-child : (ix to : TreeIndex) (child : Option TreeIndex) → IsFocusAt walk ix → IsChild walk ix child → child ≡ Some to → (z : Zip Item) (here : BlockDocument) (above : List Outer) → StandsAt walk z here above → HasNode walk.tree to.ix
   leads-child ix to child at c e z here above s = child-at ix to child z.right (in_right walk.tree.nodes walk.tree.first z s.below.holds.forest) (at z s.below.holds) c e
 
-  -- some nodes begin with one that has this item
+  -- some nodes begin with a node of this item
   pub record Begins (item : Item) (nodes : BlockDocument) : Type 0 where
     pub node : BlockNode
     pub inside : BlockDocument

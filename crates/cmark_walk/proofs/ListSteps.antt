@@ -68,7 +68,7 @@ module _ (walk : Walk) (ix : TreeIndex) (at : IsFocusAt walk ix) (found : Option
   nothing-inside none z here above s l tight =
       ap (λ d. begins_title (settled tight d)) (leads-nowhere walk found (content_of here) (leads-listed z here above s l) none)
 
-  -- the first node below the focus is one of the tree
+  -- the first node below the focus is a node of the tree
   pub child-node : (child : TreeIndex) → found ≡ Some child → Goes walk → HasNode walk.tree child.ix
   child-node child e g = leads-child walk ix child found at c e g.1.z g.1.here g.1.above g.1.stands
 

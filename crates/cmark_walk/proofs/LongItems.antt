@@ -20,7 +20,7 @@ use Rattle.cmark_walk.specs.declared.walk.Walk.{Walk}
 use Rattle.cmark_walk.specs.Walking.{Drawn, IsElement, IsLeafElement, IsLongGlance, Outer, ReadsAs, StandsBelow, has_texts, is_long, is_synthesized, task_body, texts_of, tight_below}
 use Rattle.cmark_walk.proofs.Paths.{spelt-kind, within-kind}
 
--- one that is no task marker and no text that is written nowhere is an element with a text of its own
+-- an item that is neither a task marker nor a text without source is an element with a text of its own
 pub long-texts : (b : ItemBody) → is_long b ≡ true → None ≡ task_body b → false ≡ is_synthesized b → has_texts b ≡ true
 long-texts (body.TaskListMarker is_checked) l t s = absurd (let q : None ≡ Some is_checked = t in cc)
 long-texts (body.SynthesizeText x) l t s = absurd (true≢false (sym s))
