@@ -16,7 +16,8 @@ pub const NOT_UTF8: u32 = 2;
 /// Memory was refused.
 pub const NO_MEMORY: u32 = 3;
 
-/// Writes an output to the beginning of `room`, if it fits, and its size in bytes to `size` in any case. Returns `DONE` or `TOO_LONG`.
+/// Writes an answer at the beginning of the room, if it is large enough for all of it, and its size in any case.
+/// Returns `DONE` or `TOO_LONG`.
 fn hand_over(answer: &str, room: &mut [u8], size: &mut usize) -> u32
     ensures either { (result ≡ 0) ⊎ (result ≡ 1) }
     ensures size { size.new ≡ length answer.now }
