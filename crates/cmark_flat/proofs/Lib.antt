@@ -1,0 +1,3 @@
+pub mod RecordLaw
+pub mod EventLaw
+pub mod FlatLaw

@@ -1,0 +1,5 @@
+pub mod Numbers
+pub mod Records
+pub mod Flat
+pub mod Decode
+pub mod Laws
