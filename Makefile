@@ -1,20 +1,22 @@
-# make proves what mdhtml stands on and builds bin/mdhtml, make install-mdhtml installs it; make mdevents builds bin/mdevents.
-# make quick builds both programs, the library and the page's module in bin/quick/ in minutes, with checks at run time and without proofs.
-# make kept does both, and the library for C, and keeps each check's work for the next one: for whoever goes on to change the code.
-# make lib leaves in bin/ what C programs link: an archive, a shared library, their header and a file for pkg-config.
-# make install puts all of these below PREFIX, with the manual pages, the list of entities and completions for shells; it builds what is
-# not built yet. With QUICK=yes it installs what make quick builds, which it else refuses.
-# make dist packs what is proved and built for those who have no toolchain, in bin/dist/; make check-dist does it again in another folder
-# and compares each byte.
-# make web makes the module of the page in web/ anew, and tries the page in a browser; it is no part of make test.
-# make safe judges the safe HTML of hostile documents by an HTML5 parser (Debian's python3-html5lib); it is no part of make test.
-# make fuzz tries the library for C on texts that libFuzzer makes, for ten minutes; it is no part of make test either.
-# make test passes everything; its last line is the gate's count. docs/GATE.md says what each part does and how long it takes.
+# make            proves the crates below mdhtml and builds bin/mdhtml; make install-mdhtml installs it.
+# make mdevents   proves the crates below mdevents and builds bin/mdevents.
+# make quick      builds both programs, the library and the page's module in bin/quick/, in minutes: without proofs, with run-time checks.
+# make kept       proves and builds both programs and the library for C. It keeps the work of each check for the next one: use it if you
+#                 change the code afterwards.
+# make lib        puts the files that C programs link into bin/: an archive, a shared library, their header and a file for pkg-config.
+# make install    installs all of these below PREFIX, with the manual pages, the list of entities and completions for shells. It builds
+#                 what is missing. With QUICK=yes it installs the files of make quick, which it otherwise refuses.
+# make dist       packs the proved programs and the library for users without the toolchain, in bin/dist/. make check-dist packs them
+#                 again in another folder and compares each byte.
+# make web        makes the module of the page in web/ anew, and tests the page in a browser. It is not part of make test.
+# make safe       checks the safe HTML of hostile documents with an HTML5 parser (Debian's python3-html5lib). It is not part of make test.
+# make fuzz       tests the library for C on texts that libFuzzer makes, for ten minutes. It is not part of make test.
+# make test       runs all proofs and tests; its last line is the gate's count. docs/GATE.md describes each part and its time.
 .PHONY: all mdhtml mdevents quick kept lib install install-mdhtml dist check-dist web safe fuzz test edits gate programs wrong outside installed beside
 .NOTPARALLEL:
 
 PREFIX = /usr/local
-# What is installed, and which of it.
+# The files that are installed, and the choice among them.
 BUILT = $(if $(filter yes,$(QUICK)),bin/quick,bin)
 INTO = $(DESTDIR)$(PREFIX)
 
@@ -73,6 +75,7 @@ check-dist:
 web: bin/mdhtml bin/mdevents lib
 	tools/web
 	tests/web
+	tests/safe --browser
 
 safe: bin/lib/libpulldown_cmark.a
 	tests/safe
@@ -83,12 +86,12 @@ fuzz: bin/lib/libpulldown_cmark.a
 test: edits gate programs beside
 	@tail -n 1 bin/gate.log
 
-# What needs no proof to find comes first.
+# Faults that are found without a proof come first.
 edits:
 	tests/edits
 	tests/documents
 
-# The tests that need no proof run beside it, with what processors it leaves idle.
+# The tests that need no proof run beside the gate, on the processors that it leaves idle.
 gate:
 	mkdir -p bin
 	nice -n 19 tests/unit > bin/unit.log 2>&1 & unit=$$!; \
@@ -96,7 +99,7 @@ gate:
 	wait $$unit; unit=$$?; cat bin/unit.log; \
 	test "$$(cat bin/gate.status) $$unit" = "0 0"
 
-# The gate leaves the object code and the libraries that it built, and nothing is proved a second time for what is linked of them.
+# Links the object code that the gate built. Nothing is proved a second time.
 programs:
 	tools/link mdhtml mdevents
 
@@ -104,17 +107,18 @@ programs:
 wrong:
 	tests/wrong
 
-# What stands on the gate's libraries and programs, in two rows side by side: one keeps one processor busy, the other all that there are.
+# The tests over the gate's libraries and programs, as two jobs in parallel: one uses one processor, the other all of them.
 beside:
 	$(MAKE) lib installed > bin/lib.log 2>&1 & lib=$$!; \
 	$(MAKE) outside wrong; outside=$$?; \
 	wait $$lib; lib=$$?; cat bin/lib.log; \
 	test "$$lib $$outside" = "0 0"
 
-# The built programs on what stands outside of the proofs.
+# Tests of the built programs, for properties that the proofs do not cover.
 outside:
 	tests/entities
 	tests/refusals
+	tests/refused_calls
 	tests/rows
 	tests/hostile
 	tests/walks 2000 1
@@ -123,7 +127,7 @@ outside:
 	tests/block_definitions 500 2 gfm tables footnotes tasklists definition-list heading-attributes yaml-metadata plus-metadata
 	tests/vectors
 
-# What make install leaves: the programs and their pages, and the library on calls from C and from Python.
+# Tests of the installed files: the programs and their manual pages, and the library called from C and from Python.
 installed:
 	tests/program
 	tests/bindings

@@ -1,16 +1,16 @@
-/* Tries the library from C: tests/bindings builds it, with the archive and with the shared library, and reads what it writes.
+/* Tests the library from C: tests/bindings builds it, with the archive and with the shared library, and reads its output.
 
-   bindings batch     reads records of options, a length and a text; writes for each the status, the size and the answer of both calls
-   bindings large     the same with the answers of all calls, within the usual limit and with no further scheme
-   bindings safe      the same of the call for safe HTML
-   bindings tries     tries the same records for what no answer shows: short rooms, rooms at the end, refused memory, bad UTF-8
-   bindings threads   answers the same records in four threads at once, each all of them, and compares
+   bindings batch     reads records of options, a length and a text; writes for each the status, the size and the output of both calls
+   bindings large     the same for all calls, with the default limit and without further schemes
+   bindings safe      the same for the call for safe HTML
+   bindings tries     tries the same records for properties that no output shows: short rooms, rooms at the end, refused memory, bad UTF-8
+   bindings threads   renders the same records in four threads at once, each all of them, and compares
    bindings stacks    the same in sixteen threads, each with a stack of 24 KB
-   bindings pages     answers each beginning of each record beside pages that may not be touched, and compares
-   bindings exact     answers the same records in memory of exactly their sizes, for a program that watches each access
-   bindings refusals  writes for each record how many allocations of each call were refused in turn
+   bindings pages     renders each beginning of each record next to pages that may not be accessed, and compares
+   bindings exact     renders the same records in memory of exactly their sizes, for a program that watches each access
+   bindings refusals  writes for each record the number of allocations of each call that were refused in turn
 
-   Numbers are of eight bytes, as this machine has them. The status is 0 where all is well. */
+   Numbers have eight bytes, in this machine's order. The status is 0 if all tests pass. */
 #include "pulldown_cmark.h"
 #include <pthread.h>
 #include <signal.h>
@@ -21,13 +21,13 @@
 
 #define FILL 0xA5
 #define GUARD 64
-/* What the header says is enough of a stack, the thread's own data with it. */
+/* The stack size that the header calls enough, including the thread's own data. */
 #define SMALL_STACK (24 * 1024)
 
 static long refuse_at = -1, asked, held;
 
 #ifdef REFUSES
-/* The linker puts these in the place of malloc, realloc and free, in the archive too (--wrap). */
+/* The linker replaces malloc, realloc and free by these, in the archive too (--wrap). */
 void *__real_malloc(size_t);
 void *__real_realloc(void *, size_t);
 void __real_free(void *);
@@ -68,7 +68,7 @@ struct record {
 
 static struct record *records;
 static size_t count;
-/* The first two are those whose answers the programs write too. */
+/* The programs write the outputs of the first two too. */
 #define CALLS 3
 static const pcm_call calls[CALLS] = {pcm_html, pcm_events_json, pcm_safe_html};
 
@@ -123,7 +123,7 @@ static int is_filled(const uint8_t *bytes, size_t size)
     return 1;
 }
 
-/* One call with a room of this length between two guards; what is not the answer has to be as it was. */
+/* One call with a room of this length between two guards; the bytes outside the output have to be unchanged. */
 static uint32_t guarded(pcm_call call, const struct record *it, size_t room_len, uint8_t *whole, size_t *size)
 {
     uint8_t *room = whole + GUARD;
@@ -146,7 +146,7 @@ static uint32_t guarded(pcm_call call, const struct record *it, size_t room_len,
     return status;
 }
 
-/* The whole answer of a call, whose caller gives it back. */
+/* The whole output of a call; the caller frees it. */
 static uint8_t *answer(pcm_call call, const struct record *it, uint32_t *status, size_t *size)
 {
     size_t room_len = it->len + it->len / 4 + 64;
@@ -162,7 +162,7 @@ static uint8_t *answer(pcm_call call, const struct record *it, uint32_t *status,
     return whole;
 }
 
-/* Writes the status, the size and the answer of each of some calls. */
+/* Writes the status, the size and the output of each of some calls. */
 static void write_answers(const pcm_call *some, size_t number, const struct record *it)
 {
     size_t k, size;
@@ -178,7 +178,7 @@ static void write_answers(const pcm_call *some, size_t number, const struct reco
     }
 }
 
-/* The answers of the calls from one to before another, for each record. */
+/* The outputs of a range of calls, for each record. */
 static void batch(size_t first, size_t end)
 {
     size_t i;
@@ -186,7 +186,7 @@ static void batch(size_t first, size_t end)
         write_answers(calls + first, end - first, &records[i]);
 }
 
-/* All rooms that are too short, one that is just long enough, and one that is longer. */
+/* All rooms that are too short, a room that is just long enough, and a longer one. */
 static void try_rooms(pcm_call call, const struct record *it)
 {
     size_t wanted, size, room_len;
@@ -238,7 +238,7 @@ static void try_helpers(const struct record *it)
         stop("a helper gave other HTML than there is", it);
 }
 
-/* Each allocation of a call refused in turn; how many there are. */
+/* Refuses each allocation of a call in turn; returns their number. */
 static long try_refusals(pcm_call call, const struct record *it)
 {
     long number, spared = 0;
@@ -271,7 +271,7 @@ static long try_refusals(pcm_call call, const struct record *it)
     return number;
 }
 
-/* The inline functions take no text at all for an empty one. */
+/* The inline functions treat a missing text as an empty one. */
 static void try_no_text(void)
 {
     size_t k, size;
@@ -303,7 +303,7 @@ static void try_bad_utf8(void)
         }
 }
 
-/* A call within a limit, in the shape of the others. */
+/* A call within a limit, with the signature of the others. */
 static size_t limit;
 
 static uint32_t html_within(const uint8_t *text, size_t text_len, uint32_t options, uint8_t *room, size_t room_len, size_t *size)
@@ -311,7 +311,7 @@ static uint32_t html_within(const uint8_t *text, size_t text_len, uint32_t optio
     return pcm_html_within(text, text_len, options, limit, room, room_len, size);
 }
 
-/* References within a limit; footnotes, inline links and wikilinks take nothing of it. */
+/* References within a limit; footnotes, inline links and wikilinks do not count. */
 static const struct {
     const char *text;
     uint32_t options;
@@ -344,7 +344,7 @@ static void try_limits(void)
     }
 }
 
-/* Within the usual limit the HTML is that of pcm_html. */
+/* Within the default limit the HTML is that of pcm_html. */
 static void try_usual_limit(const struct record *it)
 {
     size_t wanted, size;
@@ -373,7 +373,7 @@ static void large(void)
     }
 }
 
-/* The call that takes further schemes: what it answers with a list, with none, and with one that is not UTF-8. */
+/* The call that takes further schemes: its output with a list, without one, and with one that is not UTF-8. */
 static void try_schemes(void)
 {
     static const struct {
@@ -454,7 +454,7 @@ static void *work(void *user)
     return NULL;
 }
 
-/* All records in so many threads at once, with stacks of this size, or of the usual one where it is 0. */
+/* All records in some threads at once, with stacks of this size, or of the default size if it is 0. */
 static void threads(size_t number, size_t stack)
 {
     pthread_t all[16];
@@ -479,7 +479,7 @@ static void threads(size_t number, size_t stack)
     free(wanted);
 }
 
-/* Pages that may be read and written, between two that may not. */
+/* Pages that may be read and written, between two that may not be accessed. */
 struct pages {
     uint8_t *begin, *end;
 };
@@ -516,7 +516,7 @@ static void touched(int number)
     stop("a call touched memory that is not its own", tried);
 }
 
-/* One call in a room of this length that ends where its pages do, behind a guard. */
+/* One call in a room of this length, after a guard, that ends with its pages. */
 static uint32_t at_end(pcm_call call, const struct record *it, struct pages room, size_t room_len, size_t *size)
 {
     uint8_t *begin = room.end - room_len;
@@ -532,8 +532,8 @@ static uint32_t at_end(pcm_call call, const struct record *it, struct pages room
     return status;
 }
 
-/* A text that ends where its pages do, and may not be written; a room that does, just long enough and a byte too short; a text that
-   begins where its pages do, with bytes behind it that would go on with it. */
+/* A read-only text that ends with its pages; a room that ends with its pages, just long enough and a byte too short; a text that begins
+   with its pages, followed by bytes that would continue it. */
 static long try_pages(pcm_call call, const struct record *whole, size_t len, struct pages text, struct pages room)
 {
     static const uint8_t behind[] = {'`', '\n', ']', 0x80};
@@ -577,7 +577,7 @@ static void pages(void)
             free(answer(calls[k], &records[i], &status, &size));
             most = size > most ? size : most;
         }
-        /* A beginning may have a longer answer than the whole. */
+        /* The output for a beginning may be longer than that for the whole. */
         room = pages_of(16 * (most + records[i].len) + 65536);
         for (len = 0; len <= records[i].len; len++)
             for (k = 0; k < 2; k++)
@@ -588,7 +588,7 @@ static void pages(void)
     printf("%ld\n", number);
 }
 
-/* Each call in memory that has not a byte more than it needs; the answer's bytes are read. */
+/* Each call in memory of exactly the size that it needs; the bytes of the output are read. */
 static void exact(void)
 {
     size_t i, k, at, wanted, size;

@@ -1,4 +1,4 @@
-"""What is tried of the Python package, beside the examples of its README; tests/bindings has installed it."""
+"""Tests of the Python package, besides the examples of its README. tests/bindings has installed it."""
 import concurrent.futures
 import json
 import os
@@ -8,7 +8,7 @@ from programs import BITS, NONE
 from pulldown_cmark import Event, Options, Tag, events, html
 
 
-# References within a limit of bytes; footnotes, inline links and wikilinks take nothing of it.
+# References within a limit of bytes; footnotes, inline links and wikilinks do not count.
 FOOTNOTE = (
     '<p>a<sup class="footnote-reference"><a href="#1">1</a></sup></p>\n<div class="footnote-definition" id="1">'
     '<sup class="footnote-definition-label">1</sup>\n<p>b</p>\n</div>\n'
@@ -36,12 +36,12 @@ def answer_of(bits, text, number):
     """The HTML of a text, its events as mdevents writes them, or its safe HTML."""
     if number != 1:
         return html(text, options=bits, safe=number == 2).encode()
-    # the lines of JSON that are not ASCII may be escaped in more than one way, so what they say is compared
+    # JSON lines that are not ASCII may be escaped in more than one way, so their values are compared
     return Lines("".join(map(line_of, events(text, options=bits))))
 
 
 class Lines:
-    """Lines of JSON by what they say."""
+    """Lines of JSON, compared by their values."""
 
     def __init__(self, text):
         self.said = [json.loads(it) for it in text.split("\n")[:-1]]
@@ -63,7 +63,7 @@ def raised(call, *words, **options):
 
 
 def forked(texts, wanted):
-    """How many texts a forked process gives other HTML for, or 1 where it ends by a signal."""
+    """The number of texts for which a forked process gives other HTML, or 1 if it ends by a signal."""
     child = os.fork()
     if child == 0:
         try:
@@ -75,7 +75,7 @@ def forked(texts, wanted):
 
 
 def faults(texts, wanted):
-    """What is wrong with types, ranges of texts, errors and threads."""
+    """The failures with types, ranges of texts, errors and threads."""
     found = []
 
     def judge(what, given, expected):

@@ -1,7 +1,8 @@
 """Refuses each allocation of the library in turn below the Python package, for the texts that standard input has as JSON.
 
-tests/bindings runs it, with PULLDOWN_CMARK_LIBRARY as the name of a library that has tests/refuse_library.c inside. A call that is refused
-one raises MemoryError, or does without and answers as it does else. It writes how many were refused for each text and call.
+tests/bindings runs it, with PULLDOWN_CMARK_LIBRARY as the name of a library that includes tests/refuse_library.c. A call with a refused
+allocation either raises MemoryError, or works without that memory and returns its usual result. For each text and call the number of
+refused allocations is written.
 """
 import ctypes
 import json
@@ -15,7 +16,7 @@ library.refuse.argtypes, library.refuse.restype = [ctypes.c_long], None
 
 
 def refused(call):
-    """How many allocations of a call were refused in turn."""
+    """The number of allocations of a call, each refused in turn."""
     library.refuse(0)
     wanted = call()
     for number in range(1, 100_000):

@@ -1,4 +1,4 @@
-/* Calls a second of a function of a shared library: calls LIBRARY pcm|cmark FUNCTION FILE. tests/calls builds and runs it. */
+/* The calls per second of a function of a shared library: calls LIBRARY pcm|cmark FUNCTION FILE. tests/calls builds and runs it. */
 #include <dlfcn.h>
 #include <stdint.h>
 #include <stdio.h>

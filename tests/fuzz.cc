@@ -1,9 +1,9 @@
-// Tries the library on texts that libFuzzer makes: tests/fuzz builds it, with the archive.
+// Tests the library on texts that libFuzzer makes: tests/fuzz builds this program, with the archive.
 //
-// The first three bytes of an input choose the options, the others are the text. The events are read from their JSON by a reader of this
-// file's own, which asks that they are balanced, and that their ranges cut no character. The ranges lie one behind the other, and each in
-// the one around it, unless a wikilink with a pipe or a task marker cuts an element's range. Then it writes the HTML of these events, which
-// has to be the library's. A fault ends the process with the text.
+// The first three bytes of an input choose the options, the others are the text. This file's own reader reads the events from their JSON.
+// It checks that they are balanced, and that their ranges end at character boundaries. The ranges have to be in order, and each inside the
+// one around it, unless a wikilink with a pipe or a task marker cuts an element's range. Then the HTML of these events is written, which
+// has to equal the library's. A fault ends the process with the text.
 #include "pulldown_cmark.h"
 
 #include <cstdio>
@@ -28,14 +28,14 @@ void want(bool is_so, const char *why) {
         stop(why);
 }
 
-// A value of JSON. A number is written as it stood.
+// A value of JSON. A number keeps its digits.
 struct Value {
     enum Kind { NONE, BOOLEAN, NUMBER, STRING, ARRAY } kind = NONE;
     bool is_true = false;
     std::string said;
     std::vector<Value> items;
     size_t number() const { return strtoull(said.c_str(), nullptr, 10); }
-    // The name that an array begins with, or a text by itself.
+    // The name at the start of an array, or a text alone.
     const std::string &name() const { return kind == ARRAY ? items.at(0).said : said; }
 };
 
@@ -186,7 +186,7 @@ const std::map<std::string, const char *> ENDS = {{"Paragraph", "</p>\n"}, {"Blo
                                                   {"DefinitionList", "</dl>\n"}, {"DefinitionListTitle", "</dt>\n"}, {"DefinitionListDefinition", "</dd>\n"}, {"Table", "</tbody></table>\n"},
                                                   {"TableHead", "</tr></thead><tbody>\n"}, {"TableRow", "</tr>\n"}, {"Link", "</a>"}};
 
-// Writes the HTML of events. Whether a block begins on a new line is seen from what was written last.
+// Writes the HTML of events. The last byte written tells whether a block begins on a new line.
 class Writer {
 public:
     std::string html;
@@ -347,7 +347,7 @@ private:
         }
     }
 
-    // What stands inside of an image: its text alone.
+    // The content of an image: only its text.
     void inside(const std::string &name, const Event &it) {
         const std::string said = it.said.kind == Value::ARRAY && it.said.items.size() > 1 ? it.said.items.at(1).said : "";
         if (name == "Start")
@@ -374,7 +374,7 @@ bool cuts(size_t at) {
     return at < text.size() && ((unsigned char)text[at] & 0xC0) == 0x80;
 }
 
-// What is open: the element's name, its range, and where its next part may begin.
+// An open element: its name, its range, and the offset from which its next part may begin.
 struct Open {
     std::string name;
     size_t start, end, from;

@@ -1,4 +1,4 @@
-"""HTML in a normal form, by which two texts are the same for a browser: as the CommonMark project's own tests compare them."""
+"""HTML in a normal form, in which two texts are equal if a browser shows the same: as the CommonMark project's own tests compare them."""
 import html.parser
 import re
 
@@ -8,7 +8,7 @@ BLOCKS = set("article header aside hgroup blockquote hr iframe body li map butto
 
 
 class Normal(html.parser.HTMLParser):
-    """Writes HTML in the normal form, into `out`: `last` says of which kind the last piece was."""
+    """Writes HTML in the normal form into `out`; `last` is the kind of the last piece."""
 
     def __init__(self):
         super().__init__(convert_charrefs=False)
@@ -20,7 +20,7 @@ class Normal(html.parser.HTMLParser):
         self.last = kind
 
     def strip_end(self):
-        """Takes off the white space at the end."""
+        """Removes the white space at the end."""
         while self.out and not self.out[-1].strip():
             self.out.pop()
         if self.out:
@@ -71,7 +71,7 @@ class Normal(html.parser.HTMLParser):
 
 
 def normal(text):
-    """The normal form: spaces collapsed outside of `pre`, none beside blocks, attributes in order, entities as characters."""
+    """The normal form: spaces collapsed outside `pre`, no spaces beside blocks, attributes in order, entities as characters."""
     reader = Normal()
     reader.feed(text)
     reader.close()

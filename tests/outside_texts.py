@@ -1,9 +1,9 @@
-"""The texts that the bindings and the page are tried on."""
+"""The texts on which the bindings and the page are tested."""
 import json
 
 
 def texts(root):
-    """Each text of the outside vectors, where they are there, and of tests/rows.json, once."""
+    """Each text of the outside vectors, if they are there, and of tests/rows.json, once."""
     found = {}
     for file in sorted((root.parent / "shared" / "vectors").glob("*.json")):
         for example in json.loads(file.read_text()):
@@ -15,7 +15,7 @@ def texts(root):
 
 
 def large_texts(root):
-    """The flags and the bytes of each row that is put together of pieces to twenty megabytes or more."""
+    """The flags and the bytes of each row that is composed of pieces and has twenty megabytes or more."""
     for row in json.loads((root / "tests" / "rows.json").read_text()):
         text = "".join(piece * count for piece, count in row.get("pieces", ())).encode()
         if len(text) >= 20_000_000:

@@ -13,16 +13,16 @@ BITS = [2, 4, 8, 16, 32, 64, 128, 256, 516, 1024, 2048, 4096, 8192, 16384, 32768
 # The flags that `--github` stands for.
 GITHUB = "tables footnotes strikethrough tasklists gfm email-autolinks".split()
 NONE, ALL = 0, functools.reduce(operator.or_, BITS)
-# The words for each set of options that is tried: none, each by itself, and all.
+# The flags of each set of options that is tried: none, each alone, and all.
 WORDS_OF = {NONE: [], **{bits: [f"--{flag}"] for flag, bits in zip(FLAGS, BITS)}, ALL: [f"--{flag}" for flag in FLAGS]}
 
 
 def lacking(where, what):
-    """Says that a part is not tried, since the machine lacks what it needs, and the status: with CI set that is a fault."""
+    """Reports a part that is not tried because the machine lacks a tool. Returns the status: with CI set this is a failure."""
     print(f"{where}: not tried: {what}")
     return 1 if os.environ.get("CI") else 0
 
 
 def run(program, words, text):
-    """How a program of bin/ ended with these words, and these bytes on its standard input."""
+    """The outcome of a program of bin/ with these arguments, and these bytes on its standard input."""
     return subprocess.run([ROOT / "bin" / program, *words], input=text, capture_output=True, check=False)

@@ -1,8 +1,7 @@
-/* Refuses one allocation of the program that this is linked into: the one whose number REFUSED gives, counted from 1, and none for 0.
-   Of each allocation that was refused, here or by the system, it tells by a byte to the file whose number TOLD gives. So a program
-   that is out of memory without such a byte was refused none. The linker puts the last two functions in the place of malloc and realloc
-   (--wrap): the program refuses memory to itself, and nothing is loaded into it. There are no headers, since the toolchain's compiler
-   has none. */
+/* Refuses one allocation of the program that this is linked into: the one with the number REFUSED, counted from 1; 0 refuses none. For
+   each allocation that was refused, here or by the system, it writes a byte to the file descriptor TOLD. So a program that reports to be
+   out of memory without such a byte had no refused allocation. The linker replaces malloc and realloc by the last two functions (--wrap):
+   the program refuses memory to itself, and nothing is loaded into it. There are no headers, since the toolchain's compiler has none. */
 typedef unsigned long size;
 extern void *__real_malloc(size), *__real_realloc(void *, size);
 extern char *getenv(const char *);
@@ -27,5 +26,5 @@ static void *told(void *p) {
 }
 
 void *__wrap_malloc(size n) { return told(is_refused() ? 0 : __real_malloc(n)); }
-/* what is made empty is freed, and not refused */
+/* a reallocation to size 0 frees the memory, and is not refused */
 void *__wrap_realloc(void *p, size n) { return n ? told(is_refused() ? 0 : __real_realloc(p, n)) : __real_realloc(p, n); }

@@ -1,5 +1,5 @@
-/* Refuses one allocation of the shared library that this is linked into: refuse says which, counted from 1 from there on, and was_refused
-   whether it came. The linker puts the last two in the place of malloc and realloc (--wrap), of the library alone. */
+/* Refuses one allocation of the shared library that this is linked into. refuse sets its number, counted from 1 from then on, and
+   was_refused tells whether it occurred. The linker replaces malloc and realloc by the last two functions (--wrap), only in the library. */
 #include <stddef.h>
 
 extern void *__real_malloc(size_t), *__real_realloc(void *, size_t);

@@ -1,14 +1,14 @@
-"""Whether the number of an edit covers all that the check of its function read, as the modules tell that the check keeps."""
+"""Tells whether the number of an edit covers everything that the check of its function read, as the modules kept by the check show."""
 import collections
 import re
 
 IMPORT = re.compile(rb"^--@ import Rattle-(\w+)[-.](specs|proofs)\.(\S+)", re.M)
-# The head of a module lists its imports; no head is longer than this.
+# The head of a module lists its imports; it is never longer than this.
 HEAD = 1 << 18
 
 
 def modules(kept, crate):
-    """A dict from the name of each module that was kept of a crate's proofs, as `tree.Tree.pop.Met`, to what it imports."""
+    """A dict from the name of each module that was kept for a crate's proofs, such as `tree.Tree.pop.Met`, to its imports."""
     found = collections.defaultdict(set)
     for path in kept.rglob(f"Rattle-{crate}[-.]proofs.*.oantt"):
         name = re.sub(rf"^Rattle-{crate}[-.]proofs\.", "", path.name)
@@ -18,14 +18,14 @@ def modules(kept, crate):
 
 
 def imports_of(found, function):
-    """What the modules of a function import; of the function the path is given, or its name alone."""
+    """The imports of the modules of a function, which is given by its path, or by its name alone."""
     path = function.split("::")
     is_its = re.compile((re.escape(".".join(path[1:])) if len(path) > 1 else rf"(?:.*\.)?{path[0]}") + r"\.")
     return {it for name, imports in found.items() if is_its.match(name) for it in imports}
 
 
 def is_covered(stands, crate, kind, parts):
-    """Whether what a module imports of a crate of this repository is among what an edit's number stands on."""
+    """Whether an import of a crate of this repository is among the inputs that an edit's number covers."""
     folder = stands.sources.crates / crate
     for count in range(len(parts), 0, -1):
         file = (folder / kind).joinpath(*parts[:count]).with_suffix(".antt")
@@ -34,7 +34,7 @@ def is_covered(stands, crate, kind, parts):
     at = folder / "src"
     while len(parts) > 1 and ((at / parts[0]).with_suffix(".rt").is_file() or (at / parts[0]).is_dir()):
         at, parts = at / parts[0], parts[1:]
-    # what the toolchain makes of a crate's root, of a file or of types, as what drops them, is no item
+    # modules that the toolchain makes for a crate's root, a file or a type, such as its drop code, are not items
     if not parts or "+" in parts[0] or parts[0].startswith("The"):
         return True
     names = {(item.name, item.owner) for item, _ in stands.pieces if item.file.is_relative_to(folder)}
@@ -49,10 +49,10 @@ def is_covered(stands, crate, kind, parts):
 
 
 def left_out(stands, found, function):
-    """What the check of a function read and the edit's number does not cover, as a sorted list."""
+    """The imports that the check of a function read and that the edit's number does not cover, as a sorted list."""
     own, left = function.split("::")[1:], set()
     for crate, kind, name in imports_of(found, function):
-        # a closure's modules stand below `fn` and the name of its function
+        # a closure's modules are below `fn` and the name of its function
         parts = [it for it in name.split(".") if it != "fn"]
         parts = parts[1:] if parts[0] in ("contracts", "declared") else parts
         if (stands.sources.crates / crate).is_dir() and parts[: len(own)] != own and not is_covered(stands, crate, kind, parts):

@@ -1,4 +1,4 @@
-"""The definitions and lemmas of a file, and which of them a text reaches by names."""
+"""The definitions and lemmas of a file, and those of them that a text reaches by names."""
 import collections
 import dataclasses
 import functools
@@ -9,7 +9,7 @@ WORD = re.compile(r"[^\W\d]\w*")
 COMMENT = re.compile(r"^\s*--")
 USE = re.compile(r"^\s*(?:pub\s+)?use\s")
 RENAMING = re.compile(r"([^\s{},]+)\s+as\s+([^\s{},]+)")
-# The line on which a definition begins: the words in front of its name, and the name.
+# The line on which a definition begins: the words before its name, and the name.
 BEGINS = re.compile(r"^(\s*)((?:(?:abbrev|unfoldable|opaque|pub|data|record)\s+)*)([^\s:(){}=]+)(?:\s+[^:=]*)?\s:(?:\s|$)")
 MODULE = re.compile(r"^\s*(?:pub\s+)?module\s.*\bwhere\s*$")
 
@@ -23,7 +23,8 @@ class Definition:
     digest: bytes
 
     def is_named_by(self, words):
-        """Whether these words have all words of one of its names. A name without words, as that of an operator, always stands."""
+        """Whether these words include all words of one of its names. A name without words, such as that of an operator, always counts as
+        included."""
         return any(name <= words for name in self.names)
 
 
@@ -37,7 +38,7 @@ def definition(lines, names):
 
 
 def read(text):
-    """The definitions of a file, in their order, with what it imports under other names: a word that stands for others."""
+    """The definitions of a file, in order, with its imports under other names: a word, and the words that it replaces."""
     found, lines, names, data_indent = [], [], [""], None
     aliases = []
 
@@ -53,7 +54,7 @@ def read(text):
             continue
         begins, indent = BEGINS.match(line), len(line) - len(line.lstrip())
         if MODULE.match(line):
-            # its parameters are those of all definitions in it
+            # its parameters are parameters of all definitions in it
             end()
             lines, names, data_indent = [line], [""], None
         elif data_indent is not None and indent > data_indent:
@@ -72,7 +73,7 @@ def read(text):
 
 
 def reached(files, words):
-    """The digests of the definitions of these files, as `read` gives them, that are reached from these words; and the words then known."""
+    """The digests of the definitions in these files, as `read` returns them, that are reached from these words; and the words known then."""
     by_word, waiting, always = collections.defaultdict(list), [], []
     for definitions, aliases in files:
         for it in definitions:

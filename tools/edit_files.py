@@ -1,18 +1,19 @@
-"""Edits that must be refused, as they are written: files of lines `file:`, `old:` and `new:`, at most one `refused:`, and at most one
-`false:`, which names the clause that the edit breaks and says why it does."""
+"""The files of edits that must be refused: lines `file:`, `old:` and `new:`, at most one line `refused:`, and at most one line `false:`.
+The last names the clause that the edit breaks and says why.
+"""
 import collections
 import re
 
-# In a file of the crate: where the old text stands, from its start to before its end, and what takes its place.
+# A change in a file of the crate: the start and the end of the old text, and its replacement.
 Change = collections.namedtuple("Change", "file start end new")
 
 
 class Fault(Exception):
-    """Why an edit cannot be tried."""
+    """The reason why an edit cannot be tried."""
 
 
 def read(path, folder):
-    """The changes that an edit makes in the files of its crate's folder, and what its line `refused:` names, or None."""
+    """The changes that an edit makes in the files of its crate's folder, and the name in its line `refused:`, or None."""
     changes, refused = [], None
     file = old = None
     for line in path.read_text(encoding="utf-8").splitlines():
@@ -34,11 +35,11 @@ def read(path, folder):
     return changes, refused
 
 
-# What makes a way of its own through a function.
+# A word that adds a branch to a function.
 WAYS = re.compile(r"\b(?:if|match|return|while|for|loop|break|continue)\b|\?(?=[\s;,.)])|&&|\|\|(?=\s*[\w!(*&])")
-# A call of a function, a method or a macro. A tuple of an enum or a struct has a capital letter, and runs nothing.
+# A call of a function, a method or a macro. A constructor of an enum or a struct begins with a capital letter, and runs nothing.
 CALLS = re.compile(r"(?<!\bfn )\b(?!(?:if|match|while|for|in|return|fn|pub|as|move|let|mut|else|loop)\b)[a-z_]\w*!?(?:::<[^()]*>)?\(")
-# A clause of a function, by its name where it has one, and a ghost member of an impl.
+# A clause of a function, by its name if it has one, and a ghost member of an impl.
 CLAUSES = re.compile(r"\bensures(?: (?P<name>\w+))? \{|\bghost (?P<member>\w+) ?[=:]")
 
 
@@ -48,19 +49,20 @@ def lines(path, word):
 
 
 def tried(path):
-    """The text of an edit without what is said of it, which no verdict stands on."""
+    """The text of an edit without its line `false:`, which no verdict depends on."""
     return "".join(it for it in path.read_text(encoding="utf-8").splitlines(keepends=True) if not it.startswith("false:"))
 
 
 def adds_a_goal(path):
-    """Whether an edit of code adds a branch, a return or a call: then a goal that is new has no answer, and might be true all the same."""
+    """Whether an edit of code adds a branch, a return or a call. Then it adds a goal without an answer, and the goal might be true all the
+    same."""
     old, new = ("\n".join(lines(path, word)) for word in ("old", "new"))
     is_more = any(collections.Counter(form.findall(new)) - collections.Counter(form.findall(old)) for form in (WAYS, CALLS))
     return is_more and any(it.endswith(".rt") for it in lines(path, "file"))
 
 
 def broken_clause(path, folder):
-    """The clause that an edit is said to break, and why it does, or None where no line says so."""
+    """The clause that an edit is said to break, and the reason, or None if no line names one."""
     said = lines(path, "false")
     if not said:
         return None
@@ -73,7 +75,7 @@ def broken_clause(path, folder):
 
 
 def place(folder, file, old):
-    """Where the old text stands, which is once in the file."""
+    """The offset of the old text, which has to occur once in the file."""
     if not file or not old or not (folder / file).is_file():
         raise Fault(f"no old text, or no file {file}")
     text = (folder / file).read_text(encoding="utf-8")

@@ -1,4 +1,6 @@
-"""The items of source files, read by the toolchain's own tokens, so without comments: functions, types, constants, traits, impl blocks, imports."""
+"""The items of source files, read with the toolchain's own tokens, so without comments: functions, types, constants, traits, impl blocks,
+imports.
+"""
 import collections
 import hashlib
 import json
@@ -16,38 +18,39 @@ Token = collections.namedtuple("Token", "start end kind text")
 
 
 class Piece:
-    """A part of a source file: a digest of its tokens, the words in them, and those of them that may name a function or a method."""
+    """A part of a source file: a digest of its tokens, the words in them, and those words that may name a function or a method."""
 
     def __init__(self, tokens):
         texts = [it.text for it in tokens]
         self.digest = hashlib.sha256(" ".join(texts).encode()).digest()
         self.words = frozenset(word for it in tokens if it.kind != "Literal" for word in WORD.findall(it.text))
-        # what stands before each token, but for the dots of a range, and behind it
+        # the token before each token, except for the dots of a range, and the token after it
         befores = ["", *("" if pair == (".", ".") else pair[1] for pair in zip(["", *texts], texts))]
         code = [(before, text, behind) for it, before, text, behind in zip(tokens, befores, texts, [*texts[1:], ""]) if it.kind == "Code"]
         self.functions = frozenset(text for before, text, _ in code if before != ".")
-        # behind the name of a field stand no parenthesis and no colon, as behind that of `parse::<u8>`
+        # no parenthesis and no colon follow the name of a field, as they follow the name of `parse::<u8>`
         self.methods = frozenset(text for before, text, behind in code if before == ":" or before == "." and behind in ("(", ":"))
 
 
 class Item:
-    """An item with its place in the file, in bytes. `whole` is all of it; `shown` is what callers see: of a function its signature and its clauses."""
+    """An item with its byte offsets in the file. `whole` is all of it; `shown` is the part that callers see: for a function its signature
+    and clauses."""
 
     def __init__(self, file, kind, name, block, tokens, shown):
         self.file, self.kind, self.name, self.block = file, kind, name, block
         self.start, self.end = tokens[0].start, tokens[-1].end
         self.whole = Piece(tokens)
-        # what a function for constants gives is computed, so its body counts as well
+        # the result of a const function is computed, so its body counts as well
         self.shown = self.whole if kind != "fn" or any(it.text == "const" for it in shown) else Piece(shown)
 
     @property
     def owner(self):
-        """The type whose method a function is."""
+        """The type of which a function is a method."""
         return self.block.owner if self.block else None
 
 
 class Block:
-    """The inside of an impl block or of a module, its front among its items; `owner` is the type that an impl block is of."""
+    """The inside of an impl block or of a module, its header among its items; `owner` is the type of an impl block."""
 
     def __init__(self, owner, is_of_trait, outer):
         self.owner, self.is_of_trait, self.outer, self.items = owner, is_of_trait, outer, []
@@ -58,7 +61,7 @@ def is_mark(token, marks):
 
 
 def keyword_at(tokens, at):
-    """The place of an item's keyword, behind its attributes and what says who sees it."""
+    """The index of an item's keyword, after its attributes and its visibility."""
     depth = 0
     for place in range(at, len(tokens)):
         token = tokens[place]
@@ -70,7 +73,7 @@ def keyword_at(tokens, at):
 
 
 def past_item(tokens, at, kind):
-    """Where an item ends whose keyword stands at a place, and where the braces of its body begin, if it has one."""
+    """The end of the item whose keyword is at an index, and the start of the braces of its body, if it has one."""
     depth, body = 0, None
     for place in range(at, len(tokens)):
         token = tokens[place]
@@ -86,7 +89,7 @@ def past_item(tokens, at, kind):
 
 
 def implemented(front):
-    """The type that an impl block is of, and whether it is one of a trait."""
+    """The type of an impl block, and whether the block implements a trait."""
     words, depth, before = [], 0, ""
     for token in front[1:]:
         if token.text == "<":
@@ -104,7 +107,8 @@ def implemented(front):
 
 
 def without_derives(front):
-    """What stands in front of a type's keyword, without the attributes that derive traits for it: what is derived is a function of its own."""
+    """The tokens before a type's keyword, without the attributes that derive traits for it: a derived function counts as a function of its
+    own."""
     kept, at = [], 0
     while at < len(front):
         if [it.text for it in front[at : at + 3]] == ["#", "[", "derive"]:
@@ -116,7 +120,7 @@ def without_derives(front):
 
 
 def split(file, tokens, outer=None):
-    """The items of a file, or of the inside of an impl block or a module, those within them included."""
+    """The items of a file, or of the inside of an impl block or a module, including nested items."""
     at, items = 0, []
     while [it.text for it in tokens[at : at + 3]] == ["#", "!", "["]:
         past = at + 1 + next(place for place, token in enumerate(tokens[at:]) if token.text == "]")

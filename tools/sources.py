@@ -1,9 +1,9 @@
-"""What the verdict on a wrong edit stands on, as one number for each edit.
+"""The inputs of the verdict on a wrong edit, as one number for each edit.
 
-A function is proved by itself. Its goals come from its own text and contract, the contracts of what it calls, the declarations that all
-these name, and the definitions and lemmas that they and its proof import and name. The number of an edit covers that, found by names and
-rather too much than too little; it covers no comment, no body of another function, no derived trait, no module that something stands in, and
-of the toolchain the logic alone.
+A function is proved by itself. Its goals come from its own text and contract, the contracts of the functions that it calls, the
+declarations that all these name, and the definitions and lemmas that they and its proof import and name. The number of an edit covers these
+inputs, found by names, and rather too many than too few. It covers no comments, no bodies of other functions, no derived traits, not the
+module that something is in, and of the toolchain only the logic.
 """
 import collections
 import functools
@@ -17,13 +17,13 @@ import items
 
 IMPORT = re.compile(r"\bRattle\.(\w+)\.(specs|proofs)\.([\w.]+)|\b(\w+)::(specs|proofs)::([\w:]+)")
 COMMENT_LINE = re.compile(r"^\s*--.*\n", re.M)
-# The module in an import of names, or of a module under another name: what stands before it, its crate, and what stands behind it.
+# The module in an import of names, or of a module under another name: the text before it, its crate, and the text after it.
 FROM_MODULE = re.compile(r"^(\s*(?:pub\s+)?use\s+)Rattle\.(\w+)\.[^\s{]+?(\.\{|\s+as\s)", re.M)
 RENAMING = re.compile(r"([^\W\d]\w*)\s+as\s+([^\W\d]\w*)")
 
 
 class Scope:
-    """The items that functions of a crate can name, by their names; methods also by their types, and impl blocks."""
+    """The items that functions of a crate can name, by their names; methods also by their types; and impl blocks."""
 
     def __init__(self, all_items):
         self.named, self.functions, self.methods, self.methods_of, self.blocks = (collections.defaultdict(list) for _ in range(5))
@@ -48,7 +48,7 @@ class Sources:
             name, parted, below = line.partition(":")
             if parted and not name.startswith("#"):
                 self.below[name.split()[0]] = [it for it in below.split() if (self.crates / it).is_dir()]
-        # of the toolchain only its logic counts, whose digest its version tells: an edit that is wrong leaves a goal that is false in it
+        # of the toolchain only its logic counts, whose digest is in its version: a wrong edit leaves a goal that is false in that logic
         version = subprocess.run(["rt", "version"], capture_output=True, text=True, check=True).stdout
         self.logic = re.search(r"\blogic (\w+)", version)[1]
 
@@ -75,7 +75,7 @@ class Sources:
         return Scope(item for name in sorted(found) for listed in self.items_of(name).values() for item in listed)
 
     def resolved(self, own, text):
-        """The files that a text of this crate imports: of definitions, of lemmas, or a source file, with the name that it declares."""
+        """The files that a text of this crate imports (definitions, lemmas or source files), each with the name that it declares."""
         for found in IMPORT.findall(text):
             crate, folder, module = found[:3] if found[0] else found[3:]
             crate = own if crate == "crate" else crate
@@ -102,7 +102,7 @@ class Sources:
 
     @functools.cache
     def imports(self, file):
-        """The files of definitions and lemmas that one stands on, itself among them."""
+        """The files of definitions and lemmas that a file depends on, including itself."""
         files, left = set(), [file]
         while left:
             path = left.pop()
@@ -112,13 +112,13 @@ class Sources:
         return files
 
     def imported_in(self, path):
-        """The files that one of definitions or lemmas imports itself, and the items of source files."""
+        """The files that a file of definitions or lemmas imports itself, and the items of source files."""
         return self.named_in(path.relative_to(self.crates).parts[0], self.text(path))
 
     @functools.cache
     def digest(self, path):
-        """A digest of a file without its comments. In which module of this repository an imported name stands does not count, since what it says
-        counts by itself; that of a name of the toolchain's crates does."""
+        """A digest of a file without its comments. The module of this repository from which a name is imported does not count, since its
+        content counts by itself; a module of the toolchain's crates does count."""
         without_module = lambda it: it[1] + it[3] if it[2] in self.below else it[0]
         text = FROM_MODULE.sub(without_module, COMMENT_LINE.sub("", self.text(path)))
         return hashlib.sha256(text.encode()).digest()
@@ -132,24 +132,25 @@ class Sources:
 
     @functools.cache
     def imported_by(self, item):
-        """What an item names by its path: files of definitions and lemmas with all that they stand on, and items."""
+        """The things that an item names by path: files of definitions and lemmas with all that they depend on, and items."""
         named, found = self.named_in(item.file.relative_to(self.crates).parts[0], self.text_of(item))
         return set().union(*(self.imports(it) for it in named)), found
 
     @functools.cache
     def used_by(self, ghost_use):
-        """The same of an import of definitions; and its words, or None where one is an operator."""
+        """The things that an import of definitions names; and its words, or None if it imports an operator."""
         is_operator = "◌" in self.text_of(ghost_use)
         return *self.imported_by(ghost_use), None if is_operator else ghost_use.whole.words
 
     @functools.cache
     def renamings(self, file):
-        """What a file imports under other names, as pairs of the name and the other one."""
+        """The imports of a file under other names, as pairs of the name and the other name."""
         return [found for it in self.items_in(file) if it.kind == "use" for found in RENAMING.findall(self.text_of(it))]
 
     @functools.cache
     def named_by(self, item, piece):
-        """What a piece of an item names: files of definitions and further items, and the names of what it has under other ones."""
+        """The things that a piece of an item names: files of definitions and further items, and the original names of things that it uses
+        under other names."""
         files, found = self.imported_by(item)
         held, block = [it for it in self.items_in(item.file) if it.kind == "ghost use" and it.block is None], item.block
         while block is not None:
@@ -162,11 +163,12 @@ class Sources:
         return files, found, {name for name, other in self.renamings(item.file) if other in piece.words}
 
     def stands(self, crate, changes, function):
-        """What the verdict on an edit with these changes stands on, which this function of the crate, or file of computed samples, has to refuse."""
+        """The inputs of the verdict on an edit with these changes, which this function of the crate, or file of computed samples, has to
+        refuse."""
         stands = Stands(self, crate)
         for change in changes:
             stands.add_place(self.crates / crate / change.file, change)
-            # what the new text names and the old one did not counts too
+            # the words that only the new text names count too
             words = set(items.WORD.findall(change.new))
             stands.add_named(words, words, words)
         if function.startswith("proofs/"):
@@ -177,14 +179,14 @@ class Sources:
 
 
 class Stands:
-    """What the verdict on an edit stands on."""
+    """The inputs of the verdict on an edit."""
 
     def __init__(self, sources, crate):
         self.sources, self.crate, self.scope = sources, crate, sources.scope(crate)
         self.files, self.pieces, self.words, self.functions, self.called = set(), set(), set(), set(), set()
-        # Files of which all counts: the proofs of the function, and what the edit changes.
+        # Files that count as a whole: the proofs of the function, and the files that the edit changes.
         self.whole = set()
-        # Pieces of which it was not seen yet what they name.
+        # Pieces whose names were not followed yet.
         self.left = []
         for file in ("lib.rt", "main.rt"):
             for item in sources.items_of(crate).get(sources.crates / crate / "src" / file, []):
@@ -192,7 +194,7 @@ class Stands:
                     self.add(item, item.shown)
 
     def add(self, item, piece):
-        """A piece of an item, and where the item stands in an impl block, its front."""
+        """Adds a piece of an item, and, if the item is in an impl block, the header of the block."""
         if (item, piece) not in self.pieces:
             self.pieces.add((item, piece))
             self.left.append((item, piece))
@@ -202,7 +204,7 @@ class Stands:
         self.whole.add(path)
 
     def add_place(self, file, change):
-        """The items of a file that an edit changes."""
+        """Adds the items of a file that an edit changes."""
         if file.suffix == ".antt":
             self.add_file(file)
             return
@@ -213,7 +215,7 @@ class Stands:
                 self.add(item, item.whole)
 
     def add_function(self, path):
-        """All functions of the crate of this name, and of this type where the path has one, with their proofs."""
+        """Adds all functions of the crate with this name, and of this type if the path has one, with their proofs."""
         own = [it for listed in self.sources.items_of(self.crate).values() for it in listed if it.kind == "fn" and it.name == path[-1]]
         for item in [it for it in own if it.owner and len(path) > 1 and path[-2].startswith(it.owner)] or own:
             self.add(item, item.whole)
@@ -224,7 +226,7 @@ class Stands:
                 self.add_file(file)
 
     def add_named(self, words, functions, methods):
-        """What these words name: a method where its type is named too, and all that a trait's impl block says of a type."""
+        """Adds the things that these words name: a method if its type is named too, and all that a trait's impl block says about a type."""
         words, functions, methods = words - self.words, functions - self.functions, methods - self.called
         self.words |= words
         self.functions |= functions
@@ -250,7 +252,7 @@ class Stands:
             words = {word for _, piece in self.pieces for word in piece.words}
             words = words.union(*(definitions.words_of(self.sources.text(it)) for it in self.whole))
             self.reached, words = definitions.reached([self.sources.definitions(it) for it in self.files - self.whole], words)
-            # of the types that a file imports those count that a definition names which is reached
+            # of the types that a file imports those count that are named by a definition which is reached
             for item in {it for file in self.files for it in self.sources.imported_in(file)[1] if it.name in words}:
                 self.add(item, item.whole)
             if not self.left:

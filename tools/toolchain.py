@@ -1,4 +1,4 @@
-"""The toolchain's command rt as a module: it knows the crates, how each is checked, and how many checks the machine holds."""
+"""The toolchain's command rt as a module: it knows the crates, how each is checked, and how many checks the machine can run."""
 import contextlib
 import functools
 import hashlib
@@ -19,8 +19,8 @@ def load_rt():
 
 
 def is_current(rt, crate, keeps=False):
-    """Whether the built library is that of the sources: rt's stamp says so, or it was built without one, after the sources were written and
-    after the libraries below it. With `keeps`, only a library with a stamp will do, which holds its proofs."""
+    """Whether the built library is that of the sources: rt's stamp says so, or it was built without a stamp, after the sources were written
+    and after the libraries below it. With `keeps`, only a library with a stamp counts, because it contains its proofs."""
     if os.path.exists(os.path.join(os.path.dirname(crate.rlib), "stamp")):
         return crate.is_built()
     if keeps or not os.path.isdir(crate.rlib):
@@ -32,7 +32,8 @@ def is_current(rt, crate, keeps=False):
 
 
 def lacking(rt, crates):
-    """Those of some libraries that are not current. The toolchain reckons a stamp from those of the libraries below: here each one once."""
+    """The libraries among these that are not current. The toolchain computes a stamp from the stamps of the libraries below: here each one
+    once."""
     reckoned = rt.rtlib.Crate.stamp
     rt.rtlib.Crate.stamp = functools.lru_cache(None)(reckoned)
     try:
@@ -42,7 +43,7 @@ def lacking(rt, crates):
 
 
 def with_libraries(rt, root, name):
-    """A crate whose libraries below are built, to be checked over their statements alone, as the gate does; else the command ends."""
+    """A crate whose libraries below are built, to be checked over their statements alone, as the gate does; otherwise the command ends."""
     crate = next((it for it in rt.rtlib.crates_below(str(root)) if it.name == name), None) or sys.exit(f"no crate {name}")
     lacking = [it.name for it in crate.below() if not is_current(rt, it)]
     if lacking:
@@ -63,8 +64,8 @@ def alone_in(rt, crate):
 
 
 def build_library(rt, crate, flags, keeps):
-    """Proves a library and writes it; the status of that. With `keeps` the check begins with what an earlier one kept, keeps its own work for
-    the next one, and the library holds its proofs; without, it holds its statements alone."""
+    """Proves a library and writes it. Returns the status. With `keeps` the check begins with the work of an earlier one and keeps its own
+    for the next one, and the library contains its proofs; otherwise it contains only its statements."""
     if keeps:
         return crate.build_rlib(flags, anew=False)
     with alone_in(rt, crate):
@@ -75,7 +76,7 @@ def build_library(rt, crate, flags, keeps):
 
 
 def sources(rt, crate):
-    """A digest of the code of a crate and of those below it, without contracts' definitions and proofs."""
+    """A digest of the code of a crate and of the crates below it, without definitions and proofs."""
     digest = hashlib.sha256()
     for lib in sorted([crate, *crate.below()], key=lambda it: it.name):
         for file in sorted(it for it in rt.rtlib.files_of(lib.folder) if it.endswith(".rt")):

@@ -1,4 +1,4 @@
-"""What a check costs, in processor seconds, by the files that it writes: one for each module that it made."""
+"""The cost of a check, in processor seconds, by the files that it writes: one for each module that it makes."""
 import collections
 import ctypes
 import os
@@ -14,7 +14,7 @@ TICKS = os.sysconf("SC_CLK_TCK")
 
 
 class Watch:
-    """Tells of the files that are written below a folder, which may grow folders meanwhile."""
+    """Reports the files that are written below a folder, in which new folders may appear."""
 
     def __init__(self, top):
         self.libc = ctypes.CDLL("libc.so.6", use_errno=True)
@@ -51,7 +51,7 @@ class Watch:
 
 
 def seconds(process):
-    """The processor seconds of a process and of all below it, those that have ended among them."""
+    """The processor seconds of a process and of all its descendants, including those that have ended."""
     try:
         fields = pathlib.Path(f"/proc/{process}/stat").read_text().rpartition(")")[2].split()
         below = pathlib.Path(f"/proc/{process}/task/{process}/children").read_text().split()
@@ -61,7 +61,7 @@ def seconds(process):
 
 
 def parts(name):
-    """The function, and the kind, of the module that a file has."""
+    """The function, and the kind, of the module in a file."""
     path = re.sub(r"(\.decls)?\.oantt$", "", name)
     library, _, inside = path.partition(".")
     words = inside.split(".")
@@ -71,8 +71,8 @@ def parts(name):
 
 
 def check(command, folder, output=subprocess.DEVNULL):
-    """Runs a check that keeps its work in a folder; the seconds by function and kind of module, and the status. What the processor did
-    between two files is counted to the second one."""
+    """Runs a check that keeps its work in a folder. Returns the seconds by function and kind of module, and the status. The processor time
+    between two files is counted for the second one."""
     costs, counted, watch = collections.Counter(), 0.0, Watch(folder)
     running = subprocess.Popen(command, stdout=output, stderr=subprocess.STDOUT)
     while running.poll() is None:

@@ -1,17 +1,17 @@
-/* What the library asks of a C library, for the module of the page: memory in sizes that are powers of two, from the module's own
-   memory, which grows; and the functions that the compiler calls. Given back memory waits in the list of its size. */
+/* The functions of a C library that the library needs, for the module of the page: memory in sizes that are powers of two, from the
+   module's own memory, which grows; and the functions that the compiler calls. Freed memory is kept in the list of its size. */
 typedef __SIZE_TYPE__ size_t;
 typedef unsigned long long word;
 
 #define PAGE 65536
-#define HEAD 16 /* in front of each piece stands the number of its list */
+#define HEAD 16 /* the number of its list is stored before each piece */
 #define MOST ((size_t)1 << 31)
 
 extern unsigned char __heap_base;
 static unsigned char *top, *end;
 static unsigned char *lists[32];
 
-/* A piece of this many bytes that no list has, or 0. */
+/* A new piece of this many bytes, which is in no list, or 0. */
 static unsigned char *fresh(size_t size)
 {
     unsigned char *piece;
@@ -23,7 +23,7 @@ static unsigned char *fresh(size_t size)
         size_t pages = (size - (size_t)(end - top) + PAGE - 1) / PAGE;
         if (pages < 16)
             pages = 16;
-        /* wasm-opt makes the number of pages one of 32 bits, and widens it without its sign. */
+        /* wasm-opt reduces the number of pages to 32 bits, and extends the result with zeros. */
         if ((unsigned)__builtin_wasm_memory_grow(0, pages) == (unsigned)-1)
             return 0;
         end += pages * PAGE;
@@ -73,7 +73,7 @@ int memcmp(const void *x, const void *y, size_t size)
     return 0;
 }
 
-/* What the library's three functions of memory answer: whether there is memory, and where. */
+/* The result of the library's three memory functions: whether there is memory, and its address. */
 struct tried {
     word is_there;
     word place;
@@ -107,7 +107,7 @@ void rattle_dealloc(void *held) { give(held); }
 __attribute__((export_name("take"))) void *take_for_page(size_t size) { return take(size); }
 __attribute__((export_name("give"))) void give_for_page(void *held) { give(held); }
 
-/* The product of two numbers of 128 bits, which the compiler calls. */
+/* The product of two numbers of 128 bits. The compiler calls this function. */
 __int128 __multi3(__int128 x, __int128 y)
 {
     word a = (word)x, b = (word)y;

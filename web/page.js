@@ -1,4 +1,4 @@
-// The page: what is typed on the left is shown on the right, as HTML, as its source and as events.
+// The page: the text typed on the left is shown on the right, as HTML, as its source and as events.
 "use strict";
 (async () => {
   const SAMPLE = `# For *tonight*
@@ -32,7 +32,7 @@ bag, says <https://example.com>.
   const options = () => switches.reduce((set, { box, bits }) => (box.checked ? set | bits : set), 0);
   const choose = (set) => switches.forEach(({ box, bits }) => (box.checked = (set & bits) === bits));
 
-  // The state in the address: the options as a number, `s=0` where the HTML is the plain one, the text as base64 with the letters that an address may have.
+  // The state in the address: the options as a number, `s=0` if the HTML is not the safe one, and the text as URL-safe base64.
   const packed = (string) => {
     let bytes = "";
     for (const byte of new TextEncoder().encode(string)) bytes += String.fromCharCode(byte);
@@ -60,7 +60,7 @@ bag, says <https://example.com>.
     show();
   };
 
-  // Where an event comes from.
+  // The range that an event comes from.
   const point = (event) => {
     const value = text.value;
     behind.replaceChildren();
@@ -78,7 +78,7 @@ bag, says <https://example.com>.
     behind.scrollTop = text.scrollTop;
   };
 
-  // The events: elements are moved in by what is around them. A text may nest and repeat without end, so both are bounded.
+  // The events: elements are indented by their depth. A text may nest and repeat without end, so both are bounded.
   const ROWS = 2000, STEPS = 40;
   const row = (event, depth) => {
     const item = document.createElement("li"), name = document.createElement("b"), place = document.createElement("i");
@@ -102,8 +102,8 @@ bag, says <https://example.com>.
     });
   };
 
-  // The HTML as elements, without those that open a connection by themselves, whatever the policy of the pane says. Each link stays,
-  // and leads nowhere: its target is a new window, which the pane's sandbox refuses. Its address becomes its title, because a browser may
+  // The HTML as elements, without those that open a connection by themselves, whatever the policy of the pane says. Each link is kept,
+  // but leads nowhere: its target is a new window, which the pane's sandbox refuses. Its address becomes its title, because a browser may
   // connect to an address as soon as a mouse button is down.
   const OPENERS = "link, meta, base, iframe, frame, frameset, object, embed, portal, fencedframe";
   const elements = (html) => {

@@ -1,8 +1,8 @@
-// Markdown to HTML and to events: the calls of the module in module.js, which has to be loaded first. For a page, and for Node:
+// Markdown to HTML and to events: the functions of the module in module.js, which has to be loaded first. For a page, and for Node:
 //
 //     const pulldownCmark = await require("./pulldown_cmark.js").load();
 //     pulldownCmark.html("*Hi*");                        // "<p><em>Hi</em></p>\n"
-//     pulldownCmark.html("<b>", 0, { safe: true });      // "<p>&lt;b&gt;</p>\n", for a text of a stranger
+//     pulldownCmark.html("<b>", 0, { safe: true });      // "<p>&lt;b&gt;</p>\n", for a stranger's text
 //     pulldownCmark.events("*Hi*")[2].value;             // "Hi"
 "use strict";
 var pulldownCmark = (() => {
@@ -21,18 +21,18 @@ var pulldownCmark = (() => {
     return bytes;
   };
 
-  /** The calls, once the module is ready. */
+  /** The functions, once the module is ready. */
   const load = async () => {
     const { bytes } = typeof pulldownCmarkModule === "undefined" ? require("./module.js") : pulldownCmarkModule;
     const { instance } = await WebAssembly.instantiate(bytesOf(bytes.replace(/\s/g, "")), {});
     return callsOf(instance);
   };
 
-  /** The calls of an instance of the module. */
+  /** The functions of an instance of the module. */
   const callsOf = (instance) => {
     const module = instance.exports;
 
-    /** Memory of the module for so many bytes. */
+    /** The address of `size` bytes of the module's memory. */
     const take = (size) => {
       const place = Number(module.take(BigInt(size)));
       if (!place) throw new RangeError("out of memory");
@@ -40,7 +40,7 @@ var pulldownCmark = (() => {
     };
     const give = (place) => module.give(BigInt(place));
 
-    /** What a call answers for these bytes, and for a list of names or a limit if it takes one. */
+    /** The output of a call for these bytes, and for a list of names or a limit if it takes one. */
     const answer = (call, data, options, { names = null, limit = null } = {}) => {
       const held = [];
       const keep = (size) => (held.push(take(size)), held[held.length - 1]);
@@ -62,7 +62,7 @@ var pulldownCmark = (() => {
       }
     };
 
-    /** A limit as the module takes it: each that is greater than any text allows is as good as none. */
+    /** A limit as the module takes it. A limit that does not fit is replaced by the greatest one, which no text reaches. */
     const limitOf = (limit) => {
       const bytes = BigInt(limit), most = (1n << 64n) - 1n;
       if (bytes < 0n) throw new RangeError("a limit is at least 0");
@@ -72,11 +72,11 @@ var pulldownCmark = (() => {
     const encoded = (text) => (typeof text === "string" ? new TextEncoder().encode(text) : text);
 
     /**
-     * The HTML of a text, a string or the bytes of one. It is not safe to show for a text of a stranger, but for `safe`: then HTML is shown as
-     * text, a heading has no attribute but its anchor, and addresses are relative or begin with http:, https:, mailto: or one of `schemes`.
-     * That does not say that links lead to good places, that images do not track, or what a math renderer does with formulas.
-     * Once the destinations and titles of references have `expansionLimit` bytes, a further reference stays text. Without a limit it is the
-     * number of the text's bytes, or 100,000 if that is less. Safe HTML takes no limit.
+     * The HTML of a text, which is a string or its UTF-8 bytes. It is not safe to show if the text comes from a stranger, except with `safe`:
+     * then HTML is shown as text, a heading has no attribute but its anchor, and addresses are relative or begin with http:, https:, mailto:
+     * or one of `schemes`. Safe HTML may still link to bad places, track by images, or mislead a math renderer.
+     * Once the destinations and titles of references have `expansionLimit` bytes in all, further references stay text. The default limit is
+     * 100,000 bytes, or the length of the text if that is more. Safe HTML takes no limit.
      */
     const html = (text, options = 0, { safe = false, schemes = [], expansionLimit = null } = {}) => {
       if (safe && expansionLimit !== null) throw new RangeError("safe HTML takes no limit");
@@ -85,7 +85,7 @@ var pulldownCmark = (() => {
       return answer(module.pcm_html, encoded(text), options);
     };
 
-    /** The events of a text: `{name, value, start, end}` each, where `text.slice(start, end)` is what the event comes from. */
+    /** The events of a text, each `{name, value, start, end}`. The range of the event in the text is `text.slice(start, end)`. */
     const events = (text, options = 0) => {
       const places = typeof text === "string" ? placesOf(text) : null;
       const lines = answer(module.pcm_events_json, encoded(text), options).split("\n").slice(0, -1);
@@ -103,7 +103,7 @@ var pulldownCmark = (() => {
     return { html, events, version, OPTIONS };
   };
 
-  /** For each byte of a text in UTF-8, and for its end, the place in the string. */
+  /** For each byte of a text in UTF-8, and for its end, the index in the string. */
   const placesOf = (text) => {
     const places = [];
     let at = 0;

@@ -17,7 +17,7 @@ export type Tag =
   | ["Link" | "Image", LinkType, string, string, string]
   | ["MetadataBlock", "YamlStyle" | "PlusesStyle"];
 
-/** An event. For a text that is a string, `text.slice(start, end)` is what it comes from; for bytes these are places of bytes. */
+/** An event. Its range in the text is `text.slice(start, end)`: for a string in UTF-16 units, for bytes in bytes. */
 export type Event = { start: number; end: number } & (
   | { name: "Start"; value: Tag }
   | { name: "End"; value: [string, ...unknown[]] }
@@ -26,13 +26,13 @@ export type Event = { start: number; end: number } & (
   | { name: "TaskListMarker"; value: boolean }
 );
 
-/** What the HTML of a text is to be beside its options. */
+/** Further settings of the HTML of a text. */
 export interface HtmlWishes {
-  /** HTML that is safe to show for a text of a stranger. */
+  /** Whether the HTML is to be safe to show, also if the text comes from a stranger. */
   safe?: boolean;
-  /** Of safe HTML: schemes that addresses may begin with beside `http`, `https` and `mailto`. */
+  /** For safe HTML: schemes that addresses may have, besides `http`, `https` and `mailto`. */
   schemes?: string[];
-  /** Of plain HTML: once the destinations and titles of references have so many bytes, a further reference stays text. */
+  /** For plain HTML: once the destinations and titles of references have this number of bytes in all, further references stay text. */
   expansionLimit?: number | bigint | null;
 }
 
@@ -42,7 +42,7 @@ export declare const Options: Readonly<Record<
   | "PLUSES_DELIMITED_METADATA_BLOCKS" | "OLD_FOOTNOTES" | "MATH" | "GFM" | "DEFINITION_LIST" | "SUPERSCRIPT" | "SUBSCRIPT" | "WIKILINKS"
   | "HIGHLIGHT" | "EMAIL_AUTOLINKS", number>>;
 
-/** The HTML of a text. It is not safe to show for a text of a stranger, but for `{ safe: true }`. */
+/** The HTML of a text. It is not safe to show if the text comes from a stranger, except with `{ safe: true }`. */
 export declare function html(text: string | Uint8Array, options?: number, wishes?: HtmlWishes): string;
 /** The events of a text, in order. */
 export declare function events(text: string | Uint8Array, options?: number): Event[];

@@ -1,6 +1,6 @@
-"""Builds the wheel of this package with Python alone: what pip calls, so that it needs no network and no other package.
+"""Builds the wheel of this package with Python alone. pip calls it, so that no network and no other package is needed.
 
-The shared library that `make lib` leaves at the top of the repository goes into the wheel, or the one that a source package has inside;
+The wheel contains the shared library that `make lib` puts below the top of the repository, or the one inside a source package.
 PULLDOWN_CMARK_LIBRARY names another one.
 """
 import base64
@@ -14,7 +14,7 @@ import zipfile
 
 HERE = pathlib.Path(__file__).resolve().parent
 NAME, VERSION = "pulldown_cmark", "0.13.6"
-# Where the library is in a source package, and where `make lib` leaves it.
+# The library's file in a source package, and the file that `make lib` makes.
 INSIDE = HERE / "native" / "libpulldown_cmark.so"
 LIBRARY = HERE.parent.parent / "bin" / "lib" / "libpulldown_cmark.so"
 INFO = f"{NAME}-{VERSION}.dist-info"
@@ -30,7 +30,7 @@ Description-Content-Type: text/markdown
 
 
 def tag(platform=None):
-    """The tag of the wheel: any Python 3, on this machine's kind of processor and system, or on that of this name."""
+    """The tag of the wheel: any Python 3, on this machine's processor type and system, or on the given platform."""
     here = sysconfig.get_platform().replace("-", "_").replace(".", "_")
     return f"py3-none-{platform or here}"
 
@@ -45,23 +45,23 @@ def library():
 
 
 def information(platform=None):
-    """The files of the wheel that tell of it."""
+    """The files of the wheel that describe it."""
     wheel = f"Wheel-Version: 1.0\nGenerator: {NAME} backend\nRoot-Is-Purelib: false\nTag: {tag(platform)}\n"
     return {f"{INFO}/METADATA": METADATA.encode() + (HERE / "README.md").read_bytes(), f"{INFO}/WHEEL": wheel.encode()}
 
 
 def package():
-    """The files of the package but the library."""
+    """The files of the package, except the library."""
     return {f"{NAME}/{it.name}": it.read_bytes() for it in sorted((HERE / NAME).iterdir()) if it.suffix == ".py" or it.name == "py.typed"}
 
 
 def files(platform=None):
-    """All files of the wheel but the list of them."""
+    """All files of the wheel, except the list of them."""
     return {**package(), f"{NAME}/libpulldown_cmark.so": library().read_bytes(), **information(platform)}
 
 
 def source_files():
-    """The files of the source package, which has the library inside: who builds the wheel of it needs no toolchain."""
+    """The files of the source package. It contains the library, so building the wheel from it needs no toolchain."""
     found = {it: (HERE / it).read_bytes() for it in ("README.md", "backend.py", "pyproject.toml")}
     return {**found, **package(), "PKG-INFO": information()[f"{INFO}/METADATA"], "native/libpulldown_cmark.so": library().read_bytes()}
 
@@ -73,7 +73,7 @@ def row(path, data):
 
 
 def build_wheel(wheel_directory, config_settings=None, metadata_directory=None):
-    """Writes the wheel, and returns its name. The settings may name a `platform` for its tag, and `more` files that tell of it."""
+    """Writes the wheel, and returns its name. The settings may give a `platform` for its tag, and `more` files that describe it."""
     wishes = config_settings or {}
     platform = wishes.get("platform")
     held = files(platform)
@@ -89,7 +89,7 @@ def build_wheel(wheel_directory, config_settings=None, metadata_directory=None):
 
 
 def prepare_metadata_for_build_wheel(metadata_directory, config_settings=None):
-    """Writes what tells of the wheel, and answers the name of its folder."""
+    """Writes the files that describe the wheel, and returns the name of their folder."""
     for path, data in information().items():
         place = pathlib.Path(metadata_directory) / path
         place.parent.mkdir(parents=True, exist_ok=True)

@@ -1,5 +1,5 @@
-//! Finds the archive of the library: in the folder that PULLDOWN_CMARK_LIB_DIR names, in `native` of this crate, or where `make lib`
-//! leaves it in a clone of the repository.
+//! Finds the archive of the library: in the folder that PULLDOWN_CMARK_LIB_DIR names, in `native` of this crate, or in the place where
+//! `make lib` puts it in a clone of the repository.
 use std::path::PathBuf;
 use std::{env, process};
 

@@ -1,10 +1,10 @@
 #!/usr/bin/env python3
-"""Turns a folder of Markdown files into HTML by the workers of a dask cluster.
+"""Turns a folder of Markdown files into HTML with the workers of a dask cluster.
 
     by_dask.py SOURCE TARGET [WORKERS | ADDRESS]
 
-Without an ADDRESS, as tcp://scheduler:8786, a cluster of this machine's processors is started. With one, the folders have to be where
-each worker sees them, and each worker has to have the package pulldown_cmark and this folder on its path.
+Without an ADDRESS, such as tcp://scheduler:8786, a cluster over this machine's processors is started. With an ADDRESS, each worker has to
+see the folders under the same paths, and to have the package pulldown_cmark and this folder on its path.
 """
 import os
 import pathlib
@@ -18,7 +18,7 @@ IN_A_TASK = 250
 
 
 def results(client, pairs):
-    """What the workers return, as it comes."""
+    """The results of the workers, as they arrive."""
     tasks = [client.submit(documents.convert_all, pairs[at : at + IN_A_TASK], pure=False) for at in range(0, len(pairs), IN_A_TASK)]
     for task in distributed.as_completed(tasks):
         yield from task.result()

@@ -1,5 +1,5 @@
 #!/usr/bin/env python3
-"""Turns a folder of Markdown files into HTML by a pool of processes.
+"""Turns a folder of Markdown files into HTML with a pool of processes.
 
     by_processes.py SOURCE TARGET [WORKERS]
 """

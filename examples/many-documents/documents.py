@@ -1,4 +1,4 @@
-"""What the ways through many documents share: which files are left, one conversion, and what is said meanwhile."""
+"""The parts that the ways through many documents share: the files that are left, one conversion, and the progress report."""
 import os
 import pathlib
 import sys
@@ -10,7 +10,7 @@ OPTIONS = pulldown_cmark.Options.TABLES | pulldown_cmark.Options.STRIKETHROUGH |
 
 
 def left(source, target):
-    """The files of a folder that are not done, each with where its HTML goes: it is missing there, or older than its text."""
+    """The files of a folder whose HTML is missing or older than the text, each with the path of its HTML."""
     for text in sorted(source.rglob("*.md")):
         html = target / text.relative_to(source).with_suffix(".html")
         if not html.exists() or html.stat().st_mtime < text.stat().st_mtime:
@@ -18,7 +18,8 @@ def left(source, target):
 
 
 def convert(pair):
-    """Writes the HTML of one file; the file and why that failed, or None. A file that is there is whole, also where the run was stopped."""
+    """Writes the HTML of one file. Returns the file and the reason for a failure, or None. An HTML file is always complete, even if the run
+    was stopped."""
     text, html = pair
     try:
         made = pulldown_cmark.html(pathlib.Path(text).read_bytes(), options=OPTIONS)
@@ -33,12 +34,12 @@ def convert(pair):
 
 
 def convert_all(pairs):
-    """The same of several files, as one task of a worker."""
+    """Converts several files, as one task of a worker."""
     return [convert(it) for it in pairs]
 
 
 def report(results, total):
-    """Draws a bar as results come in, and lists the files that failed; the status of the command."""
+    """Draws a bar as results arrive, and lists the files that failed. Returns the status of the command."""
     failed, began, drawn = [], time.monotonic(), 0.0
     for done, (text, fault) in enumerate(results, 1):
         if fault:

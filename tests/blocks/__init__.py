@@ -1,5 +1,5 @@
-"""The definitions of blocks, written once more as a reader of lines: what CommonMark and docs/GRAMMAR.md say, and no code's loop.
+"""The definitions of blocks, written a second time as a reader of lines: by CommonMark and docs/GRAMMAR.md, without a look at the code.
 
-`openings` says what a line begins by its bytes, `reading` goes from line to line, `writing` makes events of the blocks, and `texts` makes
-texts at random. The spans of a leaf are no part of it: `tests/inlines` has them.
+`openings` recognizes the start of a block by the bytes of a line, `reading` goes from line to line, `writing` makes events of the blocks,
+and `texts` makes random texts. The spans of a leaf are not part of it: they are in `tests/inlines`.
 """

@@ -1,4 +1,4 @@
-"""What a line begins, by its columns behind the prefixes of the containers around it."""
+"""The block that a line begins, by its columns after the prefixes of the containers around it."""
 import re
 
 from inlines import labels, letters
@@ -42,20 +42,20 @@ def is_thematic_break(words):
 
 
 def heading_level(words):
-    """The level of an ATX heading; 0 where the line is none."""
+    """The level of an ATX heading; 0 if the line is not an ATX heading."""
     level = letters.prefix_len(lambda b: b == 35, words)
     return level if 1 <= level <= 6 and is_parted(words[level:]) else 0
 
 
 def underline_level(row):
-    """The level that a setext heading underline gives; 0 where the line is none."""
+    """The level that a setext heading underline gives; 0 if the line is not an underline."""
     bare = words_of(row.columns).rstrip(BLANKS)
     is_one_run = bare[:1] in (b"=", b"-") and bare == bare[:1] * len(bare)
     return 0 if indent(row.columns) > 3 or not is_one_run else 1 if bare[:1] == b"=" else 2
 
 
 def fence_of(words):
-    """The character of a code fence, how often it stands, and the info string."""
+    """The character of a code fence, its length, and the info string."""
     for delimiter in b"`~":
         run_length = letters.prefix_len(lambda b, delimiter=delimiter: b == delimiter, words)
         if run_length >= 3 and not (delimiter == 96 and b"`" in words[run_length:]):
@@ -76,7 +76,7 @@ def is_lone_tag(words):
 
 
 def html_kind(words):
-    """The kind of an HTML block, 1 to 7; 0 where the line begins none."""
+    """The kind of an HTML block, 1 to 7; 0 if the line begins no HTML block."""
     if not words.startswith(b"<"):
         return 0
     bs = words[1:].lower()
@@ -101,7 +101,8 @@ def holds_html_end(kind, bs):
 # ## Containers
 
 def width_behind(row, size):
-    """The columns of a prefix: the indent, a marker of this size, and the blanks behind it, of which one counts where there are five or more."""
+    """The columns of a prefix: the indent, a marker of this size, and the blanks after it, of which only one counts if there are five or
+    more."""
     before = indent(row.columns) + size
     blanks = indent(row.columns[before:])
     return before + (1 if before + blanks == len(row.columns) or blanks >= 5 else blanks)
@@ -117,12 +118,12 @@ def list_marker(row):
 
 
 def definition_width(row):
-    """The width of the prefix of a definition; 0 where no marker stands."""
+    """The width of the prefix of a definition; 0 if there is no marker."""
     return width_behind(row, 1) if indent(row.columns) <= 3 and words_of(row.columns).startswith(b":") else 0
 
 
 def block_quote_width(row):
-    """The width of a block quote's prefix; 0 where no marker stands."""
+    """The width of a block quote's prefix; 0 if there is no marker."""
     if indent(row.columns) > 3 or not words_of(row.columns).startswith(b">"):
         return 0
     behind = indent(row.columns) + 1
@@ -130,7 +131,7 @@ def block_quote_width(row):
 
 
 def footnote_label(row):
-    """The label of a footnote definition, and the columns of its marker with the blanks behind it."""
+    """The label of a footnote definition, and the columns of its marker with the blanks after it."""
     words = words_of(row.columns)
     label = labels.label_in(words[2:]) if indent(row.columns) <= 3 and words.startswith(b"[^") else None
     if label is None or not label.behind.startswith(b":"):
@@ -140,13 +141,13 @@ def footnote_label(row):
 
 
 def columns_behind(row, size):
-    """The columns behind so many bytes of a line's words."""
+    """The columns after the first `size` bytes of a line's words."""
     firsts = [n for n, c in enumerate(without_indent(row.columns)) if c.part == 0] + [len(without_indent(row.columns))]
     return without_indent(row.columns)[firsts[size]:]
 
 
 def task_marker(row):
-    """Whether the box in front is checked; None where no task marker stands."""
+    """Whether the box at the start is checked; None if there is no task marker."""
     bs = bytes_of(row.columns) if row.columns and row.columns[0].part == 0 else b""
     if bs[:3] in (b"[ ]", b"[x]", b"[X]") and bs[3:4] in (b" ", b"\t") and trimmed(bs[3:]):
         return bs[:3] != b"[ ]"
@@ -161,7 +162,7 @@ def alert_kind(row):
 # ## Metadata
 
 def metadata_delimiter(row, flags):
-    """The byte of the lines around metadata that begins here, where its option is on."""
+    """The byte of the lines around metadata that begins here, if its option is on."""
     bs = bytes_of(row.columns).rstrip(BLANKS)
     return {b"---": b"-" if "yaml-metadata" in flags else None, b"+++": b"+" if "plus-metadata" in flags else None}.get(bs)
 
@@ -174,12 +175,12 @@ def ends_metadata(delimiter, row):
 # ## Tables
 
 def pipes_in(bs):
-    """The places of the pipes that no backslash stands before."""
+    """The offsets of the pipes that do not come after a backslash."""
     return [at for at, b in enumerate(bs) if b == 124 and bs[at - 1:at] != b"\\"]
 
 
 def cells_in(bs):
-    """The cells of a row without its indent, from pipe to pipe: where each begins, and before where it ends."""
+    """The cells of a row without its indent, from pipe to pipe: the start and the end (exclusive) of each."""
     end = len(bs.rstrip(BLANKS))
     begin = 1 if bs.startswith(b"|") else 0
     pipes = [at for at in pipes_in(bs) if begin <= at < end]
@@ -190,7 +191,7 @@ def cells_in(bs):
 
 
 def alignments_in(bs):
-    """The alignments of a delimiter row; None where the line is none."""
+    """The alignments of a delimiter row; None if the line is not a delimiter row."""
     cells = [trimmed(bs[start:end]) for start, end in cells_in(bs)]
     if not pipes_in(bs) or not all(re.fullmatch(rb":?-+:?", cell) for cell in cells):
         return None

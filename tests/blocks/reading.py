@@ -1,4 +1,4 @@
-"""From line to line: which containers go on, what goes on with the open leaf, and what a line begins."""
+"""From line to line: the containers that continue, the open leaf that continues, and the blocks that a line begins."""
 from blocks import openings
 from blocks.openings import bytes_of, is_blank_row, without
 from inlines import labels, letters
@@ -9,7 +9,7 @@ BLANK_LINE = "a blank line"
 
 
 class Block:
-    """A block: its kind, its range, what a container holds, and data by name."""
+    """A block: its kind, its range, the content of a container, and data by name."""
 
     def __init__(self, kind, start, end, **data):
         self.kind, self.start, self.end, self.entries = kind, start, end, []
@@ -33,7 +33,7 @@ class Reader:
         self.rows = rows(text, 0)
         self.document = Block("Document", 0, len(text))
         self.open, self.leaf = [self.document], None
-        # a lazy line may begin a paragraph: directly behind a link reference definition or the tag of an alert
+        # a lazy line may begin a paragraph: directly after a link reference definition or the tag of an alert
         self.may_begin_lazily = False
 
     def read(self):
@@ -46,7 +46,8 @@ class Reader:
     # ## Prefixes
 
     def kept(self, container, row, is_second):
-        """A later line behind a container's prefix; None where it lacks it. The second line of a container may not be blank behind a blank first."""
+        """A later line after a container's prefix; None if it lacks the prefix. The second line of a container may not be blank if the
+        first one was."""
         if container.kind == "BlockQuote":
             width = openings.block_quote_width(row)
             return without(row, width) if width else None
@@ -57,7 +58,7 @@ class Reader:
         return without(row, container.width) if is_blank_row(row) or indent(row.columns) >= container.width else None
 
     def ahead(self, at, containers):
-        """The lines behind this one, as they are seen inside these containers, up to the first that lacks a prefix."""
+        """The lines after this one, as they are inside these containers, up to the first that lacks a prefix."""
         for later, row in enumerate(self.rows[at + 1:]):
             for container in containers:
                 row = self.kept(container, row, later == 0 and container.lines == 1)
@@ -76,7 +77,7 @@ class Reader:
         return self.text[start_of(row):row.content_end]
 
     def table_alignments(self, row, ahead):
-        """The alignments of the table that a line begins with the one behind it; none where it begins none."""
+        """The alignments of the table that a line begins together with the next one; none if it begins no table."""
         if "tables" not in self.flags or not openings.pipes_in(self.words(row)):
             return []
         following = next(ahead, None)
@@ -96,7 +97,7 @@ class Reader:
         return not is_same or in_table or (number in (None, 1) and not is_blank_row(without(row, width)))
 
     def interrupts(self, row, ahead, is_same=True, in_table=False, may_define=True):
-        """Whether a line interrupts: is_same, the paragraph stands in the container in which the line stands; may_define, a definition may begin."""
+        """Whether a line interrupts. is_same: the paragraph is in the same container as the line; may_define: a definition may begin."""
         if is_blank_row(row) or indent(row.columns) > 3:
             return is_blank_row(row)
         words, marker = words_of(row.columns), openings.list_marker(row)
@@ -112,7 +113,7 @@ class Reader:
     # ## One line
 
     def line(self, at):
-        """Reads a line, and what belongs to a leaf that it begins; answers the line that is read next."""
+        """Reads a line, and the lines of a leaf that it begins. Returns the index of the next line to be read."""
         row, depth = self.rows[at], 1
         for container in self.open[1:]:
             rest = self.kept(container, row, container.lines == 1)
@@ -134,7 +135,7 @@ class Reader:
         return self.begin(row, at)
 
     def goes_on_lazily(self, row, at, depth, may_begin):
-        """A line that lacks a prefix goes on with an open paragraph or, where one may, begins one."""
+        """A line that lacks a prefix continues an open paragraph or, if a paragraph may begin here, begins one."""
         is_paragraph = self.leaf is not None and self.leaf.kind == "Paragraph"
         may_define = self.open[depth].kind == "DefinitionListDefinition"
         if not (is_paragraph or may_begin) or self.interrupts(row, self.ahead(at, self.open[1:depth]), False, False, may_define):
@@ -210,7 +211,7 @@ class Reader:
         table.end = row.line_end
         return True
 
-    # ## What a line begins
+    # ## The blocks that a line begins
 
     def put(self, kind, start, row, **data):
         block = Block(kind, start, row.line_end, **data)
@@ -218,7 +219,7 @@ class Reader:
         return block
 
     def enter(self, kind, start, row, width, **data):
-        """A container begins; what is left of its first line."""
+        """A container begins; the rest of its first line."""
         rest = without(row, width)
         self.open.append(self.put(kind, start, row, width=width, lines=1, is_bare=is_blank_row(rest), **data))
         return rest
@@ -227,7 +228,7 @@ class Reader:
         self.leaf = self.put("Paragraph", start_of(row), row, rows=[row], task=task)
 
     def begin(self, row, at):
-        """What a line begins that lacks no prefix; answers the line that is read next."""
+        """Begins the blocks of a line that lacks no prefix. Returns the index of the next line to be read."""
         delimiter = openings.metadata_delimiter(row, self.flags) if len(self.open) == 1 and row is self.rows[at] else None
         if delimiter and self.holds_metadata(delimiter, self.rows[at + 1:]):
             self.leaf = self.put("MetadataBlock", start_of(row), row, rows=[], delimiter=delimiter)
@@ -250,7 +251,8 @@ class Reader:
         return begins and any(openings.ends_metadata(delimiter, row) for row in later)
 
     def begin_container(self, row):
-        """The rest of the line behind the marker of a container that it begins, which may be an alert's tag or a task; None where it begins none."""
+        """The rest of the line after the marker of a container that it begins, including an alert's tag or a task marker; None if it begins
+        none."""
         footnote = openings.footnote_label(row) if "footnotes" in self.flags else None
         if footnote:
             rest = self.enter("FootnoteDefinition", start_of(row), row, footnote[1], label=footnote[0])
@@ -280,7 +282,7 @@ class Reader:
         return next((entry.kind for entry in reversed(self.open[-1].entries) if entry is not BLANK_LINE), None)
 
     def begin_leaf(self, row):
-        """Whether the line begins a leaf that is judged by this line alone."""
+        """Whether the line begins a leaf that is recognized by this line alone."""
         words, start = words_of(row.columns), start_of(row)
         kind = openings.html_kind(words)
         if kind:
@@ -314,7 +316,7 @@ class Reader:
         return at + 1
 
     def definition_lines(self, row, at):
-        """How many further lines a link reference definition takes; None where none begins."""
+        """The number of further lines of a link reference definition; None if none begins."""
         whole = words_of(row.columns)
         if not whole.startswith(b"["):
             return None

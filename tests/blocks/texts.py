@@ -1,9 +1,9 @@
-"""Texts at random, made of what begins and ends blocks."""
+"""Random texts, made of pieces that begin and end blocks."""
 FRAGMENTS = ["\n"] * 14 + ["\n\n"] * 3 + [" "] * 6 + [
     "  ", "   ", "    ", "\t", "a", "b", "c", "> ", ">", "- ", "-", "1. ", "2. ", "* ", "+ ", "10) ", "# ", "## a", "===", "---", "***", "```",
     "~~~", "<div>", "</div>", "<pre>", "</pre>", "<!--", "-->", "<b>", "[a]: /u", "[a]:", "\r\n", "\r", "\"t\"", "é", "x y"]
 
-# what the rules of an option read
+# the pieces that the rules of an option read
 FRAGMENTS_OF = {
     "tables": ["|", "|", "|", "|a|b|", "-|-", "|-|", "\\|", "a|b", ":-:|-", "|\n|-|\n", "a|b\n-|-\n", "\\\\|"],
     "footnotes": ["[^a]:", "[^a]: ", "[^a]:\n\n", "[^b c]:x", "[^a]", "[^"],
@@ -18,7 +18,7 @@ FRAGMENTS_OF = {
 
 
 def some_text(chance, names):
-    """A text of up to 24 fragments, and the options that it is read with, of these names."""
+    """A text of up to 24 fragments, and the options with which it is read, chosen from these names."""
     flags = [name for name in names if chance.random() < 0.5]
     pool = FRAGMENTS + [fragment for flag in flags for fragment in FRAGMENTS_OF[flag] * 2]
     if chance.random() < 0.6:

@@ -1,4 +1,4 @@
-"""The events of blocks, as mdevents writes them, with one event `["Leaf", stretches]` in the place of what a leaf holds."""
+"""The events of blocks, as mdevents writes them, with one event `["Leaf", stretches]` instead of the content of a leaf."""
 import re
 
 from blocks.reading import BLANK_LINE, Reader, start_of
@@ -10,7 +10,7 @@ from inlines.tokens import Stretch
 # ## Lists
 
 def ends_blank(block):
-    """Whether a blank line ends a container; the blank rest of its marker's line is none."""
+    """Whether a blank line ends a container; the blank rest of its marker's line does not count."""
     if block.kind not in ("Item", "DefinitionListDefinition", "FootnoteDefinition") or not block.entries:
         return False
     last = block.entries[-1]
@@ -18,7 +18,7 @@ def ends_blank(block):
 
 
 def parted(entries):
-    """Each block, and whether a blank line stands between it and the one before it."""
+    """Each block, and whether a blank line is between it and the one before it."""
     found, blank = [], False
     for entry in entries:
         if entry is BLANK_LINE:
@@ -34,7 +34,7 @@ def is_title(blocks, at):
 
 
 def groups(entries):
-    """Blocks in a row that are one child of their container: items of a list, titles with their definitions, or a single block."""
+    """Successive blocks that are one child of their container: items of a list, titles with their definitions, or a single block."""
     blocks, found = parted(entries), []
     for at, (block, is_parted) in enumerate(blocks):
         last = found[-1][1][-1][0] if found else None
@@ -54,7 +54,8 @@ def is_loose_inside(block):
 
 
 def is_tight(blocks):
-    """No blank line between two items or two definitions, a title and a definition, or two blocks that one of them contains directly."""
+    """There is no blank line between two items or two definitions, between a title and a definition, or between two blocks that one of them
+    contains directly."""
     later = [is_parted for block, is_parted in blocks[1:] if block.kind != "Paragraph"]
     return not (any(later) or any(is_loose_inside(block) for block, _ in blocks if block.kind != "Paragraph"))
 
@@ -80,7 +81,7 @@ def braced(text, found):
 
 
 def cut(found, size):
-    """The first so many bytes of some stretches."""
+    """The first `size` bytes of some stretches."""
     answer = []
     for s in found:
         answer += [Stretch(s.start, s.start + min(size, s.end - s.start))] if size > 0 else []
@@ -103,7 +104,7 @@ def without_closing_run(text, found):
 
 
 class Writer:
-    """Writes the events of blocks one behind the other."""
+    """Writes the events of blocks one after the other."""
 
     def __init__(self, reader):
         self.text, self.flags, self.lookup, self.events = reader.text, reader.flags, reader.lookup, []
@@ -112,7 +113,7 @@ class Writer:
         self.events.append([[start, end], list(event)])
 
     def around(self, block, tag, end_data, inside):
-        """The start and the end of an element over a range, and between them what a function writes."""
+        """The start and the end of an element over a range, and between them the events that a function writes."""
         start, end = block
         self.event(start, end, "Start", tag)
         inside()
@@ -194,7 +195,8 @@ class Writer:
     # ## Code, metadata and HTML
 
     def pieces(self, row, count):
-        """What is left of a line behind up to so many columns of indent: the spaces that are left of a tab, and the source with its line ending."""
+        """The parts of a line after up to this number of columns of indent: the remaining spaces of a tab, and the source with its line
+        ending."""
         columns = row.columns[min(count, indent(row.columns)):]
         place = first_place(row.content_end, columns)
         spaces = letters.prefix_len(lambda c: c.part > 0, columns)

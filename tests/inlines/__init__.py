@@ -1,4 +1,4 @@
-"""The written definitions of inlines as Python: each function has the name of its definition in crates/cmark_grammar/specs.
+"""The written definitions of inlines in Python: each function has the name of its definition in crates/cmark_grammar/specs.
 
-Texts are bytes, and places are places of the source. Left out are callbacks, which no program has.
+Texts are bytes, and offsets are offsets of the source. Callbacks are left out, since no program has them.
 """

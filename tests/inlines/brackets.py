@@ -1,4 +1,4 @@
-"""How brackets divide a leaf's text: the definitions of Parts, BracketStates, OpenBrackets, BracketDecisions and BracketReading."""
+"""The division of a leaf's text by brackets: the definitions of Parts, BracketStates, OpenBrackets, BracketDecisions and BracketReading."""
 from dataclasses import dataclass, replace
 from typing import NamedTuple
 
@@ -7,7 +7,7 @@ from inlines.letters import first_is
 from inlines.tokens import Bracket, Closes, Item, Opens, begin_of
 
 
-# ## Parts: an item, what two brackets form, or a bracket that is a text
+# ## Parts: an item, a construct that two brackets form, or a bracket that is a text
 
 class Linked(NamedTuple):
     link_type: str
@@ -17,26 +17,26 @@ class Linked(NamedTuple):
 
 
 class Linking(NamedTuple):
-    """A link or an image: where it leads, and where it ends."""
+    """A link or an image: its destination, and its end."""
     linked: Linked
     end: int
 
 
 class Footnote(NamedTuple):
-    """A footnote reference: its label in normal form, and where it ends."""
+    """A footnote reference: its label in normal form, and its end."""
     label: bytes
     end: int
 
 
 class Wiki(NamedTuple):
-    """A wikilink, which shows its name or what stands from a place on."""
+    """A wikilink, which shows its name or the text from an offset on."""
     name: bytes
     display: object
     end: int
 
 
 class Form(NamedTuple):
-    """What two brackets form, with what stands between them."""
+    """A construct that two brackets form, with the parts between them."""
     opener: Bracket
     inside: list
     closer: Bracket
@@ -67,7 +67,7 @@ class Opener:
 
 @dataclass(frozen=True)
 class State:
-    """The openers are those that are texts in the list that is being read, the nearest first."""
+    """The openers are the opening brackets that are texts in the current list, the nearest first."""
     at: int
     expansion_left: int
     label_close: object = None
@@ -80,7 +80,7 @@ class Taken(NamedTuple):
 
 
 class Outcome(NamedTuple):
-    """The number of nearer openers and what is formed, or None; and the state behind the closing bracket."""
+    """The number of nearer openers and the construct that is formed, or None; and the state after the closing bracket."""
     forms: object
     after: State
 
@@ -165,7 +165,7 @@ def leads(named, found, taken, s):
 
 
 def refers(leaf, named, taken, closer, s):
-    """There is no callback to ask."""
+    """There is no callback."""
     if s.expansion_left == 0:
         return stays(closer, s)
     found = leaf.reader.definition(labels.fold(named.label))
@@ -177,13 +177,13 @@ def one_line_footnotes(options):
 
 
 def is_footnote_label(options, bs):
-    """A `^` and a label, which is on one line but for old footnotes."""
+    """A `^` and a label, which is on one line except for old footnotes."""
     return (options.footnotes and bs.startswith(b"^") and labels.is_bracketed_label(bs[1:])
             and (options.old_footnotes or all(map(letters.is_content, bs[1:]))))
 
 
 def footnote_reference(leaf, label, taken, closer, s):
-    """Its label needs a footnote but for old footnotes; all brackets that stand before it are dropped."""
+    """Its label needs a footnote except for old footnotes; all brackets before it are dropped."""
     if one_line_footnotes(leaf.reader.options) and not leaf.reader.has_footnote(labels.fold(label)):
         return stays(closer, s)
     formed = Footnote(labels.normal_form(label), closer.end)
@@ -264,7 +264,7 @@ def wikilink_or(leaf, first, taken, closer, s):
 
 
 def taking(leaf, taken, closer, s):
-    """Directly before another one a closing bracket tries the nearest doubled opening one first."""
+    """Directly before another closing bracket, a closing bracket tries the nearest doubled opening one first."""
     if leaf.reader.options.wikilinks and first_is(lambda b: b == 93, leaf.from_(closer.end)):
         return wikilink_or(leaf, doubled(s.openers), taken, closer, s)
     return with_taken(leaf, taken, closer, s)
@@ -277,14 +277,14 @@ def decide(leaf, s, closer):
 # ## BracketReading
 
 def with_form(parts, closer, nearer, formed):
-    """The parts where the opening bracket with so many nearer ones forms something with what is read behind it."""
+    """The parts after the opening bracket with this number of nearer ones formed a construct with the parts read after it."""
     openings = [at for at, part in enumerate(parts) if isinstance(part, Opening)]
     at = openings[len(openings) - 1 - nearer]
     return parts[:at] + [Form(parts[at].bracket, parts[at + 1:], closer, formed)]
 
 
 def reads_whole(leaf, expansion_left):
-    """The parts that a leaf is read as, and what is left of the reference expansion limit."""
+    """The parts of a leaf, and the rest of the reference expansion limit."""
     s, parts = State(begin_of(leaf.stretches), expansion_left), []
     while (found := leaf.token(s.at)) is not None:
         if isinstance(found, Opens):

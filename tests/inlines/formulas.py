@@ -1,11 +1,11 @@
-"""Formulas between dollar signs: the definitions of Formulas. Where a definition answers no value, None is answered."""
+"""Formulas between dollar signs: the definitions of Formulas. If a definition has no value, the result is None."""
 from typing import NamedTuple
 
 from inlines.letters import Parsed, first_is
 
 
 class Braces(NamedTuple):
-    """The contexts that are entered, the inner ones first; the number of the outermost, and that of the next."""
+    """The contexts that are entered, the inner ones first; the number of the outermost, and the next number."""
     entered: tuple
     outermost: int
     next: int
@@ -54,7 +54,7 @@ def braces_behind(bs, braces):
 
 
 def formula_to(is_display, context, braces, bs):
-    """What stands up to the first dollar sign of this context that no backslash escapes, if that one closes."""
+    """The text up to the first dollar sign of this context that no backslash escapes, if that dollar sign closes the formula."""
     escaped, last = False, ord("$")
     for at, b in enumerate(bs):
         if not escaped and is_dollar(b) and context_of(braces) == context:

@@ -51,7 +51,7 @@ def depth_after(escaped, depth, b):
 
 
 def bare_in(bs):
-    """A bare destination: its parentheses are balanced or escaped, 32 deep at most."""
+    """A bare destination: its parentheses are balanced or escaped, at most 32 deep."""
     escaped, depth = False, 0
     for at, b in enumerate(bs):
         if ends_bare(b) or (not escaped and b == 41 and depth == 0):
@@ -79,7 +79,7 @@ def title_in(bs):
 
 
 def behind_separator(bs):
-    """Behind blanks with at most one line ending."""
+    """After blanks with at most one line ending."""
     here = behind_blanks(bs)
     line = behind_ending(here)
     return here if line is None else behind_blanks(line)

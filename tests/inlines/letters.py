@@ -1,12 +1,12 @@
-"""What is read of bytes alone: the definitions of Lines, Columns, Letters, CodeSpans, LineBreaks, Dashes, Tags, InlineHtml, Autolinks
-and Entities, and those of Tokens that resolve escapes and entities. Where a definition answers no value, None is answered.
+"""The definitions that depend on bytes alone: those of Lines, Columns, Letters, CodeSpans, LineBreaks, Dashes, Tags, InlineHtml, Autolinks
+and Entities, and those of Tokens that resolve escapes and entities. If a definition has no value, the result is None.
 """
 import html.entities
 from typing import NamedTuple
 
 
 def prefix_len(passes, bs):
-    """How many bytes in front pass."""
+    """The number of bytes at the start that pass."""
     return next((n for n, b in enumerate(bs) if not passes(b)), len(bs))
 
 
@@ -25,7 +25,7 @@ def ends_line(b, bs):
 
 
 def lines(text):
-    """The text cut behind each line ending; each line keeps its own."""
+    """The text cut after each line ending; each line keeps its own."""
     cut, start = [], 0
     for at, b in enumerate(text):
         if ends_line(b, text[at + 1:at + 2]):
@@ -157,7 +157,7 @@ def html_entity(name):
 
 
 def resolved(lookup, bs):
-    """A backslash before punctuation is dropped, and an entity stands for its text."""
+    """A backslash before punctuation is dropped, and an entity is replaced by its text."""
     answer, at, escaped = b"", 0, False
     while at < len(bs):
         b, behind = bs[at], bs[at + 1:]
@@ -186,7 +186,7 @@ def unescaped(lookup, is_in_table, bs):
 
 
 def title_lines(bs):
-    """Each line ending and the blanks behind it are one line feed."""
+    """Each line ending and the blanks after it become one line feed."""
     answer, in_front = [], False
     for at, b in enumerate(bs):
         if ends_line(b, bs[at + 1:at + 2]):
@@ -210,7 +210,7 @@ def without_pipe_escapes(bs):
 
 
 def with_literal_pipes(bs):
-    """Without the backslash of each `\\|`, and without both of each `\\\\|`, where backslashes are read from the left in pairs."""
+    """Without the backslash of each `\\|`, and without both of each `\\\\|`, if backslashes are read from the left in pairs."""
     kept, is_second = bytearray(), False
     for at, b in enumerate(bs):
         if is_second or not bs[at:].startswith((PIPED, b"\\" + PIPED)):
@@ -230,7 +230,7 @@ def backticks(bs):
 
 
 def up_to_run(size, bs):
-    """Up to the first run of exactly so many backticks."""
+    """Up to the first run of exactly this number of backticks."""
     goes_on = False
     for at, b in enumerate(bs):
         if is_backtick(b) and not goes_on and backticks(bs[at:]) == size:
@@ -284,7 +284,7 @@ def blank_break_in(bs):
 
 
 def dashes_of(n):
-    """So many em dashes, and then so many en dashes."""
+    """Some em dashes, and then some en dashes."""
     if n % 3 == 0:
         return n // 3, 0
     if n % 2 == 0:
@@ -296,7 +296,7 @@ def dash_text(dashes):
     return ("\u2014" * dashes[0] + "\u2013" * dashes[1]).encode()
 
 
-# ## Tags, where no line has prefixes
+# ## Tags, on lines without prefixes
 
 def is_name_byte(b):
     return is_alphanumeric(b) or b == 45
@@ -349,7 +349,7 @@ def behind_closing_tag(bs):
 
 
 def behind_space(bs):
-    """Behind blanks with at most one line ending."""
+    """After blanks with at most one line ending."""
     here = behind_blanks(bs)
     line = behind_ending(here)
     return here if line is None else behind_blanks(line)
@@ -400,7 +400,7 @@ def behind_comment(bs):
 
 
 def behind_opened(bs):
-    """Behind what opens behind `<!`, if anything does and it is closed."""
+    """After the construct that `<!` opens, if it opens one that is closed."""
     if bs.startswith(b"--"):
         return behind_comment(bs[2:])
     if first_is(is_letter, bs):

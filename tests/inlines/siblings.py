@@ -1,4 +1,4 @@
-"""What the parts of a leaf become: the definitions of Spans, Emphasis, Siblings, InlineReading and LeafReading.
+"""From the parts of a leaf to its events: the definitions of Spans, Emphasis, Siblings, InlineReading and LeafReading.
 
 Spans are lists of places and of ("Around", kind, start, end, inside); siblings are lists of items and of Around.
 """
@@ -56,7 +56,7 @@ def rest_of_closer(opener, closer):
 
 
 def kinds_of(delimiter, count):
-    """The spans that a pair becomes, the innermost first: twos, and an odd one outermost."""
+    """The spans of a pair, the innermost first: spans of width 2, and an odd one outermost."""
     if delimiter == CARET:
         return ["Caret"] * count
     two, one = {TILDE: ("DoubleTilde", "SingleTilde"), EQUALS: ("DoubleEquals", "Emphasis")}.get(delimiter, ("Strong", "Emphasis"))
@@ -100,7 +100,7 @@ def left_open(closer, pieces):
 
 
 def closes(closer, pieces):
-    """A run closes, pair after pair, until no open run agrees: what is left of it, and the pieces then."""
+    """A run closes, pair after pair, until no open run agrees: the rest of the run, and the pieces then."""
     while True:
         at = next((n for n, piece in enumerate(pieces) if isinstance(piece, Run) and agrees(piece, closer)), None)
         if at is None:
@@ -125,7 +125,7 @@ def spans_of(runs):
 # ## Siblings
 
 class Around(NamedTuple):
-    """An element: its name, and where it leads if it is a link or an image."""
+    """An element: its name, and its destination if it is a link or an image."""
     tag: str
     linked: object
     start: int
@@ -157,7 +157,7 @@ def run_bytes(siblings):
 
 
 def gaps_of(siblings):
-    """What stands before each byte of a run, behind the one before it; and last what stands behind all of them."""
+    """The siblings before each byte of a run and after the byte before it; and last the siblings after all of them."""
     gaps = [[]]
     for s in siblings:
         if is_item(s, "Delimiters"):
@@ -168,7 +168,7 @@ def gaps_of(siblings):
 
 
 def span_tag(options, kind):
-    """The element that a span is; none for two tildes where no strikethrough is read."""
+    """The element of a span; None for two tildes without strikethrough."""
     if kind == "SingleTilde":
         return "Subscript" if options.subscript else "Strikethrough"
     if kind == "DoubleTilde":
@@ -200,7 +200,7 @@ def dress(options, siblings):
 
 
 def address_type(address):
-    """An address is a URI if a scheme begins it, and else an email address."""
+    """An address is a URI if it begins with a scheme, and otherwise an email address."""
     return "Autolink" if letters.has_scheme(address) else "Email"
 
 
@@ -212,7 +212,7 @@ def item_then(x):
 
 
 def from_place(place, siblings):
-    """Siblings from a place on, of which the one that holds the byte there begins there."""
+    """Siblings from an offset on; the sibling that contains the byte there begins there."""
     at = next((n for n, s in enumerate(siblings) if s.end > place), len(siblings))
     return [s._replace(start=max(s.start, place)) for s in siblings[at:at + 1]] + siblings[at + 1:]
 
@@ -222,7 +222,7 @@ def display_from(place, end, siblings):
 
 
 def shown(options, part, formed):
-    """What stands inside an element that two brackets form."""
+    """The content of an element that two brackets form."""
     if isinstance(formed, Wiki) and formed.display is None:
         return [Item("Own", part.opener.end + 1, part.closer.start)]
     inside = siblings_of(options, part.inside)
@@ -289,6 +289,6 @@ def inline_events(source, siblings):
 
 
 def reads_leaf(reader, stretches, is_cell, expansion_left):
-    """The events of a leaf, and what is left of the reference expansion limit."""
+    """The events of a leaf, and the rest of the reference expansion limit."""
     parts, left = reads_whole(Leaf(reader, stretches, is_cell), expansion_left)
     return inline_events(reader.source, dress(reader.options, siblings_of(reader.options, parts))), left

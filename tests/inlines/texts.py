@@ -1,6 +1,6 @@
-"""Texts at random of which it is sure what blocks they are, and the stretches of their leaves: the definitions of Columns, Rows and Tokens.
+"""Random texts whose blocks are certain, and the stretches of their leaves: the definitions of Columns, Rows and Tokens.
 
-What may begin another block is not made: no line begins with an HTML block, a fence, a rule or a list of its own.
+Pieces that may begin another block are left out: no line begins with an HTML block, a fence, a thematic break or a list of its own.
 """
 import re
 from typing import NamedTuple
@@ -40,7 +40,7 @@ IN_CELLS = [fragment.encode() for fragment in [
     *["[^p\\|q]", "[[a\\|b]]", "<a:\\|>", "<a\\|b@c>", "<a@b>", "<a b=\"\\|\">", "\\`\\|`"] * 2,
 ]]
 
-# between its pipes a cell has no pipe but behind a backslash, and does not end with one
+# between its pipes a cell has a pipe only after a backslash, and does not end with a backslash
 CELL = re.compile(rb"\|((?:[^\n\r|]|(?<=\\)\|)*[^\n\r|\\])\|\n\|-\|")
 
 PREFIXES = {"quote": [b"> ", b">", b" > ", b">\t", b"   >  ", b">"], "item": [b"- ", b"1. ", b"*   ", b" + ", b"-\t", b"12) "]}
@@ -107,7 +107,7 @@ def end_place(none, columns):
     return columns[-1].at + 1 if columns else none
 
 
-# ## Containers (CommonMark 5.1 and 5.2): quotes, and items of so many columns
+# ## Containers (CommonMark 5.1 and 5.2): quotes, and items with a number of columns
 
 QUOTE = -1
 MARKER = re.compile(rb"([-+*]|\d{1,9}[.)])(?=[ \t])")
@@ -115,7 +115,7 @@ BREAK = re.compile(rb"([-*_])[ \t]*(\1[ \t]*){2,}$", re.DOTALL)
 
 
 def width_of(columns):
-    """The columns of an item's prefix, with one to four blanks behind the marker; None where none begins, or nothing stands in it."""
+    """The columns of an item's prefix, with one to four blanks after the marker; None if no item begins, or the item is empty."""
     words = words_of(columns)
     marker = MARKER.match(words)
     if indent(columns) > 3 or not marker or BREAK.match(words):
@@ -126,7 +126,7 @@ def width_of(columns):
 
 
 def without_prefix(container, columns):
-    """The columns behind the prefix of a container; None where the line lacks it."""
+    """The columns after the prefix of a container; None if the line lacks it."""
     if container == QUOTE:
         if indent(columns) > 3 or words_of(columns)[:1] != b">":
             return None
@@ -136,7 +136,7 @@ def without_prefix(container, columns):
 
 
 def first_line(kinds, row):
-    """The containers that a first line begins, and what is left of it; None where it does not begin them."""
+    """The containers that a first line begins, and the rest of the line; None if it does not begin them."""
     containers = []
     for kind in kinds:
         width = QUOTE if kind == "quote" else width_of(row.columns)
@@ -149,7 +149,7 @@ def first_line(kinds, row):
 
 
 def later_line(containers, row):
-    """What is left of a later line; one that lacks a prefix is lazy."""
+    """The rest of a later line; a line that lacks a prefix is lazy."""
     for container in containers:
         rest = without_prefix(container, row.columns)
         if rest is None:
@@ -161,7 +161,7 @@ def later_line(containers, row):
 # ## Tokens: the stretches of paragraphs and headings
 
 def stretches(found):
-    """Lines behind their prefixes: one that begins where the one before it has ended stands in one stretch with it."""
+    """Lines after their prefixes: a line that begins where the one before it ended is in the same stretch."""
     begin, answer = first_place(found[0].content_end, without_indent(found[0].columns)), []
     for row, following in zip(found, found[1:]):
         start = first_place(following.content_end, following.columns)
@@ -195,7 +195,7 @@ UNDERLINE = re.compile(rb"=+[ \t]*$", re.DOTALL)
 
 
 def may_open(row, is_first):
-    """Whether a line may be something else than a line of a paragraph: then its text is not tried."""
+    """Whether a line may be something other than a line of a paragraph: then its text is not tried."""
     words = words_of(row.columns)
     if not words or (is_first and indent(row.columns) > 3):
         return True
@@ -216,13 +216,13 @@ class Sample(NamedTuple):
     is_cell = False
 
     def rows(self, at):
-        """What is left of its lines inside the containers; None where the first does not begin these."""
+        """The rest of its lines inside the containers; None if the first line does not begin these."""
         found = rows(self.text, at)
         begun = first_line(self.kinds, found[0]) if found and not self.text.endswith((b"\n", b"\r")) else None
         return begun and [begun[1], *(later_line(begun[0], row) for row in found[1:])]
 
     def leaf(self, at):
-        """The stretches of its leaf, where the text stands at a place of the source; None where it may be something else."""
+        """The stretches of its leaf, if the text is at an offset of the source; None if it may be something else."""
         found = self.rows(at)
         if found is None:
             return None
@@ -256,7 +256,7 @@ class Cell(NamedTuple):
     is_cell = True
 
     def leaf(self, at):
-        """The stretch of its cell, where the text stands at a place of the source; None where it may be something else."""
+        """The stretch of its cell, if the text is at an offset of the source; None if it may be something else."""
         found = CELL.fullmatch(self.text)
         words = found and found[1].strip(b" \t")
         if not words:

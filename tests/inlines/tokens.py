@@ -1,4 +1,4 @@
-"""What begins at a place of a leaf's text: the definitions of LeafText, Flanking, Quotes, Items and InlineTokens."""
+"""The tokens of a leaf's text: the definitions of LeafText, Flanking, Quotes, Items and InlineTokens."""
 import unicodedata
 from typing import Callable, NamedTuple
 
@@ -48,7 +48,7 @@ def size_of(stretches):
 
 
 def place_with(left, stretches):
-    """The place from which on so many bytes are left."""
+    """The offset from which on this number of bytes is left."""
     if not stretches:
         return 0
     s, more = stretches[0], stretches[1:]
@@ -63,7 +63,7 @@ def end_of(stretches):
     return place_with(0, stretches)
 
 
-# ## Flanking: beside a run stands a character, or None
+# ## Flanking: beside a run there is a character, or None
 
 def is_unicode_white_space(c):
     return c in "\t\n\f\r" or unicodedata.category(c) == "Zs"
@@ -147,7 +147,7 @@ def quote_beside(double, before, after):
 
 
 def is_open(double, before):
-    """`is_double_open` and `is_single_open`: such a quote is open behind these, the nearest first."""
+    """`is_double_open` and `is_single_open`: this kind of quote is open after these, the nearest first."""
     if not before:
         return False
     quote, others = before[0], before[1:]
@@ -348,7 +348,7 @@ class Leaf:
         return self.quote_at(at, b) if b in b"\"'" else item_at("Plain", at, at + 1)
 
     def begins(self, at, all_bytes):
-        """What begins in front of these bytes, where each byte that stands for itself is an item."""
+        """The token at the start of these bytes; each plain byte is an item."""
         if not all_bytes:
             return None
         b, bs = all_bytes[0], all_bytes[1:]
@@ -378,7 +378,7 @@ class Leaf:
         return self.begins(at, self.from_(at))
 
     def plain_end(self, end):
-        """Where a text ends that goes on with all bytes that stand for themselves and touch."""
+        """The end of a text that continues with all adjacent plain bytes."""
         found = self.begins_at(end)
         while isinstance(found, Stands) and found.item.kind == "Plain" and found.item.start == end:
             end = found.resume
@@ -386,7 +386,7 @@ class Leaf:
         return end
 
     def token(self, at):
-        """What begins at a place; None at the leaf's end."""
+        """The token at an offset; None at the leaf's end."""
         found = self.begins_at(at)
         if isinstance(found, Stands) and found.item.kind == "Plain":
             return item_at("Plain", found.item.start, self.plain_end(found.resume))

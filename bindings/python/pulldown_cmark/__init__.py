@@ -1,4 +1,4 @@
-"""Markdown to HTML and to events, by a library whose answers are proved.
+"""Markdown to HTML and to events, by a library whose results are proved.
 
 >>> html("*Hi*")
 '<p><em>Hi</em></p>\\n'

@@ -6,10 +6,10 @@ from ._library import Options, Text, bytes_of, event_lines
 
 
 class Tag(NamedTuple):
-    """What an event starts or ends, as ``Tag(name='Heading', data=(1, None, (), ()))``.
+    """The element that an event starts or ends, such as ``Tag(name='Heading', data=(1, None, (), ()))``.
 
-    The data is in the order in which the Rust crate pulldown-cmark declares it, as the program mdevents writes it; a text or a
-    choice that is absent is ``None``.
+    The data is in the order in which the Rust crate pulldown-cmark declares it, as the program mdevents writes it. An absent value is
+    ``None``.
     """
 
     name: str
@@ -20,8 +20,9 @@ class Event(NamedTuple):
     """One event of a text.
 
     ``name`` is Start, End, Text, Code, InlineMath, DisplayMath, Html, InlineHtml, FootnoteReference, SoftBreak, HardBreak, Rule or
-    TaskListMarker. ``value`` is a ``Tag`` of Start and End, a text of those that have one, a ``bool`` of TaskListMarker, and else
-    ``None``. The event comes from ``text[start:end]`` of the text that was handed in: characters of a ``str``, bytes of ``bytes``.
+    TaskListMarker. ``value`` is a ``Tag`` for Start and End, a ``bool`` for TaskListMarker, a ``str`` for events with a text, and otherwise
+    ``None``. ``start`` and ``end`` are the range of the event in the given text, ``text[start:end]``: in characters if it is a ``str``, in
+    bytes if it is ``bytes``.
     """
 
     name: str
@@ -31,12 +32,12 @@ class Event(NamedTuple):
 
     @property
     def range(self) -> slice:
-        """``text[event.range]`` is what the event comes from."""
+        """The range of the event in the text, as a slice: use ``text[event.range]``."""
         return slice(self.start, self.end)
 
 
 def _frozen(value: Any) -> Any:
-    """A value of JSON with tuples for its lists."""
+    """A value of JSON with tuples instead of lists."""
     return tuple(map(_frozen, value)) if isinstance(value, list) else value
 
 
@@ -48,7 +49,7 @@ def _value(name: str, data: List[Any]) -> Union[Tag, str, bool, None]:
 
 
 def _places(text: str) -> Optional[List[int]]:
-    """For each byte of a text, and its end, how many characters begin before it; None where each has one byte."""
+    """For each byte of a text, and for its end, the number of characters that begin before it; None if each character has one byte."""
     if text.isascii():
         return None
     places = []
@@ -60,7 +61,7 @@ def _places(text: str) -> Optional[List[int]]:
 def events(text: Text, *, options: int = Options.NONE) -> Iterator[Event]:
     """The events of a text of Markdown, in order, read with these options.
 
-    The text is read at once; what is wrong with it is raised by this call, as by ``html``, and not by the iterator.
+    The whole text is read at once. Errors are raised by this call, as by ``html``, and not by the iterator.
     """
     lines = event_lines(bytes_of(text), options)
     return _walk(lines, _places(text) if isinstance(text, str) else None)

@@ -9,7 +9,7 @@ from typing import Iterable, Optional, Union
 
 Text = Union[str, bytes, bytearray, memoryview]
 
-# What a call answers, as pulldown_cmark.h has it.
+# The statuses of a call, as pulldown_cmark.h defines them.
 _DONE, _TOO_LONG, _NOT_UTF8, _NO_MEMORY = range(4)
 
 
@@ -41,7 +41,7 @@ _ALL = functools.reduce(operator.or_, map(int, Options.__members__.values()))
 
 
 def _loaded() -> ctypes.CDLL:
-    """The shared library: the one that PULLDOWN_CMARK_LIBRARY names, or that beside this file, or the system's."""
+    """The shared library: the one that PULLDOWN_CMARK_LIBRARY names, or the one beside this file, or the system's."""
     beside = pathlib.Path(__file__).resolve().parent / "libpulldown_cmark.so"
     named = os.environ.get("PULLDOWN_CMARK_LIBRARY")
     return ctypes.CDLL(named or (str(beside) if beside.exists() else "libpulldown_cmark.so.0"))
@@ -62,7 +62,7 @@ _library.pcm_html_within.argtypes = _TEXT + [ctypes.c_size_t] + _ROOM
 
 
 def library_version() -> str:
-    """The version of the shared library, which ends with ``+not.proved`` where it was built without proofs."""
+    """The version of the shared library. It ends with ``+not.proved`` if the library was built without proofs."""
     version = _library.pcm_version()
     label = "+not.proved" if version >> 31 else ""
     return f"{version >> 16 & 0x7FFF}.{version >> 8 & 255}.{version & 255}{label}"
@@ -86,7 +86,8 @@ def bits_of(options: int) -> int:
 
 
 def limit_of(limit: int) -> int:
-    """A reference expansion limit as the library takes it: of more bytes than there are, each is as good as none."""
+    """A reference expansion limit as the library takes it. A limit that does not fit is replaced by the greatest one, which no text
+    reaches."""
     bytes_left = operator.index(limit)
     if bytes_left < 0:
         raise ValueError("a limit is at least 0")
@@ -94,7 +95,7 @@ def limit_of(limit: int) -> int:
 
 
 def answer(call: "ctypes._CFuncPtr", data: bytes, options: int, *more: Union[bytes, int]) -> bytes:
-    """What a call of the library answers for these bytes, and what else it takes. Python's lock is let go of while it runs."""
+    """The output of a call of the library for these bytes and further arguments. Python's lock is released while it runs."""
     bits, size = bits_of(options), ctypes.c_size_t()
     room_len = len(data) + len(data) // 4 + 64
     while True:
@@ -114,13 +115,15 @@ def answer(call: "ctypes._CFuncPtr", data: bytes, options: int, *more: Union[byt
 def html(text: Text, *, options: int = Options.NONE, safe: bool = False, schemes: Iterable[str] = (), expansion_limit: Optional[int] = None) -> str:
     """The HTML of a text of Markdown, read with these options.
 
-    It is not safe to show for a text of a stranger: raw HTML stands in it as it is, links may lead to ``javascript:``, and headings
-    may have attributes as ``onclick``. With ``safe=True`` it is: HTML is shown as text, a heading has no attribute but its anchor,
-    anchors and names of footnotes begin with ``user-content-``, and addresses are relative or begin with ``http:``, ``https:``,
-    ``mailto:`` or one of ``schemes``, of which ``javascript``, ``vbscript``, ``data`` and ``file`` are never taken.
-    Once the destinations and titles of references have ``expansion_limit`` bytes, a further reference stays text. Without a limit it is
-    the number of the text's bytes, or 100,000 if that is less. HTML that is safe has no other limit: both together raise ``ValueError``.
-    Raises ``UnicodeError`` where the text is not UTF-8 or cannot be written so, and ``MemoryError`` where memory is refused.
+    It is not safe to show if the text comes from a stranger: raw HTML is kept as it is, links may lead to ``javascript:``, and headings may
+    have attributes such as ``onclick``. With ``safe=True`` it is safe: HTML is shown as text, a heading has no attribute but its anchor, and
+    anchors and names of footnotes begin with ``user-content-``. Addresses are relative or begin with ``http:``, ``https:``, ``mailto:`` or
+    one of ``schemes``; ``javascript``, ``vbscript``, ``data`` and ``file`` are never taken from ``schemes``.
+
+    Once the destinations and titles of references have ``expansion_limit`` bytes in all, further references stay text. The default limit is
+    100,000 bytes, or the length of the text if that is more. Safe HTML has no other limit: both together raise ``ValueError``.
+
+    Raises ``UnicodeError`` if the text is not UTF-8 or cannot be encoded as UTF-8, and ``MemoryError`` if memory is refused.
     """
     if safe and expansion_limit is not None:
         raise ValueError("safe HTML takes no limit")

@@ -1,7 +1,7 @@
 //! Markdown to HTML and to events, by a library that is proved.
 //!
-//! The library is written in Rattle, a Rust with contracts, and linked as an archive. What it writes is proved to be the HTML, or the
-//! events, of the reading of the text by a written grammar. This crate is not proved: it hands texts over, and takes the answers back.
+//! The library is written in Rattle, a Rust with contracts, and linked as an archive. Its output is proved to be the HTML, or the events,
+//! of the text as a written grammar reads it. This crate is not proved: it passes texts to the library and returns the results.
 //!
 //! ```
 //! use pulldown_cmark_proved::{events_json, html, safe_html, Options};
@@ -27,7 +27,7 @@ impl Options {
     pub const NONE: Options = Options(0);
     /// Tables.
     pub const TABLES: Options = Options(2);
-    /// Footnotes as GitHub reads them.
+    /// Footnotes in GitHub's form.
     pub const FOOTNOTES: Options = Options(4);
     /// Strikethrough: `~a~` and `~~a~~`.
     pub const STRIKETHROUGH: Options = Options(8);
@@ -41,11 +41,11 @@ impl Options {
     pub const YAML_STYLE_METADATA_BLOCKS: Options = Options(128);
     /// Metadata between lines of `+++`.
     pub const PLUSES_DELIMITED_METADATA_BLOCKS: Options = Options(256);
-    /// Footnotes as they were read before; it has the bit of `FOOTNOTES` too.
+    /// Footnotes in the original's older form; it includes the bit of `FOOTNOTES`.
     pub const OLD_FOOTNOTES: Options = Options(516);
     /// Formulas: `$a$` and `$$a$$`.
     pub const MATH: Options = Options(1024);
-    /// Alerts alone: `> [!NOTE]`. For what GitHub reads take `GITHUB`.
+    /// Only alerts: `> [!NOTE]`. Use `GITHUB` for all rules that GitHub reads.
     pub const GFM: Options = Options(2048);
     /// Definition lists.
     pub const DEFINITION_LIST: Options = Options(4096);
@@ -59,7 +59,7 @@ impl Options {
     pub const HIGHLIGHT: Options = Options(65536);
     /// Links by email address: `<a@b.c>`.
     pub const EMAIL_AUTOLINKS: Options = Options(131072);
-    /// What GitHub reads: tables, footnotes, strikethrough, task lists, alerts and links by email address.
+    /// The rules that GitHub reads: tables, footnotes, strikethrough, task lists, alerts and links by email address.
     pub const GITHUB: Options = Options(2 | 4 | 8 | 16 | 2048 | 131072);
 
     /// The bits of the options.
@@ -96,26 +96,27 @@ impl std::error::Error for OutOfMemory {}
 
 /// The HTML of a text.
 ///
-/// It is not safe to show for a text of a stranger: raw HTML stands in it as it is, links may lead to `javascript:`, and headings may
-/// have attributes as `onclick`. [`safe_html`] is for such texts.
+/// It is not safe to show if the text comes from a stranger: raw HTML is kept as it is, links may lead to `javascript:`, and headings may
+/// have attributes such as `onclick`. Use [`safe_html`] for such texts.
 pub fn html(text: &str, options: Options) -> Result<String, OutOfMemory> {
     native::html(text, options.bits())
 }
 
-/// HTML that is safe to show for a text of a stranger.
+/// HTML that is safe to show, also if the text comes from a stranger.
 ///
-/// HTML of the text is shown as text, and a heading has no attribute but its anchor. Addresses are relative or begin with `http:`,
-/// `https:`, `mailto:` or one of these schemes, of which `javascript`, `vbscript`, `data` and `file` are never taken; others are empty.
+/// HTML in the text is shown as text, and a heading has no attribute but its anchor. Addresses are relative or begin with `http:`,
+/// `https:`, `mailto:` or one of `schemes`; all others become empty. `javascript`, `vbscript`, `data` and `file` are never taken from
+/// `schemes`.
 pub fn safe_html(text: &str, options: Options, schemes: &[&str]) -> Result<String, OutOfMemory> {
     native::safe_html(text, options.bits(), &schemes.join(" "))
 }
 
-/// The events of a text: for each a line of JSON, `{"range":[FROM,TO],"event":[NAME,DATA..]}`, with a range of bytes of the text.
+/// The events of a text: one line of JSON for each, `{"range":[FROM,TO],"event":[NAME,DATA..]}`. The range has byte offsets of the text.
 pub fn events_json(text: &str, options: Options) -> Result<String, OutOfMemory> {
     native::events_json(text, options.bits())
 }
 
-/// The version of the library, which ends with `+not.proved` where it was built without proofs.
+/// The version of the library. It ends with `+not.proved` if the library was built without proofs.
 pub fn library_version() -> String {
     let version = native::version();
     let label = if version >> 31 == 1 {

@@ -2,7 +2,7 @@
 
 use crate::OutOfMemory;
 
-// What a call answers, as pulldown_cmark.h has it.
+// The statuses of a call, as pulldown_cmark.h defines them.
 const DONE: u32 = 0;
 const TOO_LONG: u32 = 1;
 
@@ -36,9 +36,9 @@ extern "C" {
     fn pcm_version() -> u32;
 }
 
-/// Calls with a room of so many bytes, and again with as many as the first call asks for.
+/// Calls with a room of `first` bytes, and again with the size that the first call asks for.
 ///
-/// `call` takes the room and gives a status, and how many bytes it wrote or asks for.
+/// `call` takes the room and returns a status, and the number of bytes that it wrote or asks for.
 fn answer(
     first: usize,
     mut call: impl FnMut(&mut [u8]) -> (u32, usize),
@@ -51,11 +51,11 @@ fn answer(
         match call(&mut room) {
             (DONE, size) => {
                 room.truncate(size);
-                // The library writes UTF-8, which is proved; it is asked all the same, since the linker is not proved.
+                // It is proved that the library writes UTF-8; the check is made all the same, since the linker is not proved.
                 return Ok(String::from_utf8(room).expect("the library writes UTF-8"));
             }
             (TOO_LONG, size) => length = size,
-            // The third status is that of a text that is not UTF-8, which a `str` is.
+            // PCM_NOT_UTF8 cannot occur, since a `str` is UTF-8, so memory was refused.
             _ => return Err(OutOfMemory),
         }
     }

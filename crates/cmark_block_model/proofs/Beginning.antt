@@ -1,4 +1,4 @@
--- What a line begins: the pass begins what the model does.
+-- The opening of a line: the pass begins the same blocks as the model.
 use Rattle.std.proofs.Common.{◌≡◌, ℕ, zero, suc, ◌≤◌, ◌<◌, ◌==◌, ◌&&◌, Bool, true, false, List, [], ◌∷◌, ◌++◌, length, take, refl, ap, ◌∙◌, sym, append_assoc, append-nil, Option, Some, None, arith, true≢false, subst}
 use Rattle.std.specs.Prelude.{nat_le, if◌then◌else◌}
 use Rattle.cmark_grammar.specs.Answers.{Lookup}
@@ -23,7 +23,7 @@ use Rattle.cmark_block_model.proofs.ListDelimiters.{Unmarked}
 use Rattle.cmark_block_model.proofs.Places.{IsTidy, place-replay}
 
 module _ (text : List ℕ) (options : Options) (lookup : Lookup) where
-  -- the lines ahead inside one more container
+  -- the lines ahead inside another container
   pub ahead-inside : (outer : List OpenContainer) (c : OpenContainer) (next : List Row) → ahead_in text options lookup (outer ++ c ∷ []) next ≡ within c.container false (ahead_in text options lookup outer next)
   ahead-inside [] c next = refl
   ahead-inside (o ∷ outer) c next = ahead-inside outer c (shown (strips o.container false next))
@@ -143,7 +143,7 @@ module _ (text : List ℕ) (options : Options) (lookup : Lookup) where
   leaf-bare (MetadataBlock kind) more closed r a b = refl
   leaf-bare (Table alignments) more closed r a b = refl
 
-  -- what the first line begins inside a container
+  -- the open blocks after the first line inside a container
   abbrev pub inside_begun : ℕ → Container → Row → List Row → OpenLines
   inside_begun m k r ahead = lines_begin_in options m (place_in k) NoBlocks (enter k r) ahead
 
@@ -152,7 +152,7 @@ module _ (text : List ℕ) (options : Options) (lookup : Lookup) where
       ap (λ o. lines_begin_as o (λ j. lines_begin_in options m (place_in j) NoBlocks (enter j (enter k r)) (within j (is_bare_start j (enter k r)) ahead)) NoBlocks (enter k r))
       (at-blank (place_in k) (enter k r) ahead (enter-lazy options k r ∙ l) b)
 
-  -- an alert's first line is not blank behind the marker
+  -- an alert's first line is not blank after the marker
   alert-whole : (k : Container) (r : Row) → is_alert k ≡ true → is_bare_start k r ≡ false
   alert-whole (BlockQuote alert) r e = refl
   alert-whole (Footnote label old size) r e = refl
@@ -215,7 +215,7 @@ module _ (text : List ℕ) (options : Options) (lookup : Lookup) where
       behind_tag : Pass → Pass
       behind_tag q = record q { leaf = BehindTagLeaf }
 
-      -- behind an alert's tag nothing is begun
+      -- after an alert's tag no block is begun
       tagged : (k : Container) (is_tag : Bool)
           → begin_in text options lookup m (place_in k) (enter k r) next (is_item k) (container_begun k r (pass_with (replay text options lookup closed l) outer false Closed n)) ≡ pass_at text options lookup (InContainer closed k r [] (lines_begin_in options m (place_in k) NoBlocks (enter k r) (within k (is_bare_start k r) ahead))) ahead l outer b n
           → inside_or_tag is_tag (container_begun k r (pass_with (replay text options lookup closed l) outer false Closed n)) (begin_in text options lookup m (place_in k) (enter k r) next (is_item k) (container_begun k r (pass_with (replay text options lookup closed l) outer false Closed n)))
@@ -247,12 +247,12 @@ module _ (text : List ℕ) (options : Options) (lookup : Lookup) where
           ap (λ x. pass_with (paragraph_open text options lookup r [] (replay text options lookup closed l)) outer false (InParagraphLeaf [] (start_of x) x) n) (sym (whole-same r e))
           ∙ ap (λ o. pass_with (paragraph_open text options lookup r [] (replay text options lookup closed l)) o false (InParagraphLeaf [] (start_of r) (whole r)) n) (sym (append-nil outer))
 
-  -- where nothing but a blank line may begin, no line that is bare begins something
+  -- if only a blank line may begin, a bare line begins nothing else
   not-bare : (place : Place) (b : Bool) (r : Row) (ahead : List Row) → r.lazy ≡ false → (b ≡ true → is_blank_line r ≡ true) → (opens_at options place r ahead ≡ Blank → ⊥) → b ≡ false
   not-bare place false r ahead e h ne = refl
   not-bare place true r ahead e h ne = absurd (ne (at-blank place r ahead e (h refl)))
 
-  -- what has begun fits
+  -- the open blocks after the opening of a line fit
   pub begins-fit : (m : ℕ) (place : Place) (closed : Blocks) (r : Row) (ahead : List Row) (b : Bool) (n : ℕ) → r.lazy ≡ false → length r.columns < m → (b ≡ true → is_blank_line r ≡ true) → r.line_end ≡ n
       → Fits b (lines_begin_in options m place closed r ahead) ahead n
   begins-fit zero place closed r ahead b n e f h q = absurd (omega (arith, f))
@@ -287,7 +287,7 @@ module _ (text : List ℕ) (options : Options) (lookup : Lookup) where
       go (Takes leaf more) o t ih = leaf-fits leaf more (not-bare place b r ahead e h (λ x. let y : Takes leaf more ≡ Blank = sym o ∙ x in cc)) (at-len options place r ahead leaf more o) t
       go Plain o t ih = (not-bare place b r ahead e h (λ x. let y : Plain ≡ Blank = sym o ∙ x in cc), q)
 
-  -- behind blocks that have ended a line begins what it begins at any place that is not behind a task marker
+  -- the place after closed blocks is not after a task marker, unless the place without blocks is
   not-task : (place : Place) (closed : Blocks) → is_behind_task place ≡ false → is_behind_task (place_behind place closed) ≡ false
   not-task place NoBlocks e = e
   not-task place (BlankLine line after) e = not-task (over_blank place) after (over place)
@@ -330,7 +330,7 @@ module _ (text : List ℕ) (options : Options) (lookup : Lookup) where
   abbrev pub IsFresh : Level → Type 0
   IsFresh l = l.inner ≡ no_siblings
 
-  -- at a place behind closed blocks
+  -- at a place after closed blocks
   starts-at : (place : Place) (closed : Blocks) (r : Row) (next ahead : List Row) (l : Level) (outer : List OpenContainer) (n : ℕ) → is_behind_task place ≡ false → is_behind_title (place_of (replay text options lookup closed l).inner) ≡ is_behind_title place → r.lazy ≡ false → ahead_in text options lookup outer next ≡ ahead
       → begin text options lookup r next (pass_with (replay text options lookup closed l) outer false Closed n) ≡ pass_at text options lookup (lines_begin_at options place closed r ahead) ahead l outer false n
   starts-at place closed r next ahead l outer n s t e a =
@@ -343,7 +343,7 @@ module _ (text : List ℕ) (options : Options) (lookup : Lookup) where
       starts-at (place_behind Apart closed) closed r next ahead l outer n (not-task Apart closed refl)
       (place-replay text options lookup closed Apart l u (subst (λ s. IsTidy s.title s.list) (sym h) tt) (ap (λ s. is_behind_title (place_of s)) h)) e a
 
-  -- directly behind an alert's tag
+  -- directly after an alert's tag
   pub starts-behind-tag : (r : Row) (next ahead : List Row) (l : Level) (outer : List OpenContainer) (n : ℕ) → IsFresh l → r.lazy ≡ false → ahead_in text options lookup outer next ≡ ahead
       → begin text options lookup r next (pass_with l outer false Closed n) ≡ pass_at text options lookup (lines_begin_at options BehindLazy NoBlocks r ahead) ahead l outer false n
   starts-behind-tag r next ahead l outer n h e a = starts-at BehindLazy NoBlocks r next ahead l outer n refl (ap (λ s. is_behind_title (place_of s)) h) e a

@@ -22,7 +22,7 @@ pub take-none : (n : ℕ) → take {A = Row} n [] ≡ []
 take-none zero = refl
 take-none (suc n) = refl
 
--- lines of which none closes the block
+-- lines none of which closes the block
 pub before-lines : (closes : Row → Bool) (rs : List Row) → AreBefore closes rs → lines_before closes rs ≡ rs
 before-lines closes [] h = refl
 before-lines closes (r ∷ rs) h = ap (λ y. stop_at y r (lines_before closes rs)) h.0 ∙ ap (λ x. r ∷ x) (before-lines closes rs h.1)

@@ -18,7 +18,7 @@ merge-apart : (p : Piece) (ps : List Piece) → p.owned ≡ true → merge p ps 
 merge-apart p [] e = refl
 merge-apart p (q ∷ ps) e = ap (λ z. if not z && (not q.owned && (p.end == q.start)) then record { owned = false; bytes = p.bytes ++ q.bytes; start = p.start; end = q.end } ∷ ps else p ∷ q ∷ ps) e
 
--- a piece before one that does not touch it, and before what that begins
+-- a piece before another piece that it does not touch, and before the pieces merged with that
 apart : (p q : Piece) (ps : List Piece) → q.owned ≡ false → touches p q ≡ false → merge p (merge q ps) ≡ p ∷ merge q ps
 apart p q [] f e = ap (λ z. if z then record { owned = false; bytes = p.bytes ++ q.bytes; start = p.start; end = q.end } ∷ [] else p ∷ q ∷ []) e
 apart p q (x ∷ ps) f e = go (touches q x)
@@ -51,7 +51,7 @@ touched-plain p q e = go p.owned q.owned e
     go false true f = absurd (true≢false (sym f))
     go false false f = refl
 
--- all pieces, with those behind them
+-- all pieces, with the later ones
 add-merges : (ps : List Piece) (done : List Piece) (waits : Option Piece) (behind : List Piece) → ((add_pieces (run_with done waits) ps).done ++ merge_waits (add_pieces (run_with done waits) ps).waits behind) ≡ (done ++ merge_waits waits (merge_all ps behind))
 add-merges [] done waits behind = refl
 add-merges (q ∷ ps) done None behind = go q.owned refl (λ d w. add-merges ps d w behind)
@@ -77,7 +77,7 @@ add-merges (q ∷ ps) done (Some p) behind = touching (touches p q) refl (λ d w
     touching true e ih = ih done (Some (longer p q)) ∙ ap (λ x. done ++ x) (together p q l (touched-plain p q e) e)
     touching false e ih = go q.owned refl e ih
 
--- what was done stays in front
+-- the finished pieces stay first
 add-front : (ps : List Piece) (ds es : List Piece) (waits : Option Piece) → add_pieces (run_with (ds ++ es) waits) ps ≡ run_with (ds ++ (add_pieces (run_with es waits) ps).done) (add_pieces (run_with es waits) ps).waits
 add-front [] ds es waits = refl
 add-front (q ∷ ps) ds es None = go q.owned (λ e w. add-front ps ds e w)
@@ -114,7 +114,7 @@ module _ (text : List ℕ) (most : ℕ) where
       let ps = verbatim_line text (code_columns most r) r in
       run-merges rs (add_pieces (run_with done waits) ps).done (add_pieces (run_with done waits) ps).waits ∙ add-merges ps done waits (code_pieces text most rs)
 
-  -- the tokens of lines of code: what was drawn, and the stretch that waits
+  -- the tokens of lines of code: the finished pieces, and the stretch that waits
   pub run-tokens : (rs : List Row) → code_tokens text most rs ≡ join (texts_of (code_run no_run rs).done) (texts_of (rest_of (code_run no_run rs).waits))
   run-tokens rs =
       ap (λ ps. texts_then ps Nil) (sym (run-merges rs [] None))

@@ -25,7 +25,7 @@ paragraph-references : (direct : Bool) (start end : ℕ) (t d : BlockDocument) �
 paragraph-references true start end t d h = ap (λ r. r ++ references d) h.defines
 paragraph-references false start end t d h = ap (λ r. r ++ references d) h.defines
 
--- a list of any kind is none
+-- a list of any kind is not a definition
 list-silent : (delimiter : ℕ) (number : Option ℕ) (tight : Bool) → reference_of_kind (list_kind delimiter number tight) ≡ []
 list-silent delimiter number tight = go (delimiter == definition_delimiter)
   where
@@ -53,7 +53,7 @@ item-keeps delimiter number start l (Some o) = go (o.delimiter == delimiter)
     go true = refl
     go false = refl
 
--- a definition changes none of them
+-- a definition of a definition list changes no reference
 definition-keeps : (o : Option Title) (start : ℕ) (l : Level) → (definition_level o start l).noted.references ≡ l.noted.references
 definition-keeps None start l = item-keeps definition_delimiter None start l l.inner.list
 definition-keeps (Some t) start l = go t.list

@@ -14,7 +14,7 @@ use Rattle.cmark_grammar.specs.BlocksByLine.{leaf_in, continuation_if, OpenLines
 use Rattle.cmark_block_model.proofs.ListDelimiters.{IsUnmarked, Unmarked, unmarked-join, unmarked-blanks}
 use Rattle.cmark_block_model.proofs.Tells.{Tells, tells-at}
 
--- of what is open
+-- the open blocks have no such item
 abbrev pub OpenUnmarked : OpenLines → Type 0
 OpenUnmarked (Between closed) = Unmarked closed
 OpenUnmarked BehindTag = Unit {0}

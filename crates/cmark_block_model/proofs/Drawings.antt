@@ -47,7 +47,7 @@ silent (Text bytes) e = absurd (let q : false ≡ true = e in cc)
 silent (OwnedText bytes) e = absurd (let q : false ≡ true = e in cc)
 silent (Html bytes) e = absurd (let q : false ≡ true = e in cc)
 
--- so a title is first behind definitions where it is first without them
+-- so a title comes first after definitions if it comes first without them
 whole-titled : (d : BlockDocument) → begins_title (without_definitions d) ≡ begins_title d
 whole-titled Nil = refl
 whole-titled (Node n inside after) = go (is_definition n.kind) refl (whole-titled after)
@@ -57,7 +57,7 @@ whole-titled (Node n inside after) = go (is_definition n.kind) refl (whole-title
     go true e a = a ∙ ap (λ r. title_as (is_title n.kind) r (begins_title after)) (sym (silent n.kind e))
     go false e a = ap (title_as (is_title n.kind) (read_as n.kind)) a
 
--- and as many starts stand in front
+-- and the number of starts before it is the same
 pub whole-begins : (d : BlockDocument) → starts_before (without_definitions d) ≡ starts_before d
 whole-begins Nil = refl
 whole-begins (Node n inside after) = go (is_definition n.kind) refl (whole-begins after)
@@ -120,7 +120,7 @@ node-few (Alone event) n l = omega arith
 node-few (First event) n l = omega arith
 node-few Silent n l = omega arith
 
--- a further one stands first in what is behind it
+-- a further event comes first in the events after it
 first-few : (starts : ℕ) (e : Ranged) (others : List Ranged) → length (first_in starts e others) ≤ 1 + length others
 first-few zero e others = omega arith
 first-few (suc starts) e [] = omega arith

@@ -1,4 +1,4 @@
--- Closed blocks draw their document: one behind the other, the same as from the last one on.
+-- Closed blocks draw their document: the first blocks and then the others draw the same as all together.
 use Rattle.std.proofs.Common.{◌≡◌, ℕ, Bool, true, false, ◌==◌, ◌||◌, ◌&&◌, not, List, [], ◌∷◌, ◌++◌, refl, ap, ◌∙◌, sym, Option, Some, None, arith}
 use Rattle.cmark_grammar.specs.Options.{Options}
 use Rattle.cmark_grammar.specs.Answers.{Lookup}
@@ -23,7 +23,7 @@ use Rattle.cmark_block_model.proofs.Split.{Split, end_or, lone, item_split, leaf
 use Rattle.std.specs.Prelude.{if◌then◌else◌}
 use Rattle.cmark_grammar.specs.Derivation.{list_kind}
 
--- the drawing of a level: where a list is open, its node is
+-- the drawing of a level: if a list is open, its node is open
 abbrev pub drawing_at : Stand → OpenNode → BlockDocument → List OpenNode → Drawing
 drawing_at First v here up = record { here = here; up = up }
 drawing_at Behind v here up = record { here = here; up = up }
@@ -55,7 +55,7 @@ list-done (InList o) v here up =
     ap (λ z. record { here = join v.left (Node (node (list_kind o.delimiter o.number (not z)) v.node.start o.end) here Nil); up = up }) (sym (or-false o.loose))
     ∙ ap (λ h. record { here = join v.left (Node (node (list_kind o.delimiter o.number (not (o.loose || false))) v.node.start o.end) h Nil); up = up }) (sym (join-nil here))
 
--- and more behind that
+-- the same with further nodes after it
 drawn-behind : (s : Stand) (v : OpenNode) (here : BlockDocument) (up : List OpenNode) (d : BlockDocument) → drawn d (completed s v here up false (lone Nil)) ≡ completed s v here up false (lone d)
 drawn-behind First v here up d = ap (λ h. record { here = join h d; up = up }) (join-nil here)
 drawn-behind Behind v here up d = ap (λ h. record { here = join h d; up = up }) (join-nil here)
@@ -78,7 +78,7 @@ before-join Nil n i = refl
 before-join (Node m j Nil) n i = refl
 before-join (Node m j (Node a b c)) n i = ap (Node m j) (before-join (Node a b c) n i)
 
--- released, a node stands behind the closed one
+-- a released node comes after the closed one
 released-drawn : (kind : BlockKind) (end : ℕ) (n : BlockNode) (i here : BlockDocument) (up : List OpenNode) → released kind end (record { here = join here (Node n i Nil); up = up }) ≡ drawn (Node n i Nil) (closed_as kind end (record { here = here; up = up }))
 released-drawn kind end n i here [] = refl
 released-drawn kind end n i here (v ∷ up) =
@@ -107,13 +107,13 @@ loose false true p l m e = sym (ap (λ z. z && true) e)
 loose false false p l m e = sym (ap (λ z. z && (p || l)) e)
 
 module _ (text : List ℕ) (options : Options) (lookup : Lookup) where
-  -- what these blocks draw, wherever they stand but behind a paragraph
+  -- the drawing of these blocks, at any place except after a paragraph
   abbrev pub Draws : Blocks → Type 0
   Draws b =
       (s : Stand) (v : OpenNode) (here : BlockDocument) (up : List OpenNode) (blank p : Bool) (rs : Noted)
       → finished (replay text options lookup b (level_of s (drawing_at s v here up) blank p rs)) ≡ completed s v here up (loose_at s blank b) (split text options lookup (delimiter_of s) b)
 
-  -- behind a block that is no item
+  -- after a block that is not an item
   behind : (b : Blocks) → Draws b → (d : Drawing) (blank p : Bool) (rs : Noted) → finished (replay text options lookup b (level_of Behind d blank p rs)) ≡ drawn (split text options lookup None b).after d
   behind b h d blank p rs = h Behind (record { left = Nil; node = node document.Paragraph 0 0 }) d.here d.up blank p rs
 
@@ -154,7 +154,7 @@ module _ (text : List ℕ) (options : Options) (lookup : Lookup) where
   leaf-raw (MetadataBlock kind) first more x = refl
   leaf-raw (Table alignments) first more x = refl
 
-  -- behind an item that stands in this list
+  -- after an item of this list
   item-draws : (inside after : Blocks) → Draws inside → Draws after → (start line_end : ℕ) (marker : BlockDocument) (o : OpenList) (v : OpenNode) (here : BlockDocument) (up : List OpenNode) (p : Bool) (rs : Noted)
       → finished (replay text options lookup after (behind_item text options lookup document.ListItem start line_end marker inside o (record { here = here; up = v ∷ up }) p rs))
       ≡ completed (InList (item_list o (is_parted_item inside) line_end)) v (join here (Node (node document.ListItem start line_end) (join marker (split text options lookup None inside).after) Nil)) up (loose_from o.delimiter (ends_blank true false inside) after) (split text options lookup (Some o.delimiter) after)
@@ -176,7 +176,7 @@ module _ (text : List ℕ) (options : Options) (lookup : Lookup) where
       item-draws inside after di da start line_end marker (fresh delimiter number start) (record { left = d.here; node = node (list_kind delimiter number false) start start }) Nil d.up p rs
       ∙ drawn-done s v here up t.after ∙ ap (λ y. completed s v here up y t) (sym f)
 
-  -- behind a definition that stands in this list
+  -- after a definition of this list
   definition-draws : (inside after : Blocks) → Draws inside → Draws after → (start line_end : ℕ) (o : OpenList) (v : OpenNode) (here : BlockDocument) (up : List OpenNode) (p : Bool) (rs : Noted)
       → finished (replay text options lookup after (behind_definition text options lookup start line_end inside o (record { here = here; up = v ∷ up }) p rs))
       ≡ completed (InList (item_list o (is_parted_item inside) line_end)) v (join here (Node (node document.DefinitionListDefinition start line_end) (split text options lookup None inside).after Nil)) up (loose_from o.delimiter (ends_blank true false inside) after) (split text options lookup (Some o.delimiter) after)
@@ -198,7 +198,7 @@ module _ (text : List ℕ) (options : Options) (lookup : Lookup) where
       definition-draws inside after di da start line_end (fresh definition_delimiter None start) (record { left = d.here; node = node (list_kind definition_delimiter None false) start start }) Nil d.up p rs
       ∙ drawn-done s v here up t.after ∙ ap (λ y. completed s v here up y t) (sym f)
 
-  -- what these blocks draw behind a paragraph where no definition list is open, and where the paragraph stands in one
+  -- the drawing of these blocks after a paragraph, if no definition list is open, and if the paragraph is in one
   abbrev pub DrawsBehind : Blocks → Type 0
   DrawsBehind b =
       (here : BlockDocument) (up : List OpenNode) (start line_end : ℕ) (tokens : BlockDocument) (blank p q : Bool) (rs : Noted)
@@ -271,7 +271,7 @@ module _ (text : List ℕ) (options : Options) (lookup : Lookup) where
       go Behind = new-definition inside after di da (begin_of first) (last_line_end first more) Behind v here up (p || blank) rs false refl
       go (InList o) = same (o.delimiter == definition_delimiter) o refl
 
-  -- a paragraph, which a definition behind it may make a title
+  -- a paragraph, which a definition after it may make a title
   paragraph-at : (after : Blocks) → DrawsBehind after → DrawsInside after → (first : Row) (more : List Row) → Draws (Paragraph first more after)
   paragraph-at after db di first more s v here up blank p rs = go s
     where
@@ -343,7 +343,7 @@ module _ (text : List ℕ) (options : Options) (lookup : Lookup) where
       go true = ap (λ d. level_of Behind d false (p || blank) rs) (released-drawn (list_kind o.delimiter o.number (not o.loose)) o.end n i here (v ∷ up))
       go false = refl
 
-  -- what these blocks draw
+  -- the drawing of these blocks
   abbrev pub DrawsAll : Blocks → Type 0
   DrawsAll b = Draws b × DrawsBehind b × DrawsInside b
 

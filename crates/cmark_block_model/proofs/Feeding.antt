@@ -1,4 +1,4 @@
--- One more line behind what is open in the innermost container.
+-- Another line after the open block of the innermost container.
 use Rattle.std.proofs.Common.{◌≡◌, ℕ, zero, suc, Bool, true, false, ◌==◌, List, [], ◌∷◌, ◌++◌, take, refl, ap, ◌∙◌, sym, append_assoc, append-nil, Option, Some, None, arith}
 use Rattle.std.specs.Prelude.{if◌then◌else◌}
 use Rattle.cmark_grammar.specs.Answers.{Lookup}
@@ -21,7 +21,7 @@ use Rattle.cmark_block_model.proofs.Beginning.{IsFresh, starts}
 use Rattle.cmark_block_model.proofs.ListDelimiters.{Unmarked, unmarked-join}
 
 module _ (text : List ℕ) (options : Options) (lookup : Lookup) where
-  -- a paragraph goes on
+  -- a paragraph continues
   pub paragraph-goes : (first : Row) (more : List Row) (r s : Row) (l : Level) (outer : List OpenContainer) (leaf : OpenLeaf) (n : ℕ) → whole s ≡ r
       → paragraph_line text options lookup (kept_before options.heading_attributes first more) (last_begin (start_of first) first more) (whole (last_of first more)) r (pass_with (paragraph_open text options lookup first more l) outer false leaf n)
       ≡ pass_with (paragraph_open text options lookup first (more ++ s ∷ []) l) outer false (paragraph_leaf text options lookup first (more ++ s ∷ [])) n

@@ -1,4 +1,4 @@
--- What is known of the siblings at hand, as of the blocks that stand there.
+-- The flags of the current siblings, as functions of their blocks.
 use Rattle.std.proofs.Common.{◌≡◌, ℕ, Bool, true, false, ◌==◌, ◌||◌, ◌&&◌, not, List, refl, ap, ◌∙◌, sym, Option, arith, Some, None}
 use Rattle.cmark_grammar.specs.Options.{Options}
 use Rattle.cmark_grammar.specs.Answers.{Lookup}
@@ -41,19 +41,19 @@ same-delimiter a b e = grind (arith)
 pub colon-same : (o : OpenList) → (o.delimiter == definition_delimiter) ≡ true → o ≡ with_colon o
 colon-same o e = ap (λ m. record { delimiter = m; number = o.number; loose = o.loose; end = o.end }) (same-delimiter o.delimiter definition_delimiter e)
 
--- a list that an item begins, and one that an item goes on with
+-- a list that an item begins, and a list that an item continues
 abbrev pub fresh : (delimiter : ℕ) → Option ℕ → (start : ℕ) → OpenList
 fresh delimiter number start = record { delimiter = delimiter; number = number; loose = false; end = start }
 
 abbrev pub longer : OpenList → (blank : Bool) → OpenList
 longer o blank = record o { loose = o.loose || blank }
 
--- behind an item that stands in this list
+-- after an item of this list
 abbrev pub item_list : OpenList → (parted : Bool) → (line_end : ℕ) → OpenList
 item_list o parted line_end = record o { loose = o.loose || parted; end = line_end }
 
 module _ (text : List ℕ) (options : Options) (lookup : Lookup) where
-  -- the level inside an item that stands in this list, and the level behind the item
+  -- the level inside an item of this list, and the level after the item
   abbrev pub in_item : (kind : BlockKind) → (start : ℕ) → (marker : BlockDocument) → Drawing → Noted → Level
   in_item kind start marker d rs = level_of First (drawn marker (opened start kind d)) false false rs
 
@@ -62,7 +62,7 @@ module _ (text : List ℕ) (options : Options) (lookup : Lookup) where
       let i = replay text options lookup inside (in_item kind start marker d rs) in
       level_of (InList (item_list o i.inner.parted line_end)) (closed_at line_end (ended i.inner i.drawing)) i.inner.blank p i.noted
 
-  -- behind a definition that has no marker drawn in it
+  -- after a definition in which no marker is drawn
   abbrev pub in_definition : (start : ℕ) → Drawing → Noted → Level
   in_definition start d rs = level_of First (opened start document.DefinitionListDefinition d) false false rs
 
@@ -71,13 +71,13 @@ module _ (text : List ℕ) (options : Options) (lookup : Lookup) where
       let i = replay text options lookup inside (in_definition start d rs) in
       level_of (InList (item_list o i.inner.parted line_end)) (closed_at line_end (ended i.inner i.drawing)) i.inner.blank p i.noted
 
-  -- what is known of the blank lines behind these blocks, and of those between them, wherever they stand, and behind a paragraph
+  -- the flags of the blank lines after these blocks and between them, at any place, and after a paragraph
   abbrev pub KnowsBlank : Blocks → Type 0
   KnowsBlank b =
       ((s : Stand) → (d : Drawing) (blank p : Bool) (rs : Noted) → (replay text options lookup b (level_of s d blank p rs)).inner.blank ≡ ends_blank (front_of s) blank b)
       × ((o : Option OpenList) (d : Drawing) (blank p q : Bool) (rs : Noted) → (replay text options lookup b (titled o d blank p q rs)).inner.blank ≡ ends_blank false blank b)
 
-  -- a definition behind a title, or behind another one, or behind neither
+  -- a definition after a title, after another definition, or after neither
   definition-blank : (first : Row) (more : List Row) (inside after : Blocks) (width : ℕ) → KnowsBlank inside → KnowsBlank after → KnowsBlank (ContainerBlock (ListDefinition width) first more inside after)
   definition-blank first more inside after width i a = (at, behind)
     where
@@ -117,7 +117,7 @@ module _ (text : List ℕ) (options : Options) (lookup : Lookup) where
       at Behind d blank p rs = one (fresh delimiter number (begin_of first)) (opened (begin_of first) (list_kind delimiter number false) d) (p || blank) rs
       at (InList o) d blank p rs = same (o.delimiter == delimiter) o d blank p rs
 
-  -- a blank line stands behind
+  -- a blank line comes last
   pub blank_behind : (b : Blocks) → KnowsBlank b
   blank_behind Nil = (λ s d blank p rs. refl, λ o d blank p q rs. refl)
   blank_behind (BlankLine line after) = let a = blank_behind after in (λ s d blank p rs. at a.0 s d blank p rs, λ o d blank p q rs. a.1 o d true p q rs)
@@ -138,7 +138,7 @@ module _ (text : List ℕ) (options : Options) (lookup : Lookup) where
   blank_behind (ContainerBlock (Item delimiter number width task) first more inside after) = item-blank first more inside after delimiter number width task (blank_behind inside) (blank_behind after)
   blank_behind (ContainerBlock (ListDefinition width) first more inside after) = definition-blank first more inside after width (blank_behind inside) (blank_behind after)
 
-  -- a paragraph's own flag, and that of a title, which forgets the blank line before it where it goes on with a list
+  -- the flag of a paragraph, and of a title, which ignores the blank line before it if it continues a list
   abbrev pub parted_before : Option OpenList → (p q : Bool) → Bool
   parted_before None p q = p
   parted_before (Some o) p q = q
@@ -196,7 +196,7 @@ module _ (text : List ℕ) (options : Options) (lookup : Lookup) where
   paragraph-parted : (first : Row) (more : List Row) (after : Blocks) → KnowsParted after → KnowsParted (Paragraph first more after)
   paragraph-parted first more after a = (at, λ o d blank p q rs. a.1 None _ false (p || blank) p rs ∙ other (is_title after) blank p)
     where
-      -- where no list is open that a title goes on with
+      -- if no list is open that a title continues
       other : (z blank p : Bool) → (if z then (p || blank) || parted (ItemWith definition_delimiter) false after else (p || blank) || parted Other false after) ≡ (p || (if z then (blank && true) || parted (ItemWith definition_delimiter) false after else blank || parted Other false after))
       other true blank p = or-and p blank _
       other false blank p = or-assoc p blank _
@@ -218,7 +218,7 @@ module _ (text : List ℕ) (options : Options) (lookup : Lookup) where
       at Behind d blank p rs = a.1 None _ false (p || blank) p rs ∙ other (is_title after) blank p
       at (InList o) d blank p rs = list (o.delimiter == definition_delimiter) o _ blank p rs refl
 
-  -- a blank line stands between two
+  -- a blank line separates two blocks
   pub parted_behind : (b : Blocks) → KnowsParted b
   parted_behind Nil = (λ s d blank p rs. sym (or-false p), λ o d blank p q rs. sym (or-false p))
   parted_behind (BlankLine line after) = let a = parted_behind after in (at a.0, λ o d blank p q rs. a.1 o d true p q rs)

@@ -26,7 +26,7 @@ paragraph-labels : (direct : Bool) (start end : ℕ) (t d : BlockDocument) → I
 paragraph-labels true start end t d h = ap (λ r. r ++ footnote_labels d) h.labels
 paragraph-labels false start end t d h = ap (λ r. r ++ footnote_labels d) h.labels
 
--- a list of any kind has none
+-- a list of any kind has no footnote label
 list-silent : (delimiter : ℕ) (number : Option ℕ) (tight : Bool) → footnote_label (list_kind delimiter number tight) ≡ []
 list-silent delimiter number tight = go (delimiter == definition_delimiter)
   where
@@ -54,7 +54,7 @@ item-keeps delimiter number start l (Some o) = go (o.delimiter == delimiter)
     go true = refl
     go false = refl
 
--- a definition changes none of them
+-- a definition of a definition list changes no label
 definition-keeps : (o : Option Title) (start : ℕ) (l : Level) → (definition_level o start l).noted.footnotes ≡ l.noted.footnotes
 definition-keeps None start l = item-keeps definition_delimiter None start l l.inner.list
 definition-keeps (Some t) start l = go t.list

@@ -1,4 +1,4 @@
--- What is known of what is open stays true, line by line.
+-- The invariant of the open blocks is kept, line by line.
 use Rattle.std.proofs.Common.{◌≡◌, ℕ, zero, suc, ◌≤◌, ◌&&◌, Bool, true, false, List, [], ◌∷◌, ◌++◌, length, refl, ap, ◌∙◌, sym, subst, Option, Some, None, arith, true≢false}
 use Rattle.std.specs.Prelude.{if◌then◌else◌}
 use Rattle.cmark_grammar.specs.Answers.{Lookup}
@@ -25,7 +25,7 @@ before-push : (closes : Row → Bool) (rs : List Row) (r : Row) → AreBefore cl
 before-push closes [] r h e = (e, tt)
 before-push closes (s ∷ rs) r h e = (h.0, before-push closes rs r h.1 e)
 
--- what is ahead inside, where the line has the prefix, and where it lacks it
+-- the lines ahead inside a container, if the line has the prefix, and if it lacks it
 pub kept-ahead : (options : Options) (k : Container) (b : Bool) (r s : Row) (ahead : List Row) → r.lazy ≡ false → keeps k b r ≡ Some s → within k b (r ∷ ahead) ≡ strip k b r ∷ within k false ahead
 kept-ahead options k b r s ahead e q = ap (λ z. show_as z (strip k b r) (within k false ahead)) (strip_whole options k b r s q)
 

@@ -1,4 +1,4 @@
--- A lazy line goes on with the paragraph that is open, or begins one behind a definition.
+-- A lazy line continues the open paragraph, or begins one after a definition.
 use Rattle.std.proofs.Common.{◌≡◌, ℕ, zero, suc, ◌≤◌, ◌&&◌, Bool, true, false, List, [], ◌∷◌, ◌++◌, length, refl, ap, ◌∙◌, sym, append_assoc, append-nil, None, arith, true≢false}
 use Rattle.cmark_grammar.specs.Answers.{Lookup}
 use Rattle.cmark_grammar.specs.Options.{Options}
@@ -48,7 +48,7 @@ module _ (options : Options) where
       ∙ ap (λ s. InContainer closed k first (more ++ lazy_row r ∷ []) (lines_feed options inside s (within k false ahead))) (strip_lazy options k bare (lazy_row r) none)
 
 module _ (text : List ℕ) (options : Options) (lookup : Lookup) where
-  -- a container goes on
+  -- a container continues
   pub container-goes : (closed : Blocks) (k : Container) (first : Row) (more : List Row) (s : Row) (i : OpenLines) (ahead : List Row) (l : Level) (outer : List OpenContainer) (b : Bool) (n : ℕ)
       → pass_at text options lookup i (within k false ahead) (entered k first (replay text options lookup closed l)) (outer ++ container_at text options lookup k first (replay text options lookup closed l) ∷ []) false n
       ≡ pass_at text options lookup (InContainer closed k first (more ++ s ∷ []) i) ahead l outer b n

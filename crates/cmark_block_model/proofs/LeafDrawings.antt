@@ -28,12 +28,12 @@ use Rattle.cmark_block_model.specs.BlockPass.{pass_over}
 use Rattle.cmark_block_model.proofs.Drawings.{derived, silent, whole-begins}
 use Rattle.cmark_block_model.proofs.Theorem.{pass-draws}
 
--- none of these nodes is a definition
+-- these nodes contain no definition
 abbrev AreNoDefinitions : BlockDocument → Type 0
 AreNoDefinitions Nil = Unit {0}
 AreNoDefinitions (Node n inside after) = (is_definition n.kind ≡ false) × AreNoDefinitions after
 
--- no definition stands in a leaf
+-- the leaves contain no definition
 abbrev HasWholeLeaves : BlockDocument → Type 0
 HasWholeLeaves Nil = Unit {0}
 HasWholeLeaves (Node n inside after) = (is_leaf n.kind ≡ true → AreNoDefinitions inside) × HasWholeLeaves inside × HasWholeLeaves after
@@ -225,7 +225,7 @@ node-few (Alone event) n l = omega arith
 node-few (First event) n l = omega arith
 node-few Silent n l = omega arith
 
--- a further one stands first in what is behind it
+-- a further event comes first in the events after it
 first-few : (starts : ℕ) (e : Segment) (others : List Segment) → length (first_of_segments starts e others) ≤ 1 + length others
 first-few zero e others = omega arith
 first-few (suc starts) e [] = omega arith

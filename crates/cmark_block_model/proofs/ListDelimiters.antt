@@ -46,7 +46,7 @@ abbrev Marked : Option Marker → Type 0
 Marked None = Unit {0}
 Marked (Some m) = (m.delimiter == definition_delimiter) ≡ false
 
--- a byte that passes a test that a colon does not pass is none
+-- a byte that passes a test which a colon does not pass is not a colon
 other-byte : (test : ℕ → Bool) (b : ℕ) → test definition_delimiter ≡ false → test b ≡ true → (b == definition_delimiter) ≡ false
 other-byte test b colon e = go (b == definition_delimiter) refl
   where

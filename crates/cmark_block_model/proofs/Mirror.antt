@@ -1,4 +1,4 @@
--- The pass as what is open in the model: each field as a function of the open lines, with the lines ahead.
+-- The pass as a function of the open blocks of the model: each field by the open lines and the lines ahead.
 use Rattle.std.proofs.Common.{◌≡◌, ℕ, ◌≤◌, Bool, true, false, ◌==◌, List, [], ◌∷◌, ◌++◌, length, take, refl, ap, ◌∙◌, sym}
 use Rattle.std.specs.Prelude.{if◌then◌else◌}
 use Rattle.cmark_grammar.specs.Options.{Options}
@@ -40,7 +40,7 @@ pub line_end_push : (first : Row) (more : List Row) (r : Row) → last_line_end 
 line_end_push first [] r = refl
 line_end_push first (s ∷ more) r = line_end_push s more r
 
--- where the stretch begins that the last of these lines stands in, if the one of the first begins there
+-- the beginning of the stretch of the last of these lines, if the stretch of the first begins at `begin`
 abbrev pub last_begin : (begin : ℕ) → Row → List Row → ℕ
 last_begin begin first [] = begin
 last_begin begin first (r ∷ more) = if begin_of r == first.line_end then last_begin begin r more else last_begin (begin_of r) r more
@@ -114,7 +114,7 @@ is_looked_up (MetadataBlock kind) = false
 is_looked_up (LinkDefinition definition) = true
 is_looked_up (Table alignments) = true
 
--- the bare flag: of the container around, where nothing is open
+-- the bare flag; it is that of the container around if nothing is open
 abbrev pub bare_at : Bool → OpenLines → Bool
 bare_at bare (Between closed) = bare
 bare_at bare BehindTag = false
@@ -123,12 +123,12 @@ bare_at bare (InLeaf closed leaf first had left) = false
 bare_at bare (InVerbatim closed verbatim first had waiting) = false
 bare_at bare (InContainer closed k first more inside) = bare_at (bare_after (is_bare_start k first) more) inside
 
--- none of these lines closes the block
+-- no line of these closes the block
 abbrev pub AreBefore : (closes : Row → Bool) → List Row → Type 0
 AreBefore closes [] = Unit {0}
 AreBefore closes (r ∷ rs) = (closes r ≡ false) × AreBefore closes rs
 
--- what is known of what is open: bare of the container around, where the last line ended, and the lines ahead
+-- the invariant of the open blocks: the bare flag of the container around, the end of the last line, and the lines ahead
 abbrev pub FitsVerbatim : Verbatim → Row → (had waiting : List Row) → ℕ → Type 0
 FitsVerbatim Indented first had waiting n = Unit {0}
 FitsVerbatim (Fenced fence) first had waiting n = (waiting ≡ []) × (last_line_end first had ≡ n) × AreBefore (closes_fence fence) had
@@ -163,7 +163,7 @@ module _ (text : List ℕ) (options : Options) (lookup : Lookup) where
       go true p q = p
       go false p q = ap (stretch_then text begin first.line_end) q ∙ sym (stretch-join text begin first.line_end (lines_drawn (begin_of r) r more) (last (last_begin (begin_of r) r more)))
 
-  -- what one more line draws
+  -- the drawing of another line
   abbrev pub one_more : Bool → (begin line_end : ℕ) → BlockDocument → BlockDocument
   one_more touches begin line_end before = if touches then before else join before (stretch_then text begin line_end Nil)
 

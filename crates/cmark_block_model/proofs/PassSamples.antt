@@ -81,7 +81,7 @@ item_ends_with_blank : IsSame (codes "- a\n  > b\n\n- c\n\n\n  d\ne\n")
 unfolding pass_over blocks begin opens texts lazily enter keeps underlines
 item_ends_with_blank = (refl, refl)
 
--- the labels of footnotes, in their normal form and in the order of the document: one that stands twice is noted twice
+-- the labels of footnotes, in their normal form and in the order of the document: a label that occurs twice is recorded twice
 labels_of_footnotes : (pass_over (codes "[^a]: b\n\n> [^C\td]: e\n> [^f]: g\n\n[^a]: h\n") (record no_options { footnotes = true }) basic_entity).footnotes ≡ codes "a" ∷ codes "C d" ∷ codes "f" ∷ codes "a" ∷ []
 unfolding pass_over blocks begin opens texts lazily enter keeps underlines
 labels_of_footnotes = refl

@@ -1,4 +1,4 @@
--- Where a line stands behind closed blocks: what the siblings tell of it is what the blocks do.
+-- The place of a line after closed blocks: the siblings and the blocks determine the same place.
 use Rattle.std.proofs.Common.{◌≡◌, ℕ, Bool, true, false, ◌==◌, List, refl, sym, ap, ◌∙◌, subst, Option, Some, None, ◌||◌}
 use Rattle.std.specs.Prelude.{if◌then◌else◌}
 use Rattle.cmark_grammar.specs.Answers.{Lookup}
@@ -20,7 +20,7 @@ abbrev pub IsColon : Option OpenList → Type 0
 IsColon None = Unit {0}
 IsColon (Some o) = (o.delimiter == definition_delimiter) ≡ true
 
--- where a list is open the last block is no paragraph, and only a definition list stays open before one
+-- if a list is open the last block is not a paragraph, and only a definition list stays open before a paragraph
 abbrev pub IsTidy : Option Title → Option OpenList → Type 0
 IsTidy None list = Unit {0}
 IsTidy (Some t) None = IsColon t.list
@@ -50,7 +50,7 @@ leaf-title (LinkDefinition definition) = refl
 leaf-title (MetadataBlock kind) = refl
 leaf-title (Table alignments) = refl
 
--- the siblings behind an item or a definition: they are tidy, and tell whether it was a definition
+-- the siblings after an item or a definition: they are tidy, and tell whether it was a definition
 abbrev pub Left : Siblings → (behind : Bool) → Type 0
 Left s behind = (parted : Bool) (end : ℕ) → IsTidy s.title (list_behind s.list parted end) × (is_behind_title (place_with s.title (definitions_in (list_behind s.list parted end))) ≡ behind)
 

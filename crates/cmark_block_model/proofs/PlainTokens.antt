@@ -89,7 +89,7 @@ heading_plain text attributes level r =
 pub code_plain : (text : List ℕ) (most : ℕ) (rs : List Row) → IsPlain (code_tokens text most rs)
 code_plain text most rs = texts_plain (code_pieces text most rs) Nil nil_plain
 
--- a node of a table around plain nodes, in front of plain ones
+-- a node of a table around plain nodes, before plain ones
 head_plain : (start end : ℕ) (inside after : BlockDocument) → IsPlain inside → IsPlain after → IsPlain (Node (node TableHead start end) inside after)
 head_plain start end inside after h k = record {
   still = λ tight. ap (λ x. Node (node TableHead start end) x (settled tight after)) (h.still false) ∙ ap (Node (node TableHead start end) inside) (k.still tight);

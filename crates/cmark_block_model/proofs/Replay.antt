@@ -1,5 +1,4 @@
--- What closed blocks leave of a level: what is drawn there, its siblings' flags, the references and the labels of footnotes, block
--- by block.
+-- The level after closed blocks: the drawing, the siblings' flags, the references and the labels of footnotes, block by block.
 use Rattle.std.specs.Prelude.{ℕ, Bool, true, false, ◌==◌, ◌||◌, List, [], ◌∷◌, ◌++◌, Option, Some, None}
 use Rattle.cmark_grammar.specs.Options.{Options}
 use Rattle.cmark_grammar.specs.Answers.{Lookup}
@@ -39,7 +38,7 @@ begun l = record l { drawing = ended l.inner l.drawing; inner = siblings_with_bl
 abbrev pub paragraph_begun : Level → Level
 paragraph_begun l = record l { drawing = ended_but (definitions_in l.inner.list) l.inner l.drawing; inner = siblings_with_paragraph l.inner }
 
--- a paragraph turned out to be none
+-- a paragraph is not a title after all
 abbrev pub untitled : Level → Level
 untitled l = record l { drawing = title_released l.inner.title l.drawing; inner = record l.inner { title = None } }
 
@@ -60,7 +59,7 @@ abbrev pub item_level : (delimiter : ℕ) → Option ℕ → (start : ℕ) → L
 item_level delimiter number start l None = list_level delimiter number start l
 item_level delimiter number start l (Some o) = item_if (o.delimiter == delimiter) delimiter number start o l
 
--- a definition begins behind a title
+-- a definition begins after a title
 abbrev pub title_level : Option OpenList → (parted : Bool) → (start : ℕ) → Level → Level
 title_level None parted start l = record l {
   drawing = enclosed (document.DefinitionList false) document.DefinitionListTitle l.drawing;
@@ -81,7 +80,7 @@ level_opened start kind l = record l { drawing = opened start kind l.drawing }
 abbrev pub level_drawn : BlockDocument → Level → Level
 level_drawn d l = record l { drawing = drawn d l.drawing }
 
--- what is inside an item, behind its task marker, if it has one
+-- the nodes inside an item, after its task marker, if it has one
 abbrev pub marked : Option Bool → (width : ℕ) → Row → BlockDocument → BlockDocument
 marked task width r inside = task_then task (begin_of (without width r)) (begin_of (without (behind_box task width) r)) inside
 
@@ -89,7 +88,7 @@ marked task width r inside = task_then task (begin_of (without width r)) (begin_
 abbrev pub footnote_level : (label : List ℕ) → Level → Level
 footnote_level label l = record l { noted = record l.noted { footnotes = l.noted.footnotes ++ normal_form label ∷ [] } }
 
--- a container begins: its node is open, and these are the siblings that it stands behind
+-- a container begins: its node is open, and these are the siblings before it
 abbrev pub standing : Container → Row → Level → Level
 standing (BlockQuote alert) r l = level_opened (start_of r) (document.BlockQuote alert) (begun l)
 standing (Footnote label old size) r l = level_opened (start_of r) (document.FootnoteDefinition (normal_form label)) (footnote_level label (begun l))
@@ -142,7 +141,7 @@ module _ (text : List ℕ) (options : Options) (lookup : Lookup) where
   leaf_level leaf first more l =
       let q = begun l in record q { drawing = leaf_drawing leaf first more q.drawing; noted = leaf_noted leaf first more q.noted }
 
-  -- the level behind these blocks
+  -- the level after these blocks
   abbrev pub replay : Blocks → Level → Level
   replay Nil l = l
   replay (BlankLine line after) l = replay after (blank_level l)

@@ -26,7 +26,7 @@ use Rattle.cmark_grammar.specs.SpanDocuments.{footnote_label}
 use Rattle.cmark_grammar.proofs.TightLaws.{title_goes_on}
 use Rattle.cmark_block_model.proofs.Flags.{and-true, and-false}
 
--- what goes on with the list before: the document begins with it
+-- the rest of the list before: the document begins with it
 pub record GoesOn (direct tight : Bool) (s : Split) (d : BlockDocument) : Type 0 where
   pub list : BlockKind
   pub start : ℕ
@@ -81,11 +81,11 @@ list-is delimiter number tight = go (delimiter == definition_delimiter)
 definitions-is : (tight : Bool) → IsList (document.DefinitionList tight) tight
 definitions-is tight = record { within = λ z. refl; same = λ z. refl; read = refl; silent = refl; unlabelled = refl }
 
--- what is inside an item is settled so
+-- the nodes inside an item, settled
 abbrev pub Opens : (tight : Bool) (kind : BlockKind) (start line_end : ℕ) (raw inside : BlockDocument) → Type 0
 Opens tight kind start line_end raw inside = (x : BlockDocument) → settled tight (Node (node kind start line_end) raw x) ≡ Node (node kind start line_end) inside (settled tight x)
 
--- an item, a title or a definition, and what goes on with it
+-- an item, a title or a definition, and the rest of its list
 pub record IsWhole (direct tight : Bool) (list kind : BlockKind) (start line_end : ℕ) (inside : BlockDocument) (s : Split) (d : BlockDocument) : Type 0 where
   pub end : ℕ
   pub items : BlockDocument

@@ -1,4 +1,4 @@
--- One more line leads the pass and the model to the same.
+-- After another line the pass and the model are in corresponding states.
 use Rattle.std.proofs.Common.{◌≡◌, ℕ, ◌&&◌, Bool, true, false, List, [], ◌∷◌, ◌++◌, refl, ap, ◌∙◌, sym, subst, append_assoc, append-nil, Option, Some, None}
 use Rattle.std.specs.Prelude.{if◌then◌else◌}
 use Rattle.cmark_grammar.specs.Answers.{Lookup}
@@ -107,7 +107,7 @@ module _ (text : List ℕ) (options : Options) (lookup : Lookup) where
       p : Pass
       p = pass_with (inner_at text options lookup inside (within k (bare_after (is_bare_start k first) more) (r ∷ ahead)) (entered k first (replay text options lookup closed l))) (outer ++ v ∷ cs) false (leaf_at text options lookup inside) n
 
-      -- the pass where these lines are ahead inside
+      -- the pass, if these lines are ahead inside
       seen : List Row → Pass
       seen x = pass_with (inner_at text options lookup inside x (entered k first (replay text options lookup closed l))) (outer ++ v ∷ cs) false (leaf_at text options lookup inside) n
 

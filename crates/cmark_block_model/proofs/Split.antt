@@ -1,5 +1,4 @@
--- The document of blocks before its paragraphs are settled, without definitions: what goes on with the list before, and what
--- stands behind that.
+-- The document of blocks before its paragraphs are settled, without definitions: the rest of the list before, and the nodes after that.
 use Rattle.std.specs.Prelude.{ℕ, Bool, true, false, ◌==◌, List, ◌∷◌, Option, Some, None, not}
 use Rattle.cmark_grammar.specs.Options.{Options}
 use Rattle.cmark_grammar.specs.Answers.{Lookup}
@@ -16,7 +15,7 @@ use Rattle.cmark_grammar.specs.BlockDocument as document
 use Rattle.cmark_grammar.specs.BlockDocument.{BlockKind, BlockDocument, Nil, Node, node, join}
 use Rattle.cmark_block_model.proofs.Replay.{marked}
 
--- the items that go on with a list, where the last one ends, and the document behind them
+-- the items that continue a list, the end of the last one, and the document after them
 pub record Split : Type 0 where
   pub items : BlockDocument
   pub end : Option ℕ
@@ -37,7 +36,7 @@ abbrev pub item_split : (joins : Bool) → (list kind : BlockKind) → (start li
 item_split true list kind start line_end inside s = record { items = Node (node kind start line_end) inside s.items; end = Some (end_or line_end s.end); after = s.after }
 item_split false list kind start line_end inside s = lone (Node (node list start (end_or line_end s.end)) (Node (node kind start line_end) inside s.items) s.after)
 
--- a paragraph, as a title or as itself, before what goes on with its list, and before what stands there without one
+-- a paragraph, as a title or as itself, before the rest of its list, and before the document without one
 abbrev pub title_split : (is_title joins : Bool) → (list : BlockKind) → (start line_end : ℕ) → (inside : BlockDocument) → Split → (after : BlockDocument) → Split
 title_split true joins list start line_end inside s after = item_split joins list document.DefinitionListTitle start line_end inside s
 title_split false joins list start line_end inside s after = lone (Node (node document.Paragraph start line_end) inside after)

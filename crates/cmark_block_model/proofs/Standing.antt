@@ -1,4 +1,4 @@
--- A level behind no block, behind a blank line alone, behind a block that is no item, or behind an item of a list that is open.
+-- A level before any block, after a blank line, after a block that is not an item, or after an item of an open list.
 use Rattle.std.specs.Prelude.{ℕ, Bool, true, false, Option, Some, None}
 use Rattle.cmark_grammar.specs.Lists.{Before, Marker, Other, ItemWith, definition_delimiter}
 use Rattle.cmark_block_model.specs.Drawing.{Drawing}
@@ -42,7 +42,7 @@ level_of stand d blank parted noted = record {
   noted = noted;
 }
 
--- behind a paragraph, before which this definition list was open, if one was, and this was known
+-- after a paragraph, with the definition list that was open before it, if any, and the earlier flags
 abbrev pub titled : Option OpenList → Drawing → (blank parted before : Bool) → Noted → Level
 titled list d blank parted before noted = record {
   drawing = d;

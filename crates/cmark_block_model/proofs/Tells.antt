@@ -1,4 +1,4 @@
--- What is known of a line by what it begins.
+-- The properties of a line, by the block that it begins.
 use Rattle.std.proofs.Common.{◌≡◌, ℕ, Bool, true, false, List, length, refl, Option, Some, None}
 use Rattle.std.specs.Prelude.{if◌then◌else◌, nat_le}
 use Rattle.cmark_grammar.specs.Options.{Options}
@@ -17,7 +17,7 @@ use Rattle.cmark_grammar.specs.Places.{Place}
 use Rattle.cmark_grammar.proofs.BlockLaws.{at-either}
 use Rattle.cmark_block_model.proofs.ListDelimiters.{IsUnmarked, SomeUnmarked, container-unmarked}
 
--- one that begins nothing is blank, an item has no colon for its marker, and a break or heading takes no further line
+-- a line that begins nothing is blank, an item has no colon for its marker, and a break or heading takes no further line
 abbrev pub Tells : Row → Opening → Type 0
 Tells r Blank = (r.lazy ≡ false) × (is_blank_line r ≡ true)
 Tells r (Nests k) = IsUnmarked k

@@ -37,7 +37,7 @@ nothing_noted = record { references = []; footnotes = [] }
 abbrev pub bottom : Level
 bottom = record { drawing = nothing_drawn; inner = no_siblings; noted = nothing_noted }
 
--- where the last of these lines ends
+-- the end of the last of these lines
 abbrev pub end_behind : ℕ → List Row → ℕ
 end_behind n [] = n
 end_behind n (r ∷ rs) = end_behind r.line_end rs
@@ -78,7 +78,7 @@ module _ (text : List ℕ) (options : Options) (lookup : Lookup) where
       (leaf-closes text options lookup o false n bottom (containers_at text options lookup o bottom) (bare_at false o) f)
       ∙ ap {A = Pass} {B = Pass} (λ q. record q { drawing = ended q.inner q.drawing }) (containers-close text options lookup o false n bottom [] (bare_at false o) f)
 
-  -- the pass is what the blocks of the text leave
+  -- the pass is the state after the blocks of the text
   pass-done : (bare : Bool) × (n : ℕ) × (pass_over text options lookup ≡ done (replay text options lookup (blocks options text) bottom) bare n)
   unfolding pass_over blocks_by_line
   pass-done =

@@ -1,4 +1,4 @@
--- One more line of the block pass.
+-- The next line in the block pass.
 use Rattle.std.specs.Prelude.{ℕ, zero, suc, Bool, true, false, ◌==◌, ◌&&◌, ◌||◌, not, nat_le, if◌then◌else◌, List, [], ◌∷◌, ◌++◌, length, take, Option, Some, None}
 use Rattle.cmark_grammar.specs.Answers.{Lookup}
 use Rattle.cmark_grammar.specs.Columns.{Column}
@@ -25,12 +25,12 @@ use Rattle.cmark_block_model.specs.Drawing.{Drawing, drawn, opened, closed_as, c
 use Rattle.cmark_block_model.specs.CodeLines.{code_line, rest_of, texts_of}
 use Rattle.cmark_block_model.specs.OpenBlocks.{OpenList, Title, Siblings, no_siblings, OpenContainer, OpenLeaf, Closed, BehindTag, InParagraph, InDefinition, InIndented, InFenced, InHtml, takes_lazy, Pass, at_start, InMetadata, InTable}
 
--- the list closed, if one is open
+-- the list closed, if it is open
 abbrev pub list_closed : Option OpenList → Drawing → Drawing
 list_closed None d = d
 list_closed (Some l) d = closed_as (list_kind l.delimiter l.number (not l.loose)) l.end d
 
--- a paragraph that is drawn in a definition list, and is no title, put behind that list, which is closed
+-- a paragraph that was drawn in a definition list and is not a title is put after that list, and the list is closed
 abbrev pub released_from : Option OpenList → Drawing → Drawing
 released_from None d = d
 released_from (Some l) d = released (list_kind l.delimiter l.number (not l.loose)) l.end d
@@ -39,16 +39,17 @@ abbrev pub title_released : Option Title → Drawing → Drawing
 title_released None d = d
 title_released (Some t) d = released_from t.list d
 
--- the last sibling ended, behind which no item or definition of its list comes
+-- the last sibling has ended, and no item or definition of its list follows
 abbrev pub ended : Siblings → Drawing → Drawing
 ended s d = list_closed s.list (title_released s.title d)
 
--- a list that is open, if it is one of definitions
+-- the open list, if it is a definition list
 abbrev pub definitions_in : Option OpenList → Option OpenList
 definitions_in None = None
 definitions_in (Some l) = if l.delimiter == definition_delimiter then Some l else None
 
--- one more block that is no item, a paragraph, one more item of a list, and an item that has ended with these blocks in it
+-- the siblings with another block that is not an item, with a paragraph, with another item of a list, and after an item that contains these
+-- blocks
 abbrev pub siblings_with_block : Siblings → Siblings
 siblings_with_block s = record { has_line = true; blank = false; parted = s.parted || s.blank; list = None; title = None }
 
@@ -65,16 +66,16 @@ list_behind (Some l) parted end = Some (record l { loose = l.loose || parted; en
 abbrev pub siblings_behind_item : (end : ℕ) → (inside around : Siblings) → Siblings
 siblings_behind_item end inside around = record around { blank = inside.blank; list = list_behind around.list inside.parted end }
 
--- a block begins that is no item
+-- a block begins that is not an item
 abbrev pub block_begun : Pass → Pass
 block_begun p = record p { drawing = ended p.inner p.drawing; inner = siblings_with_block p.inner }
 
--- what is open where a paragraph begins: a definition list stays so
+-- the drawing before a paragraph begins: a definition list stays open
 abbrev pub ended_but : Option OpenList → Siblings → Drawing → Drawing
 ended_but (Some l) s d = d
 ended_but None s d = ended s d
 
--- where a line stands behind these siblings, as far as a definition may begin there
+-- the place of a line after these siblings, as far as a definition may begin there
 abbrev pub place_with : Option Title → Option OpenList → Place
 place_with (Some t) list = BehindTitle
 place_with None (Some l) = BehindTitle
@@ -90,7 +91,7 @@ list_begun delimiter number start p = let q = block_begun p in record q {
   inner = record q.inner { list = Some (record { delimiter = delimiter; number = number; loose = false; end = start }) };
 }
 
--- an item goes on with a list
+-- an item continues a list
 abbrev pub list_goes_on : OpenList → Pass → Pass
 list_goes_on l p = record p { inner = siblings_with_item l p.inner }
 
@@ -98,7 +99,8 @@ abbrev pub item_begun : (delimiter : ℕ) → Option ℕ → (start : ℕ) → P
 item_begun delimiter number start p None = list_begun delimiter number start p
 item_begun delimiter number start p (Some l) = if l.delimiter == delimiter then list_goes_on l p else list_begun delimiter number start p
 
--- a definition begins behind its title, which the paragraph becomes: in the definition list that was open before it, or in one that it begins
+-- a definition begins after its title, which the paragraph becomes. It is in the definition list that was open before the paragraph, or
+-- begins one
 abbrev pub title_made : Option OpenList → (parted : Bool) → (start : ℕ) → Pass → Pass
 title_made None parted start p = record p {
   drawing = enclosed (document.DefinitionList false) document.DefinitionListTitle p.drawing;
@@ -109,7 +111,7 @@ title_made (Some l) parted start p = record p {
   inner = record p.inner { blank = false; parted = parted; list = Some (record l { loose = l.loose || p.inner.blank }); title = None };
 }
 
--- or behind another definition
+-- a definition begins after its title or after another definition
 abbrev pub definition_behind : Option Title → (start : ℕ) → Pass → Pass
 definition_behind None start p = item_begun definition_delimiter None start p p.inner.list
 definition_behind (Some t) start p = title_made t.list t.parted start p
@@ -124,7 +126,7 @@ node_opened start kind p = record p { drawing = opened start kind p.drawing }
 abbrev pub block_quote_begun : (alert : Option BlockQuoteKind) → (start : ℕ) → Pass → Pass
 block_quote_begun alert start p = inside_of (BlockQuote alert) (node_opened start (document.BlockQuote alert) (block_begun p))
 
--- a footnote's label is noted, behind those before
+-- a footnote's label is added after the earlier ones
 abbrev pub footnote_noted : (label : List ℕ) → Pass → Pass
 footnote_noted label p = record p { footnotes = p.footnotes ++ normal_form label ∷ [] }
 
@@ -148,7 +150,7 @@ container_begun (Item delimiter number width task) r p =
     with_drawn (task_then task (begin_of (without width r)) (begin_of (without (behind_box task width) r)) Nil) (item_begun_in delimiter number width task (begin_of r) p)
 container_begun (ListDefinition width) r p = definition_begun_in width (begin_of r) p
 
--- the siblings that a closed container stands behind
+-- the siblings around a closed container, with the container as the last of them
 abbrev pub behind_container : Container → (end : ℕ) → (inside around : Siblings) → Siblings
 behind_container (BlockQuote alert) end inside around = around
 behind_container (Footnote label old size) end inside around = record around { blank = inside.blank }
@@ -169,7 +171,7 @@ is_item (Item delimiter number width task) = true
 is_item (Footnote label old size) = false
 is_item (ListDefinition width) = true
 
--- behind an alert's tag its line begins nothing more
+-- after an alert's tag its line begins no other block
 abbrev pub inside_begun : (is_alert : Bool) → (outside begun : Pass) → Pass
 inside_begun true outside begun = record outside { leaf = BehindTag }
 inside_begun false outside begun = begun
@@ -178,7 +180,7 @@ abbrev pub is_some : List Row → Bool
 is_some [] = false
 is_some (r ∷ rs) = true
 
--- the lines that a paragraph keeps before one more: all, where attributes of headings are read
+-- the lines of a paragraph that are kept before the next line: all lines, if attributes of headings are read
 abbrev pub kept_lines : (attributes : Bool) → (before : List Row) → (last : Row) → List Row
 kept_lines false before last = before
 kept_lines true before last = before ++ last ∷ []
@@ -187,7 +189,7 @@ abbrev pub node_closed : (end : ℕ) → Pass → Pass
 node_closed end p = record p { drawing = closed_at end p.drawing; leaf = Closed }
 
 module _ (text : List ℕ) (options : Options) (lookup : Lookup) where
-  -- the lines ahead, as they are seen inside the open containers
+  -- the lines ahead, seen from inside the open containers
   abbrev pub ahead_in : List OpenContainer → List Row → List Row
   ahead_in [] rs = rs
   ahead_in (c ∷ cs) rs = ahead_in cs (shown (strips c.container false rs))
@@ -196,7 +198,7 @@ module _ (text : List ℕ) (options : Options) (lookup : Lookup) where
   abbrev pub last_stretch : (from : ℕ) → (last : Row) → BlockDocument
   last_stretch from last = stretch_then text from (words_end last) Nil
 
-  -- the leaf closed, if one is open
+  -- the open leaf closed, if any
   abbrev pub close_leaf : OpenLeaf → Pass → Pass
   close_leaf Closed p = p
   close_leaf BehindTag p = record p { leaf = Closed }
@@ -212,13 +214,13 @@ module _ (text : List ℕ) (options : Options) (lookup : Lookup) where
   abbrev pub leaf_closed : Pass → Pass
   leaf_closed p = close_leaf p.leaf p
 
-  -- all containers closed but the outer ones: these are the others, the outermost first
+  -- all containers closed except the outer ones; `inner` are the others, the outermost first
   abbrev pub containers_closed : (outer inner : List OpenContainer) → Pass → Pass
   containers_closed outer [] p = p
   containers_closed outer (c ∷ cs) p = container_closed c outer (containers_closed (outer ++ c ∷ []) cs p)
 
-  -- a paragraph begins, in a definition list that is open, or goes on: one more line stands in the stretch at hand if it begins where the last one has ended, else
-  -- that stretch is drawn with its line ending, and another one begins
+  -- a paragraph begins, in the open definition list if any, or continues. A line that begins at the end of the line before it is in the
+  -- same stretch. Else that stretch is drawn with its line ending, and another stretch begins
   abbrev pub paragraph_begun : Row → Pass → Pass
   paragraph_begun r p =
       let q = record p { drawing = ended_but (definitions_in p.inner.list) p.inner p.drawing; inner = siblings_with_paragraph p.inner } in
@@ -229,11 +231,11 @@ module _ (text : List ℕ) (options : Options) (lookup : Lookup) where
       if begin_of r == last.line_end then record p { leaf = InParagraph (kept_lines options.heading_attributes before last) from r }
       else let q = with_drawn (stretch_then text from last.line_end Nil) p in record q { leaf = InParagraph (kept_lines options.heading_attributes before last) (begin_of r) r }
 
-  -- a paragraph that an underline makes a heading: what was drawn of it loses the attributes at its end
+  -- a paragraph that an underline makes a heading: its drawn text loses the attributes at its end
   abbrev pub heading_closed : (level : ℕ) → (content : List Column) → (end : ℕ) → Drawing → Drawing
   heading_closed level content end d = closed_as (document.Heading level (setext_attributes options.heading_attributes content)) end (unbraced text options.heading_attributes content d.here d.up)
 
-  -- and is no title
+  -- a paragraph that an underline makes a heading; it is not a title
   abbrev pub heading_made : (level : ℕ) → (before : List Row) → (from : ℕ) → (last : Row) → Row → Pass → Pass
   heading_made level before from last r p = let q = with_drawn (last_stretch from last) p in record q {
     drawing = title_released q.inner.title (heading_closed level (content_of (before ++ last ∷ [])) r.line_end q.drawing);
@@ -241,14 +243,14 @@ module _ (text : List ℕ) (options : Options) (lookup : Lookup) where
     leaf = Closed;
   }
 
-  -- a line of code, with the columns of indent that are taken off at most
+  -- a line of code, without at most `most` columns of indent
   abbrev pub code_drawn : (most : ℕ) → Row → Option Piece → (Option Piece → OpenLeaf) → Pass → Pass
   code_drawn most r waits leaf p = let run = code_line text most r waits in let q = with_drawn (texts_of run.done) p in record q { leaf = leaf run.waits }
 
   abbrev pub indented_line : Row → Option Piece → Pass → Pass
   indented_line r waits p = code_drawn 4 r waits (λ left. InIndented left r.line_end []) p
 
-  -- blank lines that turn out to belong to indented code
+  -- blank lines that belong to indented code, because a later line does
   abbrev pub indented_lines : List Row → Option Piece → (end : ℕ) → Pass → Pass
   indented_lines [] waits end p = record p { leaf = InIndented waits end [] }
   indented_lines (r ∷ rs) waits end p =
@@ -261,7 +263,7 @@ module _ (text : List ℕ) (options : Options) (lookup : Lookup) where
   html_begun true kind end p = node_closed end p
   html_begun false kind end p = record p { leaf = InHtml kind }
 
-  -- a leaf begins on a line; of a link reference definition and of a table so many of the lines ahead are read
+  -- a leaf begins on a line; for a link reference definition and a table `more` of the lines ahead are read
   abbrev pub leaf_begun : Leaf → (more : ℕ) → Row → (ahead : List Row) → Pass → Pass
   leaf_begun ThematicBreak more r ahead p = with_drawn (Node (node document.ThematicBreak (start_of r) r.line_end) Nil Nil) (block_begun p)
   leaf_begun (AtxHeading level) more r ahead p =
@@ -286,7 +288,7 @@ module _ (text : List ℕ) (options : Options) (lookup : Lookup) where
   begin_as (Takes leaf more) inside r ahead bare p = leaf_begun leaf more r ahead p
   begin_as Plain inside r ahead bare p = paragraph_begun r p
 
-  -- what a line begins at a place behind the open containers, with these whole lines behind it; each container takes at least a column
+  -- the pass after a line at a place inside the open containers, with these whole lines after it; each container takes at least one column
   abbrev pub begin_in : (columns : ℕ) → Place → Row → (next : List Row) → (bare : Bool) → Pass → Pass
   begin_in zero place r next bare p = p
   begin_in (suc columns) place r next bare p =
@@ -312,7 +314,7 @@ module _ (text : List ℕ) (options : Options) (lookup : Lookup) where
   html_goes_on Waits r next p = html_line r p
   html_goes_on Stops r next p = begin r next (leaf_closed p)
 
-  -- a line that lacks no prefix, behind the open leaf
+  -- a line that lacks no prefix, after the open leaf
   abbrev pub leaf_fed : OpenLeaf → Row → (next : List Row) → Pass → Pass
   leaf_fed Closed r next p = begin r next p
   leaf_fed BehindTag r next p = begin r next (leaf_closed p)
@@ -330,7 +332,7 @@ module _ (text : List ℕ) (options : Options) (lookup : Lookup) where
   leaf_fed (InMetadata kind waits) r next p =
       if ends_metadata kind r then node_closed r.line_end (with_drawn (texts_of (rest_of waits)) p) else code_drawn 0 r waits (InMetadata kind) p
 
-  -- a lazy line: it goes on with a paragraph, or begins one behind a definition or an alert's tag
+  -- a lazy line: it continues a paragraph, or begins one after a definition or an alert's tag
   abbrev pub lazy_fed : OpenLeaf → Row → Pass → Pass
   lazy_fed (InParagraph before from last) r p = paragraph_line before from last r p
   lazy_fed (InDefinition left) r p = paragraph_begun r p
@@ -342,7 +344,7 @@ module _ (text : List ℕ) (options : Options) (lookup : Lookup) where
   lazy_fed (InMetadata kind waits) r p = p
   lazy_fed (InTable left) r p = p
 
-  -- the containers that keep a line, those that do not, and what is left of the line
+  -- the containers that keep a line, those that do not, and the rest of the line
   pub record LineKeepers : Type 0 where
     pub kept : List OpenContainer
     pub missed : List OpenContainer
@@ -361,14 +363,14 @@ module _ (text : List ℕ) (options : Options) (lookup : Lookup) where
   kept_by outer (c ∷ cs) bare r =
       kept_if (keeps c.container (bare && is_last cs) r) (λ s. kept_by (outer ++ c ∷ []) cs bare s) (record { kept = outer; missed = c ∷ cs; left = r })
 
-  -- the line where these containers miss it
+  -- the pass after a line that lacks the prefixes of the containers `missed`
   abbrev pub line_with : (missed kept : List OpenContainer) → Row → (next : List Row) → Pass → Pass
   line_with [] kept r next p = leaf_fed p.leaf r next p
   line_with (c ∷ cs) kept r next p =
       if lazily options c.container r (ahead_in kept next) && takes_lazy p.leaf then lazy_fed p.leaf r p
       else begin r next (containers_closed kept (c ∷ cs) (leaf_closed p))
 
-  -- one more line, with the whole lines behind it
+  -- the next line, with the whole lines after it
   abbrev pub line_fed : Row → (next : List Row) → Pass → Pass
   line_fed r next p = let w = kept_by [] p.outer p.bare r in let q = line_with w.missed w.kept w.left next (record p { bare = false }) in record q { line_end = r.line_end }
 
@@ -376,7 +378,7 @@ module _ (text : List ℕ) (options : Options) (lookup : Lookup) where
   lines_fed [] p = p
   lines_fed (r ∷ rs) p = lines_fed rs (line_fed r rs p)
 
-  -- everything closed at the end of the text
+  -- everything is closed at the end of the text
   abbrev pub all_closed : Pass → Pass
   all_closed p = let q = containers_closed [] p.outer (leaf_closed p) in record q { drawing = ended q.inner q.drawing }
 

@@ -1,10 +1,10 @@
--- The lines of code, drawn one after the other: a stretch of the text waits until it is seen whether the next piece touches it.
+-- The lines of code, drawn in order: a stretch of the text waits until the next piece shows whether it touches the stretch.
 use Rattle.std.specs.Prelude.{ℕ, Bool, true, false, ◌++◌, List, [], ◌∷◌, Option, Some, None}
 use Rattle.cmark_grammar.specs.Rows.{Row}
 use Rattle.cmark_grammar.specs.BlockDocument.{BlockDocument, Nil}
 use Rattle.cmark_grammar.specs.Tokens.{Piece, touches, texts_then, verbatim_line, code_columns}
 
--- pieces that are done, and the stretch of the text that waits, if one does
+-- the finished pieces, and the stretch of the text that waits, if there is one
 pub record Run : Type 0 where
   pub done : List Piece
   pub waits : Option Piece
@@ -15,7 +15,7 @@ no_run = record { done = []; waits = None }
 abbrev pub longer : Piece → Piece → Piece
 longer p q = record { owned = false; bytes = p.bytes ++ q.bytes; start = p.start; end = q.end }
 
--- one more piece: a stretch waits, an owned one is done
+-- another piece: a stretch waits, an owned piece is finished
 abbrev pub put_behind : (owned : Bool) → List Piece → Piece → Run
 put_behind true done q = record { done = done ++ q ∷ []; waits = None }
 put_behind false done q = record { done = done; waits = Some q }
@@ -35,11 +35,11 @@ abbrev pub add_pieces : Run → List Piece → Run
 add_pieces run [] = run
 add_pieces run (p ∷ ps) = add_pieces (add_piece run p) ps
 
--- a line of code without so many columns of indent at most
+-- a line of code without at most `most` columns of indent
 abbrev pub code_line : List ℕ → (most : ℕ) → Row → Option Piece → Run
 code_line text most r waits = add_pieces (record { done = []; waits = waits }) (verbatim_line text (code_columns most r) r)
 
--- the stretch that waits, where nothing more comes
+-- the stretch that waits, after the last piece
 abbrev pub rest_of : Option Piece → List Piece
 rest_of None = []
 rest_of (Some p) = p ∷ []

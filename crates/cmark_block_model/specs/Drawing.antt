@@ -1,4 +1,4 @@
--- A document while it is drawn from its beginning: the siblings at hand, below the nodes that are open.
+-- A document while it is drawn from its beginning: the current siblings, and the open nodes around them.
 use Rattle.std.specs.Prelude.{ℕ, Bool, List, [], ◌∷◌}
 use Rattle.cmark_grammar.specs.BlockDocument.{BlockKind, BlockNode, BlockDocument, Nil, Node, join, node}
 use Rattle.cmark_grammar.specs.Columns.{Column}
@@ -16,15 +16,15 @@ pub record Drawing : Type 0 where
 abbrev pub nothing_drawn : Drawing
 nothing_drawn = record { here = Nil; up = [] }
 
--- these nodes behind the last sibling
+-- these nodes after the last sibling
 abbrev pub drawn : BlockDocument → Drawing → Drawing
 drawn document d = record d { here = join d.here document }
 
--- a node behind the last sibling, and the path down into it
+-- a node after the last sibling, which is then the innermost open one
 abbrev pub opened : (start : ℕ) → BlockKind → Drawing → Drawing
 opened start kind d = record { here = Nil; up = record { left = d.here; node = node kind start start } ∷ d.up }
 
--- the innermost open node closed at this place, as something else, or as it is
+-- the innermost open node is closed at this place, with this kind or with its own
 abbrev pub close_as : BlockKind → (end : ℕ) → (here : BlockDocument) → List OpenNode → Drawing
 close_as kind end here [] = record { here = here; up = [] }
 close_as kind end here (v ∷ up) = record { here = join v.left (Node (node kind v.node.start end) here Nil); up = up }
@@ -39,7 +39,7 @@ close_at end here (v ∷ up) = record { here = join v.left (Node (node v.node.ki
 abbrev pub closed_at : (end : ℕ) → Drawing → Drawing
 closed_at end d = close_at end d.here d.up
 
--- the last sibling alone
+-- only the last sibling
 abbrev pub last_or : (own last : BlockDocument) → BlockDocument
 last_or own Nil = own
 last_or own (Node node inside after) = Node node inside after
@@ -57,7 +57,7 @@ abbrev pub before_last : BlockDocument → BlockDocument
 before_last Nil = Nil
 before_last (Node node inside after) = before_or node inside after (before_last after)
 
--- the first node as something else, and where it begins
+-- the first node with another kind, and the place at which it begins
 abbrev pub as_kind : BlockKind → BlockDocument → BlockDocument
 as_kind kind Nil = Nil
 as_kind kind (Node n inside after) = Node (record n { kind = kind }) inside after
@@ -66,18 +66,18 @@ abbrev pub start_in : BlockDocument → ℕ
 start_in Nil = 0
 start_in (Node n inside after) = n.start
 
--- the last sibling as something else
+-- the last sibling with another kind
 abbrev pub retitled : BlockKind → Drawing → Drawing
 retitled kind d = record d { here = join (before_last d.here) (as_kind kind (last_of d.here)) }
 
--- the last sibling as something else, in a new node around it, which is open
+-- the last sibling with another kind, in a new node around it, which is open
 abbrev pub enclosed : (around kind : BlockKind) → Drawing → Drawing
 enclosed around kind d = record {
   here = as_kind kind (last_of d.here);
   up = record { left = before_last d.here; node = node around (start_in (last_of d.here)) (start_in (last_of d.here)) } ∷ d.up;
 }
 
--- the innermost open node closed at this place, as something else, without its last child, which stands behind it
+-- the innermost open node is closed at this place, with this kind. Its last child is moved after it
 abbrev pub release_as : BlockKind → (end : ℕ) → (here : BlockDocument) → List OpenNode → Drawing
 release_as kind end here [] = record { here = here; up = [] }
 release_as kind end here (v ∷ up) = record { here = join v.left (Node (node kind v.node.start end) (before_last here) (last_of here)); up = up }
@@ -93,7 +93,7 @@ cut_at text place here (v ∷ up) = record { here = texts_before text place here
 abbrev pub texts_cut : List ℕ → (place : ℕ) → Drawing → Drawing
 texts_cut text place d = cut_at text place d.here d.up
 
--- the texts inside the innermost open node without the attributes at the end of this content, where attributes are read
+-- the texts inside the innermost open node without the attributes at the end of this content, if attributes are read
 abbrev pub unbraced : List ℕ → (attributes : Bool) → (content : List Column) → (here : BlockDocument) → List OpenNode → Drawing
 unbraced text attributes content here [] = record { here = here; up = [] }
 unbraced text attributes content here (v ∷ up) = record { here = without_braces text attributes content here; up = v ∷ up }

@@ -1,4 +1,4 @@
--- What is open in the block pass: the containers, the siblings in each of them, and the leaf.
+-- The open parts of the block pass: the containers, the siblings in each of them, and the leaf.
 use Rattle.std.specs.Prelude.{ℕ, Bool, true, false, List, [], Option, None}
 use Rattle.cmark_grammar.specs.Rows.{Row}
 use Rattle.cmark_grammar.specs.Leaves.{Fence}
@@ -8,24 +8,27 @@ use Rattle.cmark_grammar.specs.BlockDocument.{Reference}
 use Rattle.cmark_grammar.specs.MetadataBlockKind.{MetadataBlockKind}
 use Rattle.cmark_block_model.specs.Drawing.{Drawing, nothing_drawn}
 
--- a list to which further items may come, or titles and definitions: its character, the number of its first item, whether it is known to be loose, and
--- where its last item ends
+-- a list that may get further items, or titles and definitions. It has its character and the number of its first item; whether it is known
+-- to be loose; and the end of its last item
 pub record OpenList : Type 0 where
   pub delimiter : ℕ
   pub number : Option ℕ
   pub loose : Bool
   pub end : ℕ
 
--- what was known before a paragraph that a definition may make a title: the definition list that was open, in which the paragraph is drawn then,
--- and whether a blank line stood between two blocks
+-- the state before a paragraph that a definition may make a title. List: the definition list that was open; the paragraph is then drawn in
+-- it. Parted: a blank line separated two blocks
 pub record Title : Type 0 where
   pub list : Option OpenList
   pub parted : Bool
 
--- the blocks of a container so far: whether it has one, or a blank line, or blanks alone behind its marker; whether a blank line stands at
--- the end, and whether one stands between two lines of them, neither of which those blanks are; the list that the last block is an item of,
--- and what was known before the last one, if it is a paragraph, which may be a title: a definition list to which it may belong stays open,
--- and is no list that the last one is an item of
+-- The blocks of a container so far.
+--
+-- - Has_line: it has a block, a blank line, or only blanks after its marker.
+-- - Blank: a blank line is at the end. Parted: a blank line separates two of the blocks. The blanks after the marker do not count as a line.
+-- - List: the list of which the last block is an item.
+-- - Title: the state before the last block, if that is a paragraph, which may be a title. A definition list to which the paragraph may
+--   belong stays open, but the paragraph is not an item of `list`.
 pub record Siblings : Type 0 where
   pub has_line : Bool
   pub blank : Bool
@@ -36,16 +39,18 @@ pub record Siblings : Type 0 where
 abbrev pub no_siblings : Siblings
 no_siblings = record { has_line = false; blank = false; parted = false; list = None; title = None }
 
--- an open container, with the siblings that it stands behind
+-- an open container, with the siblings before it
 pub record OpenContainer : Type 0 where
   pub container : Container
   pub around : Siblings
 
--- The open leaf, if there is one. A paragraph has its last line, and the place where the stretch of the text begins that this
--- line stands in, which is drawn when it is seen what follows; where attributes of headings are read, it has the lines before the last
--- one too, for it may become a heading; a link reference definition has lines to come; indented code has
--- the stretch of the text that waits (so have fenced code and metadata), the place where its last line ends, and the blank lines behind that.
--- Directly behind an alert's tag no leaf is open yet. A table is drawn where it begins, as far as its lines go, and has lines to come.
+-- The open leaf, if there is one. Directly after an alert's tag no leaf is open yet.
+--
+-- - A paragraph has its last line, and the place at which the stretch of that line begins. The stretch is drawn when the next line shows
+--   whether it continues. If attributes of headings are read, the paragraph has its earlier lines too, for it may become a heading.
+-- - A link reference definition and a table have lines to come. The table itself is drawn when it begins.
+-- - Indented code, fenced code and metadata have the stretch of the text that waits. Indented code also has the end of its last line, and
+--   the blank lines after that.
 pub data OpenLeaf : Type 0 where
   Closed : OpenLeaf
   BehindTag : OpenLeaf
@@ -57,7 +62,7 @@ pub data OpenLeaf : Type 0 where
   InHtml : (kind : ℕ) → OpenLeaf
   InMetadata : (kind : MetadataBlockKind) → (waits : Option Piece) → OpenLeaf
 
--- a lazy line may stand behind the leaf
+-- a lazy line may follow the leaf
 abbrev pub takes_lazy : OpenLeaf → Bool
 takes_lazy Closed = false
 takes_lazy BehindTag = true
@@ -69,9 +74,9 @@ takes_lazy (InFenced fence waits) = false
 takes_lazy (InHtml kind) = false
 takes_lazy (InMetadata kind waits) = false
 
--- what was drawn, the innermost siblings, the containers around them, the outermost first, whether the innermost container
--- is an item whose first line was blank and came last, the leaf, the place where the next line begins, the link
--- reference definitions, and the labels of the footnote definitions, in their order
+-- the state of the pass: the drawing; the innermost siblings; the containers around them, the outermost first. Bare: the last line was the
+-- blank first line of an item, which is the innermost container. Then the leaf; the place at which the next line begins; the link reference
+-- definitions; and the labels of the footnote definitions, in order
 pub record Pass : Type 0 where
   pub drawing : Drawing
   pub inner : Siblings

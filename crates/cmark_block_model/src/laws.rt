@@ -1,4 +1,4 @@
-//! Theorems over the block pass, each the contract of a function that does nothing.
+//! Theorems over the block pass. Each is the contract of a function with an empty body.
 
 ghost use Rattle.std.specs.Prelude.{◌≡◌, ℕ, false, ◌+◌, ◌*◌, ◌≤◌, List, [], length, IsUtf8, IsCharBoundary};
 ghost use Rattle.cmark_grammar.specs.Answers.{Lookup};
@@ -12,9 +12,9 @@ ghost use Rattle.cmark_grammar.specs.References.{references};
 ghost use Rattle.cmark_grammar.specs.SpanDocuments.{footnote_labels, segments};
 ghost use Rattle.cmark_block_model.specs.BlockPass.{pass_over};
 
-/// The pass over a text draws the document that the text derives: where the paragraphs of tight lists are settled, it is that
-/// document without its link reference definitions, no node is left open, the references are the document's definitions, and the
-/// labels of footnotes are those that it defines, in their order.
+/// The pass over a text draws the document that the text derives. After the paragraphs of tight lists are settled, the drawing is that
+/// document without its link reference definitions, and no node is open. The references are the document's definitions. The labels of
+/// footnotes are those that it defines, in order.
 pub fn pass_draws_the_document()
     ensures drawn { (text : List ℕ) (options : Options) (lookup : Lookup)
         → settled false (pass_over text options lookup).drawing.here ≡ without_definitions (document text options lookup) }
@@ -25,13 +25,13 @@ pub fn pass_draws_the_document()
         → (pass_over text options lookup).footnotes ≡ footnote_labels (document text options lookup) }
 {}
 
-/// A document without its link reference definitions is read as the document is (CommonMark 4.7).
+/// A document and the same document without its link reference definitions have the same events (CommonMark 4.7).
 pub fn definitions_are_not_read()
     ensures { (document : BlockDocument) → block_reading (without_definitions document) ≡ block_reading document }
 {}
 
-/// What the pass over a text draws is read as the document that the text derives, where the paragraphs of tight lists are
-/// settled, and has its leaves; its ranges lie in order in the text, and cut no character of it.
+/// The drawing of the pass over a text, with the paragraphs of tight lists settled, has the events and the leaves of the document that the
+/// text derives. Its ranges are in order in the text, and begin and end at character boundaries.
 pub fn drawing_is_read_as_the_document()
     ensures read { (text : List ℕ) (options : Options) (lookup : Lookup)
         → block_reading (settled false (pass_over text options lookup).drawing.here) ≡ block_reading (document text options lookup) }
@@ -43,8 +43,8 @@ pub fn drawing_is_read_as_the_document()
         → IsUtf8 text → AllAt (IsCharBoundary text) (pass_over text options lookup).drawing.here }
 {}
 
-/// A document is read as eight events at most a byte of its text, and gives twelve events and leaves at most, but for the cells that are
-/// filled in: each of these is two events and a leaf, and a table has 262,144 of them at most.
+/// A document has at most eight events for each byte of its text, and at most twelve events and leaves. Cells that are filled in are not
+/// counted there: each has two events and a leaf, and a table has at most 262,144 of them.
 pub fn events_are_few()
     ensures events { (text : List ℕ) (options : Options) (lookup : Lookup) (document : BlockDocument)
         → Derives text options lookup document → length (block_reading document) ≤ 8 * length text + 524288 * count_tables document }

@@ -22,7 +22,7 @@ module _ (text : List ℕ) (options : Options) (lookup : Lookup) where
   ahead-none [] = refl
   ahead-none (c ∷ cs) = ahead-none cs
 
-  -- what is known of a line ahead, where it is known which containers keep it
+  -- the facts about a line ahead, if it is known which containers keep it
   pub record Sees (cs : List OpenContainer) (r : Row) (more : List Row) (w : LineKeepers text options lookup) : Type 0 where
     pub kept : w.missed ≡ [] → ahead_in text options lookup cs (r ∷ more) ≡ w.left ∷ ahead_in text options lookup cs more
     pub missed : (c : OpenContainer) (others : List OpenContainer) → w.missed ≡ c ∷ others → ahead_in text options lookup cs (r ∷ more) ≡ []
@@ -57,7 +57,7 @@ module _ (text : List ℕ) (options : Options) (lookup : Lookup) where
         same = refl;
       }
 
-  -- whether a line goes on with a paragraph as its text, in front of others
+  -- whether a line continues a paragraph as its text, before others
   pub text-if : (r : Row) (ahead : List Row) → r.lazy ≡ false → (is table : Bool) → is ≡ (not (interrupts options true r ahead) && is_none (underlines r)) → table ≡ block_interrupts options true r ahead
       → text_lines options (r ∷ ahead) ≡ put_if (is && not table) r (text_lines options ahead)
   text-if r ahead whole is table e t =
@@ -103,7 +103,7 @@ module _ (text : List ℕ) (options : Options) (lookup : Lookup) where
       i.lines ∙ ap (λ l. ahead_in text options lookup l (rest ∷ i.others)) none
       ∙ ap (λ l. rest ∷ l) (sym (i.behind ∙ ap (λ l. ahead_in text options lookup l i.others) none))
 
-  -- the next whole line of the text, in front of those behind it
+  -- the next whole line of the text, before those after it
   pub next-line : (T : List ℕ) (start place : ℕ) (line : LineRest) (cs : List OpenContainer) (seen : Option LineRest) → T ≡ text → start ≡ place →
       rows_from start (lines (drop start T)) ≡ row_of line ∷ rows_from (row_of line).line_end (lines (drop (row_of line).line_end T)) →
       ((more : List Row) → MatchOption seen (ahead_in text options lookup cs (row_of line ∷ more) ≡ []) (λ rest. ((row_of rest).line_end ≡ (row_of line).line_end) × (ahead_in text options lookup cs (row_of line ∷ more) ≡ row_of rest ∷ ahead_in text options lookup cs more))) →

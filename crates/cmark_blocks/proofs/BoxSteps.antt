@@ -1,4 +1,4 @@
--- The line behind the box of a task marker stands in the text, and tells its bytes.
+-- The line after the box of a task marker is part of the text, and determines its bytes.
 use Rattle.std.proofs.Common.{◌≡◌, ℕ, Bool, true, false, ◌==◌, ◌&&◌, List, drop, Some, None, refl, sym, ap, subst, arith, true≢false}
 use Rattle.std.specs.Prelude.{if◌then◌else◌}
 use Rattle.std.specs.Str.{IsCharBoundary}

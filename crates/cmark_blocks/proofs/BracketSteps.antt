@@ -7,7 +7,7 @@ use Rattle.cmark_grammar.specs.LinkDefinitions.{Parsed, put, escapes_next, up_to
 use Rattle.cmark_grammar.specs.Rows.{Row}
 use Rattle.cmark_blocks.specs.Brackets.{is_colon, lacks_colon, begins_none}
 
--- no colon stands behind what was read
+-- no colon follows the part that was read
 abbrev LacksColon : Option Parsed → Type 0
 LacksColon None = Unit {0}
 LacksColon (Some found) = first_is is_colon found.behind ≡ false
@@ -60,7 +60,7 @@ module _ (more : List ℕ) (no_colon : first_is is_colon more ≡ false) where
       go true q = label-lacks (up_to false 93 91 true (bs ++ more)) (up_to-lacks false bs q)
       go false q = refl
 
--- further lines stand behind a line end
+-- further lines come after a line end
 pub further-lacks : (r : Row) (more : List Row) → first_is is_colon (further_bytes r more) ≡ false
 further-lacks r [] = refl
 further-lacks r (s ∷ more) = go (nat_le 2 (r.line_end - r.content_end))

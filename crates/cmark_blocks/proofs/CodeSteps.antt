@@ -20,7 +20,7 @@ use Rattle.cmark_block_model.specs.OpenBlocks as model
 use Rattle.cmark_blocks.specs.declared.state.OpenLeaf.TheVariants as leaf
 use Rattle.cmark_blocks.specs.Runs.{IsFence, ShowsLeaf}
 
--- where a line begins behind so many columns of indent at most
+-- the place at which a line begins after at most `most` columns of indent
 pub code-place : (most : ℕ) (r s : Row) → s ≡ without (min most (indent_of r)) r → begin_of s ≡ first_place r.content_end (code_columns most r)
 code-place most r s is = ap begin_of is ∙ ap (λ n. first_place r.content_end (drop n r.columns)) (sym (least most (indent_of r)))
   where
@@ -33,7 +33,7 @@ pub indented-shown : (text : List ℕ) (waits : Option Stretch) (left : Option P
 indented-shown text waits left end line_end blanks rows w e b =
     sym (ap (λ x. model.InIndented x end (map row_of blanks)) w ∙ ap (λ x. model.InIndented left x (map row_of blanks)) e ∙ ap (model.InIndented left line_end) b)
 
--- what a line does to fenced code does not hang on the info string
+-- the effect of a line on fenced code does not depend on the info string
 fence-continuation : (x : Continuation) (fence : Fence) (delimiter run_length indent : ℕ) (r : Row) → IsFence fence delimiter run_length indent →
     ((info : List ℕ) → shown_continuation x ≡ fence_continuation (record { indented = indent; delimiter = delimiter; run_length = run_length; info = info }) r) → shown_continuation x ≡ fence_continuation fence r
 fence-continuation x fence delimiter run_length indent r same continuation =
@@ -53,7 +53,7 @@ goes-on true Closes e not = absurd (not refl)
 goes-on true Waits e not = absurd (let q : grammar.Waits ≡ grammar.Closes = e in cc)
 goes-on true Stops e not = absurd (let q : grammar.Stops ≡ grammar.Closes = e in cc)
 
--- a closing fence, and a line of code behind an opening one
+-- a closing fence, and a line of code after an opening one
 module _ (text : List ℕ) (options : Options) (lookup : Lookup) (fence : Fence) (waits : Option Piece) (r : Row) (next : List Row) (m : model.Pass)
     (x : Continuation) (delimiter run_length indent : ℕ) (same : IsFence fence delimiter run_length indent) (is : m.leaf ≡ model.InFenced fence waits)
     (continuation : (info : List ℕ) → shown_continuation x ≡ fence_continuation (record { indented = indent; delimiter = delimiter; run_length = run_length; info = info }) r) where

@@ -17,7 +17,7 @@ use Rattle.cmark_block_model.specs.BlockPass.{pass_over}
 use Rattle.cmark_block_model.proofs.Drawings.{derived}
 use Rattle.cmark_block_model.proofs.Theorem.{pass-draws}
 
--- a text that stands in its paragraph's node is a node of the document
+-- a text that is one node with its paragraph is a node of the document
 inside-size : (text : List ℕ) (start : ℕ) (s : Shape) (below : Forest (Option BlockNode)) → size below ≤ size (shown_inside text start s below)
 inside-size text start (ParagraphOf text_end) forest.Nil = omega arith
 inside-size text start (ParagraphOf text_end) (forest.Node n i a) = omega arith

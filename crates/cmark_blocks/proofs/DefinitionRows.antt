@@ -1,4 +1,4 @@
--- Lines that begin no definition, and what one is that does.
+-- Lines that begin no definition, and the definition that a line begins.
 use Rattle.std.proofs.Common.{◌≡◌, ℕ, suc, ◌<◌, ◌-◌, Bool, true, false, ◌==◌, ◌&&◌, not, List, [], ◌∷◌, length, Option, Some, None, refl, sym, ap, ◌∙◌, arith, true≢false, eqb-true, length-drop}
 use Rattle.std.proofs.lemmas.Option.{same_Some}
 use Rattle.std.specs.Prelude.{if◌then◌else◌, nat_le}
@@ -34,7 +34,7 @@ letter-definition-not options r e = ap is_marker (none-marked options.definition
     go [] l = refl
     go (b ∷ bs) l = at b (b == 58) refl l
 
--- a line that begins otherwise begins none
+-- a line with another byte at its beginning begins no definition
 pub other-defines-not : (options : Options) (place : Place) (r : Row) → begins_with 58 (words_of r) ≡ false → definition_at options place r ≡ None
 other-defines-not options place r other = go (is_behind_title place)
   where
@@ -46,7 +46,7 @@ other-defines-not options place r other = go (is_behind_title place)
 pub blank-defines-not : (options : Options) (place : Place) (r : Row) → words_of r ≡ [] → definition_at options place r ≡ None
 blank-defines-not options place r none = other-defines-not options place r (ap (begins_with 58) none)
 
--- behind siblings no line stands behind a task marker
+-- a place after siblings is not after a task marker
 pub place-plain : (s : model.Siblings) → is_behind_task (place_of s) ≡ false
 place-plain s = go s.title (definitions_in s.list)
   where
@@ -55,7 +55,7 @@ place-plain s = go s.title (definitions_in s.list)
     go None (Some l) = refl
     go None None = refl
 
--- where no definition begins there, a line begins what it begins anywhere
+-- if no definition begins there, a line begins the same block as anywhere
 pub opens-anywhere : (options : Options) (s : model.Siblings) (r : Row) (ahead : List Row) → definition_at options (place_of s) r ≡ None → opens_at options (place_of s) r ahead ≡ opens options r ahead
 opens-anywhere options s r ahead none =
     ap (λ z. if z && not r.lazy then text_begun r else definition_or (definition_at options (place_of s) r) (opens options r ahead)) (place-plain s)
@@ -66,7 +66,7 @@ opens-definition options s r ahead width is =
     ap (λ z. if z && not r.lazy then text_begun r else definition_or (definition_at options (place_of s) r) (opens options r ahead)) (place-plain s)
     ∙ ap (λ o. definition_or o (opens options r ahead)) (sym is)
 
--- inside a container that began nothing stands yet
+-- inside a container that began there is no block yet
 pub inside-place : (k : Container) (r : Row) (m : model.Pass) → Apart ≡ place_of (container_begun k r m).inner
 inside-place (BlockQuote alert) r m = refl
 inside-place (Item delimiter number width task) r m = refl
@@ -74,7 +74,7 @@ inside-place (Footnote label old size) r m = refl
 inside-place (ListDefinition width) r m = refl
 
 module _ (text : List ℕ) (options : Options) (lookup : Lookup) (r s : Row) (columns : ℕ) (bare : Bool) (m : model.Pass) (width : ℕ) (next : List Row) where
-  -- a definition goes on to what stands behind its marker
+  -- the rest of the line after a definition's marker is still to be handled
   pub definition-begins : Some width ≡ definition_at options (place_of m.inner) r → s ≡ without width r
       → begin_in text options lookup (suc columns) (place_of m.inner) r next bare m ≡ begin_in text options lookup columns Apart s next true (container_begun (ListDefinition width) r m)
   unfolding enter
@@ -93,7 +93,7 @@ marked-wide true r width e = go (begins_with 58 (words_of r)) refl e
     go true c q = (c, same_Some width (width_with 1 r) q)
     go false c q = absurd (let n : Some width ≡ None = q in cc)
 
--- columns stand where words begin
+-- words that begin with a byte have columns
 some-columns : (r : Row) → begins_with 58 (words_of r) ≡ true → 0 < length r.columns
 some-columns r e = go r.columns refl
   where
@@ -101,7 +101,7 @@ some-columns r e = go r.columns refl
     go (c ∷ cs) is = let n : length r.columns ≡ suc (length cs) = ap length is in omega (arith, n)
     go [] is = absurd (true≢false (sym e ∙ ap (λ cs. begins_with 58 (bytes_of (without_indent cs))) is))
 
--- behind its marker fewer columns are left
+-- after its marker fewer columns are left
 pub definition-shorter : (options : Options) (r s : Row) (width : ℕ) → Some width ≡ definition_marker options r → s ≡ without width r → length s.columns < length r.columns
 definition-shorter options r s width is behind =
     let wide = marked-wide (options.definition_list && (not r.lazy && nat_le (indent_of r) 3)) r width is in

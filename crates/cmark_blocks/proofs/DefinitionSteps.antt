@@ -29,7 +29,7 @@ use Rattle.cmark_blocks.proofs.GatherSteps.{bytes-split}
 use Rattle.cmark_blocks.proofs.LineFeeds.{texts-end, ends-behind}
 use Rattle.cmark_blocks.specs.Runs.{Runs}
 
--- the lines with which a paragraph goes on are the first of those ahead
+-- the lines that continue a paragraph are the first of those ahead
 take-texts : (options : Options) (ahead : List Row) (n : ℕ) → n ≤ length (text_lines options ahead) → take n (text_lines options ahead) ≡ take n ahead
 take-texts options [] n le = refl
 take-texts options (r ∷ ahead) n le = go (texts options r ahead && is_none (underlines r)) n le (take-texts options ahead)
@@ -41,7 +41,7 @@ take-texts options (r ∷ ahead) n le = go (texts options r ahead && is_none (un
     go false (suc n) le ih = absurd (omega (arith, le))
 
 module _ (text : List ℕ) (options : Options) (lookup : Lookup) (m : model.Pass) (inside : Container → model.Pass) (r : Row) (ahead : List Row) (bare : Bool) where
-  -- a definition that stands in front of the paragraph's text
+  -- a definition at the beginning of the paragraph's text
   pub begins-definition : (found : Defined) (start content_end more : ℕ) → Some found ≡ definition_in (bytes_over r (text_lines options ahead)) → start ≡ start_of r →
       more ≡ length (text_lines options ahead) - line_ends found.behind → content_end ≡ last_content_end r (take more (text_lines options ahead)) →
       definition_begun lookup found.definition start content_end more m ≡ begin_as text options lookup (bracket_of options r ahead) inside r ahead bare m
@@ -51,7 +51,7 @@ module _ (text : List ℕ) (options : Options) (lookup : Lookup) (m : model.Pass
       ∙ ap (λ n. definition_begun lookup found.definition (start_of r) (last_content_end r (take n ahead)) n m) count
       ∙ ap (λ o. begin_as text options lookup (or_else (defined_if (length (text_lines options ahead)) o) (table_if options (table_head options r ahead) ahead)) inside r ahead bare m) is
 
-  -- none does
+  -- no definition at the beginning of the paragraph's text
   pub begins-none : None ≡ definition_in (bytes_over r (text_lines options ahead)) →
       begin_as text options lookup (table_if options (table_head options r ahead) ahead) inside r ahead bare m ≡ begin_as text options lookup (bracket_of options r ahead) inside r ahead bare m
   begins-none is = ap (λ o. begin_as text options lookup (or_else (defined_if (length (text_lines options ahead)) o) (table_if options (table_head options r ahead) ahead)) inside r ahead bare m) is
@@ -75,7 +75,7 @@ module _ {E : Type 0} (replacement : E → Lookup) (text : List ℕ) (options : 
     footnotes = runs.footnotes;
   }
 
--- where no line is left, the whole text was gathered
+-- if no line is left, the whole text was gathered
 none-behind : (o : Option Defined) → option_map (defined_before []) o ≡ o
 none-behind None = refl
 none-behind (Some found) = ap {A = List ℕ} {B = Option Defined} (λ l. Some (record { definition = found.definition; behind = l })) (append-nil found.behind)
@@ -89,7 +89,7 @@ pub whole-of : {E : Type 0} (replacement : E → Lookup) (pass : Pass E) (old ne
 whole-of replacement pass old new true e h = absurd (true≢false e)
 whole-of replacement pass old new false e h = h.1
 
--- what was gathered before stands in front of what was gathered then, whether or not one more line goes on
+-- the text gathered before is a prefix of the text gathered then, whether or not another line continues
 pub kept-of : {E : Type 0} (replacement : E → Lookup) (pass : Pass E) (old new : Gathered) (more : Bool) → GathersMore replacement pass old more new → (first : LineRest) → Gathers replacement pass first old → Gathers replacement pass first new
 kept-of replacement pass old new true h = h.0
 kept-of replacement pass old new false h = h.0
@@ -106,7 +106,7 @@ module _ (text : List ℕ) (options : Options) (lookup : Lookup) (m : model.Pass
   abbrev pub left_bytes : List ℕ
   left_bytes = further_bytes (row_of gathered.last) left
 
-  -- the definition in front of what was gathered is the paragraph's
+  -- the definition at the beginning of the gathered text is the paragraph's
   pub decided : (paragraph : List ℕ) → paragraph ≡ string_bytes gathered.text →
       definition_in (string_bytes gathered.text ++ left_bytes) ≡ option_map (defined_before left_bytes) (definition_in (string_bytes gathered.text)) →
       option_map (defined_before left_bytes) (definition_in paragraph) ≡ definition_in (bytes_over (row_of first) (texts_at text options lookup m (row_of first).line_end))
@@ -115,7 +115,7 @@ module _ (text : List ℕ) (options : Options) (lookup : Lookup) (m : model.Pass
       ∙ ap definition_in (ap (λ bs. bs ++ left_bytes) holds.bytes ∙ ap (λ r. bytes_over (row_of first) holds.lines ++ further_bytes r left) (sym holds.last)
       ∙ sym (bytes-split (row_of first) holds.lines left) ∙ ap (bytes_over (row_of first)) (sym holds.ahead))
 
-  -- it takes as many lines
+  -- it takes the same number of lines
   pub lines-taken : (behind : List ℕ) → gathered.lines - line_ends behind ≡ length (texts_at text options lookup m (row_of first).line_end) - line_ends (behind ++ left_bytes)
   lines-taken behind =
       let count = holds.count in

@@ -1,4 +1,4 @@
--- One more line, behind what is open.
+-- Another line, after the open leaf.
 use Rattle.std.proofs.Common.{◌≡◌, ◌≢◌, ℕ, suc, ◌≤◌, ◌==◌, Bool, true, false, not, ◌&&◌, ◌||◌, if◌then◌else◌, List, [], ◌∷◌, take, drop, length, map, Some, None, refl, sym, ap, subst, ◌∙◌, arith, true≢false}
 use Rattle.std.proofs.lemmas.List.{drop_all}
 use Rattle.cmark_grammar.specs.Answers.{Lookup}
@@ -52,7 +52,7 @@ module _ (text : List ℕ) (options : Options) (lookup : Lookup) (r : Row) (m : 
       ap (λ z. if z then record m { leaf = model.InParagraph (kept_lines options.heading_attributes before last) from r } else record (with_drawn (stretch_then text from last.line_end Nil) m) { leaf = model.InParagraph (kept_lines options.heading_attributes before last) (begin_of r) r }) (ne_eqb (begin_of r) last.line_end e)
 
 module _ (text : List ℕ) (options : Options) (lookup : Lookup) (r : Row) (next : List Row) (m : model.Pass) where
-  -- behind a paragraph
+  -- after a paragraph
   pub feeds-underline : (before : List Row) (from : ℕ) (last : Row) (level : ℕ) → Some level ≡ underlines r → m.leaf ≡ model.InParagraph before from last → leaf_fed text options lookup m.leaf r next m ≡ heading_made text options lookup level before from last r m
   feeds-underline before from last level under is =
       ap (λ l. leaf_fed text options lookup l r next m) is
@@ -73,21 +73,21 @@ module _ (text : List ℕ) (options : Options) (lookup : Lookup) (r : Row) (next
       leaf_fed text options lookup m.leaf r next m ≡ paragraph_line text options lookup before from last r m
   feeds-text before from last under whole on is = feeds-other before from last true under whole (ap not (sym on)) is
 
-  -- behind a link reference definition
+  -- after a link reference definition
   pub feeds-last : m.leaf ≡ model.InDefinition 0 → leaf_fed text options lookup m.leaf r next m ≡ begin text options lookup r next (leaf_closed text options lookup m)
   feeds-last is = ap (λ l. leaf_fed text options lookup l r next m) is
 
   pub feeds-left : (left : ℕ) → m.leaf ≡ model.InDefinition (suc left) → leaf_fed text options lookup m.leaf r next m ≡ record m { leaf = model.InDefinition left }
   feeds-left left is = ap (λ l. leaf_fed text options lookup l r next m) is
 
-  -- behind a table's head
+  -- after a table's head
   pub feeds-last_row : m.leaf ≡ model.InTable 0 → leaf_fed text options lookup m.leaf r next m ≡ begin text options lookup r next (leaf_closed text options lookup m)
   feeds-last_row is = ap (λ l. leaf_fed text options lookup l r next m) is
 
   pub feeds-row : (left : ℕ) → m.leaf ≡ model.InTable (suc left) → leaf_fed text options lookup m.leaf r next m ≡ record m { leaf = model.InTable left }
   feeds-row left is = ap (λ l. leaf_fed text options lookup l r next m) is
 
-  -- behind an alert's tag
+  -- after an alert's tag
   pub feeds-behind : m.leaf ≡ model.BehindTag → leaf_fed text options lookup m.leaf r next m ≡ begin text options lookup r next (leaf_closed text options lookup m)
   feeds-behind is = ap (λ l. leaf_fed text options lookup l r next m) is
 
@@ -105,7 +105,7 @@ module _ (text : List ℕ) (options : Options) (lookup : Lookup) (r : Row) (next
       ap (λ l. lazy_fed text options lookup l r m) is
       ∙ ap (λ l. paragraph_begun text options lookup r (close_leaf text options lookup l m)) (sym is)
 
-  -- where some containers miss the line, or none
+  -- if some containers do not keep the line, or all do
   pub rest-kept : (k : ℕ) → drop k m.outer ≡ [] → line_with text options lookup (drop k m.outer) (take k m.outer) r next m ≡ leaf_fed text options lookup m.leaf r next m
   rest-kept k none = ap (λ cs. line_with text options lookup cs (take k m.outer) r next m) none
 
@@ -193,7 +193,7 @@ fed-outside text options lookup r next m cs none shows =
     ap (λ outer. let w = kept_by text options lookup [] outer m.bare r in let q = line_with text options lookup w.missed w.kept w.left next (record m { bare = false }) in record q { line_end = r.line_end })
     (sym (shows-none cs m.outer none shows))
 
--- a line that others miss goes on with a paragraph where neither it nor a table that it begins interrupts one
+-- a line that some containers do not keep continues a paragraph unless it, or a table that it begins, interrupts it
 module _ (options : Options) (k : Container) (r : Row) (ahead : List Row) (takes : Bool) where
   by_tests : (interrupting table : Bool) → interrupts options false r ahead ≡ interrupting → block_interrupts options (is_definition k) r ahead ≡ table → (lazily options k r ahead && takes) ≡ (not (interrupting || table) && takes)
   by_tests interrupting table e f =

@@ -1,4 +1,4 @@
--- What a letter or a bracket begins that stands in front of a line, with no indent.
+-- The block that a letter or a bracket at the beginning of a line begins, without indent.
 use Rattle.std.proofs.Common.{◌≡◌, ℕ, Bool, true, false, ◌==◌, ◌&&◌, not, List, [], ◌∷◌, drop, None, refl, sym, ap, ◌∙◌, arith, eqb-true, true≢false}
 use Rattle.std.specs.Prelude.{if◌then◌else◌}
 use Rattle.cmark_grammar.specs.Columns.{bytes_of}
@@ -35,7 +35,7 @@ and-second : (x y : Bool) → (x && y) ≡ true → y ≡ true
 and-second true y e = e
 and-second false y e = absurd (true≢false (sym e))
 
--- neither a hyphen nor a plus sign in front begins metadata
+-- neither a hyphen nor a plus sign comes first, so that no metadata begins
 no-metadata : (options : Options) (r : Row) (b : ℕ) (bs : List ℕ) → bytes_of r.columns ≡ b ∷ bs → (b == 45) ≡ false → (b == 43) ≡ false → metadata_kind options r ≡ None
 no-metadata options r b bs is dash plus = go (is_whole_line r)
   where
@@ -46,7 +46,7 @@ no-metadata options r b bs is dash plus = go (is_whole_line r)
     go true = ap (λ bytes. metadata_if options (metadata_of bytes)) is ∙ ap (metadata_if options) none
     go false = refl
 
--- a letter is none of these bytes
+-- a letter is different from these bytes
 letter-apart : (b k : ℕ) → is_letter k ≡ false → is_letter b ≡ true → (b == k) ≡ false
 letter-apart b k other letter = go (b == k) refl
   where
@@ -54,7 +54,7 @@ letter-apart b k other letter = go (b == k) refl
     go true e = absurd (true≢false (sym letter ∙ ap is_letter (eqb-true b k e) ∙ other))
     go false e = refl
 
--- what such a line begins: this, and neither a definition nor metadata
+-- such a line begins only this, and neither a definition nor metadata
 pub record BeginsOnly (options : Options) (open_as : Opening) (r : Row) : Type 0 where
   pub opens_as : OpensAs options open_as r
   pub defines_not : (place : Place) → definition_at options place r ≡ None
@@ -96,7 +96,7 @@ module _ (options : Options) (r : Row) (whole : r.lazy ≡ false) (blank : is_bl
           begins-only b bs is flush (letter-apart b 58 refl f) (letter-apart b 45 refl f) (letter-apart b 43 refl f) opening.Plain
           (λ ahead. opens-flush (table_if options (table_head options r ahead) ahead) ahead flush (letter-container options r letter) (letter-leaf options r ahead letter))
 
-  -- a bracket begins a link reference definition, a table or a paragraph, where footnotes are not read
+  -- a bracket begins a link reference definition, a table or a paragraph, if footnotes are not read
   pub bracket-begins : ((indent_of r == 0) && (begins_with 91 (words_of r) && not (are_read (footnotes_in options)))) ≡ true → BeginsOnly options opening.Bracket r
   bracket-begins e = by (words_of r) refl bracket
     where

@@ -44,7 +44,7 @@ draws-footnote text old new kept index start bytes d at keeps step same draws =
     ap (λ t. text_at t index.0) texts ∙ ap (text_at (old.allocations.texts ++ name ∷ [])) at ∙ last-text old.allocations.texts name ∙ ap Some keeps.1))
     (draws-text text old mid name d refl texts draws)
 
--- one more label behind the others
+-- another label after the others
 more-labels : (folded label : List ℕ) (labels : List (List ℕ)) → has_label folded (labels ++ label ∷ []) ≡ (has_label folded labels || bytes_eq (fold label) folded)
 more-labels folded label [] = or-false (bytes_eq (fold label) folded)
   where
@@ -61,7 +61,7 @@ noted-first : (found : Option FootnoteDef) (known new : Bool) → found ≡ unus
 noted-first found true new e = ap (λ f. first_of f (if new then Some (record { use_count = 0 }) else None)) e
 noted-first found false new e = ap (λ f. first_of f (if new then Some (record { use_count = 0 }) else None)) e
 
--- a label was noted that others stand before
+-- a label was recorded after others
 pub labels-noted : (label : List ℕ) (labels : List (List ℕ)) (old new : FootnoteDefs) → HasLabels labels old → Notes label old new → HasLabels (labels ++ normal_form label ∷ []) new
 labels-noted label labels old new has notes folded =
     notes folded

@@ -18,7 +18,7 @@ use Rattle.cmark_block_model.specs.OpenBlocks as model
 use Rattle.cmark_blocks.specs.declared.gathered.Gathered.{Gathered}
 use Rattle.cmark_blocks.specs.Gathered.{last_of, texts_at, Holds}
 
--- the bytes of a line stand in the text, one behind the other
+-- the bytes of a line are consecutive bytes of the text
 pub rest-slice : (text : List ℕ) (rest : LineRest) → StandInText text (row_of rest).columns → bytes_of (row_of rest).columns ≡ slice text (begin_of (row_of rest)) (row_of rest).content_end
 rest-slice text rest in_text = bytes-slice text (begin_of (row_of rest)) (row_of rest).columns (row_of rest).content_end (rest-runs rest) in_text
 
@@ -27,7 +27,7 @@ words-slice text rest in_text =
     let r = row_of rest in
     bytes-slice text (start_of r) (without_indent r.columns) r.content_end (drop-Runs (indent r.columns) (begin_of r) r.columns r.content_end (rest-runs rest)).0 (drop-in_text text (indent r.columns) r.columns in_text)
 
--- further lines, one part behind the other
+-- further lines, in two parts
 pub further-splits : (first : Row) (lines more : List Row) → further_bytes first (lines ++ more) ≡ further_bytes first lines ++ further_bytes (last_of first lines) more
 further-splits first [] more = refl
 further-splits first (r ∷ lines) more =
@@ -45,7 +45,7 @@ last-more first [] r = refl
 last-more first (s ∷ lines) r = last-more s lines r
 
 module _ (text : List ℕ) (options : Options) (lookup : Lookup) (m : model.Pass) where
-  -- one more line
+  -- another line
   pub holds-more : (first rest : LineRest) (old : Gathered) (made : String Global) (count : ℕ) → Holds text options lookup m first old →
       texts_at text options lookup m (row_of old.last).line_end ≡ row_of rest ∷ texts_at text options lookup m (row_of rest).line_end →
       string_bytes made ≡ string_bytes old.text ++ (line_end_of (row_of old.last) ++ bytes_of (row_of rest).columns) → count ≡ old.lines + 1 →
@@ -62,7 +62,7 @@ module _ (text : List ℕ) (options : Options) (lookup : Lookup) (m : model.Pass
     last = last-more (row_of first) h.lines (row_of rest);
   }
 
--- where lines end
+-- the ends of lines
 pub content_end-none : (r : Row) (n : ℕ) → last_content_end r (take n []) ≡ r.content_end
 content_end-none r zero = refl
 content_end-none r (suc n) = refl

@@ -59,7 +59,7 @@ rows-more lines i line within is =
     ∙ ap (map row_of) (sym (take_at_read lines i line within).1)
 
 module _ (text : List ℕ) (options : Options) (lookup : Lookup) where
-  -- lines of indented code are drawn, and none waits
+  -- lines of indented code are drawn, and no line waits
   lines-fed : (r : Row) (rs : List Row) (waits : Option Piece) (end : ℕ) (m : model.Pass) → indented_lines text options lookup (rs ++ r ∷ []) waits end m
       ≡ record m { drawing = lines_drawn text (rs ++ r ∷ []) waits m.drawing; leaf = model.InIndented (waits_behind text (rs ++ r ∷ []) waits) r.line_end [] }
   lines-fed r [] waits end m = refl
@@ -80,7 +80,7 @@ module _ (text : List ℕ) (options : Options) (lookup : Lookup) where
     pub indented-stops : (x : Continuation) → shown_continuation x ≡ code_continuation r → (x ≡ Closes) ⊎ (x ≡ Stops) → leaf_fed text options lookup m.leaf r next m ≡ begin text options lookup r next (leaf_closed text options lookup m)
     indented-stops x continuation = ⊎_elim (λ e. continuation-fed grammar.Closes (sym continuation ∙ ap shown_continuation e)) (λ e. continuation-fed grammar.Stops (sym continuation ∙ ap shown_continuation e))
 
--- the open leaf, and the blank lines that wait behind it
+-- the open leaf, and the blank lines that wait after it
 pub runs-waiting : {E : Type 0} (replacement : E → Lookup) (text : List ℕ) (options : Options) (lookup : Lookup) (m : model.Pass) (pass : Pass E) (open_leaf : OpenLeaf) (blanks : Vec LineRest Global) (l : model.OpenLeaf) →
     Runs replacement text options lookup m pass → ShowsLeaf text open_leaf blanks.items l → Runs replacement text options lookup (record m { leaf = l }) (record pass { leaf = open_leaf; blank_lines = blanks })
 runs-waiting replacement text options lookup m pass open_leaf blanks l runs shows = record {

@@ -44,7 +44,7 @@ slice-slice text start content_end a b le within =
     ∙ ap (take (b - a)) (drop-drop a start text)
     ∙ ap (λ n. take n (drop (start + a) text)) (let s : b - a ≡ (start + b) - (start + a) = omega arith in s)
 
--- the info string stands in the text at its places behind the words' begin
+-- the info string is at its places in the text, counted from the beginning of the words
 pub info-slice : (text : List ℕ) (rest : LineRest) (fence : CodeFence) (words : ℕ) → IsRead text rest → InfoStands text (row_of rest) fence → words ≡ start_of (row_of rest) →
     slice_range text (words + fence.info_start) (words + fence.info_end) ≡ slice_range (words_of (row_of rest)) fence.info_start fence.info_end
 info-slice text rest fence words read stands begin =

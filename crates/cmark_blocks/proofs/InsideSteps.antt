@@ -33,7 +33,7 @@ one-first (x ∷ xs) (suc n) (suc k) m lt e = one-first xs n k m (omega (arith, 
 
 module _ (text : List ℕ) (options : Options) (lookup : Lookup) (cs : List OpenContainer) (ms : List model.OpenContainer) (shows : ShowsContainers cs ms)
     (count at : ℕ) (c : OpenContainer) (r : Row) (more : List Row) (rest : LineRest) (here : slice_get cs at ≡ Some c) (further : at < count) where
-  -- one more of them keeps the line, or misses it
+  -- another container keeps the line, or does not
   pub first-keeps : (inside : LineRest) → ((g : grammar.Container) → Shows c.container g → Some (row_of inside) ≡ keeps g false (row_of rest)) → (next : ℕ) → next ≡ suc at →
       Inside text options lookup (take count ms) at r more (row_of rest) → Inside text options lookup (take count ms) next r more (row_of inside)
   first-keeps inside keep next more_by_one i =

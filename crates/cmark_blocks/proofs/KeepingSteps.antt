@@ -30,7 +30,7 @@ behind-next line rest inside g bare e h =
       ),
     )
 
--- the container at a place, with those before it and behind it
+-- the container at a place, with those before it and after it
 pub record At (c : OpenContainer) (k : ℕ) (ms : List model.OpenContainer) : Type 0 where
   pub m : model.OpenContainer
   pub shows : ShowsContainer c m
@@ -45,7 +45,7 @@ shows-at (b ∷ cs) (m ∷ ms) (suc k) c s e =
     let r = shows-at cs ms k c s.1 e in
     record { m = r.m; shows = r.shows; behind = r.behind; before = ap (λ l. m ∷ l) r.before }
 
--- the container of the model at a place is shown by the one that stands there
+-- the container of the model at a place is shown by the container at that place
 pub shows-there : (cs : List OpenContainer) (ms : List model.OpenContainer) (k : ℕ) (c : OpenContainer) (last : model.OpenContainer) (others : List model.OpenContainer) → ShowsContainers cs ms → slice_get cs k ≡ Some c → drop k ms ≡ last ∷ others → Shows c.container last.container
 shows-there cs ms k c last others s e split =
     let at = shows-at cs ms k c s e in
@@ -76,7 +76,7 @@ module _ (text : List ℕ) (options : Options) (lookup : Lookup) where
   last-is (b ∷ (d ∷ cs)) (m ∷ (n ∷ ms)) zero s lt = sym (let ne : suc zero ≡ suc (suc (length cs)) → ⊥ = (λ e. omega (arith, e)) in grind (arith))
   last-is (b ∷ cs) (m ∷ ms) (suc k) s lt = last-is cs ms k s.1 (omega (arith, lt)) ∙ grind (arith)
 
-  -- one more container keeps the line, or misses it
+  -- another container keeps the line, or does not
   pub keeps-on : (cs : List OpenContainer) (ms : List model.OpenContainer) (k : ℕ) (c : OpenContainer) (bare : Bool) (rest inside : LineRest) → ShowsContainers cs ms → slice_get cs k ≡ Some c → k < length cs →
       ((g : grammar.Container) → Shows c.container g → Some (row_of inside) ≡ keeps g (bare && (suc k == length cs)) (row_of rest)) → (n : ℕ) → n ≡ suc k →
       kept_by text options lookup (take k ms) (drop k ms) bare (row_of rest) ≡ kept_by text options lookup (take n ms) (drop n ms) bare (row_of inside)
@@ -105,7 +105,7 @@ module _ (text : List ℕ) (options : Options) (lookup : Lookup) where
       ap (λ l. kept_by text options lookup (take k ms) l bare (row_of rest)) e
       ∙ ap {A = List model.OpenContainer} {B = LineKeepers text options lookup} (λ l. record { kept = take k ms; missed = l; left = row_of rest }) (sym e)
 
--- what is left is behind the prefixes of the containers that keep the line
+-- the rest comes after the prefixes of the containers that keep the line
 pub behind-more : (line rest inside : LineRest) (k : Container) (bare : Bool) → ((g : grammar.Container) → Shows k g → Some (row_of inside) ≡ keeps g bare (row_of rest)) → IsBehind line rest → IsBehind line inside
 behind-more line rest inside container.BlockQuote bare keep h = behind-next line rest inside (grammar.BlockQuote None) bare (keep (grammar.BlockQuote None) tt) h
 behind-more line rest inside (container.Footnote old) bare keep h =

@@ -22,7 +22,7 @@ drawn-nothing d = ap (λ h. record d { here = h }) (join-nil d.here)
     join-nil Nil = refl
     join-nil (Node n i a) = ap (Node n i) (join-nil a)
 
--- fenced code, HTML and metadata: the stretch that waits is drawn, and the node is closed where the last line ended
+-- fenced code, HTML and metadata: the stretch that waits is drawn, and the node is closed at the end of the last line
 pub verbatim-closes : (text : List ℕ) (options : Options) (lookup : Lookup) (l : OpenLeaf) (waits : Option Stretch) (blanks : List LineRest) (o : model.OpenLeaf) (m : model.Pass) →
     IsVerbatim l waits → ShowsLeaf text l blanks o →
     (blanks ≡ []) × (close_leaf text options lookup o m ≡ record m { drawing = closed_at m.line_end (drawn (texts_of (rest_of (shown_waits text waits))) m.drawing); leaf = model.Closed })

@@ -32,7 +32,7 @@ no-feeds (b ∷ bs) h =
     sum_by-cons (λ x. cond (x == 10) 1 0) b bs ∙ ap (λ z. cond z 1 0 + line_ends bs) h.0
     ∙ (let ih = no-feeds bs h.1 in let none : 0 + line_ends bs ≡ 0 = omega (arith, ih) in none)
 
--- in one text behind another
+-- in one text after another
 pub ends-behind : (bs cs : List ℕ) → line_ends (bs ++ cs) ≡ line_ends bs + line_ends cs
 ends-behind bs cs = sum_by-append (λ x. cond (x == 10) 1 0) bs cs
 
@@ -110,7 +110,7 @@ module _ (text : List ℕ) (options : Options) (lookup : Lookup) where
   ahead-plain [] rs h = h
   ahead-plain (c ∷ cs) rs h = ahead-plain cs (shown (strips c.container false rs)) (shown-plain (strips c.container false rs) (strips-plain c.container false rs h))
 
-  -- as many line ends stand in the text of the lines with which a paragraph goes on as there are such lines
+  -- the text of the lines that continue a paragraph has one line end for each of them
   pub texts-end : (cs : List OpenContainer) (at : ℕ) (r : Row) →
       line_ends (further_bytes r (text_lines options (ahead_in text options lookup cs (lines_at text at)))) ≡ length (text_lines options (ahead_in text options lookup cs (lines_at text at)))
   texts-end cs at r =

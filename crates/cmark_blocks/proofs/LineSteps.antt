@@ -53,11 +53,11 @@ start-numbered options r open_as (begun.BlockQuote inside) opens_as e = tt
 start-numbered options r open_as (begun.Item item inside) opens_as e = opened-fits options r open_as (opening.Nests (begun.Item item inside)) opens_as e
 start-numbered options r open_as (begun.Footnote footnote inside) opens_as e = tt
 
--- the label of a footnote definition that begins stands between brackets
+-- the label of a footnote definition that begins is between brackets
 pub start-marked : (r : Row) (open_as : Opening) (start : ContainerStart) → open_as ≡ opening.Nests start → IsMarked open_as r → HasMarker r start
 start-marked r open_as start nests has = subst (λ (x : Opening). IsMarked x r) nests has
 
--- what begins inside a container stands behind its marker
+-- the line inside a container that begins comes after its marker
 pub start-enters : (r : Row) (open_as : Opening) (start : ContainerStart) → open_as ≡ opening.Nests start → HasInside open_as r → Enters r start
 start-enters r open_as start nests has = subst (λ (x : Opening). HasInside x r) nests has
 
@@ -115,7 +115,7 @@ module _ (r : Row) (open_as : Opening) (start : ContainerStart) (nests : open_as
         ∙ ap (λ (b : Bool). begin_in text options lookup columns Apart (row_of inside) (lines_at text (row_of inside).line_end) b (container_begun k r m)) (sym is)
         ∙ ap (λ (pl : Place). begin_in text options lookup columns pl (row_of inside) (lines_at text (row_of inside).line_end) item (container_begun k r m)) (inside-place k r m)
 
--- a container was begun, and what it left of its line
+-- a container was begun, and this is the rest of its line
 module _ {E : Type 0} (replacement : E → Lookup) (rest : LineRest) (open_as : Opening) (start : ContainerStart) (nests : open_as ≡ opening.Nests start) (has : HasInside open_as (row_of rest)) (old new : Pass E) (opens_as : OpensAs (shown_options old.options) open_as (row_of rest)) where
   abbrev opens_here : (text : List ℕ) (options : Options) (lookup : Lookup) (m : model.Pass) → Runs replacement text options lookup m old → OpensAs options open_as (row_of rest)
   opens_here text options lookup m runs = subst (λ o. OpensAs o open_as (row_of rest)) runs.options_is opens_as

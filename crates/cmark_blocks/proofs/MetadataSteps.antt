@@ -27,7 +27,7 @@ module _ (kind : MetadataBlockKind) (lines : List Row) where
     pub ended-next : (z : Bool) → ends_metadata kind r ≡ z → is_ended kind lines ≡ (z || is_ended kind ahead)
     ended-next z e = ap (is_ended kind) is ∙ ap (λ y. y || is_ended kind ahead) e
 
--- a block that a line may begin, where it is known whether the lines ahead are those of one
+-- a block that a line may begin, if it is known whether the lines ahead form a metadata block
 pub begun-as : (kind : MetadataBlockKind) (ahead : List Row) (o : Option MetadataBlockKind) (z : Bool) → o ≡ Some kind → z ≡ holds_metadata kind ahead →
     metadata_begun o ahead ≡ (if z then Takes (MetadataBlock kind) (counted (metadata_continuation kind) ahead) else Plain)
 begun-as kind ahead o z is holds =

@@ -65,7 +65,7 @@ module _ (options : Options) where
   containers-path (v ∷ up) =
       ap (λ ks. ks ++ in_front (container_in options v.place.item.body) []) (containers-path up) ∙ sym (containers-push (items_on up) v.place.item)
 
-  -- what is kept behind so many containers
+  -- the lines kept after a number of containers
   abbrev pub behind : ℕ → LineKeepers → LineKeepers
   behind n k = record { count = n + k.count; rest = k.rest }
 
@@ -78,7 +78,7 @@ module _ (options : Options) where
   behind-more : (n m : ℕ) (k : LineKeepers) → m ≡ suc n → behind n (one_more k) ≡ behind m k
   behind-more n m k e = ap {A = ℕ} {B = LineKeepers} (λ c. record { count = c; rest = k.rest }) (let q : n + suc k.count ≡ m + k.count = omega (arith, e) in q)
 
-  -- so many containers of a path keep a line, which is this behind their prefixes; these nodes of the path are left
+  -- the first `count` containers of a path keep a line, whose rest after their prefixes is this; these nodes of the path are left
   pub record Continuation (tree : Tree Item) (up : List (Level Item)) (old line : LineStart) (count : ℕ) (rest : List TreeIndex) : Type 0 where
     pub items : List Item
     pub have : HaveItems tree rest items
@@ -122,7 +122,7 @@ module _ (options : Options) where
       next-node = let n = next ix rest f in node_at-within tree.nodes ix.ix n.has.0 n.has.1
 
       module _ (item : Item) (is : (e : Entry Item) → entry_at tree ix.ix ≡ Some e → item ≡ e.item) (o : Option grammar.Container) (found : o ≡ container_in options item.body) where
-        -- what the containers from the next node on keep
+        -- the result for the containers from the next node on
         ahead : (n : Next ix rest) (at line_end : ℕ) → kept (containers_of options up) (row_from at line_end old) ≡ behind count (kept (in_front o (containers_in n.items)) (row_from at line_end line))
         ahead n at line_end =
             n.same at line_end

@@ -1,4 +1,4 @@
--- The table of link reference definitions, with one more.
+-- The table of link reference definitions, with another definition.
 use Rattle.std.proofs.Common.{◌≡◌, ℕ, Bool, true, false, List, [], ◌∷◌, ◌++◌, Option, Some, None, option_map, All, cond, filter, refl, sym, ap, subst, ◌∙◌, true≢false, arith}
 use Rattle.std.specs.Borrow.{Bor}
 use Rattle.std.specs.Prelude.{bytes_eq, if◌then◌else◌, is_some, option_copied}
@@ -77,12 +77,12 @@ eq-sym a b =
     go false true x y = y refl
     go false false x y = refl
 
--- one more reference that is not of this label
+-- another reference, of a different label
 not-found : (folded : List ℕ) (rs : List Reference) (r : Reference) → bytes_eq (fold r.label) folded ≡ false → first_with fold folded (rs ++ r ∷ []) ≡ first_with fold folded rs
 not-found folded [] r other = ap (λ z. found_or z r None) other
 not-found folded (s ∷ rs) r other = ap (found_or (bytes_eq (fold s.label) folded) s) (not-found folded rs r other)
 
--- one more reference of a label that is known changes nothing
+-- another reference of a known label changes nothing
 pub with-known : (folded : List ℕ) (rs : List Reference) (r known : Reference) → first_with fold (fold r.label) rs ≡ Some known → first_with fold folded (rs ++ r ∷ []) ≡ first_with fold folded rs
 with-known folded [] r known e = absurd (let q : None ≡ Some known = e in cc)
 with-known folded (s ∷ rs) r known e = go (bytes_eq (fold s.label) folded) refl (bytes_eq (fold s.label) (fold r.label)) refl e (λ f. with-known folded rs r known f)
@@ -98,13 +98,13 @@ pub known-some : (known : Option (Bor LinkDef)) (found : Option LinkDef) → is_
 known-some None found e is = absurd (true≢false (sym e))
 known-some (Some def) found e is = (def.now, sym is)
 
--- where the table has a definition, there is a reference
+-- if the table has a definition, there is a reference
 pub known-reference : (found : Option LinkDef) (def : LinkDef) (entry : Option (LinkLabel × LinkDef)) (o : Option Reference) → found ≡ Some def → found ≡ option_map (λ e. e.1) entry →
     option_map shown_entry entry ≡ o → (known : Reference) × (o ≡ Some known)
 known-reference found def None o is looked same = absurd (let q : None ≡ Some def = sym looked ∙ is in cc)
 known-reference found def (Some e) o is looked same = (shown_entry e, sym same)
 
--- what is shown of the first of two
+-- the shown data of the first of two
 pub shown-first : {D S : Type 0} (sh : D → S) (found : Option D) (key : List ℕ) (def : D) (folded : List ℕ) →
     option_map sh (first_of found (at_label key def folded)) ≡ first_of (option_map sh found) (at_label key (sh def) folded)
 shown-first sh (Some d) key def folded = refl
@@ -114,7 +114,7 @@ shown-first sh None key def folded = go (bytes_eq folded key)
     go true = refl
     go false = refl
 
--- one more reference behind the others
+-- another reference after the others
 pub with-more : (folded : List ℕ) (rs : List Reference) (r : Reference) → first_of (first_with fold folded rs) (at_label (fold r.label) r folded) ≡ first_with fold folded (rs ++ r ∷ [])
 with-more folded [] r = ap (λ same. if same then Some r else None) (eq-sym folded (fold r.label)) ∙ go (bytes_eq (fold r.label) folded)
   where

@@ -1,4 +1,4 @@
--- The pass in another state, where one part of it has changed.
+-- The pass in another state, after one part of it has changed.
 use Rattle.std.proofs.Common.{◌≡◌, ℕ, Bool, true, false, List, [], ◌∷◌, ◌++◌, Option, Some, None, option_map, refl, ap, subst, ◌∙◌, Vec, String, Global, ◌==◌}
 use Rattle.cmark_grammar.specs.Options.{Options}
 use Rattle.cmark_grammar.specs.Answers.{Lookup}
@@ -39,7 +39,7 @@ pub shows-none : (ms : List model.OpenContainer) (m : model.OpenContainer) → S
 shows-none [] m s = s
 shows-none (n ∷ ms) m s = s
 
--- an item goes on with a list of its character, and else begins one
+-- an item continues a list of its character, and else begins one
 module _ (delimiter : ℕ) (number : Option ℕ) (start : ℕ) (p : model.Pass) where
   pub goes-on : (o : Option model.OpenList) (l : model.OpenList) → list_of delimiter o ≡ Some l → item_begun delimiter number start p o ≡ list_goes_on l p
   goes-on None l e = absurd (let q : None ≡ Some l = e in cc)
@@ -125,7 +125,7 @@ module _ {E : Type 0} (replacement : E → Lookup) (text : List ℕ) (options : 
     footnotes = runs.footnotes;
   }
 
-  -- no lines are kept where no leaf is open
+  -- no lines are kept if no leaf is open
   pub none_behind_closed : pass.leaf ≡ leaf.Closed → Runs replacement text options lookup m pass → pass.blank_lines.items ≡ []
   none_behind_closed is runs = (subst (λ l. ShowsLeaf text l pass.blank_lines.items m.leaf) is runs.leaf).1
 
@@ -161,7 +161,7 @@ module _ {E : Type 0} (replacement : E → Lookup) (text : List ℕ) (options : 
     footnotes = runs.footnotes;
   }
 
-  -- where the next line begins
+  -- the place at which the next line begins
   pub runs-line_end : (line_end there : ℕ) → Runs replacement text options lookup m pass → line_end ≡ there → Runs replacement text options lookup (record m { line_end = there }) (record pass { line_end = line_end })
   runs-line_end line_end there runs same = record {
     text_is = runs.text_is;
@@ -177,7 +177,7 @@ module _ {E : Type 0} (replacement : E → Lookup) (text : List ℕ) (options : 
     footnotes = runs.footnotes;
   }
 
-  -- what stands in the memory for a paragraph's text does not matter
+  -- the content of the string for a paragraph's text does not matter
   pub runs-room : (room : String Global) → Runs replacement text options lookup m pass → Runs replacement text options lookup m (record pass { room = room })
   runs-room room runs = record {
     text_is = runs.text_is;

@@ -1,4 +1,4 @@
--- The attributes of a setext heading, and what is drawn of it without them.
+-- The attributes of a setext heading, and the drawing without them.
 use Rattle.std.proofs.Common.{◌≡◌, ℕ, Bool, true, false, List, [], ◌∷◌, ◌++◌, Some, None, refl, sym, ap, ◌∙◌, subst}
 use Rattle.std.specs.Prelude.{if◌then◌else◌, string_bytes}
 use Rattle.cmark_grammar.specs.Attributes.{attributes_of, no_attributes}
@@ -14,7 +14,7 @@ use Rattle.cmark_blocks.specs.Runs.{IsLastRead}
 use Rattle.cmark_blocks.specs.declared.state.OpenLeaf.{OpenLeaf}
 use Rattle.cmark_blocks.specs.declared.state.OpenLeaf.TheVariants as leaf
 
--- one more line that is read
+-- another line that is read
 pub read-more : (text : List ℕ) (lines : List LineRest) (last : LineRest) → AreRead text lines → IsRead text last → AreRead text (lines ++ last ∷ [])
 read-more text [] last h l = (l, tt)
 read-more text (r ∷ lines) last h l = (h.0, read-more text lines last h.1 l)
@@ -27,7 +27,7 @@ read-pushed text lines new last false e h l = subst (AreRead text) (sym e) h
 pub last-read : (text : List ℕ) (l : OpenLeaf) (from : ℕ) (last : LineRest) → l ≡ leaf.Paragraph from last → IsLastRead text l → IsRead text last
 last-read text l from last is h = subst (IsLastRead text) is h
 
--- where nothing was found
+-- if no attributes were found
 pub none-attributes : (attributes : Bool) (before : List LineRest) (last : LineRest) → FindsIf attributes before last None → no_attributes ≡ setext_attributes attributes (content_columns before last)
 none-attributes false before last e = refl
 none-attributes true before last e = sym (no-setext (content_columns before last) e)
@@ -40,7 +40,7 @@ none-unbraced text attributes before last d e = go d.up attributes e
     go (v ∷ up) false e = refl
     go (v ∷ up) true e = sym (ap (λ z. record { here = texts_if z text (attributes_place (content_columns before last)) d.here; up = v ∷ up }) e)
 
--- where attributes were found
+-- if attributes were found
 pub found-attributes : (attributes : Bool) (before : List LineRest) (last : LineRest) (found : SetextAttributes) → FindsIf attributes before last (Some found) → attributes_of (string_bytes found.words) ≡ setext_attributes attributes (content_columns before last)
 found-attributes false before last found e = absurd (let q : Some found ≡ None = e in cc)
 found-attributes true before last found h = ap attributes_of h.words

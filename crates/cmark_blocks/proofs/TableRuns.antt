@@ -25,14 +25,14 @@ use Rattle.cmark_blocks.specs.TablesAhead.{RowsLeft, rows_taken}
 use Rattle.cmark_blocks.proofs.RunSteps.{runs-builder}
 
 module _ {E : Type 0} (replacement : E → Lookup) (text : List ℕ) (options : Options) (lookup : Lookup) (m : model.Pass) (columns : ℕ) (delimiter : Row) where
-  -- the rows behind a line, where so many cells may be filled in
+  -- the rows after a line, if `left` cells may be filled in
   abbrev rows_behind : (left : ℕ) → Row → List Row
   rows_behind left r = rows_taken options columns left (ahead_in text options lookup m.outer (lines_at text r.line_end))
 
   abbrev row_node : Row → BlockDocument
   row_node r = Node (node TableRow (start_of r) r.line_end) (row_cells text columns r) Nil
 
-  -- one more row was drawn
+  -- another row was drawn
   pub one-row-more : (left count missing : ℕ) (last row : Row) (old : Pass E) (b : Builder) → RowsLeft replacement text options lookup m columns left count delimiter last old →
       rows_taken options columns left (ahead_in text options lookup m.outer (lines_at text last.line_end)) ≡ row ∷ rows_taken options columns (left - count_missing columns row) (ahead_in text options lookup m.outer (lines_at text row.line_end)) →
       missing ≡ count_missing columns row →
@@ -54,7 +54,7 @@ module _ {E : Type 0} (replacement : E → Lookup) (text : List ℕ) (options : 
       one-more : (a b : ℕ) → a + suc b ≡ a + 1 + b
       one-more a b = omega arith
 
-  -- none is left
+  -- no row is left
   pub rows-drawn : (left count line_end : ℕ) (last : Row) (now : Pass E) → RowsLeft replacement text options lookup m columns left count delimiter last now →
       rows_taken options columns left (ahead_in text options lookup m.outer (lines_at text last.line_end)) ≡ [] → line_end ≡ last.line_end →
       let taken = rows_taken options columns most_filled (ahead_in text options lookup m.outer (lines_at text delimiter.line_end)) in
@@ -68,7 +68,7 @@ module _ {E : Type 0} (replacement : E → Lookup) (text : List ℕ) (options : 
     place ∙ sym (before.ends ∙ ap (last_line_end last) none),
   )
 
--- as many of the lines ahead are its rows as are counted
+-- the counted lines ahead are its rows
 rows-within : (options : Options) (columns left : ℕ) (ahead : List Row) → count_rows options columns left ahead ≤ length ahead
 rows-within options columns left [] = omega arith
 rows-within options columns left (r ∷ ahead) =
@@ -84,7 +84,7 @@ rows-few options columns left count ahead is = is ∙ all (count_rows options co
     all : (n : ℕ) (rs : List Row) → n ≤ length rs → length (take n rs) ≡ n
     all n rs le = length-take-le n rs le
 
--- the lines that a table takes behind its head: its delimiter row and its rows
+-- the lines that a table takes after its head: its delimiter row and its rows
 pub in_table : (text : List ℕ) (options : Options) (columns count : ℕ) (ahead : List Row) (blanks : List LineRest) → count ≡ length (rows_taken options columns most_filled ahead) → blanks ≡ [] →
     ShowsLeaf text (leaf.Table (count + 1)) blanks (model.InTable (suc (count_rows options columns most_filled ahead)))
 in_table text options columns count ahead blanks is none =

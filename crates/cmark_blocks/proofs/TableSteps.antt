@@ -33,7 +33,7 @@ module _ (options : Options) (r : Row) (ahead : List Row) where
       ap (λ z. if z && (not r.lazy && holds_pipe (words_of r)) then delimited_ahead (count_cells r) ahead else None) e
       ∙ ap (λ z. if tables && (not r.lazy && z) then delimited_ahead (count_cells r) ahead else None) f
 
-  -- a line is no head where tables are not read, and where no pipe parts its cells
+  -- a line is not a head if tables are not read, or if it contains no pipe that separates cells
   pub unread-head : options.tables ≡ false → table_head options r ahead ≡ None
   unread-head off = by_tests false (holds_pipe (words_of r)) off refl
 
@@ -55,7 +55,7 @@ module _ (options : Options) (r : Row) (ahead : List Row) where
   pub head-alone : options.tables ≡ true → r.lazy ≡ false → holds_pipe (words_of r) ≡ true → ahead ≡ [] → table_head options r ahead ≡ None
   head-alone on whole pipe none = head-ahead (count_cells r) on whole pipe refl ∙ ap (delimited_ahead (count_cells r)) none
 
--- what a delimiter row says
+-- the columns of a delimiter row
 no-columns : (o : Option (List Alignment)) → is_some_head o ≡ false → o ≡ None
 no-columns None e = refl
 no-columns (Some alignments) e = absurd (true≢false e)
@@ -86,7 +86,7 @@ module _ (options : Options) (r : Row) (ahead : List Row) (columns : ℕ) (s : R
   here : table_head options r ahead ≡ delimited_ahead columns (s ∷ behind)
   here = head-ahead options r ahead columns on whole pipe cells ∙ ap (delimited_ahead columns) next
 
-  -- the next line is a delimiter row, or none
+  -- the next line is a delimiter row, or is not
   pub head-is : is_some_head (delimited_ahead columns (s ∷ behind)) ≡ true → IsHead options r ahead columns s behind
   head-is e = let says = delimiter-says columns s behind e in record { next = next; is = here ∙ says.0; many = says.1 }
 
@@ -114,7 +114,7 @@ module _ (options : Options) (r : Row) (ahead : List Row) where
       nothing true = refl
       nothing false = refl
 
--- a head was told, or that the line is none
+-- a head was found, or the line is not a head
 pub head-in_text : (options : Options) (r : Row) (ahead : List Row) (behind : LineRest → List Row) (in_text : Option (ℕ × LineRest)) →
     MatchOption in_text (table_head options r ahead ≡ None) (λ head. IsHead options r ahead head.0 (row_of head.1) (behind head.1)) → is_some in_text ≡ is_some_head (table_head options r ahead)
 head-in_text options r ahead behind None none = sym (ap is_some_head none)
@@ -148,7 +148,7 @@ less-in_text left missing cells e same = let lt = ltb-true left missing e in ome
 pub fits-in_text : (left missing cells : ℕ) → ltb left missing ≡ false → missing ≡ cells → cells ≤ left
 fits-in_text left missing cells e same = let le = ltb-false left missing e in omega (arith, le, same)
 
--- what a line begins that begins no other leaf
+-- the opening of a line that begins no other leaf
 module _ (text : List ℕ) (options : Options) (lookup : Lookup) (m : model.Pass) (inside : Container → model.Pass) (r : Row) (ahead : List Row) (bare : Bool) where
   pub begins-table : (columns : ℕ) (delimiter : Row) (behind : List Row) → IsHead options r ahead columns delimiter behind →
       leaf_begun text options lookup (Table (columns_of (delimiter_row (words_of delimiter)))) (suc (count_rows options columns most_filled behind)) r (delimiter ∷ behind) m

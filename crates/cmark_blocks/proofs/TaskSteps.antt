@@ -1,4 +1,5 @@
--- What a container begins on a line of its own: it goes on to what stands behind its marker, or takes the whole line, as with a task marker.
+-- The beginning of a container on a line of its own: the rest of the line after its marker is still to be handled, or the container takes
+-- the whole line, for example with a task marker.
 use Rattle.std.proofs.Common.{◌≡◌, ℕ, zero, suc, ◌+◌, ◌≤◌, Bool, true, false, ◌&&◌, ◌==◌, not, cond, List, [], ◌∷◌, length, drop, take_while, Option, Some, None, refl, sym, ap, subst, ◌∙◌, arith, drop-drop}
 use Rattle.std.specs.Prelude.{if◌then◌else◌}
 use Rattle.std.proofs.lemmas.List.Sums.{take_while-cons}
@@ -48,7 +49,7 @@ blank-later (suc n) [] e = refl
 blank-later zero (c ∷ cs) e = (both (is_blank c) (all_blank cs) e).1
 blank-later (suc n) (c ∷ cs) e = blank-later n cs e
 
--- behind so many bytes there is nothing but blanks, where that holds behind as many columns
+-- after these bytes there are only blanks, if that holds after these columns
 blank-bytes : (n : ℕ) (cs : List Column) → all_blank (drop n cs) ≡ true → are_blank (drop n (bytes_of cs)) ≡ true
 blank-bytes zero [] e = refl
 blank-bytes (suc n) [] e = refl
@@ -63,7 +64,7 @@ blank-bytes (suc n) (c ∷ cs) e = go (c.part == 0) (blank-bytes n cs e) (blank-
     go true shorter longer = shorter
     go false shorter longer = longer
 
--- behind a task marker there is text
+-- after a task marker there is text
 behind-box : (options : Options) (r : Row) (is_checked : Bool) → task_in options r ≡ Some is_checked → is_blank_line (without 3 r) ≡ false
 behind-box options r is_checked e = go (is_blank_line (without 3 r)) refl
   where
@@ -91,7 +92,7 @@ behind-box options r is_checked e = go (is_blank_line (without 3 r)) refl
     go true blank = absurd (read options.tasklists (indent_of r == 0) refl e blank)
     go false some = some
 
--- the line behind an item's task marker holds text
+-- the line after an item's task marker contains text
 abbrev pub HasText : Container → Row → Type 0
 HasText (BlockQuote alert) r = Unit {0}
 HasText (Item delimiter number width None) r = Unit {0}
@@ -111,7 +112,7 @@ start-text options r (begun.Item item inside) enters =
     item-text options r (row_of inside) item.delimiter item.number item.width (task_in options (row_of inside)) (enters options) refl
 start-text options r (begun.Footnote footnote inside) enters = tt
 
--- text behind a task marker is a paragraph
+-- text after a task marker is a paragraph
 text-opens : (options : Options) (r : Row) (ahead : List Row) → is_blank_line r ≡ false → opens_at options BehindTask r ahead ≡ Plain
 unfolding opens
 text-opens options r ahead some = go r.lazy refl
@@ -133,11 +134,11 @@ none-blank n r le = go n r.columns le
     go n (c ∷ cs) le = absurd (omega (arith, le))
 
 module _ (text : List ℕ) (options : Options) (lookup : Lookup) (columns : ℕ) (next : List Row) (r : Row) (m : model.Pass) where
-  -- what a line begins whose first thing is this container
+  -- the opening of a line whose first block is this container
   abbrev pub nested : Container → model.Pass
   nested k = inside_begun (is_alert k) (container_begun k r m) (begin_in text options lookup columns (place_in k) (enter k r) next (is_item k) (container_begun k r m))
 
-  -- the container goes on to what stands behind its marker
+  -- the rest of the line after the container's marker is still to be handled
   pub nested-on : (k : Container) → takes_line k ≡ false → nested k ≡ begin_in text options lookup columns Apart (without (marker_width k r) r) next (is_item k) (container_begun k r m)
   unfolding enter
   nested-on (BlockQuote None) e = refl
@@ -175,7 +176,7 @@ item-alone r m delimiter number width =
     let p : model.Pass = item_begun_in delimiter number width None (begin_of r) m in
     ap {A = BlockDocument} {B = model.Pass} (λ here. record p { drawing = record p.drawing { here = here } }) (join-nil p.drawing.here)
 
--- an item with a task marker is begun with the marker, and with the paragraph behind it
+-- an item with a task marker is begun with the marker, and with the paragraph after it
 pub item-taken : (text : List ℕ) (options : Options) (lookup : Lookup) (m : model.Pass) (r inside behind : Row) (delimiter : ℕ) (number : Option ℕ) (width : ℕ) (is_checked : Bool) (at from : ℕ) →
     inside ≡ without width r → behind ≡ without 3 inside → at ≡ begin_of r → from ≡ begin_of inside →
     paragraph_begun text options lookup behind (with_drawn (task_then (Some is_checked) from (begin_of behind) Nil) (item_begun_in delimiter number width (Some is_checked) at m))

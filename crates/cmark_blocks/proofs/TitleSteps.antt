@@ -1,4 +1,4 @@
--- What is drawn where a paragraph may be a title.
+-- The drawing if a paragraph may be a title.
 use Rattle.std.proofs.Common.{◌≡◌, ℕ, Bool, true, false, Option, Some, None, option_map, ◌||◌, refl, ap, ◌∙◌}
 use Rattle.cmark_block_model.specs.BlockPass.{definitions_in, list_closed, ended, ended_but, released_from, title_released, title_made}
 use Rattle.std.specs.Prelude.{is_some}
@@ -11,7 +11,7 @@ pub released-around : (t : Option Title) (d : Drawing) → title_released t d �
 released-around None d = refl
 released-around (Some t) d = refl
 
--- where some list was open, the last node became a title in it
+-- if some list was open, the last node became a title in it
 pub made-some : (o : Option OpenList) (parted : Bool) (start : ℕ) (p : Pass) → is_some o ≡ true → title_made o parted start p ≡ record p { drawing = retitled DefinitionListTitle p.drawing; inner = with_title o parted start p.inner }
 made-some (Some l) parted start p e = refl
 made-some None parted start p e = absurd (let q : false ≡ true = e in cc)
@@ -24,7 +24,7 @@ pub shown-some : {A B : Type 0} (f : A → B) (o : Option A) → is_some (option
 shown-some f None = refl
 shown-some f (Some x) = refl
 
--- a definition list is open, or none is
+-- a definition list is open, or no such list is
 pub but-some : (o : Option OpenList) (s : Siblings) (d : Drawing) → is_some o ≡ true → ended_but o s d ≡ d
 but-some (Some l) s d e = refl
 but-some None s d e = absurd (let q : false ≡ true = e in cc)
@@ -33,7 +33,7 @@ pub but-none : (o : Option OpenList) (s : Siblings) (d : Drawing) → is_some o 
 but-none None s d e = refl
 but-none (Some l) s d e = absurd (let q : true ≡ false = e in cc)
 
--- where none is open, and the last paragraph stands in none, nothing is closed
+-- if no list is open, and the last paragraph is in none, nothing is closed
 pub no-list : {A : Type 0} (o : Option A) (other : Bool) → (is_some o || other) ≡ false → o ≡ None
 no-list None other e = refl
 no-list (Some x) other e = absurd (let q : true ≡ false = e in cc)

@@ -1,4 +1,4 @@
--- The lines ahead, as they are seen inside the open containers.
+-- The lines ahead, seen from inside the open containers.
 use Rattle.std.specs.Prelude.{◌≡◌, ℕ, List, [], ◌∷◌, Option, MatchOption, take, drop}
 use Rattle.cmark_grammar.specs.Answers.{Lookup}
 use Rattle.cmark_grammar.specs.Lines.{lines}
@@ -17,14 +17,14 @@ abbrev pub lines_at : List ℕ → ℕ → List Row
 lines_at text at = rows_from at (lines (drop at text))
 
 module _ {E : Type 0} (replacement : E → Lookup) where
-  -- a line, in front of others, is seen inside the containers as this; where one of them misses it, nothing is seen
+  -- the line, with others after it, is this line inside the containers; if not all of them keep it, the result is `None`
   abbrev pub SeenInside : Pass E → LineRest → Option LineRest → Type 0
   SeenInside pass line seen =
       (text : List ℕ) (options : Options) (lookup : Lookup) (m : model.Pass) (more : List Row) → Runs replacement text options lookup m pass →
       MatchOption seen (ahead_in text options lookup m.outer (row_of line ∷ more) ≡ [])
       (λ rest. ((row_of rest).line_end ≡ (row_of line).line_end) × (ahead_in text options lookup m.outer (row_of line ∷ more) ≡ row_of rest ∷ ahead_in text options lookup m.outer more))
 
-  -- the same inside so many of the containers, the outermost ones
+  -- the line is this one inside the `count` outermost containers; if not all of them keep it, the result is `None`
   abbrev pub SeenInsideFirst : Pass E → (count : ℕ) → LineRest → Option LineRest → Type 0
   SeenInsideFirst pass count line seen =
       (text : List ℕ) (options : Options) (lookup : Lookup) (m : model.Pass) (more : List Row) → Runs replacement text options lookup m pass →
@@ -37,14 +37,14 @@ module _ {E : Type 0} (replacement : E → Lookup) where
       let lines_from = λ (at : ℕ). ahead_in text options lookup (take count m.outer) (lines_at text at) in
       MatchOption next (lines_from (row_of last).line_end ≡ []) (λ rest. lines_from (row_of last).line_end ≡ row_of rest ∷ lines_from (row_of rest).line_end)
 
-  -- the line behind this one is seen inside the containers as this; where none is left, or one of them misses it, nothing is seen
+  -- the line after this one is that line inside the containers; `None` if there is no line or not all of the containers keep it
   abbrev pub SeesNext : Pass E → LineRest → Option LineRest → Type 0
   SeesNext pass last next =
       (text : List ℕ) (options : Options) (lookup : Lookup) (m : model.Pass) → Runs replacement text options lookup m pass →
       let lines_from = λ (at : ℕ). ahead_in text options lookup m.outer (lines_at text at) in
       MatchOption next (lines_from (row_of last).line_end ≡ []) (λ rest. lines_from (row_of last).line_end ≡ row_of rest ∷ lines_from (row_of rest).line_end)
 
-  -- the paragraph that this line is in goes on with that one, or ends
+  -- the paragraph of this line continues with that one, or ends
   abbrev pub GoesOnWith : Pass E → LineRest → Option LineRest → Type 0
   GoesOnWith pass last next =
       (text : List ℕ) (options : Options) (lookup : Lookup) (m : model.Pass) → Runs replacement text options lookup m pass →

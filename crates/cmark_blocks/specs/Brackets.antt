@@ -1,4 +1,4 @@
--- Lines that begin with a bracket and with no link reference definition (CommonMark 4.7).
+-- Lines that begin with a bracket and not with a link reference definition (CommonMark 4.7).
 use Rattle.std.specs.Prelude.{ℕ, Bool, true, false, ◌==◌, ◌&&◌, not, if◌then◌else◌, List, [], ◌∷◌}
 use Rattle.cmark_grammar.specs.Letters.{first_is}
 use Rattle.cmark_grammar.specs.LinkDefinitions.{escapes_next}
@@ -6,7 +6,7 @@ use Rattle.cmark_grammar.specs.LinkDefinitions.{escapes_next}
 abbrev pub is_colon : ℕ → Bool
 is_colon b = b == 58
 
--- the label ends here with no colon behind it, or another bracket opens in it
+-- the label ends here without a colon after it, or another bracket opens in it
 abbrev pub lacks_colon : (escaped : Bool) → List ℕ → Bool
 lacks_colon escaped [] = false
 lacks_colon escaped (b ∷ bs) =

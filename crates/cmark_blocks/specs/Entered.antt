@@ -1,4 +1,4 @@
--- What a line begins, one container or leaf after the other.
+-- The containers and the leaf that a line begins, one after the other.
 use Rattle.std.specs.Prelude.{◌≡◌, ◌≤◌, ℕ, suc, Bool, true, false, List, length, unwrap_or, Option, Some, None, MatchOption}
 use Rattle.cmark_grammar.specs.Answers.{Lookup}
 use Rattle.cmark_grammar.specs.Containers.{Container, BlockQuote, Item, Footnote, ListDefinition, is_alert, enter}
@@ -25,7 +25,7 @@ use Rattle.cmark_blocks.specs.Ahead.{lines_at}
 use Rattle.cmark_blocks.specs.declared.state.Pass.{Pass}
 use Rattle.cmark_blocks.specs.Runs.{Runs}
 
--- the line begins this, where it begins no metadata
+-- the line begins this, if it begins no metadata
 abbrev pub OpensAs : Options → Opening → Row → Type 0
 OpensAs options open_as r = (ahead : List Row) → opens options r ahead ≡ or_else (metadata_begun (metadata_kind options r) ahead) (opened options open_as r ahead)
 
@@ -37,13 +37,14 @@ metadata_taken (Some kind) ahead = Takes (MetadataBlock kind) (counted (metadata
 abbrev pub IsNoContainer : Opening → Type 0
 IsNoContainer open_as = (start : ContainerStart) → open_as ≡ opening.Nests start → ⊥
 
--- the number of an item is told by its character
+-- the number of an item is determined by its character
 abbrev pub HasNumber : ContainerStart → Type 0
 HasNumber (begun.BlockQuote inside) = Unit {0}
 HasNumber (begun.Item item inside) = list_number item.delimiter (unwrap_or item.number 0) ≡ item.number
 HasNumber (begun.Footnote footnote inside) = Unit {0}
 
--- whether nothing of a line is left to begin behind a container's marker: it is the tag of an alert, or the paragraph behind a task marker
+-- whether nothing of a line is left to begin after a container's marker: the rest is the tag of an alert, or the paragraph after a task
+-- marker
 abbrev pub takes_line : Container → Bool
 takes_line (BlockQuote alert) = is_alert (BlockQuote alert)
 takes_line (Item delimiter number width None) = false
@@ -51,7 +52,7 @@ takes_line (Item delimiter number width (Some is_checked)) = true
 takes_line (Footnote label old size) = false
 takes_line (ListDefinition width) = false
 
--- the whole line of such a container was taken
+-- the whole line of a container that takes it was taken
 abbrev pub line_taken : List ℕ → Options → Lookup → Container → Row → model.Pass → model.Pass
 line_taken text options lookup (BlockQuote alert) r p = record p { leaf = model.BehindTag }
 line_taken text options lookup (Item delimiter number width task) r p = paragraph_begun text options lookup (enter (Item delimiter number width task) r) p
@@ -59,13 +60,13 @@ line_taken text options lookup (Footnote label old size) r p = p
 line_taken text options lookup (ListDefinition width) r p = p
 
 module _ {E : Type 0} (replacement : E → Lookup) where
-  -- whether the lines behind this one are those of a metadata block of this kind
+  -- whether the lines after this line form a metadata block of this kind
   abbrev pub HoldsMetadata : Pass E → (kind : MetadataBlockKind) → LineRest → Bool → Type 0
   HoldsMetadata pass kind rest holds =
       (text : List ℕ) (options : Options) (lookup : Lookup) (m : model.Pass) → Runs replacement text options lookup m pass →
       holds ≡ holds_metadata kind (ahead_in text options lookup m.outer (lines_at text (row_of rest).line_end))
 
-  -- whether a line begins metadata, and of which kind
+  -- whether a line begins metadata, and its kind
   abbrev pub TellsMetadata : Pass E → LineRest → Option MetadataBlockKind → Type 0
   TellsMetadata pass rest kind =
       (text : List ℕ) (options : Options) (lookup : Lookup) (m : model.Pass) → Runs replacement text options lookup m pass →
@@ -78,14 +79,14 @@ module _ {E : Type 0} (replacement : E → Lookup) where
       (text : List ℕ) (options : Options) (lookup : Lookup) (m : model.Pass) → Runs replacement text options lookup m pass →
       width ≡ definition_at options (place_of m.inner) (row_of rest)
 
-  -- what a line begins was begun, where it is no container
+  -- the block that a line begins was begun, if it is not a container
   abbrev pub BeginsAs : Opening → (bare : Bool) → LineRest → Pass E → Pass E → Type 0
   BeginsAs open_as bare rest old new =
       (text : List ℕ) (options : Options) (lookup : Lookup) (m : model.Pass) (inside : Container → model.Pass) → Runs replacement text options lookup m old →
       let ahead = ahead_in text options lookup m.outer (lines_at text (row_of rest).line_end) in
       Runs replacement text options lookup (begin_as text options lookup (opened options open_as (row_of rest) ahead) inside (row_of rest) ahead bare m) new
 
-  -- a container was begun on a line: with the whole line, where nothing of it is left behind the marker, or alone
+  -- a container was begun on a line: with the whole line, if nothing of it is left after the marker, or else alone
   abbrev pub BeginsContainer : ContainerStart → LineRest → Option (LineRest × Bool) → Pass E → Pass E → Type 0
   BeginsContainer start rest entered old new =
       (text : List ℕ) (options : Options) (lookup : Lookup) (m : model.Pass) → Runs replacement text options lookup m old →
@@ -94,21 +95,21 @@ module _ {E : Type 0} (replacement : E → Lookup) where
       MatchOption entered ((takes_line k ≡ true) × Runs replacement text options lookup (line_taken text options lookup k (row_of rest) p) new)
       (λ inside. (takes_line k ≡ false) × (inside.1 ≡ is_item k) × Runs replacement text options lookup p new)
 
-  -- behind the marker of a container that was begun, the rest of the line begins what is left
+  -- after the marker of a container that was begun, the rest of the line is still to be handled
   abbrev pub Enters : List ℕ → Options → Lookup → (columns : ℕ) → (bare : Bool) → LineRest → model.Pass → LineRest × Bool → Pass E → Type 0
   Enters text options lookup columns bare rest m entered new =
       (p : model.Pass) × Runs replacement text options lookup p new × ((row_of entered.0).line_end ≡ (row_of rest).line_end)
       × (begin_in text options lookup (suc columns) (place_of m.inner) (row_of rest) (lines_at text (row_of rest).line_end) bare m
       ≡ begin_in text options lookup columns (place_of p.inner) (row_of entered.0) (lines_at text (row_of entered.0).line_end) entered.1 p)
 
-  -- the first thing that a line begins was begun, where no more columns are left of the line than these
+  -- the first block of a line was begun, if at most these columns are left of the line
   abbrev pub BeginsFirst : (bare : Bool) → LineRest → Option (LineRest × Bool) → Pass E → Pass E → Type 0
   BeginsFirst bare rest entered old new =
       (text : List ℕ) (options : Options) (lookup : Lookup) (columns : ℕ) (m : model.Pass) → length (row_of rest).columns ≤ columns → Runs replacement text options lookup m old →
       MatchOption entered (Runs replacement text options lookup (begin_in text options lookup (suc columns) (place_of m.inner) (row_of rest) (lines_at text (row_of rest).line_end) bare m) new)
       (λ inside. Enters text options lookup columns bare rest m inside new)
 
-  -- some of the containers were begun that a line begins: what is left of the line begins what is left
+  -- some of the containers that a line begins were begun; the rest of the line is still to be handled
   abbrev pub BeginsSoFar : LineRest → (bare : Bool) → LineRest → Pass E → Pass E → Type 0
   BeginsSoFar line bare rest old now =
       (text : List ℕ) (options : Options) (lookup : Lookup) (m : model.Pass) → Runs replacement text options lookup m old →

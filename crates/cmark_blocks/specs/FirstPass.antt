@@ -1,4 +1,4 @@
--- What the block pass over a text leaves.
+-- The result of the block pass over a text.
 use Rattle.std.specs.Prelude.{◌≡◌, ◌≤◌, ◌+◌, ◌*◌, ℕ, false, List, [], length}
 use Rattle.cmark_tree.specs.Forest.{Forest, size}
 use Rattle.cmark_tree.specs.Building.{Is}
@@ -17,10 +17,14 @@ use Rattle.cmark_block_model.specs.BlockPass.{pass_over}
 use Rattle.cmark_blocks.specs.declared.first_pass.FirstPass.{FirstPass}
 use Rattle.cmark_blocks.specs.Footnotes.{HasLabels}
 
--- The tree is the drawing of the pass over the text (drawn), and no node is left open (tree_is). The text derives the document that is
--- meant (derived). With the paragraphs of tight lists settled, the drawing is this document without its link reference definitions
--- (settles). There are at most four nodes a byte, the filled cells of tables aside (few). The tables have the definitions of the document,
--- of each label the first one as it spells the label (references), and the labels of its footnotes, none of them used (footnotes).
+-- The result of the block pass:
+--
+-- - drawn, tree_is: the tree is the drawing of the pass over the text, and no node is open;
+-- - derived: the text derives the document;
+-- - settles: with the paragraphs of tight lists settled, the drawing is this document without its link reference definitions;
+-- - few: there are at most four nodes for each byte, besides the filled cells of tables;
+-- - references: the table has the document's definitions, the first of each label, in the spelling of that definition;
+-- - footnotes: the table has the labels of the document's footnotes, each without a use
 pub record Leaves (text : List ℕ) (options : Options) (lookup : Lookup) (pass : FirstPass) : Type 0 where
   pub forest : Forest Item
   pub tree_is : Is pass.tree forest []

@@ -1,4 +1,4 @@
--- Footnote definitions that are kept (this profile's own).
+-- Footnote definitions that are recorded (this profile's own).
 use Rattle.std.specs.Prelude.{◌≡◌, ℕ, Bool, if◌then◌else◌, List, [], ◌∷◌, ◌++◌, Option, Some, None}
 use Rattle.cmark_grammar.specs.Labels.{fold}
 use Rattle.cmark_references.specs.Definitions.{first_of, at_label}
@@ -10,18 +10,18 @@ use Rattle.cmark_grammar.specs.SpanDocuments.{has_label}
 use Rattle.cmark_text_parts.specs.Shown.{text_bytes}
 use Rattle.cmark_text_parts.specs.declared.text.CowStr.{CowStr}
 
--- a text was kept behind the others
+-- a text was added after the others
 abbrev pub KeepsText : (bytes : List ℕ) → (old new : Tables) → Type 0
 KeepsText bytes old new = (name : CowStr) × (text_bytes name ≡ bytes) × (new.texts ≡ old.texts ++ name ∷ [])
 
--- it was noted that the footnote of a label is defined, unless it was before
+-- the footnote of a label is recorded as defined, unless it was before
 abbrev pub Notes : (label : List ℕ) → (old new : FootnoteDefs) → Type 0
 Notes label old new = (folded : List ℕ) → footnote new folded ≡ first_of (footnote old folded) (at_label (fold label) (record { use_count = 0 }) folded)
 
--- a footnote that is defined, and to which no reference was read; none, where it is not defined
+-- a footnote that is defined and has no references yet; `None` if it is not defined
 abbrev pub unused_if : (is_defined : Bool) → Option FootnoteDef
 unused_if is_defined = if is_defined then Some (record { use_count = 0 }) else None
 
--- the table has exactly these labels, and none was used
+-- the table has exactly these labels, each without a use
 abbrev pub HasLabels : List (List ℕ) → FootnoteDefs → Type 0
 HasLabels labels table = (folded : List ℕ) → footnote table folded ≡ unused_if (has_label folded labels)

@@ -1,4 +1,4 @@
--- The text of a paragraph that may begin with link reference definitions, gathered line by line (CommonMark 4.7).
+-- The text of a paragraph that may begin with link reference definitions, read line by line (CommonMark 4.7).
 use Rattle.std.specs.Prelude.{◌≡◌, ℕ, ◌≤◌, ◌<◌, Bool, true, false, List, [], ◌∷◌, ◌++◌, length, string_bytes, option_map}
 use Rattle.cmark_grammar.specs.Answers.{Lookup}
 use Rattle.cmark_grammar.specs.LinkDefinitions.{further_bytes, bytes_over, definition_in}
@@ -21,17 +21,17 @@ abbrev pub last_of : Row → List Row → Row
 last_of first [] = first
 last_of first (r ∷ more) = last_of r more
 
--- what holds whatever the containers are: the last line stands in the text, and each line behind the first took a byte at least
+-- the facts that do not depend on the containers: the last line is part of the text, and each line after the first has at least one byte
 pub record IsGathered (text : List ℕ) (gathered : Gathered) : Type 0 where
   pub read : IsRead text gathered.last
   pub few : gathered.lines ≤ (row_of gathered.last).line_end
 
 module _ (text : List ℕ) (options : Options) (lookup : Lookup) (m : model.Pass) where
-  -- the lines from a place on with which a paragraph goes on inside the open containers
+  -- the lines from a place on that continue a paragraph inside the open containers
   abbrev pub texts_at : ℕ → List Row
   texts_at at = text_lines options (ahead_in text options lookup m.outer (lines_at text at))
 
-  -- the text of some of these lines behind the first line, up to the last one, was gathered
+  -- the text of the first line and of some lines after it, up to the last one, was gathered
   pub record Holds (first : LineRest) (gathered : Gathered) : Type 0 where
     pub lines : List Row
     pub ahead : texts_at (row_of first).line_end ≡ lines ++ texts_at (row_of gathered.last).line_end
@@ -44,17 +44,18 @@ module _ {E : Type 0} (replacement : E → Lookup) where
   abbrev pub Gathers : Pass E → LineRest → Gathered → Type 0
   Gathers pass first gathered = (text : List ℕ) (options : Options) (lookup : Lookup) (m : model.Pass) → Runs replacement text options lookup m pass → Holds text options lookup m first gathered
 
-  -- no line more goes on with the paragraph
+  -- no further line continues the paragraph
   abbrev pub IsWhole : Pass E → Gathered → Type 0
   IsWhole pass gathered =
       (text : List ℕ) (options : Options) (lookup : Lookup) (m : model.Pass) → Runs replacement text options lookup m pass → texts_at text options lookup m (row_of gathered.last).line_end ≡ []
 
-  -- one more line at least was gathered; or else no line is left
+  -- at least one further line was gathered, or else no line is left
   abbrev pub GathersMore : Pass E → Gathered → (more : Bool) → Gathered → Type 0
   GathersMore pass old true new = ((first : LineRest) → Gathers pass first old → Gathers pass first new) × ((row_of old.last).line_end < (row_of new.last).line_end)
   GathersMore pass old false new = ((first : LineRest) → Gathers pass first old → Gathers pass first new) × IsWhole pass new
 
-  -- the definition in front of what was gathered stands in front of the whole text of the paragraph, and if none does, none stands there
+  -- the definition at the beginning of the gathered text is also at the beginning of the paragraph's whole text, and if there is none, the
+  -- whole text has none
   abbrev pub Decides : Pass E → Gathered → Type 0
   Decides pass gathered =
       (text : List ℕ) (options : Options) (lookup : Lookup) (m : model.Pass) → Runs replacement text options lookup m pass →

@@ -1,4 +1,4 @@
--- Lines of indented code, drawn one after the other (CommonMark 4.4).
+-- Lines of indented code, drawn in order (CommonMark 4.4).
 use Rattle.std.specs.Prelude.{◌≡◌, ℕ, List, [], ◌∷◌, Option}
 use Rattle.cmark_grammar.specs.Rows.{Row}
 use Rattle.cmark_grammar.specs.Tokens.{Piece}
@@ -9,12 +9,12 @@ use Rattle.cmark_builder.specs.Drawn.{Draws}
 use Rattle.cmark_leaves.specs.Stretches.{shown_waits}
 use Rattle.cmark_leaves.specs.declared.stretch.Stretch.{Stretch}
 
--- the lines behind what was drawn, with the stretch that waited
+-- the drawing with these lines added, and with the stretch that waited
 abbrev pub lines_drawn : (text : List ℕ) → List Row → Option Piece → Drawing → Drawing
 lines_drawn text [] waits d = d
 lines_drawn text (r ∷ rs) waits d = let run = code_line text 4 r waits in lines_drawn text rs run.waits (drawn (texts_of run.done) d)
 
--- the stretch that waits behind them
+-- the stretch that waits after them
 abbrev pub waits_behind : (text : List ℕ) → List Row → Option Piece → Option Piece
 waits_behind text [] waits = waits
 waits_behind text (r ∷ rs) waits = waits_behind text rs (code_line text 4 r waits).waits

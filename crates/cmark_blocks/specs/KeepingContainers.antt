@@ -1,4 +1,4 @@
--- How many containers keep a line.
+-- The number of containers that keep a line.
 use Rattle.std.specs.Prelude.{◌≡◌, ℕ, Bool, List, [], take, drop}
 use Rattle.cmark_grammar.specs.Answers.{Lookup}
 use Rattle.cmark_grammar.specs.Options.{Options}
@@ -10,18 +10,18 @@ use Rattle.cmark_block_model.specs.OpenBlocks as model
 use Rattle.cmark_blocks.specs.declared.state.Pass.{Pass}
 use Rattle.cmark_blocks.specs.Runs.{Runs}
 
--- this is left of the line behind some of its columns, held by a container without a prefix or not
+-- this is the rest of the line after some of its columns, held by a container without a prefix or not
 abbrev pub IsBehind : LineRest → LineRest → Type 0
 IsBehind line rest = (n : ℕ) × ((held : Bool) × (record (without n (row_of line)) { held = held } ≡ row_of rest))
 
 module _ {E : Type 0} (replacement : E → Lookup) where
-  -- this many containers keep the line, and this is left of it
+  -- this many containers keep the line, and this is the rest of it
   abbrev pub KeepsOf : Pass E → LineRest → ℕ → LineRest → Type 0
   KeepsOf pass line kept rest =
       (text : List ℕ) (options : Options) (lookup : Lookup) (m : model.Pass) → Runs replacement text options lookup m pass →
       kept_by text options lookup [] m.outer m.bare (row_of line) ≡ record { kept = take kept m.outer; missed = drop kept m.outer; left = row_of rest }
 
-  -- this many keep it; of the others it is not yet known
+  -- this many containers keep it; for the others it is not known yet
   abbrev pub KeepsSoFar : Pass E → LineRest → ℕ → LineRest → Type 0
   KeepsSoFar pass line kept rest =
       (text : List ℕ) (options : Options) (lookup : Lookup) (m : model.Pass) → Runs replacement text options lookup m pass →

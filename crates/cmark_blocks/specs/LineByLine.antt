@@ -13,24 +13,24 @@ use Rattle.cmark_blocks.specs.declared.state.OpenLeaf.{OpenLeaf}
 use Rattle.cmark_blocks.specs.declared.state.Pass.{Pass}
 use Rattle.cmark_blocks.specs.Runs.{Runs, ShowsLeaf}
 
--- whether a lazy line may stand behind the open leaf
+-- whether a lazy line may follow the open leaf
 abbrev pub TakesLazy : OpenLeaf → Bool → Type 0
 TakesLazy open_leaf takes = (text : List ℕ) (blanks : List LineRest) (m : model.OpenLeaf) → ShowsLeaf text open_leaf blanks m → takes ≡ takes_lazy m
 
 module _ {E : Type 0} (replacement : E → Lookup) where
-  -- whether a line that all but so many containers miss, of which this is the first, goes on with the open leaf
+  -- whether a line that only the `kept` outermost containers keep, the first such line, continues the open leaf
   abbrev pub IsLazy : Pass E → (kept : ℕ) → LineRest → Bool → Type 0
   IsLazy pass kept rest lazy =
       (text : List ℕ) (options : Options) (lookup : Lookup) (m : model.Pass) (c : model.OpenContainer) (others : List model.OpenContainer) → drop kept m.outer ≡ c ∷ others → Runs replacement text options lookup m pass →
       lazy ≡ (lazily options c.container (row_of rest) (ahead_in text options lookup (take kept m.outer) (lines_at text (row_of rest).line_end)) && takes_lazy m.leaf)
 
-  -- what so many containers left of a line was fed to the pass; the others miss the line
+  -- the rest of a line inside the `kept` outermost containers was fed to the pass; the others do not keep the line
   abbrev pub FeedsRest : (kept : ℕ) → LineRest → Pass E → Pass E → Type 0
   FeedsRest kept rest old new =
       (text : List ℕ) (options : Options) (lookup : Lookup) (m : model.Pass) → Runs replacement text options lookup m old →
       Runs replacement text options lookup (line_with text options lookup (drop kept m.outer) (take kept m.outer) (row_of rest) (lines_at text (row_of rest).line_end) m) new
 
-  -- one more whole line was fed to the pass
+  -- another whole line was fed to the pass
   abbrev pub Feeds : LineRest → Pass E → Pass E → Type 0
   Feeds line old new =
       (text : List ℕ) (options : Options) (lookup : Lookup) (m : model.Pass) → Runs replacement text options lookup m old →

@@ -12,16 +12,16 @@ use Rattle.cmark_blocks.specs.declared.state.Pass.{Pass}
 use Rattle.cmark_blocks.specs.Gathered.{texts_at}
 use Rattle.cmark_blocks.specs.Runs.{Runs}
 
--- a definition goes behind the others
+-- a definition is added after the others
 abbrev pub definition_kept : Lookup → Definition → (start end : ℕ) → model.Pass → model.Pass
 definition_kept lookup definition start end p = record p { references = p.references ++ reference_of lookup definition start end ∷ [] }
 
--- it begins as a block, with so many lines to come
+-- a definition begins as a block, with `more` lines to come
 abbrev pub definition_begun : Lookup → Definition → (start end more : ℕ) → model.Pass → model.Pass
 definition_begun lookup definition start end more p = let q = definition_kept lookup definition start end (block_begun p) in record q { leaf = model.InDefinition more }
 
 module _ {E : Type 0} (replacement : E → Lookup) where
-  -- the line and so many behind it, as far as a paragraph goes on, end here
+  -- the line and the `more` lines after it, which continue a paragraph, end here
   abbrev pub StopsAt : Pass E → LineRest → (more : ℕ) → (content_end : ℕ) → Type 0
   StopsAt pass first more content_end =
       (text : List ℕ) (options : Options) (lookup : Lookup) (m : model.Pass) → Runs replacement text options lookup m pass →

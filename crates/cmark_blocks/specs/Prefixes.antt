@@ -1,4 +1,4 @@
--- The open containers of a tree's path, and the prefixes that they have in front of a line (CommonMark 5).
+-- The open containers on a tree's path, and their prefixes at the beginning of a line (CommonMark 5).
 use Rattle.std.specs.Prelude.{ℕ, suc, false, List, [], ◌∷◌, ◌++◌, Option, Some, None}
 use Rattle.cmark_grammar.specs.Containers as grammar
 use Rattle.cmark_grammar.specs.Containers.{keeps}
@@ -11,8 +11,8 @@ use Rattle.cmark_items.specs.declared.item.ItemBody.TheVariants as body
 use Rattle.cmark_lines.specs.declared.container.Container.{Container}
 use Rattle.cmark_lines.specs.declared.container.Container.TheVariants as container
 
--- an item with a prefix of this width: its character, number and task marker do not matter to what it keeps, so it is shown as a bullet with none; nor
--- does it matter whether a block quote is an alert, so it is shown as none, or which label a footnote definition has
+-- an item with a prefix of this width. Its character, number and task marker do not matter to the lines that it keeps, so it is represented
+-- as a bullet without a task marker. Likewise a block quote is represented without an alert, and a footnote definition without its label
 abbrev pub item_of_width : ℕ → grammar.Container
 item_of_width width = grammar.Item 45 None width None
 
@@ -22,8 +22,8 @@ shown_container (container.Item width) = item_of_width width
 shown_container (container.Footnote old) = grammar.Footnote [] old 0
 shown_container (container.Definition width) = grammar.ListDefinition width
 
--- the container that a node is: a block quote, a list item, a definition of a definition list, or a footnote definition, which the options say how to read, and
--- else none
+-- the container that a node is: a block quote, a list item, a definition of a definition list, or a footnote definition, in the style of
+-- the options. Other nodes are no containers
 abbrev pub container_in : Options → ItemBody → Option grammar.Container
 container_in options (body.BlockQuote kind) = Some (grammar.BlockQuote None)
 container_in options (body.ListItem width) = Some (item_of_width width)
@@ -31,7 +31,7 @@ container_in options (body.DefinitionListDefinition width) = Some (grammar.ListD
 container_in options (body.FootnoteDefinition label) = Some (grammar.Footnote [] options.old_footnotes 0)
 container_in options _ = None
 
--- the container, if there is one, in front of these
+-- the container, if there is one, before these
 abbrev pub in_front : Option grammar.Container → List grammar.Container → List grammar.Container
 in_front None ks = ks
 in_front (Some k) ks = k ∷ ks
@@ -41,7 +41,7 @@ abbrev pub containers_of : Options → List (Level Item) → List grammar.Contai
 containers_of options [] = []
 containers_of options (v ∷ up) = containers_of options up ++ in_front (container_in options v.place.item.body) []
 
--- how many containers keep a line, and what is left of it behind their prefixes
+-- the number of containers that keep a line, and the rest of the line after their prefixes
 pub record LineKeepers : Type 0 where
   pub count : ℕ
   pub rest : Row
@@ -53,7 +53,7 @@ abbrev pub kept_if : Option Row → (Row → LineKeepers) → LineKeepers → Li
 kept_if (Some s) further none = one_more (further s)
 kept_if None further none = none
 
--- these containers, one inside the other, keep the line in turn, up to the first that does not
+-- these nested containers keep the line in turn, up to the first that does not
 abbrev pub kept : List grammar.Container → Row → LineKeepers
 kept [] r = record { count = 0; rest = r }
 kept (k ∷ ks) r = kept_if (keeps k false r) (kept ks) (record { count = 0; rest = r })

@@ -1,4 +1,4 @@
--- Which state of its model the block pass is in.
+-- The model's state of the block pass.
 use Rattle.std.specs.Prelude.{◌≡◌, ℕ, List, [], map, Option, None}
 use Rattle.std.specs.Str.{IsCharBoundary}
 use Rattle.cmark_tree.specs.Building.{IsPlaced}
@@ -27,7 +27,7 @@ use Rattle.cmark_blocks.specs.Shown.{shown_siblings, ShowsContainers}
 abbrev pub IsFence : Fence → (delimiter run_length indent : ℕ) → Type 0
 IsFence fence delimiter run_length indent = (fence.delimiter ≡ delimiter) × (fence.run_length ≡ run_length) × (fence.indented ≡ indent)
 
--- the open leaf, with the blank lines behind indented code, or the lines of a paragraph before its last one, where they are kept
+-- the open leaf, with the blank lines after indented code, or the earlier lines of a paragraph, if they are kept
 abbrev pub ShowsLeaf : List ℕ → OpenLeaf → List LineRest → model.OpenLeaf → Type 0
 ShowsLeaf text leaf.Closed blanks m = (m ≡ model.Closed) × (blanks ≡ [])
 ShowsLeaf text leaf.BehindTag blanks m = (m ≡ model.BehindTag) × (blanks ≡ [])
@@ -40,7 +40,7 @@ ShowsLeaf text (leaf.Fenced delimiter run_length indent waits) blanks m =
 ShowsLeaf text (leaf.Html kind) blanks m = (m ≡ model.InHtml (kind_number kind)) × (blanks ≡ [])
 ShowsLeaf text (leaf.Metadata kind waits) blanks m = (m ≡ model.InMetadata (shown_metadata_block_kind kind) (shown_waits text waits)) × (blanks ≡ [])
 
--- fenced code or metadata with this stretch that waits, or HTML, where none does
+-- fenced code or metadata with this stretch that waits, or HTML without one
 abbrev pub IsVerbatim : OpenLeaf → Option Stretch → Type 0
 IsVerbatim leaf.Closed waits = ⊥
 IsVerbatim leaf.BehindTag waits = ⊥
@@ -65,8 +65,8 @@ IsLastRead text (leaf.Html kind) = Unit {0}
 IsLastRead text (leaf.Metadata kind waits) = Unit {0}
 
 module _ {E : Type 0} where
-  -- what holds of the pass whatever happens, out of memory too: nodes can be added, no character is cut where the next line
-  -- begins, and the lines that are kept are read in the text
+  -- the facts that hold of the pass in every case, also after memory was refused. Nodes can be added, the next line begins at a character
+  -- boundary, and the kept lines are read from the text
   pub record IsGood (pass : Pass E) : Type 0 where
     pub placed : IsPlaced pass.builder.tree
     pub begins : IsCharBoundary pass.text.now pass.line_end

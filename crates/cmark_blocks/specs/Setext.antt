@@ -4,7 +4,7 @@ use Rattle.cmark_leaves.specs.Contents.{FindsSetext}
 use Rattle.cmark_leaves.specs.declared.setext.SetextAttributes.{SetextAttributes}
 use Rattle.cmark_lines.specs.declared.line_rest.LineRest.{LineRest}
 
--- the attributes of a heading with these lines were found, or it has none, or they are not read
+-- the attributes of a heading with these lines were found; or it has none, or attributes are not read
 abbrev pub FindsIf : (attributes : Bool) → (before : List LineRest) → (last : LineRest) → Option SetextAttributes → Type 0
 FindsIf true before last found = FindsSetext before last found
 FindsIf false before last found = found ≡ None

@@ -1,4 +1,4 @@
--- What is open in the block pass, seen as in its model.
+-- The open blocks of the pass, as in its model.
 use Rattle.std.specs.Prelude.{◌≡◌, ℕ, List, [], ◌∷◌, Option, Some, None, option_map, ◌==◌, if◌then◌else◌}
 use Rattle.cmark_items.specs.ItemNodes.{list_number}
 use Rattle.cmark_lines.specs.Starts.{Shows}

@@ -1,4 +1,4 @@
--- What a call of the block pass does to the state of its model.
+-- The effect of a call of the block pass on the state of its model.
 use Rattle.std.specs.Prelude.{◌≡◌, ℕ, Bool, false, List, [], ◌∷◌, ◌++◌, length, map, Some}
 use Rattle.cmark_block_model.specs.BlockPass.{container_closed, containers_closed, paragraph_begun, paragraph_line, heading_made, leaf_begun, leaf_closed, ahead_in, begin, begin_as, leaf_fed, lazy_fed, with_drawn}
 use Rattle.cmark_leaves.specs.TextColumns.{IsRead}
@@ -20,7 +20,7 @@ use Rattle.cmark_blocks.specs.Ahead.{lines_at}
 use Rattle.cmark_blocks.specs.Runs.{Runs}
 
 module _ {E : Type 0} where
-  -- a step in the blocks of the innermost container leaves the tables, the lines that wait and the open leaf as they were
+  -- a step among the blocks of the innermost container leaves the tables, the lines that wait and the open leaf unchanged
   pub record LeavesTheRest (old new : Pass E) : Type 0 where
     pub tables : new.builder.allocations ≡ old.builder.allocations
     pub text : new.text ≡ old.text
@@ -28,14 +28,14 @@ module _ {E : Type 0} where
     pub leaf : new.leaf ≡ old.leaf
     pub bare : new.bare ≡ old.bare
 
-  -- a line of the text stands behind an open paragraph with this last line, which the lines from this byte offset on touch
+  -- a line of the text comes after an open paragraph with this last line, whose touching lines begin at this byte offset
   pub record IsBehindParagraph (pass : Pass E) (from : ℕ) (last rest : LineRest) : Type 0 where
     pub line : IsRead pass.text.now rest
     pub is : pass.leaf ≡ leaf.Paragraph from last
     pub bare : pass.bare ≡ false
 
 module _ {E : Type 0} (replacement : E → Lookup) where
-  -- from whichever state of the model it was in, over whichever text, it makes this step
+  -- from each state of the model, over each text, the call makes this step
   abbrev pub StepsOver : Pass E → Pass E → (List ℕ → Options → Lookup → model.Pass → model.Pass) → Type 0
   StepsOver old new step = (text : List ℕ) (options : Options) (lookup : Lookup) (m : model.Pass) → Runs replacement text options lookup m old → Runs replacement text options lookup (step text options lookup m) new
 
@@ -48,13 +48,13 @@ module _ {E : Type 0} (replacement : E → Lookup) where
       (text : List ℕ) (options : Options) (lookup : Lookup) (m : model.Pass) (outer : List model.OpenContainer) (c : model.OpenContainer) →
       m.outer ≡ outer ++ c ∷ [] → Runs replacement text options lookup m old → Runs replacement text options lookup (container_closed c outer m) new
 
-  -- the containers but the outermost ones, of this number, were closed
+  -- the containers except the `kept` outermost ones were closed
   abbrev pub ClosesAll : ℕ → Pass E → Pass E → Type 0
   ClosesAll kept old new =
       (text : List ℕ) (options : Options) (lookup : Lookup) (m : model.Pass) (outer inner : List model.OpenContainer) →
       m.outer ≡ outer ++ inner → length outer ≡ kept → Runs replacement text options lookup m old → Runs replacement text options lookup (containers_closed text options lookup outer inner m) new
 
-  -- the containers but the outermost ones, of this number, are being closed: some of them are left
+  -- the containers except the `kept` outermost ones are being closed; some of them are left
   abbrev pub ClosesTowards : ℕ → Pass E → Pass E → Type 0
   ClosesTowards kept old now =
       (text : List ℕ) (options : Options) (lookup : Lookup) (m : model.Pass) (outer inner : List model.OpenContainer) →
@@ -67,7 +67,7 @@ module _ {E : Type 0} (replacement : E → Lookup) where
   BeginsParagraph rest old new =
       (text : List ℕ) (options : Options) (lookup : Lookup) (m : model.Pass) → Runs replacement text options lookup m old → Runs replacement text options lookup (paragraph_begun text options lookup (row_of rest) m) new
 
-  -- a task marker was drawn, whose box begins at this place, and a paragraph was begun on the line behind the box
+  -- a task marker was drawn, whose box begins at this place, and a paragraph was begun on the line after the box
   abbrev pub BeginsTask : (is_checked : Bool) → (start : ℕ) → LineRest → Pass E → Pass E → Type 0
   BeginsTask is_checked start behind old new =
       (text : List ℕ) (options : Options) (lookup : Lookup) (m : model.Pass) → Runs replacement text options lookup m old →
@@ -78,19 +78,19 @@ module _ {E : Type 0} (replacement : E → Lookup) where
   ClosesLeaf old new =
       (text : List ℕ) (options : Options) (lookup : Lookup) (m : model.Pass) → Runs replacement text options lookup m old → Runs replacement text options lookup (leaf_closed text options lookup m) new
 
-  -- a leaf was begun on a line, whatever is ahead
+  -- a leaf was begun on a line, whatever lines are ahead
   abbrev pub BeginsLeaf : Leaf → (more : ℕ) → LineRest → Pass E → Pass E → Type 0
   BeginsLeaf leaf more rest old new =
       (text : List ℕ) (options : Options) (lookup : Lookup) (m : model.Pass) (ahead : List Row) → Runs replacement text options lookup m old →
       Runs replacement text options lookup (leaf_begun text options lookup leaf more (row_of rest) ahead m) new
 
-  -- one more line of a paragraph, behind those that were kept and this last one, which the lines from this place on touch
+  -- the next line of a paragraph, after the kept lines and this last one, whose touching lines begin at this place
   abbrev pub AddsLine : (from : ℕ) → (last rest : LineRest) → Pass E → Pass E → Type 0
   AddsLine from last rest old new =
       (text : List ℕ) (options : Options) (lookup : Lookup) (m : model.Pass) → Runs replacement text options lookup m old →
       Runs replacement text options lookup (paragraph_line text options lookup (map row_of old.blank_lines.items) from (row_of last) (row_of rest) m) new
 
-  -- a paragraph with the lines that were kept and this last one was underlined
+  -- a paragraph with the kept lines and this last one was underlined
   abbrev pub MakesHeading : (level from : ℕ) → (last rest : LineRest) → Pass E → Pass E → Type 0
   MakesHeading level from last rest old new =
       (text : List ℕ) (options : Options) (lookup : Lookup) (m : model.Pass) → Runs replacement text options lookup m old →
@@ -110,13 +110,13 @@ module _ {E : Type 0} (replacement : E → Lookup) where
       let ahead = ahead_in text options lookup m.outer (lines_at text (row_of rest).line_end) in
       Runs replacement text options lookup (begin_as text options lookup (bracket_of options (row_of rest) ahead) inside (row_of rest) ahead bare m) new
 
-  -- all that a line begins was begun
+  -- all blocks of the line were begun
   abbrev pub Begins : LineRest → Pass E → Pass E → Type 0
   Begins rest old new =
       (text : List ℕ) (options : Options) (lookup : Lookup) (m : model.Pass) → Runs replacement text options lookup m old →
       Runs replacement text options lookup (begin text options lookup (row_of rest) (lines_at text (row_of rest).line_end) m) new
 
-  -- the leaf was closed, and all that a line begins was begun
+  -- the leaf was closed, and all blocks of the line were begun
   abbrev pub BeginsAnew : LineRest → Pass E → Pass E → Type 0
   BeginsAnew rest old new =
       (text : List ℕ) (options : Options) (lookup : Lookup) (m : model.Pass) → Runs replacement text options lookup m old →

@@ -1,4 +1,4 @@
--- Tables, as they are seen in the lines ahead (GFM 4.10).
+-- Tables in the lines ahead (GFM 4.10).
 use Rattle.std.specs.Prelude.{◌≡◌, ℕ, suc, ◌-◌, Bool, ◌&&◌, ◌||◌, List, [], ◌∷◌, ◌+◌, length, take, Option, Some, None, MatchOption}
 use Rattle.cmark_grammar.specs.Answers.{Lookup}
 use Rattle.cmark_grammar.specs.DefinitionLists.{begins_definition}
@@ -18,22 +18,22 @@ use Rattle.cmark_blocks.specs.Ahead.{lines_at}
 use Rattle.cmark_blocks.specs.declared.state.Pass.{Pass}
 use Rattle.cmark_blocks.specs.Runs.{Runs}
 
--- whether a line interrupts a paragraph as the head of a table, or, where definitions may begin, by the marker of one
+-- whether a line interrupts a paragraph as the head of a table, or, if definitions may begin, by a definition's marker
 abbrev pub block_interrupts : Options → (may_define : Bool) → Row → List Row → Bool
 block_interrupts options may_define r ahead = table_interrupts options r ahead || (may_define && begins_definition options r)
 
--- a line is the head of a table with so many columns, and that one its delimiter row
+-- a line is the head of a table with `columns` columns, and that line is its delimiter row
 pub record IsHead (options : Options) (head : Row) (ahead : List Row) (columns : ℕ) (delimiter : Row) (behind : List Row) : Type 0 where
   pub next : ahead ≡ delimiter ∷ behind
   pub is : table_head options head ahead ≡ Some (columns_of (delimiter_row (words_of delimiter)))
   pub many : length (columns_of (delimiter_row (words_of delimiter))) ≡ columns
 
--- the rows of a table with so many columns, in which so many cells may still be filled in
+-- the rows of a table with `columns` columns, in which `left` cells may still be filled in
 abbrev pub rows_taken : Options → (columns left : ℕ) → List Row → List Row
 rows_taken options columns left ahead = take (count_rows options columns left ahead) ahead
 
 module _ {E : Type 0} (replacement : E → Lookup) where
-  -- whether a line is the head of a table, where it and the lines ahead are seen inside so many containers
+  -- whether a line is the head of a table, if it and the lines ahead are seen from inside `count` containers
   abbrev pub TellsHead : Pass E → (count : ℕ) → LineRest → Option (ℕ × LineRest) → Type 0
   TellsHead pass count rest found =
       (text : List ℕ) (options : Options) (lookup : Lookup) (m : model.Pass) → Runs replacement text options lookup m pass →
@@ -47,13 +47,13 @@ module _ {E : Type 0} (replacement : E → Lookup) where
       (text : List ℕ) (options : Options) (lookup : Lookup) (m : model.Pass) → Runs replacement text options lookup m pass →
       interrupts ≡ table_interrupts options (row_of rest) (ahead_in text options lookup (take count m.outer) (lines_at text (row_of rest).line_end))
 
-  -- whether a line interrupts as a table or, where definitions may begin, as one
+  -- whether a line interrupts a paragraph as a table or, if definitions may begin, as a definition
   abbrev pub TellsBlock : Pass E → (count : ℕ) → (may_define : Bool) → LineRest → Bool → Type 0
   TellsBlock pass count may_define rest interrupts =
       (text : List ℕ) (options : Options) (lookup : Lookup) (m : model.Pass) → Runs replacement text options lookup m pass →
       interrupts ≡ block_interrupts options may_define (row_of rest) (ahead_in text options lookup (take count m.outer) (lines_at text (row_of rest).line_end))
 
-  -- the table that this line is in goes on with that one, or ends
+  -- the table of this line continues with that line, or ends
   abbrev pub GoesOnWithRow : Pass E → (columns left : ℕ) → LineRest → Option LineRest → Type 0
   GoesOnWithRow pass columns left last next =
       (text : List ℕ) (options : Options) (lookup : Lookup) (m : model.Pass) → Runs replacement text options lookup m pass →
@@ -61,7 +61,7 @@ module _ {E : Type 0} (replacement : E → Lookup) where
       MatchOption next (rows_at left (row_of last).line_end ≡ [])
       (λ row. rows_at left (row_of last).line_end ≡ row_of row ∷ rows_at (left - count_missing columns (row_of row)) (row_of row).line_end)
 
-  -- the rows behind a delimiter row were drawn: so many, and up to this place
+  -- the `count` rows after a delimiter row were drawn, up to this place
   abbrev pub DrawsRows : (columns : ℕ) → LineRest → (count line_end : ℕ) → Pass E → Pass E → Type 0
   DrawsRows columns delimiter count line_end old new =
       (text : List ℕ) (options : Options) (lookup : Lookup) (m : model.Pass) → Runs replacement text options lookup m old →
@@ -69,7 +69,7 @@ module _ {E : Type 0} (replacement : E → Lookup) where
       Runs replacement text options lookup (record m { drawing = drawn (row_tokens text columns taken) m.drawing }) new
       × (count ≡ length taken) × (line_end ≡ last_line_end (row_of delimiter) taken)
 
-  -- some of them were: these are still to come
+  -- some of the rows were drawn: these are still to come
   pub record RowsLeft (text : List ℕ) (options : Options) (lookup : Lookup) (m : model.Pass) (columns left count : ℕ) (delimiter last : Row) (now : Pass E) : Type 0 where
     pub drawing : Drawing
     pub runs : Runs replacement text options lookup (record m { drawing = drawing }) now

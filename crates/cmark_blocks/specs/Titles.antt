@@ -4,7 +4,7 @@ use Rattle.cmark_grammar.specs.Lists.{definition_delimiter}
 use Rattle.cmark_block_model.specs.BlockPass.{ended_but, definitions_in, siblings_with_paragraph}
 use Rattle.cmark_block_model.specs.OpenBlocks.{OpenList, Title, Siblings, Pass}
 
--- a paragraph begins: what is open before it was closed, but a definition list
+-- a paragraph begins: the open siblings before it were closed, except a definition list
 abbrev pub text_block_begun : Pass → Pass
 text_block_begun p = record p { drawing = ended_but (definitions_in p.inner.list) p.inner p.drawing; inner = siblings_with_paragraph p.inner }
 
@@ -13,7 +13,7 @@ abbrev pub list_around : Option Title → Option OpenList
 list_around None = None
 list_around (Some t) = t.list
 
--- the siblings where the last one, a paragraph, is made the title of a definition
+-- the siblings after the last one, a paragraph, became the title of a definition
 abbrev pub with_title : Option OpenList → (parted : Bool) → (start : ℕ) → Siblings → Siblings
 with_title None parted start s = record s { blank = false; list = Some (record { delimiter = definition_delimiter; number = None; loose = s.blank; end = start }); title = None }
 with_title (Some l) parted start s = record s { blank = false; parted = parted; list = Some (record l { loose = l.loose || s.blank }); title = None }

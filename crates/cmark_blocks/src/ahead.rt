@@ -1,4 +1,4 @@
-//! The lines ahead, as they are seen inside the open containers.
+//! The lines ahead, seen from inside the open containers.
 
 ghost use Rattle.std.specs.Prelude.{◌≡◌, ◌<◌, ◌≤◌, ℕ, List, length, false, IfSome, not, true, ◌&&◌};
 ghost use Rattle.cmark_grammar.specs.Leaves.{underlines};
@@ -16,7 +16,7 @@ impl<'a, E: EntityLookup> Pass<'a, E> {
     ghost use Rattle.cmark_blocks.specs.Ahead.{SeenInside, SeenInsideFirst, SeesNext, SeesNextInside, GoesOnWith};
     ghost use Rattle.cmark_blocks.specs.KeepingContainers.{IsBehind};
 
-    /// What all open containers leave of a line, if they keep it.
+    /// The rest of a line inside all open containers, if they keep it.
     fn inside(&self, line: LineRest<'a>) -> Option<LineRest<'a>>
         requires { self.now.bare ≡ false }
         ensures seen { SeenInside E.replacement self.now line.entry result }
@@ -33,7 +33,7 @@ impl<'a, E: EntityLookup> Pass<'a, E> {
         Some(rest)
     }
 
-    /// What so many open containers, the outermost ones, leave of a line, if they keep it.
+    /// The rest of a line inside the `count` outermost open containers, if they keep it.
     fn inside_first(&self, count: usize, line: LineRest<'a>) -> Option<LineRest<'a>>
         requires { count ≤ length self.now.outer.items }
         ensures seen { SeenInsideFirst E.replacement self.now count line.entry result }
@@ -49,7 +49,7 @@ impl<'a, E: EntityLookup> Pass<'a, E> {
         Some(rest)
     }
 
-    /// The line behind this one, inside so many open containers, the outermost ones, if there is one and they keep it.
+    /// The line after this one, inside the `count` outermost open containers, if there is one and they keep it.
     pub(crate) fn line_behind(&self, count: usize, last: LineRest<'a>) -> Option<LineRest<'a>>
         requires few { count ≤ length self.now.outer.items }
         requires within { IsIn self.now.text.now last }
@@ -66,7 +66,7 @@ impl<'a, E: EntityLookup> Pass<'a, E> {
         self.inside_first(count, line)
     }
 
-    /// The line behind this one, inside all open containers, if there is one and they keep it.
+    /// The line after this one, inside all open containers, if there is one and they keep it.
     #[inline]
     pub(crate) fn line_ahead(&self, last: LineRest<'a>) -> Option<LineRest<'a>>
         requires bare { self.now.bare ≡ false }
@@ -84,7 +84,7 @@ impl<'a, E: EntityLookup> Pass<'a, E> {
         self.inside(line)
     }
 
-    /// The line behind this one, inside all open containers, if it goes on with a paragraph there.
+    /// The line after this one, inside all open containers, if it continues a paragraph there.
     pub(crate) fn text_ahead(&self, last: LineRest<'a>) -> Option<LineRest<'a>>
         requires bare { self.now.bare ≡ false }
         requires within { IsIn self.now.text.now last }
@@ -102,7 +102,7 @@ impl<'a, E: EntityLookup> Pass<'a, E> {
     }
 }
 
-/// Whether the line, which lacks no prefix, goes on with a paragraph as its text.
+/// Whether the line, which lacks no prefix, continues a paragraph as its text.
 fn is_text(rest: LineRest<'_>, options: Options) -> bool
     ensures { (ahead : List Row) → result ≡ (not (interrupts (shown_options options) true (row_of rest.entry) ahead) && is_none (underlines (row_of rest.entry))) }
 {

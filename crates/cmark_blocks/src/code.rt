@@ -1,4 +1,4 @@
-//! Code blocks: what begins them, their lines, and their end (CommonMark 4.4 and 4.5).
+//! Code blocks: their beginnings, their lines, and their ends (CommonMark 4.4 and 4.5).
 
 ghost use Rattle.std.specs.Prelude.{◌≡◌, List, ℕ, Option, OnOk, IfOk, false, map, slice_range};
 ghost use Rattle.cmark_tree.specs.Building.{IsPlaced};
@@ -34,8 +34,8 @@ fn has_lines(lines: &[LineRest<'_>]) -> bool
     }
 }
 
-/// Blank lines that belong to indented code, as nodes behind the last sibling. What waits of the lines before is handed in, and
-/// what waits then is answered.
+/// Adds blank lines that belong to indented code, as nodes after the last sibling. `waits` is the stretch that waits from the lines before;
+/// returns the stretch that waits afterwards.
 fn draw_blank_lines(
     builder: &mut Builder<'_>,
     lines: &[LineRest<'_>],
@@ -59,7 +59,7 @@ impl<'a, E: EntityLookup> Pass<'a, E> {
     ghost use Rattle.cmark_leaves.specs.TextColumns.{IsRead};
     ghost use Rattle.cmark_blocks.specs.Steps.{FeedsLeaf, BeginsLeaf, ClosesLeaf};
 
-    /// Indented code begins on a line, behind four columns of indent (CommonMark 4.4).
+    /// Begins indented code on a line, after four columns of indent (CommonMark 4.4).
     pub(crate) fn begin_indented(&mut self, rest: LineRest<'a>) -> Result<(), AllocError>
         requires good { IsGood self.old }
         requires closed { self.old.leaf ≡ leaf.Closed }
@@ -86,7 +86,7 @@ impl<'a, E: EntityLookup> Pass<'a, E> {
         unescape(self.alloc, CowStr::Borrowed(info), false, self.entities)
     }
 
-    /// Fenced code begins: the line is its opening fence, behind so many columns of indent (CommonMark 4.5).
+    /// Begins fenced code: the line is its opening fence, with this indent in columns (CommonMark 4.5).
     pub(crate) fn begin_fenced(
         &mut self,
         indent: usize,
@@ -110,7 +110,7 @@ impl<'a, E: EntityLookup> Pass<'a, E> {
         Ok(())
     }
 
-    /// One more line behind an opening fence: the closing fence, or a line of code.
+    /// Feeds a line after an opening fence: the closing fence, or a line of code.
     pub(crate) fn feed_fenced(
         &mut self,
         delimiter: u8,
@@ -141,7 +141,7 @@ impl<'a, E: EntityLookup> Pass<'a, E> {
         Ok(())
     }
 
-    /// One more line of indented code: the blank lines before it belong to the code too.
+    /// Feeds another line of indented code: the blank lines before it belong to the code too.
     fn add_to_indented(
         &mut self,
         waits: Option<Stretch>,
@@ -162,7 +162,7 @@ impl<'a, E: EntityLookup> Pass<'a, E> {
         Ok(())
     }
 
-    /// A blank line behind indented code: it belongs to the code if a later line does.
+    /// Feeds a blank line after indented code: it belongs to the code only if a later line does.
     fn keep_blank_line(&mut self, rest: LineRest<'a>) -> Result<(), AllocError>
         requires good { IsGood self.old }
         requires line { IsRead self.old.text.now rest }
@@ -176,7 +176,7 @@ impl<'a, E: EntityLookup> Pass<'a, E> {
         Ok(())
     }
 
-    /// One more line behind open indented code.
+    /// Feeds a line after open indented code.
     pub(crate) fn feed_indented(
         &mut self,
         waits: Option<Stretch>,
@@ -198,7 +198,7 @@ impl<'a, E: EntityLookup> Pass<'a, E> {
         }
     }
 
-    /// Closes indented code at the end of its last line. Blank lines behind it are none of it.
+    /// Closes indented code at the end of its last line. Blank lines after that do not belong to it.
     pub(crate) fn close_indented(
         &mut self,
         waits: Option<Stretch>,

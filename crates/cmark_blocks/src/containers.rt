@@ -1,4 +1,4 @@
-//! Containers: what begins and keeps them, and their end (CommonMark 5).
+//! Containers: their beginnings, the lines that they keep, and their ends (CommonMark 5).
 
 ghost use Rattle.std.specs.Prelude.{◌≡◌, Bool, List, Option, ℕ, OnOk, unwrap_or, option_map, length, ◌-◌, ◌<◌, ◌&&◌, ◌==◌, suc, ◌≤◌, IfOk, IfSome};
 ghost use Rattle.cmark_grammar.specs.Containers as grammar;
@@ -43,8 +43,8 @@ impl<'a, E: EntityLookup> Pass<'a, E> {
     ghost use Rattle.cmark_blocks.specs.declared.state.OpenLeaf.TheVariants as leaf;
     ghost use Rattle.cmark_leaves.specs.TextColumns.{IsRead};
 
-    /// A container begins on a line, with no leaf open. Answers the line behind its marker, and whether the container is an item;
-    /// none, where nothing of the line is left to begin: that line is an alert's tag, or a task marker with its paragraph.
+    /// Begins a container on a line, with no leaf open. Returns the line after its marker, and whether the container is an item. Returns
+    /// `None` if nothing of the line is left to begin: it is an alert's tag, or a task marker with its paragraph.
     pub(crate) fn begin_container(
         &mut self,
         start: ContainerStart<'a>,
@@ -90,7 +90,7 @@ impl<'a, E: EntityLookup> Pass<'a, E> {
         }
     }
 
-    /// A task marker begins at this byte offset, and a paragraph behind its box, whatever its text looks like (GFM 5.3).
+    /// Begins a task marker at this byte offset, and a paragraph after its box, whatever its text looks like (GFM 5.3).
     fn begin_task(
         &mut self,
         is_checked: bool,
@@ -110,8 +110,8 @@ impl<'a, E: EntityLookup> Pass<'a, E> {
         self.begin_paragraph(behind)
     }
 
-    /// The width of the definition that a line begins, and the line behind its marker: behind a paragraph, which is its title, or behind another
-    /// definition (this profile's own).
+    /// The width in columns of the definition that a line begins, and the line after its marker. The definition begins after a paragraph,
+    /// which is its title, or after another definition (this profile's own).
     #[inline]
     pub(crate) fn definition_begun(&self, rest: LineRest<'a>) -> Option<(usize, LineRest<'a>)>
         ensures width { DefinesAs E.replacement self.now rest.entry (option_map width_of result) }
@@ -125,7 +125,7 @@ impl<'a, E: EntityLookup> Pass<'a, E> {
         definition_start(rest, self.options)
     }
 
-    /// Goes into a container that begins.
+    /// Enters a container that begins.
     pub(crate) fn enter(&mut self, container: Container) -> Result<(), AllocError>
         requires { IsGood self.old }
         ensures good { IsGood self.new }
@@ -143,7 +143,7 @@ impl<'a, E: EntityLookup> Pass<'a, E> {
         Ok(())
     }
 
-    /// A block quote begins at this byte offset; where it is an alert, one of this kind.
+    /// Begins a block quote at this byte offset; it is an alert if there is a kind.
     pub(crate) fn begin_block_quote(
         &mut self,
         alert: Option<BlockQuoteKind>,
@@ -161,7 +161,7 @@ impl<'a, E: EntityLookup> Pass<'a, E> {
         self.enter(Container::BlockQuote)
     }
 
-    /// An item begins at this byte offset. Whether a task marker stands behind its marker is not seen here.
+    /// Begins an item at this byte offset. A task marker after the item's marker is not handled here.
     pub(crate) fn begin_item(&mut self, item: ItemStart, start: usize) -> Result<(), AllocError>
         requires good { IsGood self.old }
         requires number { list_number item.delimiter (unwrap_or item.number 0) ≡ item.number }
@@ -176,7 +176,7 @@ impl<'a, E: EntityLookup> Pass<'a, E> {
         self.enter(Container::Item { width: item.width })
     }
 
-    /// A definition of this width begins at this byte offset, behind its title or another definition (this profile's own).
+    /// Begins a definition of this width at this byte offset, after its title or another definition (this profile's own).
     pub(crate) fn begin_list_definition(
         &mut self,
         width: usize,
@@ -195,7 +195,7 @@ impl<'a, E: EntityLookup> Pass<'a, E> {
         self.enter(Container::Definition { width })
     }
 
-    /// Whether this container is an item whose first line was blank, and came last.
+    /// Whether this container is an item whose first line was blank and was the last line.
     fn is_bare(&self, index: usize) -> bool
         requires { index < length self.now.outer.items }
         ensures { result ≡ (self.now.bare && (suc index == length self.now.outer.items)) }
@@ -203,7 +203,7 @@ impl<'a, E: EntityLookup> Pass<'a, E> {
         self.bare && index + 1 == self.outer.len()
     }
 
-    /// How many containers keep the line, from the outermost on, and what is left of it behind their prefixes.
+    /// The number of containers that keep the line, from the outermost on, and the rest of it after their prefixes.
     #[inline(always)]
     pub(crate) fn kept_by(&self, line: LineRest<'a>) -> (usize, LineRest<'a>)
         ensures kept { KeepsOf E.replacement self.now line.entry result.0 result.1 }
@@ -224,7 +224,7 @@ impl<'a, E: EntityLookup> Pass<'a, E> {
         (kept, rest)
     }
 
-    /// Closes the innermost container, where the last line ended.
+    /// Closes the innermost container at the end of the last line.
     fn close_container(&mut self)
         requires { IsGood self.old }
         ensures good { IsGood self.new }
@@ -241,7 +241,7 @@ impl<'a, E: EntityLookup> Pass<'a, E> {
         }
     }
 
-    /// Closes the innermost containers until so many are left.
+    /// Closes the innermost containers until `kept` are left.
     pub(crate) fn close_containers(&mut self, kept: usize)
         requires { IsGood self.old }
         ensures good { IsGood self.new }
@@ -257,7 +257,7 @@ impl<'a, E: EntityLookup> Pass<'a, E> {
 }
 
 impl OpenContainer {
-    /// The siblings behind this container, which ended at this byte offset with these blocks in it.
+    /// The siblings with this container as the last one; it ended at this byte offset with these blocks in it.
     fn siblings_behind(self, inside: Siblings, end: usize) -> Siblings
         ensures { (m : model.OpenContainer) → ShowsContainer self m → shown_siblings result ≡ behind_container m.container end (shown_siblings inside) m.around }
     {

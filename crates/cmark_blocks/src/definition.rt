@@ -15,8 +15,8 @@ use std::alloc::AllocError;
 use std::mem;
 use std::ops::Range;
 
-/// Whether it is seen from a line behind its indent that no definition begins there, whatever lines follow: the label that its
-/// bracket begins ends in it, and no colon stands behind, or another bracket opens in the label.
+/// Whether a line after its indent shows that no definition begins there, whatever lines follow. The label of its bracket ends in the line
+/// without a colon after it, or another bracket opens in the label.
 fn begins_no_definition(words: &[u8]) -> bool
     ensures { result ≡ begins_none words.now }
 {
@@ -26,7 +26,7 @@ fn begins_no_definition(words: &[u8]) -> bool
     }
 }
 
-/// Whether a label ends in these bytes with no colon behind it, or another bracket opens in it.
+/// Whether a label ends in these bytes without a colon after it, or another bracket opens in it.
 fn lacks_colon(label: &[u8]) -> bool
     ensures { result ≡ lacks_colon false label.now }
 {
@@ -45,7 +45,7 @@ fn lacks_colon(label: &[u8]) -> bool
     false
 }
 
-/// How many lines end behind this place of a text.
+/// The number of line endings after this byte offset of a text.
 fn line_ends_behind(text: &str, place: usize) -> usize
     requires { place ≤ length text.now }
     ensures { result ≡ line_ends (drop place text.now) }
@@ -65,7 +65,7 @@ impl<'a, E: EntityLookup> Pass<'a, E> {
     ghost use Rattle.cmark_blocks.specs.Gathered.{IsGathered, Gathers, Decides};
     ghost use Rattle.cmark_blocks.specs.LinkDefinitions.{definition_kept, definition_begun, StopsAt};
 
-    /// Where the line ends that stands so many lines behind this one, in the paragraph that this one may begin.
+    /// The end of the line that is `more` lines after this one, in the paragraph that this one may begin.
     fn content_end_behind(&self, rest: LineRest<'a>, more: usize) -> usize
         requires bare { self.now.bare ≡ false }
         requires within { IsIn self.now.text.now rest }
@@ -83,7 +83,7 @@ impl<'a, E: EntityLookup> Pass<'a, E> {
         last.content_end()
     }
 
-    /// Keeps a definition with these bytes of the text, unless there is one of its label: then its parts are not read.
+    /// Records a definition with these bytes of the text, unless its label has one: then its parts are not read.
     fn keep_definition(
         &mut self,
         definition: &Definition<'_>,
@@ -103,7 +103,7 @@ impl<'a, E: EntityLookup> Pass<'a, E> {
         self.builder.allocations.refdefs.insert(label, kept)
     }
 
-    /// A definition begins with these bytes of the text, and takes so many lines to come.
+    /// Begins a definition with these bytes of the text and `more` lines to come.
     fn begin_definition(
         &mut self,
         definition: &Definition<'_>,
@@ -122,7 +122,7 @@ impl<'a, E: EntityLookup> Pass<'a, E> {
         Ok(())
     }
 
-    /// A line begins the link reference definition that stands in front of the text of a paragraph, or else a table or that paragraph.
+    /// Begins, on this line, the link reference definition at the beginning of a paragraph's text, or else a table or that paragraph.
     fn begin_gathered(
         &mut self,
         rest: LineRest<'a>,
@@ -149,7 +149,7 @@ impl<'a, E: EntityLookup> Pass<'a, E> {
         self.begin_definition(&definition, rest.words_begin()..end, more)
     }
 
-    /// A line whose words begin with a bracket begins a link reference definition, or else a table or a paragraph.
+    /// Begins, on a line whose words begin with a bracket, a link reference definition, or else a table or a paragraph.
     pub(crate) fn begin_bracket(&mut self, rest: LineRest<'a>) -> Result<(), AllocError>
         requires good { IsGood self.old }
         requires line { IsRead self.old.text.now rest }
@@ -169,7 +169,7 @@ impl<'a, E: EntityLookup> Pass<'a, E> {
         Ok(())
     }
 
-    /// One more line behind the first one of a link reference definition, to which so many further lines belong.
+    /// Feeds a line after the first one of a link reference definition, of which `left` lines are left.
     pub(crate) fn feed_definition(
         &mut self,
         left: usize,

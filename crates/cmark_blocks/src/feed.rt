@@ -1,4 +1,4 @@
-//! One more line of the block pass.
+//! Feeding a line to the block pass.
 
 ghost use Rattle.std.specs.Prelude.{◌≡◌, ◌≤◌, ◌<◌, OnOk, false, length};
 ghost use Rattle.cmark_lines.specs.Rests.{row_of};
@@ -12,8 +12,8 @@ use cmark_lines::{Container, LineRest, interrupts};
 use cmark_text_parts::EntityLookup;
 use std::alloc::AllocError;
 
-/// Whether a lazy line may stand behind the leaf: behind a paragraph, or where one may begin behind a link reference definition
-/// (CommonMark 4.7 and 4.8) or an alert's tag (this profile's own).
+/// Whether a lazy line may follow the leaf: a paragraph, a link reference definition, after which a paragraph may begin (CommonMark 4.7 and
+/// 4.8), or an alert's tag (this profile's own).
 fn takes_lazy(leaf: OpenLeaf<'_>) -> bool
     ensures { TakesLazy leaf.entry result }
 {
@@ -42,7 +42,7 @@ impl<'a, E: EntityLookup> Pass<'a, E> {
     ghost use Rattle.cmark_blocks.specs.Steps.{FeedsLeaf, FeedsLazily};
     ghost use Rattle.cmark_blocks.specs.LineByLine.{IsLazy, FeedsRest, Feeds};
 
-    /// A line that lacks no prefix, behind the open leaf.
+    /// Feeds a line that lacks no prefix, after the open leaf.
     #[inline(always)]
     fn feed_leaf(&mut self, rest: LineRest<'a>) -> Result<(), AllocError>
         requires good { IsGood self.old }
@@ -59,8 +59,8 @@ impl<'a, E: EntityLookup> Pass<'a, E> {
         }
     }
 
-    /// The same, for another leaf than a paragraph. The line that it hands on stands in a function of its own, so that its room is cleared where such
-    /// a leaf is open alone.
+    /// Feeds a line that lacks no prefix to a leaf other than a paragraph. It passes the line to a function that is not inlined: Rattle
+    /// clears the locals of a function on entry, so that their room is cleared only for such leaves.
     #[inline(always)]
     fn feed_other_leaf(&mut self, rest: LineRest<'a>) -> Result<(), AllocError>
         requires good { IsGood self.old }
@@ -73,7 +73,7 @@ impl<'a, E: EntityLookup> Pass<'a, E> {
         self.feed_any_leaf(rest)
     }
 
-    /// The same, for each kind of leaf.
+    /// Feeds a line that lacks no prefix, by the kind of the open leaf.
     #[inline(never)]
     fn feed_any_leaf(&mut self, rest: LineRest<'a>) -> Result<(), AllocError>
         requires good { IsGood self.old }
@@ -98,8 +98,8 @@ impl<'a, E: EntityLookup> Pass<'a, E> {
         }
     }
 
-    /// A lazy line: it goes on with a paragraph, or begins one behind a link reference definition (CommonMark 4.7 and 4.8) or an
-    /// alert's tag (this profile's own).
+    /// Feeds a lazy line: it continues a paragraph, or begins one after a link reference definition (CommonMark 4.7 and 4.8) or an alert's
+    /// tag (this profile's own).
     fn feed_lazily(&mut self, rest: LineRest<'a>) -> Result<(), AllocError>
         requires good { IsGood self.old }
         requires line { IsRead self.old.text.now rest }
@@ -122,7 +122,7 @@ impl<'a, E: EntityLookup> Pass<'a, E> {
         }
     }
 
-    /// Whether a line that all but so many containers miss, the outermost ones, goes on with the open leaf all the same.
+    /// Whether this line, which only the `kept` outermost containers keep, continues the open leaf as a lazy line (CommonMark 5.1).
     fn is_lazy(&self, kept: usize, rest: LineRest<'a>) -> bool
         requires line { IsRead self.now.text.now rest }
         requires few { kept < length self.now.outer.items }
@@ -133,7 +133,7 @@ impl<'a, E: EntityLookup> Pass<'a, E> {
             && !self.block_interrupts(kept, rest, is_definition(self.outer[kept].container))
     }
 
-    /// What so many containers, the outermost ones, left of a line: the others miss it.
+    /// Feeds the rest of a line that only the `kept` outermost containers keep.
     fn feed_rest(&mut self, kept: usize, rest: LineRest<'a>) -> Result<(), AllocError>
         requires good { IsGood self.old }
         requires line { IsRead self.old.text.now rest }
@@ -154,7 +154,7 @@ impl<'a, E: EntityLookup> Pass<'a, E> {
         self.begin(rest)
     }
 
-    /// One more whole line of the text.
+    /// Feeds a whole line of the text.
     pub(crate) fn feed(&mut self, line: LineRest<'a>) -> Result<(), AllocError>
         requires good { IsGood self.old }
         requires line { IsRead self.old.text.now line }
@@ -172,7 +172,8 @@ impl<'a, E: EntityLookup> Pass<'a, E> {
         self.feed_around(line)
     }
 
-    /// The same, inside of containers. The line that it hands on stands in a function of its own, so that its room is cleared there alone.
+    /// Feeds a line inside of containers. It passes the line to a function that is not inlined, so that the room of its locals is cleared
+    /// only there.
     #[inline(always)]
     fn feed_around(&mut self, line: LineRest<'a>) -> Result<(), AllocError>
         requires good { IsGood self.old }
@@ -185,7 +186,7 @@ impl<'a, E: EntityLookup> Pass<'a, E> {
         self.feed_inside(line)
     }
 
-    /// What a line is inside of containers.
+    /// Feeds a line inside of containers: determines which of them keep it, and feeds the rest.
     #[inline(never)]
     fn feed_inside(&mut self, line: LineRest<'a>) -> Result<(), AllocError>
         requires good { IsGood self.old }

@@ -11,10 +11,10 @@ use cmark_text_parts::{EntityLookup, Options};
 use cmark_tree::Tree;
 use std::alloc::{AllocError, Global};
 
-/// What the block pass leaves of a text.
+/// The result of the block pass over a text.
 #[derive(Drop)]
 pub struct FirstPass<'a> {
-    /// The tree of the text's blocks. Its focus is the last one that stands in no other.
+    /// The tree of the text's blocks. Its focus is the last block that is inside no other.
     pub tree: Tree<Item>,
     /// The tables that the items point into, the link reference definitions, and the footnotes that are defined.
     pub allocations: Allocations<'a>,
@@ -24,7 +24,7 @@ impl<'a, E: EntityLookup> Pass<'a, E> {
     ghost use Rattle.cmark_blocks.specs.Runs.{IsGood};
     ghost use Rattle.cmark_blocks.specs.LineByLine.{FeedsAll, ClosesEverything};
 
-    /// All lines of the text from the next one on.
+    /// Feeds all lines of the text from the next one on.
     fn feed_all(&mut self) -> Result<(), AllocError>
         requires { IsGood self.old }
         ensures good { IsGood self.new }
@@ -38,7 +38,7 @@ impl<'a, E: EntityLookup> Pass<'a, E> {
         Ok(())
     }
 
-    /// Everything is closed at the end of the text.
+    /// Closes everything at the end of the text.
     fn close_everything(&mut self) -> Result<(), AllocError>
         requires { IsGood self.old }
         ensures good { IsGood self.new }
@@ -61,12 +61,12 @@ impl<'a, E: EntityLookup> Pass<'a, E> {
     }
 }
 
-/// The blocks of a text with the texts in them (CommonMark 3 to 5), its link reference definitions, of which the first one of
-/// a label stands in the table, and the labels of the footnotes that it defines, each with no use yet. `entities` says what
-/// entity names stand for. Of the options those for tables, footnotes, task lists, alerts (`ENABLE_GFM`), definition lists,
-/// metadata blocks and the attributes of headings have rules here; the others concern the texts in the blocks. The tree has at
-/// most four nodes a byte of the text, and the cells that are filled in at the end of rows, at most 262,144 a table. A line takes
-/// time in proportion to its bytes and to the containers around it. Fails only where memory is refused.
+/// The blocks of a text, with their texts (CommonMark 3 to 5), its link reference definitions, and the labels of the footnotes that it
+/// defines, each with no use yet. Of several definitions of one label the table has the first. `entities` gives the texts of entity names.
+/// The options for tables, footnotes, task lists, alerts (`ENABLE_GFM`), definition lists, metadata blocks and heading attributes matter
+/// here; the others concern the texts in the blocks. The tree has at most four nodes for each byte of the text, and the cells that are
+/// filled in at the end of rows, at most 262,144 for each table. A line takes time in proportion to its bytes and to the containers around
+/// it. Fails only if memory is refused.
 pub fn run_first_pass<'a, E: EntityLookup>(
     alloc: Global,
     text: &'a str,

@@ -1,4 +1,4 @@
-//! Footnote definitions that begin (this profile's own).
+//! The beginning of footnote definitions (this profile's own).
 
 ghost use Rattle.std.specs.Prelude.{◌≡◌, length, OnOk, IfOk};
 ghost use Rattle.cmark_grammar.specs.Labels.{normal_form};
@@ -18,7 +18,7 @@ use cmark_references::FootnoteDef;
 use cmark_text_parts::{CowStr, EntityLookup, FootnoteLabel};
 use std::alloc::{AllocError, Global};
 
-/// The label, of so many bytes, of the footnote definition that a line of this text begins.
+/// The label, of `size` bytes, of the footnote definition that a line of this text begins.
 fn label_in<'a>(text: &'a str, rest: LineRest<'a>, size: usize) -> &'a str
     requires line { IsRead text.now rest }
     requires closed { IsClosed (words_of (row_of rest)) size }
@@ -28,7 +28,7 @@ fn label_in<'a>(text: &'a str, rest: LineRest<'a>, size: usize) -> &'a str
     &words[2..2 + size]
 }
 
-/// Keeps a label of a footnote in its normal form, and notes that the footnote is defined: the first definition of a label stays.
+/// Keeps a label of a footnote in its normal form, and records that the footnote is defined: the first definition of a label stays.
 fn keep_label(
     alloc: Global,
     allocations: &mut Allocations<'_>,
@@ -52,7 +52,7 @@ impl<'a, E: EntityLookup> Pass<'a, E> {
     ghost use Rattle.cmark_blocks.specs.Runs.{IsGood};
     ghost use Rattle.cmark_blocks.specs.Steps.{Steps};
 
-    /// A footnote definition begins on a line.
+    /// Begins a footnote definition on a line.
     pub(crate) fn begin_footnote(
         &mut self,
         footnote: FootnoteStart,

@@ -1,4 +1,4 @@
-//! The text of a paragraph, gathered line by line (CommonMark 4.7).
+//! The text of a paragraph, read line by line (CommonMark 4.7).
 
 ghost use Rattle.std.specs.Prelude.{◌≡◌, ◌≤◌, true, length, string_bytes, IfOk};
 ghost use Rattle.cmark_grammar.specs.Columns.{bytes_of};
@@ -13,12 +13,12 @@ use cmark_lines::LineRest;
 use cmark_text_parts::EntityLookup;
 use std::alloc::AllocError;
 
-/// The beginning of a paragraph's text: the first line behind its indent, and some more lines behind the prefixes of the open
-/// containers, with the line ends between them.
+/// The beginning of a paragraph's text: the first line after its indent, and some more lines after the prefixes of the open containers,
+/// with the line ends between them.
 #[derive(Drop)]
 pub(crate) struct Gathered<'a> {
     pub text: String,
-    /// How many lines stand behind the first.
+    /// The number of lines after the first.
     pub lines: usize,
     /// The last line.
     pub last: LineRest<'a>,
@@ -56,7 +56,7 @@ impl<'a, E: EntityLookup> Pass<'a, E> {
     ghost use Rattle.cmark_leaves.specs.TextColumns.{IsRead};
     ghost use Rattle.cmark_blocks.specs.Gathered.{IsGathered, Gathers, GathersMore, Decides};
 
-    /// The first line, in this memory.
+    /// The first line, in the string `room`, which is reused.
     fn gather_first(&self, rest: LineRest<'a>, room: String) -> Result<Gathered<'a>, AllocError>
         requires line { IsRead self.now.text.now rest }
         ensures gathered { IfOk result (IsGathered self.now.text.now) }
@@ -72,7 +72,7 @@ impl<'a, E: EntityLookup> Pass<'a, E> {
         })
     }
 
-    /// One more line, if the paragraph goes on with one. Answers whether it does.
+    /// Adds a line, if there is one that continues the paragraph. Returns whether there is.
     fn gather_line(&self, gathered: &mut Gathered<'a>) -> Result<bool, AllocError>
         requires bare { self.now.bare ≡ false }
         requires gathered { IsGathered self.now.text.now gathered.old }
@@ -89,7 +89,7 @@ impl<'a, E: EntityLookup> Pass<'a, E> {
         Ok(true)
     }
 
-    /// One more line, and further ones until the text has this size. Answers whether the paragraph may go on with more.
+    /// Adds a line, and further ones until the text has `size` bytes. Returns whether the paragraph may have more lines.
     fn gather_lines(&self, gathered: &mut Gathered<'a>, size: usize) -> Result<bool, AllocError>
         requires bare { self.now.bare ≡ false }
         requires gathered { IsGathered self.now.text.now gathered.old }
@@ -108,9 +108,9 @@ impl<'a, E: EntityLookup> Pass<'a, E> {
         Ok(true)
     }
 
-    /// The text of the paragraph that this line may begin, as far as it is needed to know whether a link reference definition
-    /// stands in front of it. The text is searched only when it is twice as long as at the last search, so that it is read a few
-    /// times, however many lines it has. It stands in this memory.
+    /// The text of the paragraph that this line may begin, as far as it is needed to decide whether it begins with a link reference
+    /// definition. The text is searched only when it is twice as long as at the last search, so that it is read only a few times, however
+    /// many lines it has. The string `room` is reused for it.
     pub(crate) fn gather(
         &self,
         rest: LineRest<'a>,

@@ -1,4 +1,4 @@
-//! Headings, and what underlines a paragraph (CommonMark 4.2 and 4.3).
+//! Headings, and the underlines of paragraphs (CommonMark 4.2 and 4.3).
 
 ghost use Rattle.std.specs.Prelude.{◌≡◌, List, ℕ, Some, OnOk, IfOk, Bool};
 ghost use Rattle.cmark_text_parts.specs.Shown.{shown_options, level_number, text_bytes};
@@ -40,7 +40,7 @@ pub(crate) fn reads_attributes(options: Options) -> bool
     options.contains(Options::ENABLE_HEADING_ATTRIBUTES)
 }
 
-/// The node of a heading with these words between the braces of its attributes, which are kept, if there are any.
+/// The body of a heading with these words between the braces of its attributes, which are kept, if there are any.
 pub(crate) fn heading_body<'a>(
     builder: &mut Builder<'a>,
     level: HeadingLevel,
@@ -58,7 +58,7 @@ pub(crate) fn heading_body<'a>(
     Ok(ItemBody::AttributedHeading(level, index))
 }
 
-/// The attributes of a setext heading with these lines, if it has some, and they are read. This memory is for the lines.
+/// The attributes of a setext heading with these lines, if it has some and they are read. The string `room` is reused for the lines.
 fn setext_attributes(
     room: &mut String,
     alloc: Global,
@@ -77,7 +77,7 @@ fn setext_attributes(
     find_setext_attributes(room, alloc, text, before, last)
 }
 
-/// The node of a setext heading with these attributes, which are taken off the text that was drawn of it.
+/// The body of a setext heading with these attributes, which are removed from its drawn text.
 fn setext_body(
     builder: &mut Builder<'_>,
     level: HeadingLevel,
@@ -103,7 +103,7 @@ impl<'a, E: EntityLookup> Pass<'a, E> {
     ghost use Rattle.cmark_blocks.specs.Steps.{BeginsLeaf, MakesHeading};
     ghost use Rattle.cmark_blocks.specs.declared.state.OpenLeaf.TheVariants as leaf;
 
-    /// The words between the braces of a heading's attributes; none, where it has no attributes, or they are not read.
+    /// The words between the braces of a heading's attributes; empty if it has no attributes, or they are not read.
     fn attribute_words(&self, attributes: bool, rest: LineRest<'a>) -> &'a str
         requires { IsRead self.now.text.now rest }
         ensures { result.now ≡ bytes_of (attribute_columns attributes (content_columns (run 35 (words_of (row_of rest.entry))) (row_of rest.entry))) }
@@ -117,7 +117,7 @@ impl<'a, E: EntityLookup> Pass<'a, E> {
         }
     }
 
-    /// An ATX heading is a line of its own (CommonMark 4.2).
+    /// Adds an ATX heading, which is a line of its own (CommonMark 4.2).
     pub(crate) fn begin_heading(
         &mut self,
         level: HeadingLevel,
@@ -140,7 +140,7 @@ impl<'a, E: EntityLookup> Pass<'a, E> {
         Ok(())
     }
 
-    /// The paragraph becomes a heading, which ends with its underline.
+    /// Makes the paragraph a heading, which ends with its underline.
     pub(crate) fn underline(
         &mut self,
         from: usize,

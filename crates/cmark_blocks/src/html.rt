@@ -1,4 +1,4 @@
-//! HTML blocks: what begins them, and their lines (CommonMark 4.6).
+//! HTML blocks: their beginnings and their lines (CommonMark 4.6).
 
 ghost use Rattle.std.specs.Prelude.{◌≡◌, ℕ, OnOk, false};
 ghost use Rattle.cmark_grammar.specs.Openings.{HtmlBlock};
@@ -17,7 +17,7 @@ impl<'a, E: EntityLookup> Pass<'a, E> {
     ghost use Rattle.cmark_leaves.specs.TextColumns.{IsRead};
     ghost use Rattle.cmark_blocks.specs.Steps.{FeedsLeaf, BeginsLeaf};
 
-    /// HTML begins on a line, and may end on it (CommonMark 4.6).
+    /// Begins HTML on a line, which may also end it (CommonMark 4.6).
     pub(crate) fn begin_html(
         &mut self,
         kind: HtmlKind,
@@ -41,7 +41,7 @@ impl<'a, E: EntityLookup> Pass<'a, E> {
         Ok(())
     }
 
-    /// One more line behind an open HTML block: the block goes on or ends with it, or has ended before it.
+    /// Feeds a line after an open HTML block: the block continues or ends with it, or has ended before it.
     pub(crate) fn feed_html(&mut self, kind: HtmlKind, rest: LineRest<'a>) -> Result<(), AllocError>
         requires good { IsGood self.old }
         requires is { self.old.leaf ≡ leaf.Html kind }

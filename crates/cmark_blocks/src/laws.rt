@@ -1,4 +1,4 @@
-//! A theorem over the grammar of blocks, the contract of a function that does nothing.
+//! A theorem over the grammar of blocks: the contract of a function with an empty body.
 
 ghost use Rattle.std.specs.Prelude.{◌≡◌, ℕ, List};
 ghost use Rattle.cmark_grammar.specs.Answers.{Lookup};
@@ -10,8 +10,9 @@ ghost use Rattle.cmark_grammar.specs.SpanDocuments.{footnote_labels, segments};
 
 pub use cmark_grammar::block_laws::{nodes_are_few, tables_are_rectangular};
 
-/// A text has one document of blocks: two that it derives have the same nodes, of the same kinds with the same data and ranges (`nodes`), the
-/// same events and leaves in turn (`tokens`), and the same tables of link reference definitions and of footnotes (`references`, `footnotes`).
+/// A text has one document of blocks. Two documents that it derives have the same nodes, of the same kinds with the same data and ranges
+/// (`nodes`). They have the same events and leaves in order (`tokens`), and the same tables of link reference definitions and of footnotes
+/// (`references`, `footnotes`).
 pub fn one_blocks()
     ensures nodes { (text : List ℕ) (options : Options) (lookup : Lookup) (first second : BlockDocument)
         → Derives text options lookup first → Derives text options lookup second → first ≡ second }

@@ -1,4 +1,4 @@
-//! The end of the open leaf, whichever it is (CommonMark 4).
+//! The end of the open leaf, of any kind (CommonMark 4).
 
 ghost use Rattle.std.specs.Prelude.{◌≡◌, OnOk};
 
@@ -12,7 +12,7 @@ impl<'a, E: EntityLookup> Pass<'a, E> {
     ghost use Rattle.cmark_blocks.specs.Runs.{IsGood, IsVerbatim};
     ghost use Rattle.cmark_blocks.specs.Steps.{ClosesLeaf};
 
-    /// Closes fenced code, HTML or metadata where the last line ended.
+    /// Closes fenced code, HTML or metadata at the end of the last line.
     fn close_verbatim(&mut self, waits: Option<Stretch>) -> Result<(), AllocError>
         requires good { IsGood self.old }
         requires is { IsVerbatim self.old.leaf waits }
@@ -28,7 +28,7 @@ impl<'a, E: EntityLookup> Pass<'a, E> {
         Ok(())
     }
 
-    /// Closes the leaf, if one is open.
+    /// Closes the open leaf, if any.
     pub(crate) fn close_leaf(&mut self) -> Result<(), AllocError>
         requires { IsGood self.old }
         ensures good { IsGood self.new }

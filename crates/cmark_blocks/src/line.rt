@@ -1,4 +1,4 @@
-//! All that a line begins: containers, and then a leaf (CommonMark 3 to 5).
+//! The blocks that a line begins: containers, and then a leaf (CommonMark 3 to 5).
 
 ghost use Rattle.std.specs.Prelude.{true, ◌≡◌, ◌<◌, false, length, OnOk, IfOk, IfSome};
 ghost use Rattle.cmark_text_parts.specs.Shown.{shown_options};
@@ -18,7 +18,7 @@ impl<'a, E: EntityLookup> Pass<'a, E> {
     ghost use Rattle.cmark_blocks.specs.Steps.{Steps, Begins, BeginsAnew};
     ghost use Rattle.cmark_blocks.specs.Entered.{BeginsAs, BeginsFirst};
 
-    /// A blank line begins nothing. `bare` says that it is what stands behind the marker of an item.
+    /// Feeds a blank line, which begins nothing. `bare`: it is the rest of the line after an item's marker.
     pub(crate) fn pass_blank_line(&mut self, bare: bool)
         requires { IsGood self.old }
         ensures good { IsGood self.new }
@@ -30,7 +30,7 @@ impl<'a, E: EntityLookup> Pass<'a, E> {
         self.bare = bare;
     }
 
-    /// What a line begins, with no leaf open, where that is no container.
+    /// Begins the block of a line, with no leaf open, if that is not a container.
     fn begin_leaf(
         &mut self,
         opening: Opening<'a>,
@@ -64,8 +64,8 @@ impl<'a, E: EntityLookup> Pass<'a, E> {
         }
     }
 
-    /// The first thing that a line begins, with no leaf open: where it is a container, the line behind the container's marker is
-    /// answered, and whether the container is an item; none, where nothing of the line is left to begin. `bare` says that this is a line behind the marker of an item.
+    /// Begins the first block of a line, with no leaf open. For a container, returns the line after its marker, and whether the container
+    /// is an item. Returns `None` if nothing of the line is left to begin. `bare`: this is the rest of a line after an item's marker.
     #[inline(always)]
     fn begin_first(
         &mut self,
@@ -101,7 +101,7 @@ impl<'a, E: EntityLookup> Pass<'a, E> {
         Ok(None)
     }
 
-    /// All that a line begins, with no leaf open.
+    /// Begins all blocks of a line, with no leaf open.
     #[inline(always)]
     pub(crate) fn begin(&mut self, line: LineRest<'a>) -> Result<(), AllocError>
         requires good { IsGood self.old }
@@ -125,7 +125,7 @@ impl<'a, E: EntityLookup> Pass<'a, E> {
         self.begin_blocks(line)
     }
 
-    /// All that a line begins, with no leaf open: each container, and what stands behind the last one's marker.
+    /// Begins all blocks of a line, with no leaf open: each container, and the block after the last one's marker.
     #[inline(never)]
     fn begin_blocks(&mut self, line: LineRest<'a>) -> Result<(), AllocError>
         requires good { IsGood self.old }
@@ -145,7 +145,7 @@ impl<'a, E: EntityLookup> Pass<'a, E> {
         Ok(())
     }
 
-    /// All that a line begins, behind the open leaf, which ends before it.
+    /// Closes the open leaf, and begins all blocks of the line after it.
     pub(crate) fn begin_anew(&mut self, rest: LineRest<'a>) -> Result<(), AllocError>
         requires good { IsGood self.old }
         requires line { IsRead self.old.text.now rest }

@@ -1,4 +1,4 @@
-//! Lists and definition lists: what begins them, goes on with them, and their end (CommonMark 5.3).
+//! Lists and definition lists: their beginnings, their continuation, and their ends (CommonMark 5.3).
 
 ghost use Rattle.std.specs.Prelude.{◌≡◌, not, OnOk, unwrap_or, option_map};
 ghost use Rattle.cmark_items.specs.ItemNodes.{is_tight, list_number, shape, Element};
@@ -15,7 +15,7 @@ use cmark_lines::ItemStart;
 use cmark_text_parts::EntityLookup;
 use std::alloc::AllocError;
 
-/// What is said of a list whose end is seen.
+/// The flags of a list whose end is known.
 fn list_flags(loose: bool) -> ListFlags
     ensures { is_tight result ≡ not loose }
 {
@@ -44,7 +44,7 @@ impl<'a, E: EntityLookup> Pass<'a, E> {
     ghost use Rattle.cmark_blocks.specs.Runs.{IsGood};
     ghost use Rattle.cmark_blocks.specs.Steps.{LeavesTheRest, Steps};
 
-    /// A paragraph that was drawn in a definition list, and is no title, is put behind that list, which is closed.
+    /// Moves a paragraph that was drawn in a definition list, and is not a title, after that list, which is closed.
     pub(crate) fn release_title(&mut self)
         requires { IsGood self.old }
         ensures good { IsGood self.new }
@@ -58,7 +58,7 @@ impl<'a, E: EntityLookup> Pass<'a, E> {
         }
     }
 
-    /// Closes the list, if one is open. Of a definition list, the paragraph behind the last definition is no title.
+    /// Closes the open list, if any. A paragraph after the last definition of a definition list is not a title.
     pub(crate) fn close_list(&mut self)
         requires { IsGood self.old }
         ensures good { IsGood self.new }
@@ -72,7 +72,7 @@ impl<'a, E: EntityLookup> Pass<'a, E> {
         }
     }
 
-    /// A block begins that is no item.
+    /// Begins a block that is not an item.
     #[inline(always)]
     pub(crate) fn begin_block(&mut self)
         requires { IsGood self.old }
@@ -87,7 +87,7 @@ impl<'a, E: EntityLookup> Pass<'a, E> {
         self.inner.add_block();
     }
 
-    /// The same, whether or not a list is open.
+    /// Closes the open list, if any, and begins a block that is not an item.
     #[inline(never)]
     fn begin_block_behind_list(&mut self)
         requires { IsGood self.old }
@@ -99,7 +99,7 @@ impl<'a, E: EntityLookup> Pass<'a, E> {
         self.inner = self.inner.with_block();
     }
 
-    /// A paragraph begins, which may be a title of the definition list that is open.
+    /// Begins a paragraph, which may be a title of the open definition list.
     #[inline(always)]
     pub(crate) fn begin_text_block(&mut self)
         requires { IsGood self.old }
@@ -114,7 +114,7 @@ impl<'a, E: EntityLookup> Pass<'a, E> {
         self.inner.add_paragraph();
     }
 
-    /// The same, whether or not a list is open.
+    /// Begins a paragraph, which may be a title: an open definition list stays open, and any other list is closed.
     #[inline(never)]
     fn begin_text_behind_list(&mut self)
         requires { IsGood self.old }
@@ -130,7 +130,7 @@ impl<'a, E: EntityLookup> Pass<'a, E> {
         self.inner = self.inner.with_paragraph();
     }
 
-    /// A list begins at this byte offset with this item.
+    /// Begins a list at this byte offset with this item.
     fn begin_list(&mut self, item: ItemStart, start: usize) -> Result<(), AllocError>
         requires good { IsGood self.old }
         requires number { list_number item.delimiter (unwrap_or item.number 0) ≡ item.number }
@@ -160,7 +160,7 @@ impl<'a, E: EntityLookup> Pass<'a, E> {
         Ok(())
     }
 
-    /// The list that is open goes on with this item, if it is of the same kind; else one begins at this byte offset.
+    /// Continues the open list with this item, if it is of the same kind; else begins a list at this byte offset.
     pub(crate) fn join_list(&mut self, item: ItemStart, start: usize) -> Result<(), AllocError>
         requires good { IsGood self.old }
         requires number { list_number item.delimiter (unwrap_or item.number 0) ≡ item.number }
@@ -179,7 +179,7 @@ impl<'a, E: EntityLookup> Pass<'a, E> {
         }
     }
 
-    /// The paragraph behind which a definition begins at this byte offset becomes its title, in the definition list that was open before
+    /// Makes the paragraph before a definition, which begins at this byte offset, its title, in the definition list that was open before
     /// it, or in a new one around it.
     fn make_title(&mut self, title: Title, start: usize) -> Result<(), AllocError>
         requires { IsGood self.old }
@@ -200,7 +200,7 @@ impl<'a, E: EntityLookup> Pass<'a, E> {
         Ok(())
     }
 
-    /// A definition begins at this byte offset, behind its title or another definition.
+    /// Begins a definition at this byte offset, after its title or another definition.
     pub(crate) fn join_definitions(&mut self, width: usize, start: usize) -> Result<(), AllocError>
         requires { IsGood self.old }
         ensures good { IsGood self.new }

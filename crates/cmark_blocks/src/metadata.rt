@@ -18,9 +18,8 @@ impl<'a, E: EntityLookup> Pass<'a, E> {
     ghost use Rattle.cmark_blocks.specs.Runs.{IsGood};
     ghost use Rattle.cmark_blocks.specs.Steps.{BeginsLeaf, FeedsLeaf};
 
-    /// Whether the lines behind this one are those of a metadata block of this kind: one of them ends it, and the first is neither
-    /// that one nor blank. Of a text whose lines begin such blocks the lines are read once: where no line ends a block, none
-    /// further on begins one.
+    /// Whether the lines after this line form a metadata block of this kind: a later line ends it, and the first one is not blank and does
+    /// not end it. If no line ends a block, none later begins one, so that the lines of a text are read only once for this.
     fn holds_metadata(&self, kind: MetadataBlockKind, rest: LineRest<'a>) -> bool
         requires bare { self.now.bare ≡ false }
         requires within { IsIn self.now.text.now rest }
@@ -57,7 +56,7 @@ impl<'a, E: EntityLookup> Pass<'a, E> {
         }
     }
 
-    /// A metadata block begins on a line.
+    /// Begins a metadata block on a line.
     pub(crate) fn begin_metadata(
         &mut self,
         kind: MetadataBlockKind,
@@ -76,7 +75,7 @@ impl<'a, E: EntityLookup> Pass<'a, E> {
         Ok(())
     }
 
-    /// One more line of a metadata block: the line that ends it, or one that stands in it as it is.
+    /// Feeds a line of a metadata block: the line that ends it, or a literal one.
     pub(crate) fn feed_metadata(
         &mut self,
         kind: MetadataBlockKind,

@@ -1,4 +1,4 @@
-//! Paragraphs: what begins them, their lines, and their end (CommonMark 4.8).
+//! Paragraphs: their beginnings, their lines, and their ends (CommonMark 4.8).
 
 ghost use Rattle.std.specs.Prelude.{◌≡◌, List, ℕ, map, OnOk};
 ghost use Rattle.cmark_block_model.specs.BlockPass.{kept_lines};
@@ -14,7 +14,7 @@ use cmark_lines::{LineRest, interrupts, underlines};
 use cmark_text_parts::EntityLookup;
 use std::alloc::AllocError;
 
-/// Keeps a line of a paragraph behind which another one stands, where attributes of headings are read: the paragraph may become one.
+/// Keeps an earlier line of a paragraph, if attributes of headings are read: the paragraph may become a heading.
 fn keep_line<'a>(
     lines: &mut Vec<LineRest<'a>>,
     attributes: bool,
@@ -35,7 +35,7 @@ impl<'a, E: EntityLookup> Pass<'a, E> {
     ghost use Rattle.cmark_blocks.specs.Runs.{IsGood};
     ghost use Rattle.cmark_blocks.specs.Steps.{IsBehindParagraph, AddsLine, BeginsParagraph, FeedsLeaf, ClosesLeaf};
 
-    /// A paragraph begins on a line, with no leaf open.
+    /// Begins a paragraph on a line, with no leaf open.
     pub(crate) fn begin_paragraph(&mut self, rest: LineRest<'a>) -> Result<(), AllocError>
         requires good { IsGood self.old }
         requires line { IsRead self.old.text.now rest }
@@ -52,7 +52,7 @@ impl<'a, E: EntityLookup> Pass<'a, E> {
         Ok(())
     }
 
-    /// One more line of a paragraph. If it does not touch the last one, the lines that do, from this byte offset on, become a node.
+    /// Adds a line to a paragraph. If it does not touch the last one, the lines that do, from this byte offset on, become a node.
     #[inline(always)]
     pub(crate) fn add_to_paragraph(
         &mut self,
@@ -79,8 +79,8 @@ impl<'a, E: EntityLookup> Pass<'a, E> {
         Ok(())
     }
 
-    /// One more line behind a paragraph with this last line, which the lines from this byte offset on touch: an underline, one more
-    /// line of its text, or what ends it.
+    /// Feeds a line after a paragraph with this last line, whose touching lines begin at this byte offset. The line is an underline, text
+    /// of the paragraph, or ends it.
     #[inline(always)]
     pub(crate) fn feed_paragraph(
         &mut self,
@@ -105,8 +105,8 @@ impl<'a, E: EntityLookup> Pass<'a, E> {
         self.feed_marked(from, last, rest)
     }
 
-    /// The same, where the line is not blank. It stands in a function of its own, as what most lines do not come to: the locals of a function
-    /// are cleared with each call.
+    /// Feeds a line that is not blank after a paragraph. It is a separate function because most lines do not reach it, and the locals of a
+    /// function are cleared with each call.
     #[inline(never)]
     fn feed_marked(
         &mut self,
@@ -132,7 +132,7 @@ impl<'a, E: EntityLookup> Pass<'a, E> {
         }
     }
 
-    /// Closes a paragraph, whose last line this is; the lines that touch it begin at this byte offset.
+    /// Closes a paragraph with this last line; the lines that touch it begin at this byte offset.
     #[inline(always)]
     pub(crate) fn close_paragraph(
         &mut self,

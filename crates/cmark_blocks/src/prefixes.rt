@@ -1,4 +1,4 @@
-//! The prefixes of the open containers in front of a line (CommonMark 5).
+//! The prefixes of the open containers at the beginning of a line (CommonMark 5).
 
 ghost use Rattle.std.specs.Prelude.{◌≡◌, ◌+◌, ℕ, [], Bool, Option, None, false, option_map};
 ghost use Rattle.cmark_grammar.specs.Containers.{BlockQuote, Item as ListItem, Footnote, keeps};
@@ -16,7 +16,7 @@ use cmark_scan_blocks::LineStart;
 use cmark_text_parts::Options;
 use cmark_tree::Tree;
 
-/// Whether these options ask for footnotes as they were read before.
+/// Whether these options ask for footnotes in the old style.
 fn reads_old_footnotes(options: Options) -> bool
     ensures { result ≡ (shown_options options).old_footnotes }
 {
@@ -38,7 +38,7 @@ fn container_of(body: ItemBody, options: Options) -> Option<Container>
     }
 }
 
-/// The line behind a block quote's prefix, if it has one (CommonMark 5.1).
+/// The line after a block quote's prefix, if it has one (CommonMark 5.1).
 fn behind_block_quote<'a>(line: LineStart<'a>) -> Option<LineStart<'a>>
     ensures { (at line_end : ℕ) → option_map (row_from at line_end) result ≡ keeps (BlockQuote None) false (row_from at line_end line.entry) }
 {
@@ -51,7 +51,7 @@ fn behind_block_quote<'a>(line: LineStart<'a>) -> Option<LineStart<'a>>
     }
 }
 
-/// The line behind so many columns of spaces and tabs, or behind fewer if nothing follows them (CommonMark 5.2).
+/// The line after `width` columns of spaces and tabs, or after fewer if nothing follows them (CommonMark 5.2).
 fn behind_width<'a>(line: LineStart<'a>, width: usize) -> Option<LineStart<'a>>
     ensures { (at line_end delimiter : ℕ) (number : Option ℕ) (task : Option Bool) → option_map (row_from at line_end) result ≡ keeps (ListItem delimiter number width task) false (row_from at line_end line.entry) }
 {
@@ -62,8 +62,8 @@ fn behind_width<'a>(line: LineStart<'a>, width: usize) -> Option<LineStart<'a>>
     Some(behind)
 }
 
-/// The line behind a footnote definition's prefix, if it keeps the line; as such definitions were read before, the line as it is, which they hold
-/// (this profile's own).
+/// The line after a footnote definition's prefix, if it keeps the line. In the old style it is the whole line, marked as held (this
+/// profile's own).
 fn behind_footnote<'a>(line: LineStart<'a>, old: bool) -> Option<LineStart<'a>>
     ensures { (at line_end : ℕ) → option_map (row_from at line_end) result ≡ keeps (Footnote [] old 0) false (row_from at line_end line.entry) }
 {
@@ -80,7 +80,7 @@ fn behind_footnote<'a>(line: LineStart<'a>, old: bool) -> Option<LineStart<'a>>
     Some(behind)
 }
 
-/// The line behind this container's prefix, if the container keeps the line.
+/// The line after this container's prefix, if the container keeps the line.
 fn behind_prefix<'a>(container: Container, line: LineStart<'a>) -> Option<LineStart<'a>>
     ensures { (at line_end : ℕ) → option_map (row_from at line_end) result ≡ keeps (shown_container container) false (row_from at line_end line.entry) }
 {
@@ -92,12 +92,13 @@ fn behind_prefix<'a>(container: Container, line: LineStart<'a>) -> Option<LineSt
     }
 }
 
-/// How many of the open containers, from the outermost on, a line continues (CommonMark 5). The open containers are the block
-/// quotes, the list items and the footnote definitions on the tree's path; its other nodes are passed over. The line's start moves behind the prefixes of
-/// those containers: where one lacks its prefix, it stands behind the prefixes before it. Nothing else changes.
+/// The number of open containers, from the outermost on, that a line continues (CommonMark 5). The open containers are the block quotes,
+/// the list items, the definitions of definition lists and the footnote definitions on the tree's path; its other nodes are ignored. `line`
+/// moves past the prefixes of those containers: if a container's prefix is missing, it is after the prefixes before that. Nothing else
+/// changes.
 ///
-/// A blank line directly behind an item whose first line was blank counts as kept, though it ends the item: the tree does not
-/// tell what lines an item has. The options say how footnote definitions are read.
+/// A blank line directly after an item whose first line was blank counts as kept, though it ends the item: the tree does not contain which
+/// lines an item has. `options` decide how footnote definitions are read.
 pub fn scan_containers(tree: &Tree<Item>, line: &mut LineStart<'_>, options: Options) -> usize
     requires { IsTree tree.now }
     ensures count { (z : Zip Item) → Holds tree.now z → (at line_end : ℕ) → result ≡ (kept (containers_of (shown_options options) z.up) (row_from at line_end line.old)).count }
@@ -117,9 +118,8 @@ pub fn scan_containers(tree: &Tree<Item>, line: &mut LineStart<'_>, options: Opt
     count
 }
 
-/// How many bytes of the prefixes of the open containers stand in front of the line that these bytes begin with, which ends
-/// before the first LF or CR: the bytes that `scan_containers` passes. Of a tab that belongs to a prefix in part, the byte is
-/// counted.
+/// The number of prefix bytes of the open containers at the beginning of the line in `bytes`, which ends before the first LF or CR.
+/// `scan_containers` passes these bytes. A tab that belongs to a prefix in part is counted.
 pub fn skip_container_prefixes(tree: &Tree<Item>, bytes: &[u8], options: Options) -> usize
     requires { IsTree tree.now }
     ensures { (z : Zip Item) → Holds tree.now z → (at line_end : ℕ) → begin_of (kept (containers_of (shown_options options) z.up) (line_of at line_end bytes.now)).rest ≡ at + result }

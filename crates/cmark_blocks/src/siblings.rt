@@ -1,4 +1,4 @@
-//! The blocks of a container so far, and the list that the last one is an item of (CommonMark 5.3).
+//! The blocks of a container so far, and the list of the last one, if it is an item (CommonMark 5.3).
 
 ghost use Rattle.std.specs.Prelude.{◌≡◌, ◌||◌, None, is_some, option_map};
 ghost use Rattle.cmark_block_model.specs.BlockPass.{siblings_with_block, siblings_with_paragraph, siblings_with_item, siblings_behind_item, definitions_in, place_of};
@@ -7,40 +7,40 @@ ghost use Rattle.cmark_block_model.specs.OpenBlocks.{no_siblings};
 ghost use Rattle.cmark_blocks.specs.Titles.{list_around, with_title};
 ghost use Rattle.cmark_blocks.specs.Shown.{shown_list, shown_siblings, list_of};
 
-/// A list to which further items may come, or titles and definitions.
+/// A list that may get further items, or titles and definitions.
 #[derive(Clone, Copy)]
 pub(crate) struct OpenList {
     /// The number of the first item; 0 for a bullet.
     pub number: u64,
-    /// Where its last item ends: a byte offset of the text.
+    /// The end of its last item, a byte offset of the text.
     pub end: usize,
-    /// The bullet, or what stands behind the number; the marker of definitions, `:`, where they stand in it.
+    /// The bullet, or the byte after the number; in a definition list the marker of definitions, `:`.
     pub delimiter: u8,
-    /// It is known to be loose.
+    /// Whether it is known to be loose.
     pub loose: bool,
 }
 
-/// What was known before a paragraph that a definition may make a title (this profile's own).
+/// The state before a paragraph that a definition may make a title (this profile's own).
 #[derive(Clone, Copy)]
 pub(crate) struct Title {
-    /// The definition list that was open: the paragraph is drawn in it, and it is open still.
+    /// The definition list that was open: the paragraph is drawn in it, and it is still open.
     pub list: Option<OpenList>,
-    /// A blank line stood between two blocks.
+    /// Whether a blank line separated two blocks.
     pub parted: bool,
 }
 
 /// The blocks of a container so far.
 #[derive(Clone, Copy)]
 pub(crate) struct Siblings {
-    /// The list that the last one is an item of, or a definition.
+    /// The list of the last block, if that is an item or a definition.
     pub list: Option<OpenList>,
-    /// What was known before the last one, where it is a paragraph.
+    /// The state before the last block, if that is a paragraph.
     pub title: Option<Title>,
-    /// There is one, or a blank line, or blanks alone behind the container's marker.
+    /// Whether there is a block, a blank line, or only blanks after the container's marker.
     pub has_line: bool,
-    /// A blank line stands at the end. Blanks behind the container's marker are none.
+    /// Whether a blank line is at the end. Blanks after the container's marker do not count.
     pub blank: bool,
-    /// A blank line stands before one of them, but in front of an item of the list that stands there.
+    /// Whether a blank line comes before a block, other than an item of the same list.
     pub parted: bool,
 }
 
@@ -48,7 +48,7 @@ pub(crate) struct Siblings {
 pub(crate) const DEFINITION_DELIMITER: u8 = b':';
 
 impl Siblings {
-    /// None yet.
+    /// No blocks yet.
     pub(crate) fn none() -> Siblings
         ensures { shown_siblings result ≡ no_siblings }
     {
@@ -61,7 +61,7 @@ impl Siblings {
         }
     }
 
-    /// One more, which is no item of a list that is open.
+    /// With another block, which is not an item of an open list.
     pub(crate) fn with_block(self) -> Siblings
         ensures { shown_siblings result ≡ siblings_with_block (shown_siblings self) }
     {
@@ -74,7 +74,7 @@ impl Siblings {
         }
     }
 
-    /// One more, which is no item of a list, where no list is open.
+    /// With another block, which is not an item, if no list is open.
     #[inline(always)]
     pub(crate) fn add_block(&mut self)
         requires { (shown_siblings self.old).list ≡ None }
@@ -86,7 +86,7 @@ impl Siblings {
         self.blank = false;
     }
 
-    /// One more, a paragraph. A definition list that is open stays so, for the paragraph may be a title in it.
+    /// With another block, a paragraph. An open definition list stays open, for the paragraph may be a title in it.
     pub(crate) fn with_paragraph(self) -> Siblings
         ensures { shown_siblings result ≡ siblings_with_paragraph (shown_siblings self) }
     {
@@ -99,7 +99,7 @@ impl Siblings {
         }
     }
 
-    /// One more, a paragraph, where no list is open.
+    /// With another block, a paragraph, if no list is open.
     #[inline(always)]
     pub(crate) fn add_paragraph(&mut self)
         requires { (shown_siblings self.old).list ≡ None }
@@ -120,14 +120,14 @@ impl Siblings {
         self.list.is_some() || self.list_around().is_some()
     }
 
-    /// The definition list that is open, if one is.
+    /// The open definition list, if any.
     pub(crate) fn definitions(self) -> Option<OpenList>
         ensures { option_map shown_list result ≡ definitions_in (shown_siblings self).list }
     {
         self.list_of(DEFINITION_DELIMITER)
     }
 
-    /// The definition list in which the last one is drawn, where it is a paragraph, and such a list was open before it.
+    /// The definition list in which the last block is drawn, if that is a paragraph and such a list was open before it.
     pub(crate) fn list_around(self) -> Option<OpenList>
         ensures { option_map shown_list result ≡ list_around (shown_siblings self).title }
     {
@@ -137,14 +137,14 @@ impl Siblings {
         }
     }
 
-    /// Whether a definition may begin behind the last one: it is a paragraph, or another definition.
+    /// Whether a definition may follow the last block: it is a paragraph, or another definition.
     pub(crate) fn may_define(self) -> bool
         ensures { result ≡ is_behind_title (place_of (shown_siblings self)) }
     {
         self.title.is_some() || self.definitions().is_some()
     }
 
-    /// The list that is open, if it has this character.
+    /// The open list, if it has this character.
     pub(crate) fn list_of(self, delimiter: u8) -> Option<OpenList>
         ensures { option_map shown_list result ≡ list_of delimiter (shown_siblings self).list }
     {
@@ -154,8 +154,8 @@ impl Siblings {
         }
     }
 
-    /// The last one, a paragraph, is the title of a definition that begins at this byte offset: it goes on with the definition list that
-    /// was open before it, or begins one.
+    /// With the last block, a paragraph, as the title of a definition that begins at this byte offset. It continues the definition list
+    /// that was open before it, or begins one.
     pub(crate) fn behind_title(self, title: Title, start: usize) -> Siblings
         ensures { shown_siblings result ≡ with_title (option_map shown_list title.list) title.parted start (shown_siblings self) }
     {
@@ -183,7 +183,7 @@ impl Siblings {
         }
     }
 
-    /// One more item of this list.
+    /// With another item of this list.
     pub(crate) fn with_item_of(self, list: OpenList) -> Siblings
         ensures { shown_siblings result ≡ siblings_with_item (shown_list list) (shown_siblings self) }
     {
@@ -197,7 +197,7 @@ impl Siblings {
         }
     }
 
-    /// The last item ended at this byte offset, with these blocks in it.
+    /// With the last item, which ended at this byte offset with these blocks in it.
     pub(crate) fn behind_item(self, inside: Siblings, end: usize) -> Siblings
         ensures { shown_siblings result ≡ siblings_behind_item end (shown_siblings inside) (shown_siblings self) }
     {

@@ -10,23 +10,23 @@ use cmark_lines::{Container, HtmlKind, LineRest};
 use cmark_text_parts::{EntityLookup, MetadataBlockKind, Options};
 use std::alloc::{AllocError, Global};
 
-/// The leaf that is open, if one is.
+/// The open leaf, if any.
 #[derive(Clone, Copy)]
 pub(crate) enum OpenLeaf<'a> {
-    /// None.
+    /// No leaf is open.
     Closed,
-    /// None yet, directly behind an alert's tag.
+    /// No leaf is open yet, directly after an alert's tag.
     BehindTag,
-    /// A paragraph: the byte offset where the lines begin that touch the last one, and that line. They become a node when it is
-    /// seen what follows.
+    /// A paragraph: the byte offset of the first line that touches the last one, and the last line. They become a node when the next line
+    /// shows whether they continue.
     Paragraph(usize, LineRest<'a>),
-    /// A link reference definition, with so many lines to come.
+    /// A link reference definition, and the number of its lines to come.
     Definition(usize),
-    /// A table that was drawn to its end, with so many lines to come.
+    /// A table that was drawn to its end, and the number of its lines to come.
     Table(usize),
-    /// Indented code: the stretch of the text that waits, and where its last line ends.
+    /// Indented code: the stretch of the text that waits, and the end of its last line, a byte offset.
     Indented(Option<Stretch>, usize),
-    /// Fenced code: its fence's character, size and indent, and the stretch of the text that waits.
+    /// Fenced code: its fence's character, length and indent in columns, and the stretch of the text that waits.
     Fenced(u8, usize, usize, Option<Stretch>),
     /// HTML.
     Html(HtmlKind),
@@ -34,10 +34,10 @@ pub(crate) enum OpenLeaf<'a> {
     Metadata(MetadataBlockKind, Option<Stretch>),
 }
 
-/// How many open containers there is room for at once: few texts nest deeper.
+/// The number of open containers for which there is room from the beginning: few texts nest deeper.
 const USUAL_DEPTH: usize = 16;
 
-/// An open container, with the siblings that it stands behind.
+/// An open container, with the siblings before it.
 #[derive(Clone, Copy)]
 pub(crate) struct OpenContainer {
     pub container: Container,
@@ -57,14 +57,14 @@ pub(crate) struct Pass<'a, E> {
     pub inner: Siblings,
     /// The open containers, the outermost first.
     pub outer: Vec<OpenContainer>,
-    /// The innermost container is an item whose first line was blank, and came last.
+    /// Whether the last line was the blank first line of an item, which is the innermost container.
     pub bare: bool,
     pub leaf: OpenLeaf<'a>,
-    /// The blank lines behind indented code; where attributes of headings are read, the lines of a paragraph before its last one.
+    /// The blank lines after indented code, or, if attributes of headings are read, the earlier lines of a paragraph.
     pub blank_lines: Vec<LineRest<'a>>,
-    /// Where the next line begins.
+    /// The byte offset at which the next line begins.
     pub line_end: usize,
-    /// Memory for the text of a paragraph: what stands in it means nothing.
+    /// A string that is reused for the text of a paragraph; its content is irrelevant.
     pub room: String,
 }
 
@@ -73,7 +73,7 @@ impl<'a, E: EntityLookup> Pass<'a, E> {
     ghost use Rattle.cmark_blocks.specs.Runs.{Runs, IsGood};
     ghost use Rattle.cmark_text_parts.specs.Shown.{shown_options};
 
-    /// Before the first line of this text, of which these options say what is read.
+    /// The state before the first line of this text, with these options.
     #[tactic(auto, using(crate::proofs::ReferenceSteps::no_reference))]
     pub(crate) fn new(
         alloc: Global,
@@ -84,7 +84,7 @@ impl<'a, E: EntityLookup> Pass<'a, E> {
         ensures good { IfOk result IsGood }
         ensures runs { IfOk result (Runs E.replacement text.entry.now (shown_options options) (E.replacement entities.entry.now) at_start) }
     {
-        // The list is made first: where memory is then refused to the builder, it is let go by one call.
+        // The list is made first: if memory is then refused to the builder, one call frees it.
         let outer = Vec::with_capacity(alloc, USUAL_DEPTH)?;
         let builder = Builder::new(alloc)?;
         Ok(Pass {

@@ -1,4 +1,4 @@
-//! Tables (GFM 4.10). A table is drawn as far as its lines go where it begins; these lines are then passed over.
+//! Tables (GFM 4.10). A table is drawn to its end when it begins; its lines are then skipped.
 
 ghost use Rattle.std.specs.Prelude.{◌≡◌, ◌<◌, ◌≤◌, List, ℕ, Some, false, length, nat_lt, OnOk, IfOk, IfSome};
 ghost use Rattle.cmark_block_model.specs.Drawing.{Drawing};
@@ -24,7 +24,7 @@ use cmark_lines::{
 use cmark_text_parts::{CowStr, EntityLookup, Options};
 use std::alloc::AllocError;
 
-/// How many cells are filled in at most in one table (this profile's own).
+/// The largest number of filled cells in one table (this profile's own).
 const MOST_FILLED: usize = 262_144;
 
 /// Whether tables are read.
@@ -35,8 +35,8 @@ fn reads_tables(options: Options) -> bool
     options.contains(Options::ENABLE_TABLES)
 }
 
-/// Whether more cells are to be filled in at the line's end, where it is a row of a table with so many columns, than still may be. They
-/// are no more than the columns, so most rows need not be counted for it.
+/// Whether the line, as a row of a table with `columns` columns, needs more than the `left` cells that may still be filled in. A row needs
+/// at most `columns` cells, so for most rows they need not be counted.
 #[inline]
 fn misses_too_many(row: LineRest<'_>, columns: usize, left: usize) -> bool
     ensures { result ≡ nat_lt left (count_missing columns (row_of row.entry)) }
@@ -62,8 +62,8 @@ impl<'a, E: EntityLookup> Pass<'a, E> {
     ghost use Rattle.cmark_blocks.specs.Steps.{BeginsText, FeedsLeaf};
     ghost use Rattle.cmark_blocks.specs.TablesAhead.{TellsHead, TellsInterrupts, TellsBlock, GoesOnWithRow, DrawsRows, BeginsTable};
 
-    /// How many columns the table has whose head the line is, and its delimiter row; none, where the line is none. The line and those
-    /// ahead are seen inside so many containers, the outermost ones.
+    /// The number of columns of the table whose head this line is, and its delimiter row; `None` if it is not a head. The line and those
+    /// ahead are seen from inside the `count` outermost containers.
     #[inline]
     fn table_head(&self, count: usize, rest: LineRest<'a>) -> Option<(usize, LineRest<'a>)>
         requires line { IsRead self.now.text.now rest }
@@ -83,8 +83,8 @@ impl<'a, E: EntityLookup> Pass<'a, E> {
         }
     }
 
-    /// Whether the line begins a table that interrupts a paragraph: a pipe stands in front of it. The line and those ahead are seen inside
-    /// so many containers, the outermost ones.
+    /// Whether the line begins a table that interrupts a paragraph: it begins with a pipe. The line and those ahead are seen from inside
+    /// the `count` outermost containers.
     #[inline]
     pub(crate) fn table_interrupts(&self, count: usize, rest: LineRest<'a>) -> bool
         requires line { IsRead self.now.text.now rest }
@@ -97,8 +97,8 @@ impl<'a, E: EntityLookup> Pass<'a, E> {
         self.table_head(count, rest).is_some()
     }
 
-    /// Whether the line interrupts a paragraph as the head of a table, or, where definitions may begin, by the marker of one. The line and
-    /// those ahead are seen inside so many containers, the outermost ones.
+    /// Whether the line interrupts a paragraph as the head of a table, or, if definitions may begin, by a definition's marker. The line and
+    /// those ahead are seen from inside the `count` outermost containers.
     #[inline]
     pub(crate) fn block_interrupts(
         &self,
@@ -113,7 +113,7 @@ impl<'a, E: EntityLookup> Pass<'a, E> {
         self.table_interrupts(count, rest) || (may_define && begins_definition(rest, self.options))
     }
 
-    /// The line behind this one, inside all open containers, if it is one more row of a table with so many columns, in which so many cells
+    /// The line after this one, inside all open containers, if it is another row of a table with `columns` columns, in which `left` cells
     /// may still be filled in.
     fn row_ahead(&self, columns: usize, left: usize, last: LineRest<'a>) -> Option<LineRest<'a>>
         requires bare { self.now.bare ≡ false }
@@ -131,8 +131,8 @@ impl<'a, E: EntityLookup> Pass<'a, E> {
         }
     }
 
-    /// The rows behind the delimiter row of a table with so many columns, as nodes behind the last sibling. Answers how many there are, and
-    /// where the last line of the table ends.
+    /// Adds the rows after the delimiter row of a table with `columns` columns as nodes after the last sibling. Returns their number, and
+    /// the end of the table's last line, a byte offset.
     fn draw_rows(
         &mut self,
         columns: usize,
@@ -159,7 +159,7 @@ impl<'a, E: EntityLookup> Pass<'a, E> {
         Ok((count, last.line_end()))
     }
 
-    /// A table with so many columns and this delimiter row begins on a line, with no leaf open.
+    /// Begins a table with `columns` columns and this delimiter row on a line, with no leaf open.
     fn begin_table(
         &mut self,
         columns: usize,
@@ -185,7 +185,7 @@ impl<'a, E: EntityLookup> Pass<'a, E> {
         Ok(())
     }
 
-    /// A line begins a table, or else a paragraph, with no leaf open.
+    /// Begins a table on a line, or else a paragraph, with no leaf open.
     #[inline(always)]
     pub(crate) fn begin_text(&mut self, rest: LineRest<'a>) -> Result<(), AllocError>
         requires good { IsGood self.old }
@@ -202,7 +202,7 @@ impl<'a, E: EntityLookup> Pass<'a, E> {
         self.begin_table_or_text(rest)
     }
 
-    /// The same, whether or not tables are read.
+    /// Begins a table on a line, or else a paragraph; tables may be read or not.
     #[inline(never)]
     fn begin_table_or_text(&mut self, rest: LineRest<'a>) -> Result<(), AllocError>
         requires good { IsGood self.old }
@@ -219,7 +219,7 @@ impl<'a, E: EntityLookup> Pass<'a, E> {
         }
     }
 
-    /// One more line behind the head of a table, to which so many further lines belong.
+    /// Feeds a line after the head of a table, of which `left` lines are left.
     pub(crate) fn feed_table(&mut self, left: usize, rest: LineRest<'a>) -> Result<(), AllocError>
         requires good { IsGood self.old }
         requires line { IsRead self.old.text.now rest }

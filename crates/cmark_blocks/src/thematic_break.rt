@@ -13,7 +13,7 @@ impl<'a, E: EntityLookup> Pass<'a, E> {
     ghost use Rattle.cmark_blocks.specs.Runs.{IsGood};
     ghost use Rattle.cmark_blocks.specs.Steps.{BeginsLeaf};
 
-    /// A thematic break is a line of its own (CommonMark 4.1).
+    /// Adds a thematic break, which is a line of its own (CommonMark 4.1).
     pub(crate) fn begin_thematic_break(&mut self, rest: LineRest<'a>) -> Result<(), AllocError>
         requires { IsGood self.old }
         ensures good { IsGood self.new }

@@ -22,7 +22,7 @@ module _ {T : Type 0} where
   pub placed-either : (t : Tree T) (a b : Forest T) (up : List (Opened T)) → Is t a up ⊎ Is t b up → IsPlaced t
   placed-either t a b up e = elim e [ inl is ↦ (a, up, is) | inr is ↦ (b, up, is) ]
 
-  -- the number that `peek_up` answers is a node's
+  -- the number that `peek_up` returns is a node's
   pub parent-node : (t : Tree T) (i : TreeIndex) → IsPlaced t → (o : Option TreeIndex) → ((z : Zip T) → Holds t z → o ≡ parent_of z.up) → o ≡ Some i → HasNode t i.ix
   parent-node t i placed o read some = let is = placed.2 in parent_number t.nodes is.z.up _ i is.holds.forest.stands (sym (read is.z is.holds) ∙ some)
 
@@ -30,14 +30,14 @@ module _ {T : Type 0} where
   opened-some [] i e = absurd (let q : None ≡ Some i = e in cc)
   opened-some (l ∷ levels) i e = (_, _, refl)
 
-  -- where `peek_up` answers a number, a node is open
+  -- if `peek_up` returns a number, a node is open
   pub parent-open : (t : Tree T) (i : TreeIndex) → IsPlaced t → (o : Option TreeIndex) → ((z : Zip T) → Holds t z → o ≡ parent_of z.up) → o ≡ Some i → (here : Forest T) × (v : Opened T) × (up : List (Opened T)) × Is t here (v ∷ up)
   parent-open t i placed o read some =
       let is = placed.2 in
       let split = opened-some is.z.up i (sym (read is.z is.holds) ∙ some) in
       (placed.0, split.0, split.1, subst (Is t placed.0) (sym is.up_is ∙ split.2) is)
 
-  -- what stands at that number is the innermost open node
+  -- the node of that number is the innermost open node
   pub parent-read : (t : Tree T) (i : TreeIndex) (here : Forest T) (v : Opened T) (up : List (Opened T)) → ((z : Zip T) → Holds t z → Some i ≡ parent_of z.up) → Is t here (v ∷ up) → (e : Entry T) × (entry_at t i.ix ≡ Some e) × (e.item ≡ v.item)
   parent-read t i here v up parent is = go is.z.up (siblings is.z) is.holds.forest.stands (parent is.z is.holds) is.up_is
     where
@@ -51,7 +51,7 @@ module _ {T : Type 0} where
             ap (λ w. w.item) top,
           )
 
-  -- the number that `cur` answers is a node's
+  -- the number that `cur` returns is a node's
   pub focus-node : (t : Tree T) (i : TreeIndex) → IsPlaced t → (o : Option TreeIndex) → ((z : Zip T) → Holds t z → o ≡ focus_of z.right) → o ≡ Some i → HasNode t i.ix
   focus-node t i placed o read some = let is = placed.2 in go is.z.right (in_right t.nodes t.first is.z is.holds.forest) (sym (read is.z is.holds) ∙ some)
     where
@@ -60,7 +60,7 @@ module _ {T : Type 0} where
       go (Node p inside after) st e =
           subst (HasNode t) (ap (λ k. k.ix) (same_Some (record { ix = p.ix }) i e)) (first_number t.nodes (Node p inside after) st (place_above t.nodes p inside after st))
 
-  -- where `cur` answers a number, there is a last sibling
+  -- if `cur` returns a number, there is a last sibling
   pub focus-open : (t : Tree T) (i : TreeIndex) → IsPlaced t → (o : Option TreeIndex) → ((z : Zip T) → Holds t z → o ≡ focus_of z.right) → o ≡ Some i → (here : Forest T) × (x : T) × (inside : Forest T) × (up : List (Opened T)) × Is t (join here (one x inside)) up
   focus-open t i placed o read some = let is = placed.2 in go is is.z.left is.z.right is.last is.here_is (sym (read is.z is.holds) ∙ some)
     where
@@ -77,7 +77,7 @@ module _ {T : Type 0} where
       let st = in_right t.nodes t.first (record { left = l.left; right = one l.place l.below; up = l.above }) l.holds.forest in
       (record { item = l.place.item; child = first l.below; next = 0 }, ap (entry_at t) same ∙ st.0, l.item_is)
 
-  -- where it answers none, there is none
+  -- if it returns `None`, there is no sibling
   pub focus-none : (t : Tree T) (here : Forest T) (x : T) (inside : Forest T) (up : List (Opened T)) (o : Option TreeIndex) → ((z : Zip T) → Holds t z → o ≡ focus_of z.right) → ((i : TreeIndex) → o ≡ Some i → ⊥) → Is t (join here (one x inside)) up → ⊥
   focus-none t here x inside up o read none is =
       let l = last_at t here x inside up is in none (record { ix = l.place.ix }) (read (record { left = l.left; right = one l.place l.below; up = l.above }) l.holds)
@@ -106,7 +106,7 @@ module _ {T : Type 0} where
         | inr nil ↦ none (subst (λ h. Is t h (v ∷ up)) (sym e ∙ nil) is)
       ]
 
--- what holds of a value and of an error holds
+-- a property of the result in both cases
 pub either-way : {A E : Type 0} (r : Result A E) (P : Type 0) → OnOk r P → OnErr r P → P
 either-way (Ok x) P p q = p
 either-way (Err e) P p q = q

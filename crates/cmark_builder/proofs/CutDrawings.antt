@@ -17,7 +17,7 @@ use Rattle.cmark_builder.specs.declared.builder.Builder.{Builder}
 use Rattle.cmark_builder.specs.Drawn.{shown_open, open_node, Draws}
 use Rattle.cmark_builder.proofs.DrawnSteps.{item-range}
 
--- the nodes up to the first that does not end before a place, and where that one begins
+-- the nodes up to the first that does not end before a place, and the start of that one
 abbrev pub ended_before : (place : ℕ) → BlockDocument → BlockDocument
 ended_before place Nil = Nil
 ended_before place (Node n inside after) = if nat_lt n.end place then Node n inside (ended_before place after) else Nil
@@ -26,7 +26,7 @@ abbrev pub start_reaching : (place : ℕ) → BlockDocument → Option ℕ
 start_reaching place Nil = None
 start_reaching place (Node n inside after) = if nat_lt n.end place then start_reaching place after else Some n.start
 
--- of the drawing, where a node is open
+-- the drawing after the cut, if a node is open
 abbrev pub left_at : (place : ℕ) → (here : BlockDocument) → List OpenNode → Drawing
 left_at place here [] = record { here = here; up = [] }
 left_at place here (v ∷ up) = record { here = ended_before place here; up = v ∷ up }
@@ -35,7 +35,7 @@ abbrev pub start_at : (place : ℕ) → (here : BlockDocument) → List OpenNode
 start_at place here [] = None
 start_at place here (v ∷ up) = start_reaching place here
 
--- the texts up to a place are the nodes before it, and what stands before it of the next one
+-- the texts up to a place are the nodes before it, and the part before it of the next node
 before-none : (text : List ℕ) (place : ℕ) (d : BlockDocument) → start_reaching place d ≡ None → texts_before text place d ≡ ended_before place d
 before-none text place Nil e = refl
 before-none text place (Node n inside after) e = go (nat_lt n.end place) e (before-none text place after)
@@ -79,7 +79,7 @@ module _ (text : List ℕ) (t : List CowStr) (place : ℕ) where
   same-node item inside after n i a e =
       let q : forest.Node (shown_item text t item) (shown_inside text item.start (shape item.body) (shown_forest text t inside)) (shown_forest text t after) ≡ forest.Node (Some n) (nodes_of i) (nodes_of a) = e in record { item_is = cc; inside_is = cc; after_is = cc }
 
-  -- what is left of items is shown as what is left of nodes
+  -- the remaining items are shown as the remaining nodes
   shown-before : (here : Forest Item) (d : BlockDocument) → shown_forest text t here ≡ nodes_of d → shown_forest text t (ending_before spans place here) ≡ nodes_of (ended_before place d)
   shown-before forest.Nil Nil e = refl
   shown-before forest.Nil (Node n i a) e = absurd (let q : forest.Nil ≡ nodes_of (Node n i a) = e in cc)
@@ -141,7 +141,7 @@ module _ (text : List ℕ) (old new : Builder) (place : ℕ) (answer : Option �
         up_is = subst (λ a. map (shown_open text a.texts) (v ∷ up) ≡ map open_node (w ∷ levels)) (sym same) u;
       }
 
-  -- and that is where the first of them began
+  -- and that is the start of the first of them
   pub draws-start : (d : Drawing) →
       ((here : Forest Item) (v : Opened Item) (up : List (Opened Item)) → Is old.tree here (v ∷ up) → answer ≡ reaching_start spans place here) →
       ((here : Forest Item) → Is old.tree here [] → (new.tree ≡ old.tree) × (answer ≡ None)) →

@@ -40,7 +40,7 @@ element-item text t item n e = go (shape item.body) e
     go (TitleOf text_end) e = absurd (let q : None ≡ Some n = e in cc)
     go NoNode e = absurd (let q : None ≡ Some n = e in cc)
 
--- what stands inside an element are the nodes below it
+-- the nodes inside an element are the nodes below it
 element-inside : (text : List ℕ) (t : List CowStr) (item : Item) (n : BlockNode) (below : Forest (Option BlockNode)) → shown_element t item ≡ Some n → shown_inside text item.start (shape item.body) below ≡ below
 element-inside text t item n below e = go (shape item.body) e
   where
@@ -49,13 +49,13 @@ element-inside text t item n below e = go (shape item.body) e
     go (TitleOf text_end) e = absurd (let q : None ≡ Some n = e in cc)
     go _ e = refl
 
--- so an element is shown as its node, around what is below it
+-- so an element is shown as its node, around the nodes below it
 pub element-one : (text : List ℕ) (t : List CowStr) (item : Item) (n : BlockNode) (below : Forest Item) → shown_element t item ≡ Some n → shown_forest text t (one item below) ≡ one (Some n) (shown_forest text t below)
 element-one text t item n below e =
     ap (λ x. one x (shown_inside text item.start (shape item.body) (shown_forest text t below))) (element-item text t item n e)
     ∙ ap (one (Some n)) (element-inside text t item n (shown_forest text t below) e)
 
--- its end does not matter to what it is
+-- the kind of an element does not depend on its end
 pub element-ended : (t : List CowStr) (item : Item) (n : BlockNode) (end : ℕ) → shown_element t item ≡ Some n → shown_element t (item_at item.start end item.body) ≡ Some (node n.kind n.start end)
 element-ended t item n end e = go (kind_of t (shape item.body)) e
   where
@@ -188,7 +188,7 @@ module _ (text : List ℕ) (old new : Builder) where
             up_is = subst (λ a. map (shown_open text a.texts) up ≡ map open_node levels) (sym same) rest;
           }
 
--- a document is its last sibling behind those before it
+-- a document is the nodes before its last sibling, and then that sibling
 pub document-last : (d : BlockDocument) → ((n : BlockNode) × (inner : BlockDocument) × (last_of d ≡ Node n inner Nil) × (d ≡ join (before_last d) (Node n inner Nil))) ⊎ (d ≡ Nil)
 document-last Nil = inr refl
 document-last (Node node inside Nil) = inl (node, inside, refl, refl)
@@ -240,7 +240,7 @@ item-range text t item n e = go (kind_over text t item.start item.end (shape ite
     go None e = absurd (let q : None ≡ Some n = e in cc)
     go (Some k) e = (ap (λ m. m.start) (same_Some (node k item.start item.end) n e), ap (λ m. m.end) (same_Some (node k item.start item.end) n e))
 
--- a title as a node: what stands inside a paragraph stays
+-- a title as a node: the nodes inside a paragraph stay
 abbrev titled_shape : Shape → Shape
 titled_shape (ParagraphOf text_end) = TitleOf text_end
 titled_shape (TitleOf text_end) = TitleOf text_end
@@ -259,7 +259,7 @@ module _ (text : List ℕ) (t : List CowStr) where
   titled-inside start NoNode below = refl
   titled-inside start _ below = refl
 
-  -- an item that becomes a title shows the same range, and the same inside
+  -- an item that becomes a title has the same range, and the same nodes inside
   titled-one : (item : Item) (n : BlockNode) (inside : Forest Item) (inner : BlockDocument) → shown_item text t item ≡ Some n → shown_inside text item.start (shape item.body) (shown_forest text t inside) ≡ nodes_of inner
       → shown_forest text t (one (item_at item.start item.end (titled item.body)) inside) ≡ one (Some (record n { kind = DefinitionListTitle })) (nodes_of inner)
   titled-one item n inside inner is within =
@@ -335,7 +335,7 @@ module _ (text : List ℕ) (old new : Builder) where
         })
   ]
 
-  -- a node was closed, and its last child put behind it
+  -- a node was closed, and its last child moved after it
   pub draws-released : (end : ℕ) (body : ItemBody) (kind : BlockKind) (d : Drawing) →
       ((here : Forest Item) (item : Item) (inside : Forest Item) (v : Opened Item) (up : List (Opened Item)) → Is old.tree (join_forests here (one item inside)) (v ∷ up) → Is new.tree (join_forests (closed (ended end body v) here) (one item inside)) up) →
       ((v : Opened Item) (up : List (Opened Item)) → Is old.tree forest.Nil (v ∷ up) → Is new.tree (closed (ended end body v) forest.Nil) up) →
@@ -404,7 +404,7 @@ module _ (text : List ℕ) (old new : Builder) where
           opens None e = absurd (let q : None ≡ Some w.node = e in cc)
           opens (Some k) e = ap (λ m. m.start) (same_Some (node k v.item.start v.item.end) w.node e)
 
--- one more text in the tables
+-- another text in the tables
 text_at-more : (t : List CowStr) (more : CowStr) (index : ℕ) (bytes : List ℕ) → text_at t index ≡ Some bytes → text_at (t ++ more ∷ []) index ≡ Some bytes
 text_at-more t more index bytes e = go t index e
   where
@@ -421,7 +421,7 @@ module _ (text : List ℕ) (t : List CowStr) (more : CowStr) where
       go None i e = absurd (let q : None ≡ Some n = e in cc)
       go (Some bytes) i e = ap (λ o. option_map (ranged start end) (option_map kind o)) (text_at-more t more index bytes i) ∙ e
 
-  -- what is a node stays that node
+  -- an item that is a node remains that node
   item-more : (item : Item) (n : BlockNode) → shown_item text t item ≡ Some n → shown_item text (t ++ more ∷ []) item ≡ Some n
   item-more item n e = go (shape item.body) e
     where
@@ -446,7 +446,7 @@ module _ (text : List ℕ) (t : List CowStr) (more : CowStr) where
       go (TitleOf text_end) e = e
       go NoNode e = e
 
-  -- and so does what stands inside
+  -- and so do the nodes inside
   text-more : (start text_end : ℕ) (inside : Forest Item) (i : BlockDocument) → one_text text start text_end (shown_forest text t inside) ≡ nodes_of i → one_text text start text_end (shown_forest text (t ++ more ∷ []) inside) ≡ nodes_of i
   text-more start text_end forest.Nil i e = e
   text-more start text_end (forest.Node item inside after) Nil e = absurd (let q : one_text text start text_end (shown_forest text t (forest.Node item inside after)) ≡ forest.Nil = e in cc)
@@ -496,7 +496,7 @@ draws-text text old new more d same kept draws = record {
 pub draws-nothing : (text : List ℕ) (b : Builder) → Is b.tree forest.Nil [] → Draws text b nothing_drawn
 draws-nothing text b is = record { here = forest.Nil; up = []; is = is; here_is = refl; up_is = refl }
 
--- the definitions of links are no part of the drawing
+-- the definitions of links are not part of the drawing
 pub draws-same : (text : List ℕ) (old new : Builder) (d : Drawing) → new.tree ≡ old.tree → new.allocations.texts ≡ old.allocations.texts → Draws text old d → Draws text new d
 draws-same text old new d same kept draws = record {
   here = draws.here;
@@ -506,6 +506,6 @@ draws-same text old new d same kept draws = record {
   up_is = subst (λ t. map (shown_open text t) draws.up ≡ map open_node d.up) (sym kept) draws.up_is;
 }
 
--- a builder that has drawn something can go on
+-- a builder that has drawn something can continue
 pub draws-placed : (text : List ℕ) (b : Builder) (d : Drawing) → Draws text b d → IsPlaced b.tree
 draws-placed text b d draws = (draws.here, draws.up, draws.is)

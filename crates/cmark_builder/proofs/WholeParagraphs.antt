@@ -47,13 +47,13 @@ nothing-shown (Node n i a) e = absurd (let q : forest.Nil ≡ forest.Node (Some 
 
 -- ## What the call asks of the tree
 
--- a sibling stands at hand
+-- there is a current sibling
 pub some-sibling : (t : Tree Item) (start : ℕ) (here : Forest Item) (up : List (Opened Item)) (o : Option TreeIndex) → ((z : Zip Item) → Holds t z → o ≡ focus_of z.right) → is_some o ≡ true → Is t here up → false ≡ is_empty_paragraph start here up
 some-sibling t start (forest.Node item inside after) up o read e is = refl
 some-sibling t start forest.Nil up None read e is = absurd (true≢false (sym e))
 some-sibling t start forest.Nil up (Some i) read e is = absurd (focus-some t up i (Some i) read refl is)
 
--- none does, and the innermost open node is read
+-- there is none, and the innermost open node is read
 pub parent-tested : (t : Tree Item) (start : ℕ) (here : Forest Item) (up : List (Opened Item)) (o : Option TreeIndex) (parent : TreeIndex) (item : Item) → ((z : Zip Item) → Holds t z → o ≡ focus_of z.right) → is_some o ≡ false
     → ((z : Zip Item) → Holds t z → Some parent ≡ parent_of z.up) → ((e : Entry Item) → entry_at t parent.ix ≡ Some e → item ≡ e.item) → Is t here up → ((item.start == start) && is_paragraph item.body) ≡ is_empty_paragraph start here up
 parent-tested t start (forest.Node x f g) up (Some i) parent item read e at is-item is = absurd (true≢false e)

@@ -1,4 +1,4 @@
--- Which document a builder has drawn.
+-- The document that a builder has drawn.
 use Rattle.std.specs.Prelude.{◌≡◌, ℕ, List, map, Option, Some}
 use Rattle.cmark_tree.specs.Forest.{Forest}
 use Rattle.cmark_tree.specs.Building.{Opened, Is}

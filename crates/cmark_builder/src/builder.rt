@@ -1,4 +1,4 @@
-//! The tree and the tables of a document, of which the end grows.
+//! The tree and the tables of a document that grows at its end.
 
 ghost use Rattle.std.specs.Prelude.{◌≡◌, ◌==◌, ◌&&◌, true, false, IfOk, OnOk, List, [], ◌∷◌, None};
 ghost use Rattle.cmark_tree.specs.Forest.{Forest, Nil, join, one};
@@ -14,8 +14,8 @@ use cmark_text_parts::CowStr;
 use cmark_tree::Tree;
 use std::alloc::{AllocError, Global};
 
-/// A document's tree and its tables, to which nodes are added at the end only: the siblings at hand, below the nodes that
-/// are open.
+/// A document's tree and its tables. Nodes are added only at the end: the last sibling is the end of the current siblings, inside the open
+/// nodes.
 #[derive(Drop)]
 pub struct Builder<'a> {
     tree: Tree<Item>,
@@ -23,7 +23,7 @@ pub struct Builder<'a> {
     pub allocations: Allocations<'a>,
 }
 
-/// What this becomes as the title of a definition. A text that stands in the same node stays there.
+/// The body of this paragraph as the title of a definition. A text that is part of the same node stays there.
 fn titled(body: ItemBody) -> ItemBody
     ensures { result ≡ titled body }
 {
@@ -34,7 +34,7 @@ fn titled(body: ItemBody) -> ItemBody
     }
 }
 
-/// Whether an item is a paragraph that begins at this byte offset of the text, of which nothing is said of its text yet.
+/// Whether an item is a paragraph that begins at this byte offset of the text and has no text in its own node yet.
 fn is_paragraph_from(item: Item, start: usize) -> bool
     ensures { result ≡ ((item.start == start) && is_paragraph item.body) }
 {
@@ -42,7 +42,7 @@ fn is_paragraph_from(item: Item, start: usize) -> bool
 }
 
 impl<'a> Builder<'a> {
-    /// A document without nodes.
+    /// A document without nodes. Fails only if memory is refused.
     pub fn new(alloc: Global) -> Result<Builder<'a>, AllocError>
         ensures tree { IfOk result (λ b. Is b.tree Nil []) }
         ensures tables { IfOk result (λ b. IsEmpty b.allocations) }
@@ -53,7 +53,8 @@ impl<'a> Builder<'a> {
         })
     }
 
-    /// A node behind the last sibling, and the path down into it. Its end is set when it is closed.
+    /// Opens a node after the last sibling; `close` sets its end. If memory is refused, the tables are unchanged, and the tree can still be
+    /// extended.
     #[inline(always)]
     pub fn open(&mut self, start: usize, body: ItemBody) -> Result<(), AllocError>
         requires { IsPlaced self.old.tree }
@@ -70,7 +71,8 @@ impl<'a> Builder<'a> {
         Ok(())
     }
 
-    /// A node with nothing inside, behind the last sibling.
+    /// Adds a node without children after the last sibling. If memory is refused, the tables are unchanged, and the tree can still be
+    /// extended.
     pub fn add(&mut self, start: usize, end: usize, body: ItemBody) -> Result<(), AllocError>
         requires { IsPlaced self.old.tree }
         ensures placed { IsPlaced self.new.tree }
@@ -82,7 +84,7 @@ impl<'a> Builder<'a> {
         Ok(())
     }
 
-    /// Closes the innermost open node at this byte offset of the text. Where no node is open, nothing changes.
+    /// Closes the innermost open node at this byte offset of the text. If no node is open, nothing changes.
     pub fn close(&mut self, end: usize)
         requires { IsPlaced self.old.tree }
         ensures placed { IsPlaced self.new.tree }
@@ -97,8 +99,7 @@ impl<'a> Builder<'a> {
         }
     }
 
-    /// Closes the innermost open node at this byte offset of the text, as something else. Where no node is open, nothing
-    /// changes.
+    /// Closes the innermost open node at this byte offset of the text, with another body. If no node is open, nothing changes.
     pub fn close_as(&mut self, end: usize, body: ItemBody)
         requires { IsPlaced self.old.tree }
         ensures placed { IsPlaced self.new.tree }
@@ -115,9 +116,9 @@ impl<'a> Builder<'a> {
         }
     }
 
-    /// Closes the innermost open node at this byte offset of the text, as a paragraph with one text inside, from `start` to before
-    /// `text_end`: both are the one node. Only an empty paragraph that begins at `start` becomes that. Where there is none nothing changes.
-    /// Answers whether there is.
+    /// Closes the innermost open node at byte offset `end` of the text, as a paragraph with one text inside, from `start` up to `text_end`:
+    /// both are one node. This happens only if the node is an empty paragraph that begins at `start`; else nothing changes. Returns whether
+    /// it happened.
     pub fn close_whole(&mut self, start: usize, text_end: usize, end: usize) -> bool
         requires { IsPlaced self.old.tree }
         ensures placed { IsPlaced self.new.tree }
@@ -143,7 +144,7 @@ impl<'a> Builder<'a> {
         true
     }
 
-    /// The last sibling becomes the title of a definition, with what stands inside. Where there is none, nothing changes.
+    /// Makes the last sibling the title of a definition, with the nodes inside it. If there is no sibling, nothing changes.
     pub fn title_last(&mut self)
         requires { IsPlaced self.old.tree }
         ensures placed { IsPlaced self.new.tree }
@@ -158,8 +159,8 @@ impl<'a> Builder<'a> {
         }
     }
 
-    /// A node around the last sibling, which becomes the title of a definition: the new node begins where that sibling begins, and is open.
-    /// Where there is no sibling, it is empty, and begins where the text does.
+    /// Puts a node around the last sibling, which becomes the title of a definition. The new node begins at that sibling's start and is
+    /// open. If there is no sibling, the new node is empty and begins at the start of the text.
     pub fn enclose_title(&mut self, around: ItemBody) -> Result<(), AllocError>
         requires { IsPlaced self.old.tree }
         ensures placed { IsPlaced self.new.tree }
@@ -180,8 +181,8 @@ impl<'a> Builder<'a> {
         })
     }
 
-    /// Closes the innermost open node at this byte offset of the text, as something else, without its last child, which then stands
-    /// behind it. It takes time in proportion to how many children there are. Where no node is open, nothing changes.
+    /// Closes the innermost open node at this byte offset of the text, with another body, and moves its last child after it. The time is
+    /// proportional to the number of children. If no node is open, nothing changes.
     pub fn release_last(&mut self, end: usize, body: ItemBody)
         requires { IsPlaced self.old.tree }
         ensures placed { IsPlaced self.new.tree }
@@ -199,9 +200,9 @@ impl<'a> Builder<'a> {
         }
     }
 
-    /// Cuts off the children of the innermost open node from the first that does not end before this byte offset of the text on, and
-    /// answers where that one begins; none, where each ends before. It takes time in proportion to how many children there are. Where
-    /// no node is open, nothing changes, and the answer is none.
+    /// Cuts off the children of the innermost open node, from the first that does not end before this byte offset of the text. Returns the
+    /// start of that child, or `None` if each child ends before. The time is proportional to the number of children. If no node is open,
+    /// nothing changes and the result is `None`.
     pub fn cut(&mut self, at: usize) -> Option<usize>
         requires { IsPlaced self.old.tree }
         ensures placed { IsPlaced self.new.tree }
@@ -213,7 +214,7 @@ impl<'a> Builder<'a> {
         self.tree.cut_siblings(at)
     }
 
-    /// The tree and its tables, as they are. What is still open stays so.
+    /// The tree and its tables, as they are. Open nodes stay open.
     pub fn finish(self) -> (Tree<Item>, Allocations<'a>)
         ensures tree { result.0 ≡ self.entry.tree }
         ensures tables { result.1 ≡ self.entry.allocations }

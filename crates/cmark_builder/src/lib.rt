@@ -1,4 +1,4 @@
-//! A document's tree while it is built: its nodes come in the order of the text, and are closed when their end is seen.
+//! A document's tree while it is built: its nodes are added in the order of the text, and each is closed when its end is known.
 #![tactic(auto)]
 
 mod builder;

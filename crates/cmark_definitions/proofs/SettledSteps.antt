@@ -1,4 +1,4 @@
--- More text behind a text in which a definition has ended.
+-- More text after a text in which a definition has ended.
 use Rattle.std.proofs.Common.{◌≡◌, ℕ, ◌+◌, Bool, true, false, ◌==◌, ◌&&◌, ◌||◌, not, cond, List, [], ◌∷◌, ◌++◌, length, drop, take_while, Option, Some, None, option_map, refl, sym, ap, ◌∙◌, subst, arith, true≢false, length-append}
 use Rattle.std.specs.Prelude.{if◌then◌else◌, nat_lt}
 use Rattle.std.proofs.lemmas.List.Sums.{take_while-cons}
@@ -11,7 +11,7 @@ use Rattle.cmark_grammar.specs.Tags.{behind_ending, behind_line_feed}
 use Rattle.cmark_definitions.specs.Settled.{read_before, defined_before, IsSettled, ends_in, title_ends, end_settles, lacks_colon, settles_as, settles}
 
 module _ (more : List ℕ) where
-  -- what was read up to a byte
+  -- the part read up to a byte
   put-before : (b : ℕ) (o : Option Parsed) → put b (option_map (read_before more) o) ≡ option_map (read_before more) (put b o)
   put-before b None = refl
   put-before b (Some f) = refl
@@ -151,7 +151,7 @@ module _ (more : List ℕ) where
       go true q ih = ih q
       go false q ih = ap (λ l. l ++ more) q
 
-  -- behind a line ending that something follows
+  -- after a line ending that something follows
   feed-before : (bs : List ℕ) (x : ℕ) (xs : List ℕ) → behind_blanks (behind_line_feed bs) ≡ x ∷ xs → behind_blanks (behind_line_feed (bs ++ more)) ≡ x ∷ (xs ++ more)
   feed-before [] x xs e = absurd (let z : [] ≡ x ∷ xs = e in cc)
   feed-before (b ∷ bs) x xs e = go (b == 10) e
@@ -170,7 +170,7 @@ module _ (more : List ℕ) where
       go false true s = feed-before ys x xs s
       go false false s = ap (λ l. l ++ more) s
 
-  -- something stands behind blanks, where something stands behind blanks and a line end
+  -- if something follows a separator, something follows the blanks
   some-blanks : (bs : List ℕ) (x : ℕ) (xs : List ℕ) → behind_separator bs ≡ x ∷ xs → (y : ℕ) × (ys : List ℕ) × (behind_blanks bs ≡ y ∷ ys)
   some-blanks bs x xs e = go (behind_blanks bs) e
     where
@@ -194,7 +194,7 @@ module _ (more : List ℕ) where
       go [] s = absurd (true≢false (ap at_end (sym s) ∙ e))
       go (x ∷ xs) s = done-before bs x xs s ∙ e
 
-  -- something stands behind what was read
+  -- something follows the part that was read
   some-behind : (bs : List ℕ) (x : ℕ) (xs : List ℕ) → behind_separator bs ≡ x ∷ xs → (y : ℕ) × (ys : List ℕ) × (bs ≡ y ∷ ys)
   some-behind [] x xs e = absurd (let z : [] ≡ x ∷ xs = e in cc)
   some-behind (b ∷ bs) x xs e = (b, bs, refl)
@@ -236,13 +236,13 @@ module _ (more : List ℕ) where
       same : (a b n : ℕ) → nat_lt (a + n) (b + n) ≡ nat_lt a b
       same a b n = grind (arith)
 
-  -- behind a destination
+  -- after a destination
   abbrev Titles : (label : List ℕ) → Parsed → Defined → Type 0
   Titles label d found =
       (titled label (read_before more d) (title_in (behind_separator (d.behind ++ more))) ≡ Some (defined_before more found))
       × ((y : ℕ) × (ys : List ℕ) × (d.behind ≡ y ∷ ys))
 
-  -- without a title, where what follows is none
+  -- without a title, if none follows
   untitled-goes : (label : List ℕ) (d : Parsed) (found : Defined) (x : ℕ) (xs : List ℕ) → behind_separator d.behind ≡ x ∷ xs → untitled label d ≡ Some found →
       untitled label (read_before more d) ≡ Some (defined_before more found)
   untitled-goes label d found x xs some e =
@@ -260,7 +260,7 @@ module _ (more : List ℕ) where
         some-behind d.behind some.0 some.1 some.2,
       )
 
-  -- with a title in front of more than blanks, or without it
+  -- with a title, if more than blanks follows it, or without it
   titled-some : (label : List ℕ) (d t : Parsed) (found : Defined) → title_in (behind_separator d.behind) ≡ Some t →
       titled label d (Some t) ≡ Some found → end_settles found.definition.title found.behind ≡ true → Titles label d found
   titled-some label d t found is e settled =
@@ -296,7 +296,7 @@ module _ (more : List ℕ) where
       go None is q = titled-none label d found is q settled
       go (Some t) is q = titled-some label d t found is q settled
 
-  -- behind a colon
+  -- after a colon
   some-destination : (bs : List ℕ) (f : Parsed) → destination_in bs ≡ Some f → (x : ℕ) × (xs : List ℕ) × (bs ≡ x ∷ xs)
   some-destination [] f e = absurd (let z : None ≡ Some f = e in cc)
   some-destination (x ∷ xs) f e = (x, xs, refl)
@@ -314,7 +314,7 @@ module _ (more : List ℕ) where
           ∙ destination-before (behind_separator rest) d titles.1.0 titles.1.1 is titles.1.2)
           ∙ titles.0
 
-  -- behind a label
+  -- after a label
   labelled-before : (bs : List ℕ) (label : Parsed) → label_in bs ≡ Some label →
       settles_as (91 ∷ bs) (with_label (Some label)) ≡ true → with_label (label_in (bs ++ more)) ≡ option_map (defined_before more) (with_label (Some label))
   labelled-before bs label is settled = ap with_label (label-before bs label is) ∙ go label.behind refl settled

@@ -1,21 +1,21 @@
--- Whether more text behind a text can change the definition that stands in front.
+-- Whether more text after a text can change the definition at its beginning.
 use Rattle.std.specs.Prelude.{◌≡◌, ℕ, Bool, true, false, ◌==◌, ◌&&◌, ◌||◌, not, if◌then◌else◌, List, [], ◌∷◌, ◌++◌, Option, Some, None, option_map}
 use Rattle.cmark_grammar.specs.Leaves.{is_empty}
 use Rattle.cmark_grammar.specs.Letters.{first_is}
 use Rattle.cmark_grammar.specs.LinkDefinitions.{Parsed, Defined, escapes_next, label_in, behind_blanks, behind_separator, definition_in}
 
--- what was read, with more bytes behind it
+-- the part that was read, with more bytes after it
 abbrev pub read_before : List ℕ → Parsed → Parsed
 read_before more found = record { bytes = found.bytes; behind = found.behind ++ more }
 
 abbrev pub defined_before : List ℕ → Defined → Defined
 defined_before more found = record { definition = found.definition; behind = found.behind ++ more }
 
--- whatever follows the text, the same definition stands in front, or none does
+-- whatever follows the text, the same definition is at its beginning, or there is no definition
 abbrev pub IsSettled : List ℕ → Type 0
 IsSettled bs = (more : List ℕ) → definition_in (bs ++ more) ≡ option_map (defined_before more) (definition_in bs)
 
--- a closer or a refused byte stands here that no backslash escapes
+-- these bytes contain an unescaped closer or refused byte
 abbrev pub ends_in : (escaped : Bool) → (closer refused : ℕ) → List ℕ → Bool
 ends_in escaped closer refused [] = false
 ends_in escaped closer refused (b ∷ bs) = if not escaped && ((b == closer) || (b == refused)) then true else ends_in (escapes_next escaped b) closer refused bs
@@ -28,7 +28,7 @@ title_ends (b ∷ bs) =
     else if b == 40 then ends_in false 41 40 bs
     else true
 
--- behind a title more than blanks must follow, and behind a destination a title that ends, or none
+-- after a title something else than blanks must follow, and after a destination a title that ends, or no title
 abbrev pub end_settles : Option (List ℕ) → (behind : List ℕ) → Bool
 end_settles (Some title) behind = not (is_empty (behind_blanks behind))
 end_settles None behind = title_ends (behind_separator behind)

@@ -1,4 +1,4 @@
--- What the values of structs mean.
+-- The meaning of structs.
 use Rattle.std.specs.Prelude.{ℕ, List, drop, option_copied}
 use Rattle.cmark_grammar.specs.LinkDefinitions as definitions
 use Rattle.cmark_definitions.specs.declared.definition.Definition.{Definition}
@@ -7,10 +7,10 @@ use Rattle.cmark_definitions.specs.declared.definition.Read.{Read}
 abbrev pub shown_read : Read → definitions.Defined
 shown_read read = definitions.defined read.label.now read.destination.now (option_copied read.title) read.behind.now
 
--- a definition as it is written
+-- a definition as written
 abbrev pub written : Definition → definitions.Definition
 written definition = record { label = definition.label.now; destination = definition.destination.now; title = option_copied definition.title }
 
--- with the bytes of the paragraph that stand behind it
+-- a definition with the bytes of the paragraph after it
 abbrev pub shown_definition : (paragraph : List ℕ) → Definition → definitions.Defined
 shown_definition paragraph definition = record { definition = written definition; behind = drop definition.end paragraph }

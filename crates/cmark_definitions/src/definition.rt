@@ -1,4 +1,4 @@
-//! Link reference definitions as they are written.
+//! Link reference definitions as written.
 
 ghost use Rattle.std.specs.Prelude.{◌≡◌, IfSome, option_map};
 ghost use Rattle.std.specs.Str.{IsCharBoundary};
@@ -11,20 +11,20 @@ use cmark_links::{
     Part, behind_byte, behind_separator, destination_in, is_line_done, label_in, title_in,
 };
 
-/// A link reference definition as it is written (CommonMark 4.7).
+/// A link reference definition as written (CommonMark 4.7).
 #[derive(Clone, Copy)]
 pub struct Definition<'a> {
-    /// What stands between the brackets.
+    /// The text between the brackets.
     pub label: &'a str,
-    /// The destination, without pointed brackets.
+    /// The destination, without angle brackets.
     pub destination: &'a str,
-    /// The title without what encloses it, if there is one.
+    /// The title without its quotes or parentheses, if there is one.
     pub title: Option<&'a str>,
-    /// How many bytes the definition takes, to behind its title, or else its destination. Only blanks follow on the line.
+    /// The number of bytes of the definition, up to the end of its title, or else of its destination. Only blanks follow on the line.
     pub end: usize,
 }
 
-/// A definition that was read, and the text behind it.
+/// A definition that was read, and the text after it.
 #[derive(Clone, Copy)]
 struct Read<'a> {
     label: &'a str,
@@ -33,14 +33,14 @@ struct Read<'a> {
     behind: &'a str,
 }
 
-/// The text behind a definition.
+/// The text after a definition.
 fn behind(read: Read<'_>) -> &str
     ensures { result.now ≡ read.entry.behind.now }
 {
     read.behind
 }
 
-/// The definition without a title, if the line is done behind the destination.
+/// The definition without a title, if the rest of the line after the destination is blank.
 fn untitled<'a>(label: &'a str, destination: Part<'a>) -> Option<Read<'a>>
     ensures value { option_map shown_read result ≡ untitled label.entry.now (shown_part destination.entry) }
     ensures rest { IfSome result (λ read. IsRest destination.entry.behind.now read.behind.now) }
@@ -56,8 +56,8 @@ fn untitled<'a>(label: &'a str, destination: Part<'a>) -> Option<Read<'a>>
     })
 }
 
-/// The definition with the title behind the destination, if one is parted from it and the line is done behind the title; else
-/// the one without a title.
+/// The definition with the title after the destination, if white space separates the two and the rest of the title's line is blank; else
+/// the definition without a title.
 fn titled<'a>(label: &'a str, destination: Part<'a>) -> Option<Read<'a>>
     ensures value { option_map shown_read result ≡ titled label.entry.now (shown_part destination.entry) (title_in (behind_separator destination.entry.behind.now)) }
     ensures rest { IfSome result (λ read. IsRest destination.entry.behind.now read.behind.now) }
@@ -77,7 +77,7 @@ fn titled<'a>(label: &'a str, destination: Part<'a>) -> Option<Read<'a>>
     untitled(label, destination)
 }
 
-/// The definition of a label whose colon stands before this text.
+/// The definition of a label whose colon precedes this text.
 fn with_destination<'a>(label: &'a str, text: &'a str) -> Option<Read<'a>>
     ensures value { option_map shown_read result ≡ with_destination label.entry.now (destination_in (behind_separator text.entry.now)) }
     ensures rest { IfSome result (λ read. IsRest text.entry.now read.behind.now) }
@@ -85,7 +85,7 @@ fn with_destination<'a>(label: &'a str, text: &'a str) -> Option<Read<'a>>
     titled(label, destination_in(behind_separator(text))?)
 }
 
-/// The definition in front.
+/// The definition at the beginning.
 fn read_definition(paragraph: &str) -> Option<Read<'_>>
     ensures value { option_map shown_read result ≡ definition_in paragraph.entry.now }
     ensures rest { IfSome result (λ read. IsRest paragraph.entry.now read.behind.now) }
@@ -94,10 +94,9 @@ fn read_definition(paragraph: &str) -> Option<Read<'_>>
     with_destination(label.part, behind_byte(b':', label.behind)?)
 }
 
-/// The link reference definition that a paragraph begins with, if it does (CommonMark 4.7): a label in brackets, a colon, a
-/// destination, and a title where one follows that the line ends behind. `paragraph` is the text of a paragraph, or a rest of
-/// it from the start of a line, without the prefixes of containers and without the indent of its first line; between its lines
-/// stand their line endings.
+/// The link reference definition at the beginning of a paragraph, if there is one (CommonMark 4.7): a label in brackets, a colon, a
+/// destination, and perhaps a title. `paragraph` is the text of a paragraph, or the rest of it from the beginning of a line. It has no
+/// prefixes of containers, and its first line has no indent. Line endings separate its lines.
 pub fn scan_definition(paragraph: &str) -> Option<Definition<'_>>
     ensures value { option_map (shown_definition paragraph.entry.now) result ≡ definition_in paragraph.entry.now }
     ensures ends { IfSome result (λ definition. IsCharBoundary paragraph.entry.now definition.end) }

@@ -1,4 +1,4 @@
-//! Link reference definitions (CommonMark 4.7): found in the text of a paragraph, and made ready for a table.
+//! Link reference definitions (CommonMark 4.7): scanning the text of a paragraph for them, and preparing them for a table.
 #![tactic(auto)]
 
 mod definition;

@@ -1,4 +1,4 @@
-//! Link reference definitions as a table keeps them.
+//! Link reference definitions in the form of the table.
 
 ghost use Rattle.std.specs.Prelude.{◌≡◌, IfOk, option_map, option_copied};
 ghost use Rattle.cmark_grammar.specs.Derivation.{title_of, reference_of};
@@ -43,10 +43,9 @@ fn owned_title<E: EntityLookup>(
     Ok(Some(owned_text(alloc, lines, entities)?))
 }
 
-/// A definition as a table keeps it, with its label: the label in its normal form, and the destination and the title with
-/// escapes and entities resolved; in the title each line end and the blanks behind it are one line feed. `span` are the
-/// definition's bytes in the text, from its opening bracket to before its last line ending. All texts are owned. Fails only
-/// where memory is refused.
+/// A definition in the form of the table, with its label. The label is in its normal form; escapes and entities in the destination and the
+/// title are resolved. In the title each line ending, with the blanks after it, is one line feed. `span` is the definition's range in the
+/// text, in bytes, from its opening bracket up to its last line ending. All texts are owned. Fails only if memory is refused.
 pub fn link_definition<E: EntityLookup>(
     alloc: Global,
     definition: &Definition<'_>,

@@ -1,4 +1,4 @@
-//! Whether more text behind a text can change the definition that stands in front.
+//! Whether more text after a text can change the definition at its beginning.
 
 ghost use Rattle.std.specs.Prelude.{◌≡◌, ◌<◌, ◌==◌, not, ◌||◌, true, false, length, IsTrue, option_map, option_copied};
 ghost use Rattle.cmark_grammar.specs.Leaves.{is_empty};
@@ -12,7 +12,7 @@ use crate::definition::scan_definition;
 use cmark_links::{Part, behind_blanks, behind_byte, behind_separator, label_in};
 use cmark_scan_parts::bytes::escapes_next;
 
-/// Whether a closer or a refused byte stands in these bytes that no backslash escapes.
+/// Whether these bytes contain an unescaped closer or refused byte.
 fn ends_in(bytes: &[u8], closer: u8, refused: u8) -> bool
     ensures { result ≡ ends_in false closer refused bytes.now }
 {
@@ -28,7 +28,7 @@ fn ends_in(bytes: &[u8], closer: u8, refused: u8) -> bool
     false
 }
 
-/// Whether the title that begins in front ends, or none begins there, but something else.
+/// Whether the title at the beginning ends, or there is no title but something else.
 fn title_ends(text: &str) -> bool
     ensures { result ≡ title_ends text.now }
 {
@@ -41,7 +41,7 @@ fn title_ends(text: &str) -> bool
     }
 }
 
-/// Whether the end of this definition is known, in front of this text.
+/// Whether the end of this definition is known, if this text follows it.
 fn end_settles(title: Option<&str>, behind: &str) -> bool
     ensures { result ≡ end_settles (option_copied title.entry) behind.now }
 {
@@ -51,7 +51,7 @@ fn end_settles(title: Option<&str>, behind: &str) -> bool
     }
 }
 
-/// Whether something else than a colon follows the label, if one is read.
+/// Whether something else than a colon follows the label, if there is a label.
 fn lacks_colon(label: Option<Part<'_>>) -> bool
     ensures { result ≡ lacks_colon (option_map shown_part label.entry) }
 {
@@ -61,7 +61,7 @@ fn lacks_colon(label: Option<Part<'_>>) -> bool
     }
 }
 
-/// Whether it is known that no definition stands in front, since a label ends that no colon follows.
+/// Whether it is known that there is no definition at the beginning, since no colon follows the end of the label.
 fn label_settles(paragraph: &str) -> bool
     ensures { result ≡ label_settles paragraph.now }
 {
@@ -71,9 +71,9 @@ fn label_settles(paragraph: &str) -> bool
     ends_in(text.as_bytes(), b']', b'[') && lacks_colon(label_in(text))
 }
 
-/// Whether the definition that `scan_definition` finds in this text, or that it finds none, stays the same whatever text follows. It
-/// is known where a definition ended and something stands behind it that is no title which is still open, and where a label
-/// ends that no colon follows. `paragraph` is what `scan_definition` is given.
+/// Whether it is known that the result of `scan_definition` on this text stays the same whatever text follows. It is known if a definition
+/// ended and something follows it that is not an unfinished title. It is also known if no colon follows the end of a label. `paragraph` is
+/// as for `scan_definition`.
 pub fn is_settled(paragraph: &str) -> bool
     ensures value { result ≡ settles paragraph.now }
     ensures settled { IsTrue result → IsSettled paragraph.now }

@@ -56,7 +56,7 @@ filter-active_runs (suc n) (x ∷ xs) = go (stays x) refl (filter-active_runs n 
     go true e h = rw e (rw e (ap (λ l. x ∷ l) h))
     go false e h = rw e h
 
--- a height past the stack may be any other
+-- a height above the stack may be replaced by another
 pub active_runs-lower : (n m : ℕ) (xs : List code_run.Run) → length xs ≤ m → active_runs (min n m) xs ≡ active_runs n xs
 active_runs-lower n m xs le = go (cases_lt m n)
   where
@@ -77,7 +77,7 @@ open-push xs x = ap reverse (map-append shown_run xs (x ∷ [])) ∙ reverse-app
 abbrev pub some_run : code_run.Run
 some_run = record { delimiter = 0; run_length = 0; at = 0; left = 0; opens = false; closes = false }
 
--- one more of the stack
+-- one more run of the stack
 pub tops_at : (n : ℕ) (stack : List code_run.Run) (i : ℕ) (d : code_run.Run) → i < length stack
     → (open_runs (active_runs n (take (i + 1) stack)) ≡ shown_run (get_or stack i d) ∷ open_runs (active_runs n (take i stack))) × ((n ≤ i) ⊎ (stays (get_or stack i d) ≡ true))
     ⊎ (open_runs (active_runs n (take (i + 1) stack)) ≡ open_runs (active_runs n (take i stack))) × (i < n) × (stays (get_or stack i d) ≡ false)
@@ -96,11 +96,11 @@ tops_at n stack i d lt = go (tops n (take i stack) (get_or stack i d))
     go (inr h) = inr (ap open_runs (more ∙ h.0), omega (arith, h.1, len), h.2)
 
 module _ (c : Run) (n : ℕ) (stack : List code_run.Run) where
-  -- no open run of the first so many agrees
+  -- no open run among the first ones agrees
   abbrev NoneUpTo : ℕ → Type 0
   NoneUpTo i = NoneAgree c (open_runs (active_runs n (take i stack)))
 
-  -- the run at this place counts as open, or is inactive
+  -- the run at this index counts as open, or is inactive
   abbrev TopsAt : ℕ → code_run.Run → Type 0
   TopsAt i d =
       (open_runs (active_runs n (take (i + 1) stack)) ≡ shown_run (get_or stack i d) ∷ open_runs (active_runs n (take i stack))) × ((n ≤ i) ⊎ (stays (get_or stack i d) ≡ true))
@@ -109,7 +109,7 @@ module _ (c : Run) (n : ℕ) (stack : List code_run.Run) where
   next : (i : ℕ) → i + 1 ≡ suc i
   next i = omega arith
 
-  -- no open run of the first agrees where none of them all does
+  -- no open run among the first ones agrees if no run of the stack does
   pub none_of : (i : ℕ) → i ≤ length stack → ((k : ℕ) (d : code_run.Run) → k < i → agrees (shown_run (get_or stack k d)) c ≡ false) → NoneAgree c (open_runs (active_runs n (take i stack)))
   none_of zero le h = tt
   none_of (suc i) le h =
@@ -119,7 +119,7 @@ module _ (c : Run) (n : ℕ) (stack : List code_run.Run) where
       go (inl t) r = subst NoneUpTo (next i) (subst (NoneAgree c) (sym t.0) (h i some_run (omega arith), r))
       go (inr t) r = subst NoneUpTo (next i) (subst (NoneAgree c) (sym t.0) r)
 
-  -- below the height a tilde or a caret finds none
+  -- below the height the search of a tilde or a caret finds nothing
   pub none_inactive : is_tilde_or_caret c.delimiter ≡ true → (i : ℕ) → i ≤ length stack → i ≤ n → NoneAgree c (open_runs (active_runs n (take i stack)))
   none_inactive tilde zero le low = tt
   none_inactive tilde (suc i) le low =
@@ -135,7 +135,7 @@ module _ (c : Run) (n : ℕ) (stack : List code_run.Run) where
           subst NoneUpTo (next i) (subst (NoneAgree c) (sym t) (other_kind (shown_run (get_or stack i some_run)) c true (back (is_tilde_or_caret (get_or stack i some_run).delimiter) s) tilde, r))
       go (inr t) r = subst NoneUpTo (next i) (subst (NoneAgree c) (sym t.0) r)
 
-  -- what a search that finds none says of each run of the stack
+  -- if a search finds nothing, no run of the stack agrees
   pub each_misses : is_tilde_or_caret c.delimiter ≡ false → (i : ℕ) → i ≤ length stack → NoneAgree c (open_runs (active_runs n (take i stack))) → (k : ℕ) (d : code_run.Run) → k < i → agrees (shown_run (get_or stack k d)) c ≡ false
   each_misses plain zero le none k d lt = absurd (omega (arith, lt))
   each_misses plain (suc i) le none k d lt = go (tops_at n stack i d (omega (arith, le))) (cases_lt k i) (each_misses plain i (omega (arith, le)))

@@ -1,4 +1,4 @@
--- What an open run and one that agrees with it have in common.
+-- Common properties of an open run and a closing run that agrees with it.
 use Rattle.std.proofs.Common.{◌≡◌, ◌⊎◌, inl, inr, ℕ, ◌+◌, ◌%◌, ◌<◌, Bool, true, false, ◌&&◌, ◌||◌, ◌==◌, not, nat_lt, if◌then◌else◌, Some, None, refl, sym, ap, ◌∙◌, arith, true≢false, eqb-true}
 use Rattle.std.proofs.lemmas.Bool.{and_parts, ltb-true}
 use Rattle.cmark_grammar.specs.Emphasis.{Run, agrees, can_both, has_same_delimiter, is_tilde_or_caret, is_tilde_or_equals, keeps_rule_of_three}
@@ -25,7 +25,7 @@ some_same a b e = cc
 none_some : (n : ℕ) → None ≡ Some n → ⊥
 none_some n e = cc
 
--- what a run of each class is: of `*`, of `_`, or two `=`
+-- the runs of each class: `*`, `_`, or two `=`
 abbrev OfClass : Run → ℕ → Type 0
 OfClass run class =
     (run.delimiter ≡ 42) × (class ≡ rank run) ⊎ ((run.delimiter ≡ 95) × (class ≡ 6 + rank run) ⊎ (run.delimiter ≡ 61) × (run.run_length ≡ 2) × (class ≡ 12))
@@ -90,7 +90,7 @@ class-delimiter c d class e f = go (classed c class e) (classed d class f)
     go (inr (inr x)) (inr (inl y)) = absurd (omega (arith, x.2, y.1, rank_low d))
     go (inr (inr x)) (inr (inr y)) = y.0 ∙ sym x.0
 
--- an open run that a closing run of a class has passed agrees with none of the class
+-- an open run that a closing run of a class has passed agrees with no run of the class
 pub class_misses : (o c d : Run) (class : ℕ) → class_of c ≡ Some class → class_of d ≡ Some class → IsClosing c → agrees o c ≡ false → agrees o d ≡ false
 class_misses o c d class e f h miss = go (agrees o d) refl
   where

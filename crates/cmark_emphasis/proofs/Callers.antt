@@ -1,4 +1,4 @@
--- What a caller knows of the runs of siblings.
+-- Facts about the runs of siblings that a caller has to know.
 use Rattle.std.proofs.Common.{◌≡◌, ℕ, suc, ◌+◌, ◌<◌, ◌≤◌, ◌^◌, List, [], ◌∷◌, ◌++◌, refl, ap, subst, arith}
 use Rattle.std.specs.Prelude.{All, map}
 use Rattle.cmark_grammar.specs.Emphasis.{Run, Sibling, Plain, Delimiter, StandFrom, places_taken, runs_of}
@@ -22,12 +22,12 @@ all_placed : (runs : List code_run.Run) (n : ℕ) → n < 2 ^ 64 → EndsBy n (m
 all_placed [] n lt h = none
 all_placed (run ∷ runs) n lt h = All-cons IsPlaced run runs (omega (arith, lt, h.0)) (all_placed runs n lt h.1)
 
--- the places of runs of siblings are numbers that the machine has, if their count is one
+-- the indices of runs of siblings fit in a usize, if the number of siblings does
 pub runs-placed : (ts : List Sibling) (runs : List code_run.Run) (count : ℕ) → StandFrom 0 ts → places_taken ts ≡ count → runs_of ts ≡ map shown_run runs → count < 2 ^ 64 → All IsPlaced runs
 runs-placed ts runs count st taken are lt =
     all_placed runs count lt (subst (EndsBy count) are (ends-by ts 0 count st (omega (arith, taken))))
 
--- siblings behind others
+-- siblings after others
 pub stand-append : (xs ys : List Sibling) (n : ℕ) → StandFrom n xs → StandFrom (n + places_taken xs) ys → StandFrom n (xs ++ ys)
 stand-append [] ys n h k = let e : n + 0 ≡ n = omega arith in subst (λ m. StandFrom m ys) e k
 stand-append (Plain at ∷ xs) ys n h k =

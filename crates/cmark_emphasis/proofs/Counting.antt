@@ -1,4 +1,4 @@
--- What searches for open runs examine is paid for by the stack that they leave: fifteen for each run, less the heights of the bottoms.
+-- The open runs that searches examine are paid for by the stack: fifteen for each run on it, less the heights of the bottoms.
 use Rattle.std.proofs.Common.{◌≡◌, ◌≢◌, ◌⊎◌, inl, inr, ℕ, zero, suc, ◌+◌, ◌-◌, ◌*◌, ◌<◌, ◌≤◌, Bool, true, false, not, ◌&&◌, ◌||◌, ◌==◌, if◌then◌else◌, nat_lt, List, [], ◌∷◌, ◌++◌, length, length-append, Option, Some, None, get_or, refl, sym, ap, ◌∙◌, arith, true≢false}
 use Rattle.std.specs.Prelude.{min, slice_set, take}
 use Rattle.std.proofs.lemmas.Bool.{cases_eq, cases_lt, and_parts, lt-ltb, ltb-true}
@@ -38,7 +38,7 @@ in_class (suc (suc (suc (suc (suc (suc (suc (suc (suc (suc (suc (suc (suc n)))))
 pub height-within : (bottoms : OpenersBottom) (stack : List code_run.Run) → AreBottoms bottoms stack → (class : ℕ) → class < 13 → get_or bottoms.heights class 0 ≤ length stack
 height-within bottoms stack h class lt = let c = in_class class lt in (h.emphasis c.0 class c.1).within
 
--- thirteen that are at most others, each by so much
+-- each of thirteen numbers is at most another number plus `more`; so are their sums, with thirteen times `more`
 thirteen : (f g : ℕ → ℕ) (more : ℕ) → ((class : ℕ) → class < 13 → f class ≤ g class + more) → (xs ys : List ℕ) → ((class : ℕ) → f class ≡ get_or xs class 0) → ((class : ℕ) → g class ≡ get_or ys class 0) → heights_of 13 xs ≤ heights_of 13 ys + 13 * more
 thirteen f g more h xs ys e d =
     let at : (class : ℕ) → class < 13 → get_or xs class 0 ≤ get_or ys class 0 + more = λ class lt. omega (arith, h class lt, e class, d class) in
@@ -68,7 +68,7 @@ total-falls old new stack height h heights inactive_below =
     under (inl high) all = omega (arith, all, inactive_below, h.inactive_below, high)
     under (inr low) all = omega (arith, all, inactive_below, low)
 
--- one height is another
+-- one height is replaced
 heights-set : (classes : ℕ) (heights : List ℕ) (class height : ℕ) → class < length heights → class < classes → heights_of classes (slice_set heights class height) + get_or heights class 0 ≡ heights_of classes heights + height
 heights-set zero heights class height there lt = absurd (omega (arith, lt))
 heights-set (suc n) heights class height there lt = go (cases_eq class n) (λ less. heights-set n heights class height there less)
@@ -136,7 +136,7 @@ not-deactivating closer e s = go closer.closes (nat_lt 0 closer.left) (is_tilde_
     go true false t h k = absurd (true≢false (sym k))
     go false b t h k = absurd (true≢false (sym k))
 
--- a run of a delimiter that is no tilde and no caret has a class
+-- a run whose delimiter is neither a tilde nor a caret has a class
 pub has-class : (run : Run) → is_run_of run.delimiter run.run_length ≡ true → is_tilde_or_caret run.delimiter ≡ false → class_of run ≡ None → ⊥
 has-class run known plain e = go (run.delimiter == 42) (run.delimiter == 95) (is_tilde_or_caret run.delimiter) ((run.delimiter == 61) && (run.run_length == 2)) known plain e
   where
@@ -147,7 +147,7 @@ has-class run known plain e = go (run.delimiter == 42) (run.delimiter == 95) (is
     go false false false true h k e = (let q : Some 12 ≡ None = e in cc)
     go false false false false h k e = true≢false (sym h)
 
--- ## What is put back
+-- ## Runs that are put back
 
 pub put_back-most : (left : ℕ) → put_back left ≤ 15
 put_back-most left = go (nat_lt 0 left)
@@ -169,7 +169,7 @@ length-rest r stack = go (nat_lt 0 r.left) refl
     go true e = inr (length-append stack (r ∷ []), ltb-true 0 r.left e)
     go false e = inl refl
 
--- where something is left of the open run, nothing is left of the one that closes
+-- if bytes of the open run are left, no byte of the closing run is left
 pub rest-pays : (o c : Run) (r : code_run.Run) (front : List code_run.Run) → shown_run r ≡ rest_of_opener o c → 15 * length (with_rest r front) ≤ 15 * length front + put_back (rest_of_closer o c).left
 unfolding rest_of_opener rest_of_closer
 rest-pays o c r front e = go (length-rest r front) (nat_lt o.left c.left) refl (ap (λ (x : Run). x.left) e)
@@ -204,7 +204,7 @@ pair-pays o c r old new stack front next i before examined later bound some lt f
     let none = put_back-none c.left some in
     omega (arith, rest, len, all, none, falls, counts, so, lt)
 
--- a search that finds none
+-- a search that finds nothing
 pub none-pays : (c : Run) (old new : OpenersBottom) (len before examined later bound : ℕ) → bottom_of old c ≤ len → later ≡ examined + (if searches c then len - bottom_of old c else 0) → (searches c ≡ true → total_of new + bottom_of old c ≡ total_of old + len) → (searches c ≡ false → new ≡ old)
     → examined + 15 * len + before ≤ bound + total_of old + put_back c.left → later + 15 * len + before ≤ bound + total_of new + put_back c.left
 none-pays c old new len before examined later bound low counts rises rests so = go (searches c) refl counts
@@ -224,7 +224,7 @@ bottom-within c bottoms stack h = go (class_of c) refl
     go None e = low (is_tilde_or_caret c.delimiter)
     go (Some class) e = (h.emphasis c class e).within
 
--- what is left of a run has its delimiter and its length
+-- the rest of a run has its delimiter and its length
 pub rest-delimiter : (o c : Run) (r : code_run.Run) → shown_run r ≡ rest_of_closer o c → is_run_of c.delimiter c.run_length ≡ true → IsKnown r
 unfolding rest_of_closer
 rest-delimiter o c r e known = ap (λ (x : Run). is_run_of x.delimiter x.run_length) e ∙ known

@@ -1,4 +1,4 @@
--- A closing tilde or caret that finds none makes all open ones inactive.
+-- A closing tilde or caret whose search finds nothing makes all open ones inactive.
 use Rattle.std.proofs.Common.{◌≡◌, ℕ, Bool, true, false, List, [], ◌∷◌, ◌++◌, length, refl, sym, ap, ◌∙◌, arith}
 use Rattle.std.specs.Prelude.{reverse, map, filter}
 use Rattle.std.proofs.lemmas.List.{append-nil, reverse-append}

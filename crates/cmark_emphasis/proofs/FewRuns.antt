@@ -1,4 +1,4 @@
--- The pairs of one run, and of two, that are all of a list.
+-- The pairs of one run, and of two runs, that are the only ones of a list.
 use Rattle.std.proofs.Common.{◌≡◌, Bool, true, false, ◌&&◌, arith, get_or, length, nat_lt, if◌then◌else◌, List, [], ◌∷◌, ◌++◌, refl, sym, ap, ◌∙◌}
 use Rattle.std.specs.Prelude.{map, filter}
 use Rattle.cmark_emphasis.specs.Shown.{shown_run}
@@ -12,7 +12,7 @@ none_inactive : (b : Bool) → (if b then filter stays_open [] else []) ≡ []
 none_inactive true = refl
 none_inactive false = refl
 
--- a run alone pairs with none
+-- a run alone makes no pair
 pub one_run : (run : Run) → run_pairs (run ∷ []) ≡ []
 unfolding chased
 one_run run = refl
@@ -20,7 +20,7 @@ one_run run = refl
 abbrev pub lone_pair : Bool → Pair → List Pair
 lone_pair pairs pair = if pairs then pair ∷ [] else []
 
--- the second closes the first, if that is open and agrees
+-- the second run closes the first, if the first is open and agrees
 pub two_runs : (first second : Run) → run_pairs (first ∷ (second ∷ [])) ≡ lone_pair (first.opens && (nat_lt 0 first.left && agrees first second)) (pair_of first second)
 unfolding chased
 two_runs first second = ap (λ opens. (chased second (rest_on first opens)).pairs ++ []) (none_inactive (deactivates first)) ∙ opened first.opens (nat_lt 0 first.left)
@@ -38,7 +38,7 @@ two_runs first second = ap (λ opens. (chased second (rest_on first opens)).pair
 pub few_pairs : (siblings : List Sibling) (runs : List Run) (before pairs : List Pair) → runs_of siblings ≡ runs → pairs ≡ before ++ run_pairs runs → pairs ≡ before ++ pairs_of siblings
 few_pairs siblings runs before pairs are is = is ∙ ap (λ l. before ++ l) (ap run_pairs (sym are) ∙ run_pairs-are siblings)
 
--- runs of which there is one, and of which there are two
+-- exactly one run, and exactly two
 pub one_is : (runs : List code_run.Run) → length runs ≡ 1 → run_pairs (map shown_run runs) ≡ []
 one_is [] e = absurd (omega arith)
 one_is (run ∷ []) e = one_run (shown_run run)

@@ -1,4 +1,4 @@
--- What searches for open runs examine at least.
+-- A lower bound of the open runs that searches examine.
 use Rattle.std.proofs.Common.{◌≡◌, ◌⊎◌, inl, inr, ℕ, zero, suc, ◌+◌, ◌-◌, ◌<◌, ◌≤◌, Bool, true, false, not, ◌==◌, ◌&&◌, nat_lt, if◌then◌else◌, List, [], ◌∷◌, ◌++◌, length, length-append, Option, Some, None, get_or, refl, sym, ap, ◌∙◌, subst, arith, append_assoc, true≢false, eqb-true, drop-cons}
 use Rattle.std.specs.Prelude.{drop, take, map, filter, reverse, min, slice_get, slice_set}
 use Rattle.std.proofs.Math.ListN.{drop_of_length-le}
@@ -54,7 +54,7 @@ sought-pair c s xs ys h e =
 pub more-more : (m n : ℕ) (s : Seeking) → with_more (m + n) s ≡ with_more m (with_more n s)
 more-more m n s = ap {B = Seeking} (λ k. record { rest = s.rest; standing = s.standing; least = k }) (let q : m + n + s.least ≡ m + (n + s.least) = omega arith in q)
 
--- ## Those that stand on a stack
+-- ## The open runs of a stack
 
 lengths : (ss : List Standing) (stack : List code_run.Run) → map run_of ss ≡ map shown_run stack → length ss ≡ length stack
 lengths ss stack e = sym (length-map ss run_of) ∙ ap length e ∙ length-map stack shown_run
@@ -150,7 +150,7 @@ runs-standing n ss stack e = map-reverse run_of (active_in n ss) ∙ ap reverse 
 pub standing-runs : (bottoms : OpenersBottom) (stack : List code_run.Run) (ss : List Standing) → AreStanding bottoms stack ss → map run_of ss ≡ open_runs (active_runs bottoms.inactive_below stack)
 standing-runs bottoms stack ss h = ap (map run_of) h.are ∙ runs-standing bottoms.inactive_below h.marked stack h.runs
 
--- ## A search that takes one
+-- ## A search that takes a run
 
 split-at : (back : List Standing) (passed : List Run) (o : Run) → map run_of back ≡ passed ++ o ∷ [] → (xs : List Standing) × (s : Standing) × (back ≡ xs ++ s ∷ []) × (map run_of xs ≡ passed) × (s.run ≡ o)
 split-at [] [] o e = absurd (let q = ap length e in omega (arith, q))
@@ -217,7 +217,7 @@ standing-cut old new stack i ss le h bottoms lows inactive = record {
   are = ap reverse (sym (ap (λ n. active_in n (take i h.marked)) inactive ∙ active-lower old.inactive_below i (take i h.marked) (let same = lengths h.marked stack h.runs in let len = length-take-le i h.marked (omega (arith, le, same)) in omega (arith, len))));
 }
 
--- what is put on the stack stands above all bottoms, and is fresh
+-- a run that is put on the stack is above all bottoms, and is fresh
 pub standing-rest : (bottoms : OpenersBottom) (stack : List code_run.Run) (ss : List Standing) (r : code_run.Run) → AreBottoms bottoms stack → AreStanding bottoms stack ss → AreStanding bottoms (with_rest r stack) (put_up (shown_run r) ss)
 standing-rest bottoms stack ss r bs h = go (nat_lt 0 r.left)
   where
@@ -245,7 +245,7 @@ standing-opener bottoms stack ss r bs h = go r.opens
     go true = standing-rest bottoms stack ss r bs h
     go false = h
 
--- ## A search that takes none
+-- ## A search that takes nothing
 
 fresh-append : (d : ℕ) (xs ys : List Standing) → fresh_in d (xs ++ ys) ≡ fresh_in d xs + fresh_in d ys
 fresh-append d [] ys = let q : fresh_in d ys ≡ 0 + fresh_in d ys = omega arith in q
@@ -268,7 +268,7 @@ fresh-active d (suc n) (s ∷ ss) = go (stays_standing s) (is_fresh d s) (fresh-
     go true f i = omega (arith, i)
     go false f i = omega (arith, i)
 
--- at least so many are not fresh
+-- at least `b` runs are not fresh
 fresh-above : (d b : ℕ) (e : Standing) (ss : List Standing) → b ≤ length ss → ((k : ℕ) → k < b → is_fresh d (get_or ss k e) ≡ false) → fresh_in d ss + b ≤ length ss
 fresh-above d b e [] le h = omega (arith, le)
 fresh-above d zero e (s ∷ ss) le h = go (is_fresh d s) (fresh-above d zero e ss (omega arith) (λ k lt. absurd (omega (arith, lt))))
@@ -292,7 +292,7 @@ fresh-few c bottoms stack ss bs h =
     let low = fresh-above d (bottom_of bottoms c) e h.marked (omega (arith, within, len)) (λ k lt. h.stale c k e lt) in
     omega (arith, all, some, low, len)
 
--- ## What a search that takes none leaves
+-- ## The state after a search that takes nothing
 
 map-runs : (f : Standing → Standing) → ((s : Standing) → run_of (f s) ≡ run_of s) → (ss : List Standing) → map run_of (map f ss) ≡ map run_of ss
 map-runs f keeps [] = refl
@@ -307,7 +307,7 @@ map-active f keeps (suc n) (s ∷ ss) = go (stays_standing s) refl (map-active f
     go true e i = rw (ap stays_open (keeps s) ∙ e) (rw e (ap (λ l. f s ∷ l) i))
     go false e i = rw (ap stays_open (keeps s) ∙ e) (rw e i)
 
--- where less is fresh, what was not fresh is not
+-- if fewer runs are fresh, a run that was not fresh is not fresh
 less-fresh : (a b c : Bool) → (a && c) ≡ false → ((a && b) && c) ≡ false
 less-fresh true true c e = e
 less-fresh true false c e = refl
@@ -426,9 +426,9 @@ standing-noted closer old new stack ss bs h rests inactive kinds = go (searches 
         let is : left_standing closer ss ≡ ss = rw e refl in
         subst (AreStanding new stack) (sym is) (subst (λ bottoms. AreStanding bottoms stack ss) (sym (rests e)) h)
 
--- ## A run that seeks
+-- ## The searches of a run
 
--- a run sought among those that stood first, and so many were examined since at least; what is left of it seeks among those that stand now
+-- a run searched first among the open runs `ss`, and some runs were examined since; its rest searches among the runs that are open now
 pub record IsSeeking (first : Run) (ss : List Standing) (before : ℕ) (bottoms : OpenersBottom) (stack : List code_run.Run) (closer : Run) (examined : ℕ) : Type 0 where
   pub now : List Standing
   pub more : ℕ
@@ -507,7 +507,7 @@ standing-none bottoms bs = record {
   are = refl;
 }
 
--- one run more
+-- one more run
 pub round-least : (runs : List code_run.Run) (i : ℕ) (d : code_run.Run) (ss : List Standing) (first before after bound : ℕ) (bottoms : OpenersBottom) (stack next : List code_run.Run) (rest : code_run.Run) → i < length runs → HasSought (shown_run (get_or runs i d)) ss before after bottoms stack (shown_run rest)
     → AreBottoms bottoms stack → next ≡ with_opener rest stack → first + bound ≤ before + least_from (map shown_run (drop i runs)) ss
     → (now : List Standing) × AreStanding bottoms next now × (first + bound ≤ after + least_from (map shown_run (drop (i + 1) runs)) now)
@@ -520,11 +520,11 @@ round-least runs i d ss first before after bound bottoms stack next rest lt h bs
     subst (λ l. AreStanding bottoms l (put_open s.rest s.standing)) (sym n) (subst (λ x. AreStanding bottoms (with_opener rest stack) (put_open x s.standing)) (sym h.rest_is) (standing-opener bottoms stack s.standing rest bs h.stand)) in
     (put_open s.rest s.standing, stand, omega (arith, all, most, so))
 
--- no more is left
+-- no run is left
 pub end-least : (runs : List code_run.Run) (i : ℕ) (ss : List Standing) → length runs ≤ i → least_from (map shown_run (drop i runs)) ss ≡ 0
 end-least runs i ss le = ap (λ l. least_from (map shown_run l) ss) (drop_of_length-le runs le)
 
--- a run alone, and two
+-- a run alone, and two runs
 left-none : (r : Run) → left_standing r [] ≡ []
 left-none r = go (searches r) (deactivates r)
   where

@@ -1,4 +1,4 @@
--- What a search that found none leaves of the bottoms, and what is left of them where the stack is cut.
+-- The bottoms after a search that found nothing, and after the stack is cut.
 use Rattle.std.proofs.Common.{◌≡◌, ◌≢◌, ◌⊎◌, inl, inr, ℕ, ◌+◌, ◌<◌, ◌≤◌, Bool, true, false, List, [], ◌∷◌, ◌++◌, if◌then◌else◌, nat_lt, length, length-append, Some, get_or, sym, ap, ◌∙◌, subst, arith}
 use Rattle.std.specs.Prelude.{take, min, slice_set}
 use Rattle.std.proofs.Math.Seq.{take-length}
@@ -53,12 +53,12 @@ lowered old new stack height h heights inactive_below = record { emphasis = each
               subst (λ r. agrees (shown_run r) closer ≡ false) (sym (get_or-take height stack k d (omega (arith, lt, is)))) (old_one.none k d (omega (arith, lt, is)));
         }
 
--- and what counts as open is the same
+-- the runs that count as open are the same
 pub lowered_open : (n m height : ℕ) (stack : List code_run.Run) → m ≡ min n height → active_runs m (take height stack) ≡ active_runs n (take height stack)
 lowered_open n m height stack e =
     ap (λ k. active_runs k (take height stack)) e ∙ active_runs-lower n height (take height stack) (let l = length-take height stack in omega (arith, l))
 
--- what is put on the stack stands above all heights
+-- a run that is put on the stack is above all heights
 pub rest_bottoms : (bottoms : OpenersBottom) (stack : List code_run.Run) (r : code_run.Run) → AreBottoms bottoms stack → AreBottoms bottoms (with_rest r stack)
 rest_bottoms bottoms stack r h = go (nat_lt 0 r.left)
   where

@@ -59,7 +59,7 @@ turned-append (Some i) xs ys h = set-append xs ys i 8216 h
 abbrev chosen_character : Bool → Bool → Bool → Bool → ℕ
 chosen_character c o is closed = if (not (c && is) && o) && closed then 8216 else 8217
 
--- where what is open is closed, its character alone is another
+-- if the open quote is closed, only its character changes
 pub closes-one : (before : List Quote) → so_far before true ≡ turned true (open_single before) (so_far before false)
 closes-one [] = refl
 closes-one (q ∷ before) = go q.double q.closes q.opens (open_single before) (is_single_open before) (single-open before) (single-within before) (so_far before) (length-so before false) (closes-one before)
@@ -141,7 +141,7 @@ behind_within before single double old h =
 closed-is : (q : Quote) (after : List Quote) → is_closed_by (q ∷ after) ≡ closed_from q (is_closed_by after)
 closed-is q after = refl
 
--- the characters of quotes are those of the first ones, and of those behind them
+-- the characters of quotes are those of the first ones, followed by those of the later ones
 split : (before after : List Quote) → so_far before (is_closed_by after) ++ quote_characters before after ≡ quote_characters [] (reverse before ++ after)
 split [] after = refl
 split (q ∷ before) after =

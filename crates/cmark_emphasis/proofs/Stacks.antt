@@ -1,4 +1,4 @@
--- Steps of a run that closes over a stack of open runs.
+-- Steps of a closing run over a stack of open runs.
 use Rattle.std.proofs.Common.{◌≡◌, ◌⊎◌, inl, inr, ℕ, zero, suc, ◌+◌, ◌-◌, ◌<◌, ◌≤◌, Bool, true, false, not, nat_lt, if◌then◌else◌, List, [], ◌∷◌, ◌++◌, length, Option, Some, None, get_or, refl, sym, ap, ◌∙◌, subst, arith, append_assoc, true≢false, drop-cons}
 use Rattle.std.specs.Prelude.{drop, take, slice_get, map}
 use Rattle.std.proofs.lemmas.List.{append-nil, map-append, length-reverse, length-map, length-take-le}
@@ -56,7 +56,7 @@ chased-pair c o xs ys h e = rw (chase-skip c xs (o ∷ ys) h) (rw e (go (one_emp
         same (chase (rest_of_closer o c) ys) (put (rest_of_opener o c) ys) p ∙ ap (λ l. with_pair (pair_of o c) (or_same (rest_of_closer o c) l (chase (rest_of_closer o c) l))) (sym p)
     go (inr z) = rw (chase-empty (rest_of_closer o c) ys z) (rw (chase-empty (rest_of_closer o c) (put (rest_of_opener o c) ys) z) refl)
 
--- what is put back on the stack is open
+-- a run that is put back on the stack is open
 pub open-rest : (n : ℕ) (stack : List code_run.Run) (r : code_run.Run) → n ≤ length stack → open_runs (active_runs n (with_rest r stack)) ≡ put (shown_run r) (open_runs (active_runs n stack))
 open-rest n stack r le = go (nat_lt 0 r.left)
   where
@@ -141,7 +141,7 @@ course_smaller c o stack next i lt agree e = go (nat_lt o.left c.left) refl (nat
         let l : length next ≡ length (open_runs (take i stack)) = len ∙ rw q refl in
         omega (arith, l, front, some, lt)
 
--- what a step of a search comes to, at the run before this place
+-- the result of a search step at the run before this index
 module _ (c : Run) (n : ℕ) (stack : List code_run.Run) where
   abbrev Passed : List Run → ℕ → Type 0
   Passed passed i = open_runs (active_runs n stack) ≡ passed ++ open_runs (active_runs n (take i stack))
@@ -186,7 +186,7 @@ agree-both : (c : Run) (xs ys : List Run) → NoneAgree c xs → NoneAgree c ys 
 agree-both c [] ys h k = k
 agree-both c (x ∷ xs) ys h k = (h.0, agree-both c xs ys h.1 k)
 
--- at the bottom none is left that agrees
+-- at the bottom no run is left that agrees
 pub none_left : (c : Run) (bottoms : OpenersBottom) (stack : List code_run.Run) (passed : List Run) (i : ℕ) → AreBottoms bottoms stack → i ≤ length stack → i ≤ bottom_of bottoms c → open_runs (active_runs bottoms.inactive_below stack) ≡ passed ++ open_runs (active_runs bottoms.inactive_below (take i stack)) → NoneAgree c passed → NoneAgree c (open_runs (active_runs bottoms.inactive_below stack))
 none_left c bottoms stack passed i h le low cut miss =
     subst (NoneAgree c) (sym cut) (agree-both c passed (open_runs (active_runs bottoms.inactive_below (take i stack))) miss (by_class (class_of c) refl low))
@@ -204,7 +204,7 @@ none_left c bottoms stack passed i h le low cut miss =
         let b = h.emphasis c class e in
         none_of c bottoms.inactive_below stack i le (λ k d lt. b.none k d (omega (arith, l, lt)))
 
--- a search that goes down to the bottom of tildes and carets stays above those that they made inactive
+-- a search that ends at the bottom of tildes and carets stays above those that are inactive
 pub above_inactive : (c : Run) (bottoms : OpenersBottom) (j : ℕ) → bottom_of bottoms c ≤ j → is_tilde_or_caret c.delimiter ≡ true → bottoms.inactive_below ≤ j
 above_inactive c bottoms j le tilde = by_class (class_of c) refl le
   where
@@ -215,7 +215,7 @@ above_inactive c bottoms j le tilde = by_class (class_of c) refl le
 pub nearest_in : (c : Run) (n : ℕ) (stack : List code_run.Run) (i : ℕ) → IsNearest c n stack i → i < length stack
 nearest_in c n stack i h = slice_get_within stack i h.opener h.read
 
--- one pair, with all that the loop needs
+-- one pair, with all facts that the loop needs
 pub course_next : (c : Run) (o r : code_run.Run) (stack front next : List code_run.Run) (pairs more : List code_pair.Pair) (m : code_pair.Pair) (i n k : ℕ) → IsNearest c n stack i → i < length stack → o ≡ get_or stack i o → front ≡ take i stack → k ≤ length front → active_runs k front ≡ active_runs n front → next ≡ with_rest r front → shown_run r ≡ rest_of_opener (shown_run o) c → more ≡ pairs ++ m ∷ [] → shown_pair m ≡ pair_of (shown_run o) c
     → (course_from (rest_of_closer (shown_run o) c) (active_runs k next) more ≡ course_from c (active_runs n stack) pairs) × (length next + (rest_of_closer (shown_run o) c).left < length stack + c.left)
 course_next c o r stack front next pairs more m i n k h lt at f low sh ne re mo s =
@@ -229,7 +229,7 @@ course_next c o r stack front next pairs more m i n k h lt at f low sh ne re mo 
       course_smaller c (shown_run o) stack next i lt (subst (λ r. agrees (shown_run r) c ≡ true) same h.agree) plain,
     )
 
--- one run more
+-- one more run
 pub round : (runs : List code_run.Run) (i : ℕ) (d : code_run.Run) (stack : List code_run.Run) (old new : List code_pair.Pair) (rest : Run) (opens next : List Run) (all : List Pair) → i < length runs
     → course_from (shown_run (get_or runs i d)) stack old ≡ record { rest = rest; opens = opens; pairs = map shown_pair new } → next ≡ rest_on rest opens
     → map shown_pair old ++ pair_all (map shown_run (drop i runs)) (open_runs stack) ≡ all → map shown_pair new ++ pair_all (map shown_run (drop (i + 1) runs)) next ≡ all

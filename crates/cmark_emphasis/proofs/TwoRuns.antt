@@ -1,4 +1,4 @@
--- The slots of two runs that are all of a list and make one span.
+-- The slots of two runs that are the only ones of a list and make one span.
 use Rattle.std.proofs.Common.{◌≡◌, ◌≢◌, ℕ, zero, suc, ◌+◌, ◌-◌, ◌<◌, ◌≤◌, ◌==◌, ◌&&◌, Bool, true, false, nat_lt, if◌then◌else◌, [], ◌∷◌, ◌++◌, refl, sym, ap, ◌∙◌, arith, true≢false}
 use Rattle.cmark_grammar.specs.Spans.{SpanKind, Emphasis, Strong, SingleTilde, DoubleTilde, Caret, DoubleEquals, span_width}
 use Rattle.cmark_grammar.specs.Emphasis.{Run, Pair, StandFrom, agrees, kinds_of, tilde_kinds, caret_kinds, equals_kinds, emphasis_kinds, pair_of, places_taken}
@@ -46,7 +46,7 @@ two-spans first second k pairs same wide kinds st =
     ∙ ap (λ n. mark_pairs (pair_of first second ∷ []) (stays n)) taken
     ∙ two-marked k (pair_of first second) (ap (kinds_of second.delimiter) (same-count first.left second.left same) ∙ kinds) from to
 
--- whether they make one span, where they make a pair
+-- whether they make one span, if they make a pair
 pub a-pair : (a b c x : Bool) → (a && (b && c)) ≡ true → (a && (b && (c && x))) ≡ x
 a-pair true true true x e = refl
 a-pair true true false x e = absurd (true≢false (sym e))
@@ -68,11 +68,11 @@ one-more m n k lt = go (m == 126) (m == 94) (m == 61) n lt
     go false false false (suc zero) lt = refl
     go false false false (suc (suc n)) lt = refl
 
--- the innermost span is not all
+-- the innermost span leaves bytes over
 pub several : (m n w : ℕ) (k : SpanKind) → kinds_of m n ≡ k ∷ kinds_of m (n - w) → w ≤ n → w ≢ n → is_one (kinds_of m n) ≡ false
 several m n w k e le ne = ap is_one e ∙ one-more m (n - w) k (omega (arith, le, ne))
 
--- it is all
+-- the innermost span is the only one
 pub only : (m n w : ℕ) (k : SpanKind) → kinds_of m n ≡ k ∷ kinds_of m (n - w) → w ≡ n → kinds_of m n ≡ k ∷ []
 only m n w k e all = let z : n - w ≡ 0 = omega (arith, all) in e ∙ ap (λ i. k ∷ kinds_of m i) z ∙ ap (λ ks. k ∷ ks) (kinds-none m)
 

@@ -6,7 +6,7 @@ use Rattle.cmark_emphasis.specs.Stack.{stays_open}
 use Rattle.cmark_emphasis.specs.declared.run.Run as code_run
 use Rattle.cmark_emphasis.specs.declared.bottom.OpenersBottom.{OpenersBottom}
 
--- what counts of a run beside its delimiter: whether it can open as well as close, and its length modulo 3
+-- the properties of a run that matter beside its delimiter: whether it can both open and close, and its length modulo 3
 abbrev pub rank : Run → ℕ
 rank run = (if can_both run then 3 else 0) + run.run_length % 3
 
@@ -29,7 +29,7 @@ pub record NoneBelow (closer : Run) (stack : List code_run.Run) (height : ℕ) :
   pub within : height ≤ length stack
   pub none : (k : ℕ) (d : code_run.Run) → k < height → agrees (shown_run (get_or stack k d)) closer ≡ false
 
--- the bottoms are those of this stack: below that of a class, no run agrees with a closing one of the class
+-- these are bottoms of this stack: below the bottom of a class, no run agrees with a closing run of the class
 pub record AreBottoms (bottoms : OpenersBottom) (stack : List code_run.Run) : Type 0 where
   pub emphasis : (closer : Run) (class : ℕ) → class_of closer ≡ Some class → NoneBelow closer stack (get_or bottoms.heights class 0)
   pub inactive_below : bottoms.inactive_below ≤ length stack
@@ -38,7 +38,7 @@ abbrev pub or_other : Option ℕ → (heights : List ℕ) → (other : ℕ) → 
 or_other None heights other = other
 or_other (Some class) heights other = get_or heights class 0
 
--- where the search of a closing run ends: at the bottom of its class, or of tildes and carets at the height up to which they
--- are inactive
+-- the height at which the search of a closing run ends: the bottom of its class, or, for tildes and carets, the height below which they are
+-- inactive
 abbrev pub bottom_of : OpenersBottom → (closer : Run) → ℕ
 bottom_of bottoms closer = or_other (class_of closer) bottoms.heights (if is_tilde_or_caret closer.delimiter then bottoms.inactive_below else 0)

@@ -2,7 +2,7 @@
 use Rattle.std.specs.Prelude.{◌≡◌, ℕ, ◌%◌, ◌<◌, Bool, true, ◌==◌, ◌||◌}
 use Rattle.cmark_grammar.specs.Emphasis.{Run, can_both}
 
--- a run that can close, and of which something is left
+-- a run that can close, and of which bytes are left
 pub record IsClosing (run : Run) : Type 0 where
   pub closes : run.closes ≡ true
   pub left : 0 < run.left
@@ -11,7 +11,7 @@ pub record IsClosing (run : Run) : Type 0 where
 abbrev pub is_emphasis_delimiter : ℕ → Bool
 is_emphasis_delimiter delimiter = (delimiter == 42) || (delimiter == 95)
 
--- runs of `*` or of `_` whose lengths are the same modulo 3, and that both can open as well, or both cannot
+-- runs of `*` or of `_` whose lengths are equal modulo 3, and which both can open too, or both cannot
 pub record IsLike (first second : Run) : Type 0 where
   pub emphasis : is_emphasis_delimiter first.delimiter ≡ true
   pub delimiter : second.delimiter ≡ first.delimiter

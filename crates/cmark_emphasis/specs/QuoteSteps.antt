@@ -1,8 +1,8 @@
--- Quotes one after the other: what is open behind them, and their characters so far.
+-- Quotes one after the other: the quotes that are open after them, and their characters so far.
 use Rattle.std.specs.Prelude.{◌≡◌, ℕ, Bool, true, false, ◌&&◌, ◌||◌, is_some, if◌then◌else◌, Option, Some, None, List, [], ◌∷◌, ◌++◌, length, slice_set}
 use Rattle.cmark_grammar.specs.Quotes.{Quote, is_double_open, double_character, turns_open}
 
--- the place of the single quote that is open behind one that stands at this place
+-- the index of the open single quote after a quote at this index
 abbrev pub single_after : Quote → (at : ℕ) → Option ℕ → Option ℕ
 single_after quote at opened = if quote.closes && is_some opened then None else if quote.opens then Some at else opened
 
@@ -18,12 +18,12 @@ turned false opened characters = characters
 turned true None characters = characters
 turned true (Some i) characters = slice_set characters i 8216
 
--- the place of the single quote that is open behind these, the nearest first
+-- the index of the open single quote after these quotes, the nearest first
 abbrev pub open_single : List Quote → Option ℕ
 open_single [] = None
 open_single (quote ∷ before) = if quote.double then open_single before else single_after quote (length before) (open_single before)
 
--- what is open in front of a quote is closed by it, or by those behind it
+-- whether the quote that is open before a quote is closed by it or by later ones
 abbrev pub closed_from : Quote → Bool → Bool
 closed_from quote closed = if quote.double then closed else if quote.closes then true else if quote.opens then false else closed
 
@@ -33,12 +33,12 @@ character_so_far before quote closed =
     else if turns_open before quote && closed then 8216
     else 8217
 
--- the characters of these, the nearest first, where what is open behind them is closed or not
+-- the characters of these quotes, the nearest first, if the quote that is open after them is closed later or not
 abbrev pub so_far : List Quote → (closed : Bool) → List ℕ
 so_far [] closed = []
 so_far (quote ∷ before) closed = so_far before (closed_from quote closed) ++ character_so_far before quote closed ∷ []
 
--- what is known behind these quotes, the nearest first
+-- the state after these quotes, the nearest first
 pub record IsBehind (before : List Quote) (single : Option ℕ) (double : Bool) (characters : List ℕ) : Type 0 where
   pub single_is : single ≡ open_single before
   pub double_is : double ≡ is_double_open before

@@ -1,4 +1,4 @@
--- What runs and pairs are in the words of the grammar.
+-- Runs and pairs of the code as values of the grammar.
 use Rattle.std.specs.Prelude.{◌+◌, ◌<◌, ◌^◌, List, map, reverse}
 use Rattle.cmark_grammar.specs.Emphasis.{Run, Pair}
 use Rattle.cmark_grammar.specs.Flanking.{Flanking}
@@ -18,7 +18,7 @@ shown_run run = record { delimiter = run.delimiter; run_length = run.run_length;
 abbrev pub shown_pair : code_pair.Pair → Pair
 shown_pair pair = record { delimiter = pair.delimiter; from = pair.from; to = pair.to; count = pair.count }
 
--- the places of the run are numbers that the machine has
+-- the indices of the run fit in a usize
 abbrev pub IsPlaced : code_run.Run → Type 0
 IsPlaced run = run.at + run.left < 2 ^ 64
 

@@ -28,7 +28,7 @@ closing DoubleTilde = slot.Blank ∷ (slot.End code.DoubleTilde ∷ [])
 closing Caret = slot.End code.Caret ∷ []
 closing DoubleEquals = slot.Blank ∷ (slot.End code.DoubleEquals ∷ [])
 
--- so many siblings, each as it is
+-- n siblings, each kept as it is
 abbrev pub stays : ℕ → List Slot
 stays n = entries.stays Slot slot.Single opening closing n
 
@@ -36,13 +36,13 @@ stays n = entries.stays Slot slot.Single opening closing n
 abbrev pub slots_of : Spans → List Slot
 slots_of spans = entries_of Slot slot.Single opening closing spans
 
--- a span that has begun: what stands before it, its kind, and its first place
+-- a span that has begun: the spans before it, its kind, and its first index
 pub record Begun : Type 0 where
   pub before : Spans
   pub kind : SpanKind
   pub start : ℕ
 
--- slots as they are read from left to right, from this place on: what stands at hand, in the spans that have begun
+-- slots as they are read from left to right, from the index `at` on: `here` is read so far, inside the spans that have begun
 abbrev pub read_from : (at : ℕ) → List Slot → (here : Spans) → List Begun → Spans
 read_from at [] here begun = here
 read_from at (slot.Single ∷ slots) here begun = read_from (suc at) slots (join here (Single at Nil)) begun
@@ -53,11 +53,11 @@ read_from at (slot.End kind ∷ slots) here [] = here
 read_from at (slot.End kind ∷ slots) here (last ∷ begun) =
     read_from (suc at) slots (join last.before (Around (record { kind = last.kind; start = last.start; end = suc at }) here Nil)) begun
 
--- the spans that slots say
+-- the spans that slots describe
 abbrev pub read_slots : List Slot → Spans
 read_slots slots = read_from 0 slots Nil []
 
--- each span that begins ends, the last that began first, and these are open before
+-- each span that begins ends, the last one first; the spans of the list are open at the start
 abbrev pub AreBalanced : List code_kind.SpanKind → List Slot → Type 0
 AreBalanced [] [] = Unit {0}
 AreBalanced (kind ∷ kinds) [] = ⊥
@@ -67,21 +67,21 @@ AreBalanced kinds (slot.Begin kind ∷ slots) = AreBalanced (kind ∷ kinds) slo
 AreBalanced [] (slot.End kind ∷ slots) = ⊥
 AreBalanced (last ∷ kinds) (slot.End kind ∷ slots) = (last ≡ kind) × AreBalanced kinds slots
 
--- so many siblings pair so
+-- `count` siblings have these pairs
 pub record ArePairs (count : ℕ) (pairs : List Pair) : Type 0 where
   pub siblings : List Sibling
   pub stand : StandFrom 0 siblings
   pub taken : places_taken siblings ≡ count
   pub are : pairs_of siblings ≡ pairs
 
--- so many siblings have these runs
+-- `count` siblings have these runs
 pub record AreRuns (count : ℕ) (runs : List Run) : Type 0 where
   pub siblings : List Sibling
   pub stand : StandFrom 0 siblings
   pub taken : places_taken siblings ≡ count
   pub are : runs_of siblings ≡ runs
 
--- spans around what stands between the places from and to, the innermost first
+-- spans around the siblings between the indices `from` and `to`, the innermost first
 abbrev pub mark_spans : List SpanKind → (from to : ℕ) → List Slot → List Slot
 mark_spans kinds from to slots = entries.mark_spans Slot slot.Single opening closing kinds from to slots
 

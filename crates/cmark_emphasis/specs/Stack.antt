@@ -5,7 +5,7 @@ use Rattle.cmark_emphasis.specs.Shown.{shown_pair, open_runs}
 use Rattle.cmark_emphasis.specs.declared.run.Run as code_run
 use Rattle.cmark_emphasis.specs.declared.run.Pair as code_pair
 
--- a run that has closed what it could: what is left of it and of the open runs, and its pairs
+-- the state after a run has closed all that it can: its rest, the open runs, and its pairs
 pub record Chased : Type 0 where
   pub rest : Run
   pub opens : List Run
@@ -25,7 +25,7 @@ put run opens = if nat_lt 0 run.left then run ∷ opens else opens
 abbrev pub stays_open : Run → Bool
 stays_open run = not (is_tilde_or_caret run.delimiter)
 
--- those that a closing run that finds none leaves open
+-- the open runs after a closing run that finds nothing
 abbrev pub still_open : Run → List Run → List Run
 still_open closer opens = if deactivates closer then filter stays_open opens else opens
 
@@ -66,7 +66,7 @@ abbrev pub NoneAgree : Run → List Run → Type 0
 NoneAgree closer [] = Unit {0}
 NoneAgree closer (opener ∷ opens) = (agrees opener closer ≡ false) × NoneAgree closer opens
 
--- what the run comes to over this stack, with these pairs made before
+-- the state after this run has closed over this stack, if these pairs were made before
 abbrev pub course_from : Run → List code_run.Run → List code_pair.Pair → Chased
 course_from closer stack pairs =
     let mine = chased closer (open_runs stack) in

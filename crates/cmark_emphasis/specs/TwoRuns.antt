@@ -1,4 +1,4 @@
--- Two delimiter runs that are all of a list of siblings.
+-- Two delimiter runs that are the only ones of a list of siblings.
 use Rattle.std.specs.Prelude.{Bool, true, false, ◌==◌, ◌&&◌, nat_lt, List, [], ◌∷◌}
 use Rattle.cmark_grammar.specs.Spans.{SpanKind}
 use Rattle.cmark_grammar.specs.Emphasis.{Run, Sibling, Delimiter, agrees, kinds_of}

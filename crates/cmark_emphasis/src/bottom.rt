@@ -17,7 +17,7 @@ fn is_tilde_or_caret(delimiter: u8) -> bool
     delimiter == b'~' || delimiter == b'^'
 }
 
-/// Whether the run, which found none, makes all open tildes and carets inactive.
+/// Whether the run, whose search found nothing, makes all open tildes and carets inactive.
 #[tactic(auto, unfolding(cmark_grammar::specs::Emphasis::deactivates))]
 fn deactivates(closer: Run) -> bool
     ensures { result ≡ grammar.deactivates (shown_run closer) }
@@ -25,8 +25,8 @@ fn deactivates(closer: Run) -> bool
     closer.closes && closer.left > 0 && is_tilde_or_caret(closer.delimiter)
 }
 
-/// The class of a run of `*`, `_` or `=`. All closing runs of one class agree with the same open runs: those of `*` and `_` by the rule of
-/// three, and each of `=` with each.
+/// The class of a run of `*`, `_` or `=`. All closing runs of one class agree with the same open runs: for `*` and `_` because of the rule
+/// of three, and for `=` because all runs of `=` agree.
 fn class_of(run: Run) -> Option<usize>
     ensures value { result ≡ class_of (shown_run run) }
     ensures within { IfSome result (λ class. class < 13) }
@@ -44,14 +44,14 @@ fn class_of(run: Run) -> Option<usize>
 /// Heights of the stack of open runs below which a search need not look.
 #[derive(Clone, Copy)]
 pub struct OpenersBottom {
-    /// For each class of runs of `*`, `_` or `=`: below it no open run agrees with a closing one of the class.
+    /// For each class of runs of `*`, `_` or `=` a height of the stack. Below it no open run agrees with a closing run of the class.
     heights: [usize; 13],
-    /// Below it all tildes and carets are inactive: they stand on the stack, but are not open any more.
+    /// A height of the stack. Below it all tildes and carets are inactive: they are on the stack, but no longer open.
     inactive_below: usize,
 }
 
 impl OpenersBottom {
-    /// The bottoms of a stack that holds nothing.
+    /// The bottoms of an empty stack.
     pub fn new() -> OpenersBottom
         ensures bottoms { AreBottoms result [] }
         ensures total { total_of result ≡ 0 }
@@ -62,7 +62,7 @@ impl OpenersBottom {
         }
     }
 
-    /// Where the search of this run ends.
+    /// The height at which the search of this run ends.
     pub fn below(&self, closer: Run) -> usize
         ensures { result ≡ bottom_of self.now (shown_run closer) }
     {
@@ -73,7 +73,7 @@ impl OpenersBottom {
         }
     }
 
-    /// The stack is cut to this height.
+    /// Takes account of a stack that was cut to this height.
     pub fn lower(&mut self, height: usize)
         ensures lows { (other : grammar.Run) → bottom_of self.new other ≤ bottom_of self.old other }
         ensures inactive { self.new.inactive_below ≡ min self.old.inactive_below height }
@@ -87,7 +87,8 @@ impl OpenersBottom {
         self.inactive_below = self.inactive_below.min(height);
     }
 
-    /// The search of this run found none on the stack. If it is a tilde or a caret that closes, it makes all open ones inactive.
+    /// Takes account of a search of this run that found no open run. If the run is a tilde or a caret that can close, it makes all open
+    /// ones inactive.
     pub fn note(&mut self, closer: Run, stack: &[Run])
         requires bottoms { AreBottoms self.old stack.now }
         requires none { NoneAgree (shown_run closer) (open_runs (active_runs self.old.inactive_below stack.now)) }

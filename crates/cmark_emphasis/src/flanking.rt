@@ -1,4 +1,4 @@
-//! Whether a delimiter run can open, and whether it can close, by what stands beside it (CommonMark 6.2).
+//! Whether a delimiter run can open, and whether it can close, by the characters beside it (CommonMark 6.2).
 
 ghost use Rattle.std.specs.Prelude.{◌≡◌, ◌&&◌, ◌||◌, not};
 ghost use Rattle.cmark_text_parts.specs.Shown.{shown_options};
@@ -24,7 +24,7 @@ pub struct Flanking {
     pub closes: bool,
 }
 
-/// What stands on one side of a run. An edge counts as white space.
+/// The character on one side of a run. An edge counts as white space.
 #[derive(Clone, Copy)]
 pub struct Side {
     /// White space, or an edge.
@@ -47,7 +47,7 @@ fn is_space_separator(category: GeneralCategory) -> bool
     category == GeneralCategory::SpaceSeparator
 }
 
-/// Whether the category is one of P or S.
+/// Whether the category is one of those in P or S.
 fn is_mark_or_symbol(category: GeneralCategory) -> bool
     ensures { result ≡ (in_group Group.Punctuation category || in_group Group.Symbol category) }
 {
@@ -76,7 +76,7 @@ fn is_punctuation(c: char) -> bool
     is_mark_or_symbol(GeneralCategory::for_char(c))
 }
 
-/// What a character, or none, is beside a run.
+/// The properties of a character beside a run; `None` is an edge.
 #[inline(always)]
 pub fn side_of(neighbor: Option<char>) -> Side
     ensures { result ≡ record { white_space = is_white_space_there neighbor; punctuation = is_punctuation_there neighbor } }
@@ -93,14 +93,14 @@ pub fn side_of(neighbor: Option<char>) -> Side
     }
 }
 
-/// Whether no white space is on the side `inner`, and no punctuation either, unless white space or punctuation is on the other.
+/// Whether the side `inner` has no white space, and has punctuation only if the side `outer` has white space or punctuation.
 fn flanks(inner: Side, outer: Side) -> bool
     ensures { result ≡ (not inner.white_space && (not inner.punctuation || (outer.white_space || outer.punctuation))) }
 {
     !inner.white_space && (!inner.punctuation || outer.white_space || outer.punctuation)
 }
 
-/// Whether so many of a delimiter are a delimiter run.
+/// Whether `run_length` bytes `delimiter` are a delimiter run.
 fn is_delimiter_run(options: Options, delimiter: u8, run_length: usize) -> bool
     ensures { result ≡ grammar.is_delimiter_run (shown_options options) delimiter run_length }
 {
@@ -117,7 +117,7 @@ fn is_delimiter_run(options: Options, delimiter: u8, run_length: usize) -> bool
     }
 }
 
-/// Whether such a run can open and close inside a word too.
+/// Whether this run can also open and close inside a word.
 fn is_intraword(options: Options, delimiter: u8, run_length: usize) -> bool
     ensures { result ≡ grammar.is_intraword (shown_options options) delimiter run_length }
 {
@@ -125,9 +125,9 @@ fn is_intraword(options: Options, delimiter: u8, run_length: usize) -> bool
         && (delimiter != b'~' || run_length == 2 || options.contains(Options::ENABLE_SUBSCRIPT))
 }
 
-/// Whether `run_length` bytes `delimiter` can open and close that stand between these characters (CommonMark 6.2, rules 1 to 8; GFM 6.5).
-/// None stands at the edge of a line, leaf or cell. What is no delimiter run by the options can do neither: three tildes, for
-/// one.
+/// Whether `run_length` bytes `delimiter` between these characters can open, and whether they can close (CommonMark 6.2, rules 1 to 8; GFM
+/// 6.5). `None` is the edge of a line, leaf or cell. Bytes that are not a delimiter run by the options, such as three tildes, can do
+/// neither.
 pub fn flanking_of(
     options: Options,
     delimiter: u8,

@@ -1,4 +1,4 @@
-//! Emphasis: delimiter runs, which of them pair, and the spans that they become (CommonMark 6.2, GFM 6.5).
+//! Emphasis: delimiter runs, the pairs that they form, and the spans that these become (CommonMark 6.2, GFM 6.5).
 #![tactic(auto)]
 
 mod bottom;

@@ -13,7 +13,7 @@ use crate::run::Pair;
 use crate::slot::{Slot, SpanKind};
 use std::alloc::AllocError;
 
-/// The innermost span of so many `*` or `_` a side.
+/// The innermost span of a pair with `left` bytes `*` or `_` on each side.
 fn innermost_emphasis(left: usize) -> SpanKind
     requires { 0 < left }
     ensures kinds { emphasis_kinds left ≡ shown_kind result ∷ emphasis_kinds (left - span_width (shown_kind result)) }
@@ -25,7 +25,7 @@ fn innermost_emphasis(left: usize) -> SpanKind
     SpanKind::Strong
 }
 
-/// The innermost span of so many `~` a side.
+/// The innermost span of a pair with `left` bytes `~` on each side.
 fn innermost_tilde(left: usize) -> SpanKind
     requires { 0 < left }
     ensures kinds { tilde_kinds left ≡ shown_kind result ∷ tilde_kinds (left - span_width (shown_kind result)) }
@@ -37,7 +37,7 @@ fn innermost_tilde(left: usize) -> SpanKind
     SpanKind::DoubleTilde
 }
 
-/// The innermost span of so many `=` a side, which are two.
+/// The innermost span of a pair with `left` bytes `=` on each side; `left` is 2.
 fn innermost_equals(left: usize) -> SpanKind
     requires { 0 < left }
     ensures kinds { equals_kinds left ≡ shown_kind result ∷ equals_kinds (left - span_width (shown_kind result)) }
@@ -49,7 +49,7 @@ fn innermost_equals(left: usize) -> SpanKind
     SpanKind::DoubleEquals
 }
 
-/// The innermost span of so many bytes a side.
+/// The innermost span of a pair with `left` bytes `delimiter` on each side.
 pub(crate) fn innermost(delimiter: u8, left: usize) -> SpanKind
     requires { 0 < left }
     ensures kinds { kinds_of delimiter left ≡ shown_kind result ∷ kinds_of delimiter (left - span_width (shown_kind result)) }
@@ -67,7 +67,7 @@ pub(crate) fn innermost(delimiter: u8, left: usize) -> SpanKind
     innermost_emphasis(left)
 }
 
-/// Writes the slots of the bytes that open a span, from the place `at` on.
+/// Writes the slots of the bytes that open a span, from the index `at` on.
 fn write_opening(slots: &mut [Slot], at: usize, kind: SpanKind)
     requires { at + span_width (shown_kind kind) ≤ length slots.old }
     ensures { slots.new ≡ write at (opening (shown_kind kind)) slots.old }
@@ -79,7 +79,7 @@ fn write_opening(slots: &mut [Slot], at: usize, kind: SpanKind)
     slots[at + 1] = Slot::Blank;
 }
 
-/// Writes the slots of the bytes that close a span, from the place `at` on.
+/// Writes the slots of the bytes that close a span, from the index `at` on.
 fn write_closing(slots: &mut [Slot], at: usize, kind: SpanKind)
     requires { at + span_width (shown_kind kind) ≤ length slots.old }
     ensures { slots.new ≡ write at (closing (shown_kind kind)) slots.old }
@@ -111,9 +111,11 @@ fn mark_pair(slots: &mut [Slot], pair: Pair)
     }
 }
 
-/// Makes the slots of `count` siblings with the spans that their pairs become (CommonMark 6.2, rules 13 and 14): of a pair
-/// twos from the inside, and an odd one outermost. `pairs` are those of their runs, as `pair_runs` gives them. What `slots`
-/// held is gone; where memory is refused, they hold anything.
+/// Makes the slots of `count` siblings with the spans of their pairs (CommonMark 6.2, rules 13 and 14): a pair becomes spans of width 2
+/// from the inside, and an odd byte on each side the outermost span. `pairs` are the pairs of the siblings' runs, as `pair_runs` gives
+/// them.
+///
+/// The old content of `slots` is dropped. If memory is refused, their content is unspecified.
 pub fn write_slots(count: usize, pairs: &[Pair], slots: &mut Vec<Slot>) -> Result<(), AllocError>
     requires { ArePairs count (map shown_pair pairs.now) }
     ensures spans { OnOk result ((siblings : List Sibling) → StandFrom 0 siblings → places_taken siblings ≡ count

@@ -16,8 +16,8 @@ use crate::bottom::OpenersBottom;
 use crate::run::{Pair, Run};
 use std::alloc::AllocError;
 
-/// The rule of three: where one of both can both open and close, the sum of their lengths is no multiple of 3 unless both
-/// lengths are. The sum itself may be past all numbers.
+/// The rule of three: if one of the runs can both open and close, the sum of their lengths is not a multiple of 3, unless both lengths are.
+/// The sum itself may exceed a `usize`.
 fn keeps_rule_of_three(opener: Run, closer: Run) -> bool
     ensures { result ≡ grammar.keeps_rule_of_three (shown_run opener) (shown_run closer) }
 {
@@ -25,7 +25,7 @@ fn keeps_rule_of_three(opener: Run, closer: Run) -> bool
     !either_can_both || opener.run_length % 3 + closer.run_length % 3 != 3
 }
 
-/// Whether the delimiter is a tilde or an equals sign, of which only runs of one length pair.
+/// Whether the delimiter is a tilde or an equals sign. Only runs of the same length pair for these.
 fn is_tilde_or_equals(delimiter: u8) -> bool
     ensures { result ≡ grammar.is_tilde_or_equals delimiter }
 {
@@ -44,7 +44,7 @@ fn can_close(opener: Run, closer: Run) -> bool
         && keeps_rule_of_three(opener, closer)
 }
 
-/// Counts runs that a search examined.
+/// Counts `runs` open runs as examined.
 fn count(examined: &mut u128, runs: usize)
     requires { examined.old + runs < 2 ^ 128 }
     ensures { examined.new ≡ examined.old + runs }
@@ -52,8 +52,8 @@ fn count(examined: &mut u128, runs: usize)
     *examined += runs as u128;
 }
 
-/// The last open run that the run can close. Below the bottom of its class there is none, and the search ends. What it examines is
-/// counted.
+/// The index of the last open run that `closer` can close. The search ends at the bottom of its class, below which no run agrees. Counts
+/// the runs that it examines.
 fn nearest(
     closer: Run,
     stack: &[Run],
@@ -85,7 +85,7 @@ fn nearest(
     None
 }
 
-/// The pair of an open run and the one that closes it.
+/// The pair of an open run and the run that closes it.
 #[tactic(auto, unfolding(cmark_grammar::specs::Emphasis::pair_of))]
 fn pair_up(opener: Run, closer: Run) -> Pair
     requires opener { IsPlaced opener }
@@ -99,7 +99,7 @@ fn pair_up(opener: Run, closer: Run) -> Pair
     }
 }
 
-/// What is left of the open run.
+/// The rest of the open run.
 #[tactic(auto, unfolding(cmark_grammar::specs::Emphasis::rest_of_opener))]
 fn rest_of_opener(opener: Run, closer: Run) -> Run
     requires opener { IsPlaced opener }
@@ -112,7 +112,7 @@ fn rest_of_opener(opener: Run, closer: Run) -> Run
     }
 }
 
-/// What is left of the run that closes.
+/// The rest of the closing run.
 #[tactic(auto, unfolding(cmark_grammar::specs::Emphasis::rest_of_closer))]
 fn rest_of_closer(opener: Run, closer: Run) -> Run
     requires closer { IsPlaced closer }
@@ -127,7 +127,7 @@ fn rest_of_closer(opener: Run, closer: Run) -> Run
     }
 }
 
-/// Puts what is left of a run on the stack, if anything is.
+/// Puts the rest of a run on the stack, unless it is empty.
 fn put_on(stack: &mut Vec<Run>, run: Run) -> Result<(), AllocError>
     requires run { IsPlaced run }
     requires stack { All IsPlaced stack.old.items }
@@ -141,7 +141,7 @@ fn put_on(stack: &mut Vec<Run>, run: Run) -> Result<(), AllocError>
     Ok(())
 }
 
-/// Leaves what is left of a run, which has closed what it could, on the stack, if it can open.
+/// Puts the rest of a run, which has closed all that it can, on the stack, if it can open.
 fn keep_open(stack: &mut Vec<Run>, rest: Run) -> Result<(), AllocError>
     requires run { IsPlaced rest }
     requires stack { All IsPlaced stack.old.items }
@@ -155,7 +155,7 @@ fn keep_open(stack: &mut Vec<Run>, rest: Run) -> Result<(), AllocError>
     Ok(())
 }
 
-/// Closes what the run can, and says what is left of it.
+/// Closes all that the run can close, and returns its rest.
 fn close(
     run: Run,
     stack: &mut Vec<Run>,
@@ -191,15 +191,15 @@ fn close(
     Ok(closer)
 }
 
-/// Whether two runs that are all of a list make a pair.
+/// Whether two runs that are the only ones of a list make a pair.
 pub(crate) fn makes_a_pair(first: Run, second: Run) -> bool
     ensures { result ≡ (first.opens && (nat_lt 0 first.left && agrees (shown_run first) (shown_run second))) }
 {
     first.opens && first.left > 0 && can_close(first, second)
 }
 
-/// How many open runs the searches of two runs examine that are all of a list: the second examines the first, if it searches and the
-/// first is open.
+/// The number of open runs that are examined for two runs that are the only ones of a list. The second examines the first, if it searches
+/// and the first is open.
 fn examined_of_two(first: Run, second: Run) -> usize
     ensures { result ≡ examined_of_two (shown_run first) (shown_run second) }
 {
@@ -210,7 +210,7 @@ fn examined_of_two(first: Run, second: Run) -> usize
     }
 }
 
-/// Adds the pair of two runs that are all of a list, if they make one.
+/// Adds the pair of two runs that are the only ones of a list, if they make one.
 fn pair_two(
     first: Run,
     second: Run,
@@ -231,12 +231,12 @@ fn pair_two(
     Ok(())
 }
 
-/// Adds the pairs that these runs make, in the order in which they close (CommonMark 6.2, GFM 6.5): those of the runs of one
-/// list of siblings, in their order. `stack` is room for the call, whatever it holds. Where memory is refused, `pairs` may
-/// have some of them.
+/// Adds the pairs of these runs, in the order in which they close (CommonMark 6.2, GFM 6.5). They have to be the runs of one list of
+/// siblings, in their order. `stack` is working memory; its content does not matter. If memory is refused, `pairs` may have some of the
+/// pairs.
 ///
-/// `examined` counts the open runs that searches examine. A search that found none is not made again by a run of its class
-/// (`OpenersBottom`), and one that finds an open run takes all that it passed off the stack: so at most fifteen are examined for each run.
+/// `examined` counts the open runs that searches examine, at most fifteen for each run. A search that finds nothing is not repeated for a
+/// run of the same class (`OpenersBottom`). A search that finds an open run takes all runs that it passed off the stack.
 pub fn pair_runs(
     runs: &[Run],
     stack: &mut Vec<Run>,
@@ -251,7 +251,7 @@ pub fn pair_runs(
     ensures value { OnOk result ((siblings : List Sibling) → runs_of siblings ≡ map shown_run runs.now
         → map shown_pair pairs.new.items ≡ map shown_pair pairs.old.items ++ pairs_of siblings) }
 {
-    // Most lists have one run or two, which need no stack.
+    // Most lists have one or two runs, which need no stack.
     if runs.len() == 1 {
         return Ok(());
     }

@@ -11,7 +11,7 @@ use std::alloc::AllocError;
 /// A quote.
 #[derive(Clone, Copy)]
 pub struct Quote {
-    /// It is a `"`, and else a `'`.
+    /// Whether it is `"` rather than `'`.
     pub double: bool,
     /// It can open.
     pub opens: bool,
@@ -19,10 +19,10 @@ pub struct Quote {
     pub closes: bool,
 }
 
-/// What is open behind some quotes.
+/// The quotes that are open after some quotes.
 #[derive(Clone, Copy)]
 struct OpenQuotes {
-    /// Where the single quote that is open stands among them, if one is.
+    /// The index of the open single quote, if there is one.
     single: Option<usize>,
     /// Whether a double quote is open.
     double: bool,
@@ -38,8 +38,7 @@ fn is_closing_bracket(neighbor: Option<char>) -> bool
     }
 }
 
-/// The quote, a `"` or else a `'`, that stands between these characters, with whether it can open and close. None stands at
-/// the edge of a line, leaf or cell.
+/// The quote `"` or `'` between these characters, with whether it can open and close. `None` is the edge of a line, leaf or cell.
 pub fn quote_of(double: bool, before: Option<char>, after: Option<char>) -> Quote
     ensures { shown_quote result ≡ grammar.quote_beside double before after }
 {
@@ -54,7 +53,8 @@ pub fn quote_of(double: bool, before: Option<char>, after: Option<char>) -> Quot
     }
 }
 
-/// Turns the open single quote into U+2018, if the quote closes it, and adds U+2019; says which one is open then.
+/// Adds U+2019 for a single quote. If the quote closes the open one, that one becomes U+2018. Returns the index of the quote that is open
+/// then.
 fn add_single(
     quote: Quote,
     opened: Option<usize>,
@@ -78,7 +78,7 @@ fn add_single(
     Ok(opened)
 }
 
-/// Adds U+201D, if the quote closes one, and else U+201C; says whether one is open then.
+/// Adds U+201D if the double quote closes an open one, and otherwise U+201C. Returns whether a double quote is open then.
 fn add_double(quote: Quote, opened: bool, characters: &mut Vec<char>) -> Result<bool, AllocError>
     ensures characters { OnOk result (characters.new.items ≡ characters.old.items ++ double_character_after (shown_quote quote) opened ∷ []) }
     ensures double { IfOk result (λ next. next ≡ double_after (shown_quote quote) opened) }
@@ -91,7 +91,7 @@ fn add_double(quote: Quote, opened: bool, characters: &mut Vec<char>) -> Result<
     Ok(quote.opens || opened)
 }
 
-/// Adds the character of a quote. The single quote that is open gets another one, if this one closes it.
+/// Adds the character of a quote. If it closes the open single quote, that quote's character changes.
 fn add_quote(
     quote: Quote,
     opened: OpenQuotes,
@@ -109,8 +109,10 @@ fn add_quote(
     Ok(OpenQuotes { single, ..opened })
 }
 
-/// Makes the characters of the quotes of a list of siblings, one for each, in their order: U+2018 and U+2019 of single ones,
-/// U+201C and U+201D of double ones. What `characters` held is gone; where memory is refused, they hold anything.
+/// Makes the characters of the quotes of a list of siblings, one for each, in their order: U+2018 and U+2019 for single quotes, U+201C and
+/// U+201D for double ones.
+///
+/// The old content of `characters` is dropped. If memory is refused, their content is unspecified.
 pub fn quote_characters(quotes: &[Quote], characters: &mut Vec<char>) -> Result<(), AllocError>
     ensures { OnOk result (characters.new.items ≡ grammar.quote_characters [] (map shown_quote quotes.now)) }
 {

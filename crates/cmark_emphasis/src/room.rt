@@ -14,7 +14,7 @@ use crate::run::{Pair, Run};
 use crate::slot::Slot;
 use std::alloc::{AllocError, Global};
 
-/// Room for the pairing of runs, which one list of siblings leaves to the next.
+/// Working memory for the pairing of runs, used for one list of siblings after the other.
 #[derive(Drop)]
 pub struct PairingRoom {
     stack: Vec<Run>,
@@ -22,7 +22,7 @@ pub struct PairingRoom {
 }
 
 impl PairingRoom {
-    /// Room that takes no memory yet.
+    /// Working memory that is not allocated yet.
     pub fn new(alloc: Global) -> Self {
         PairingRoom {
             stack: Vec::new(alloc),
@@ -31,8 +31,8 @@ impl PairingRoom {
     }
 }
 
-/// Makes the slots of `count` siblings of which these are the delimiter runs, in their order (CommonMark 6.2, GFM 6.5): which
-/// runs pair, and the spans that the pairs become. What `slots` held is gone; where memory is refused, they hold anything.
+/// Makes the slots of `count` siblings with these delimiter runs, in their order (CommonMark 6.2, GFM 6.5): it pairs the runs and marks the
+/// spans of the pairs. The old content of `slots` is dropped. If memory is refused, their content is unspecified.
 ///
 /// `examined` counts the open runs that searches examine, at most fifteen for each run (`pair_runs`).
 pub fn slots_of_runs(

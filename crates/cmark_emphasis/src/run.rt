@@ -1,16 +1,15 @@
-//! Delimiter runs, and what they pair to.
+//! Delimiter runs and their pairs.
 
-/// What is left of a delimiter run (CommonMark 6.2). Places count the siblings of a list from 0, and each byte of a run is
-/// one of them.
+/// A delimiter run, or the rest of one (CommonMark 6.2). Indices count the siblings of a list from 0; each byte of a run is a sibling.
 #[derive(Clone, Copy)]
 pub struct Run {
-    /// The byte that it consists of: `*`, `_`, `~` or `^`.
+    /// Its byte: `*`, `_`, `~`, `^` or `=`.
     pub delimiter: u8,
-    /// How many bytes it had.
+    /// The number of bytes of the whole run.
     pub run_length: usize,
-    /// The place of the first byte that is left.
+    /// The index of the first byte that is left.
     pub at: usize,
-    /// How many bytes are left.
+    /// The number of bytes that are left.
     pub left: usize,
     /// Whether it can open.
     pub opens: bool,
@@ -18,15 +17,15 @@ pub struct Run {
     pub closes: bool,
 }
 
-/// So many bytes that open, directly in front of a place, and as many that close, from a place on.
+/// A pair: `count` bytes that open, directly before an index, and as many bytes that close, from an index on.
 #[derive(Clone, Copy)]
 pub struct Pair {
-    /// The byte that all of them are: `*`, `_`, `~` or `^`.
+    /// The byte of the pair: `*`, `_`, `~`, `^` or `=`.
     pub delimiter: u8,
-    /// The place behind those that open.
+    /// The index after the bytes that open.
     pub from: usize,
-    /// The place of the first that closes.
+    /// The index of the first byte that closes.
     pub to: usize,
-    /// How many open, and how many close.
+    /// The number of bytes that open, and of bytes that close.
     pub count: usize,
 }

@@ -1,10 +1,10 @@
-//! The slots of a list of siblings: one for each, in their order, which say where spans begin and end.
+//! The slots of a list of siblings: one for each, in their order. They say where spans begin and end.
 
 ghost use Rattle.std.specs.Prelude.{◌≡◌, ◌≤◌};
 ghost use Rattle.cmark_grammar.specs.Spans.{span_width};
 ghost use Rattle.cmark_emphasis.specs.Shown.{shown_kind};
 
-/// What stands around a span (CommonMark 6.2, GFM 6.5).
+/// The delimiters around a span (CommonMark 6.2, GFM 6.5).
 #[derive(Clone, Copy, PartialEq, Eq)]
 pub enum SpanKind {
     /// One `*` or `_` on each side.
@@ -22,7 +22,7 @@ pub enum SpanKind {
 }
 
 impl SpanKind {
-    /// How many bytes open such a span, and as many close it.
+    /// The number of bytes that open this span, which is also the number of bytes that close it.
     pub fn width(self) -> usize
         ensures value { result ≡ span_width (shown_kind self) }
         ensures least { 1 ≤ result }
@@ -35,15 +35,15 @@ impl SpanKind {
     }
 }
 
-/// What becomes of a sibling.
+/// The role of a sibling.
 #[derive(Clone, Copy)]
 pub enum Slot {
-    /// It stays as it is: no byte of a run, or one that opens and closes nothing.
+    /// It is kept as it is: it is not a byte of a run, or a byte that neither opens nor closes.
     Single,
     /// The first of the bytes that open a span.
     Begin(SpanKind),
     /// The last of the bytes that close a span.
     End(SpanKind),
-    /// A byte between: the second that opens a span of width 2, or the first that closes one.
+    /// A byte between: the second that opens a span of width 2, or the first that closes it.
     Blank,
 }

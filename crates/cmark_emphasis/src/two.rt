@@ -1,4 +1,4 @@
-//! Two delimiter runs that are all of a list of siblings: most spans are made of such lists.
+//! Lists of siblings with exactly two delimiter runs: most spans are made of these.
 
 ghost use Rattle.std.specs.Prelude.{◌≡◌, ◌++◌, ◌∷◌, ◌+◌, ◌^◌, ◌<◌, ◌≤◌, if◌then◌else◌, true, false, [], is_some, IfOk, IfSome};
 ghost use Rattle.cmark_grammar.specs.Emphasis.{StandFrom};
@@ -14,7 +14,7 @@ use crate::run::Run;
 use crate::slot::{Slot, SpanKind};
 use std::alloc::AllocError;
 
-/// The kind of the one span that two runs make which are all of a list; `None` where they make none or several, or where a byte is left over.
+/// The kind of the span if two runs, which are the only ones of a list, make exactly one span and leave no byte over; otherwise `None`.
 fn span_of_two(first: Run, second: Run) -> Option<SpanKind>
     ensures says { is_some result ≡ make_one_span (shown_run first) (shown_run second) }
     ensures spans { IfSome result (λ kind. StandFrom 0 (two_siblings (shown_run first) (shown_run second))
@@ -69,10 +69,11 @@ fn slots_around(kind: SpanKind) -> &'static [Slot]
     }
 }
 
-/// Makes the slots of two runs that are all of a list of siblings, where they make one span and no byte of them is left over, and says
-/// whether they do (CommonMark 6.2, GFM 6.5): what `slots_of_runs` makes of them, without a stack. Where they do not, `slots` stay as
-/// they are; where memory is refused, they hold anything. `examined` counts the open run that the second examines, where it is the end
-/// of the span: else that is counted where the slots are made (`slots_of_runs`).
+/// Makes the slots of two runs that are the only siblings of a list, if they make exactly one span and leave no byte over (CommonMark 6.2,
+/// GFM 6.5). Returns whether they do. It needs no stack, and the slots equal those of `slots_of_runs`.
+///
+/// Otherwise `slots` keep their content; if memory is refused, it is unspecified. `examined` counts the open run that the second run
+/// examines, if the span is made; otherwise `slots_of_runs` counts it.
 pub fn slots_of_two(
     first: Run,
     second: Run,

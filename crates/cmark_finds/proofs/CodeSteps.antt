@@ -16,12 +16,12 @@ use Rattle.cmark_scan_parts.proofs.PartSteps.{Reads, reads_more, reads_fail, rea
 use Rattle.cmark_finds.specs.Shown.{IsCodeAt}
 
 module _ (size : ℕ) where
-  -- a byte that is no backtick
+  -- a byte that is not a backtick
   plain_byte : (goes_on : Bool) (b : ℕ) (bs : List ℕ) → is_backtick b ≡ false → up_to_run size goes_on (b ∷ bs) ≡ put b (up_to_run size false bs)
   plain_byte goes_on b bs e =
       ap (λ t. if t && (not goes_on && (backticks (b ∷ bs) == size)) then Some (let found : Parsed = record { bytes = []; behind = b ∷ bs } in found) else put b (up_to_run size t bs)) e
 
-  -- where a run goes on, and where it is one of another length
+  -- a run that continues, and a run of another length that begins
   run_byte : (b : ℕ) (bs : List ℕ) → is_backtick b ≡ true → up_to_run size true (b ∷ bs) ≡ put b (up_to_run size true bs)
   run_byte b bs e =
       ap (λ t. if t && false then Some (let found : Parsed = record { bytes = []; behind = b ∷ bs } in found) else put b (up_to_run size t bs)) e
@@ -42,7 +42,7 @@ module _ (size : ℕ) where
     to_run (suc n) (b ∷ bs) le none r =
         to_run n bs (omega arith) (λ k lt. none (suc k) (omega arith)) (reads_more all _ (up_to_run size false bs) bytes (b ∷ bs) bs b r refl (plain_byte false b bs (none 0 (omega arith))))
 
-    -- behind a run that goes on
+    -- after a run that continues
     behind_ticks : (rest : List ℕ) → Reads all (up_to_run size true rest) bytes rest → Reads all (up_to_run size false (behind_all is_backtick rest)) bytes (behind_all is_backtick rest)
     behind_ticks [] r = r
     behind_ticks (b ∷ bs) r = by_case (is_backtick b) refl (behind_ticks bs)
@@ -55,7 +55,7 @@ module _ (size : ℕ) where
             subst (λ (l : List ℕ). Reads all (up_to_run size false l) bytes l) (sym (behind_all-off is_backtick b bs e))
             (subst (λ (o : Option Parsed). Reads all o bytes (b ∷ bs)) (plain_byte true b bs e ∙ sym (plain_byte false b bs e)) r)
 
-    -- behind a run of another length
+    -- after a run of another length
     pub past_run : (rest : List ℕ) → (backticks rest == size) ≡ false → Reads all (up_to_run size false rest) bytes rest → Reads all (up_to_run size false (behind_all is_backtick rest)) bytes (behind_all is_backtick rest)
     past_run [] o r = r
     past_run (b ∷ bs) o r = by_case (is_backtick b) refl
@@ -77,7 +77,7 @@ module _ (size : ℕ) where
   no_run [] none = refl
   no_run (b ∷ bs) none = plain_byte false b bs (none 0 (omega arith)) ∙ ap (put b) (no_run bs (λ k lt. none (suc k) (omega arith)))
 
-  -- what stands between the front that was read and a rest
+  -- the rest, from the length of the bytes before it
   rest_back : (all here : Option Parsed) (bytes rest : List ℕ) → Reads all here bytes rest → drop (length bytes - length rest) bytes ≡ rest
   rest_back all here bytes rest r =
       let n = ap length r.cut in let l = length-append r.front rest in
@@ -109,7 +109,7 @@ module _ (size : ℕ) where
   pub run_missing : (all : Option Parsed) (bytes rest : List ℕ) → IsFirstByte (is_byte 96) rest None → Reads all (up_to_run size false rest) bytes rest → None ≡ all
   run_missing all bytes rest first r = reads_fail all (up_to_run size false rest) bytes rest r (no_run rest (λ k lt. false_from_ne_true _ (first k (omega arith) lt)))
 
--- behind a run, and where one begins
+-- a character boundary at the end of a run, and at the start of one
 pub run_ends : (text run : List ℕ) (at size : ℕ) → IsUtf8 text → run ≡ drop at text → size ≡ backticks run → 0 < size → IsCharBoundary text (at + size)
 run_ends text run at size utf8 cut is some =
     let le = prefix_len-le-length is_backtick run in
@@ -129,7 +129,7 @@ run_starts text run at size cut is some =
     let here : get_or text (at + 0) 0 ≡ 96 = sym (get_or-drop at text 0 0) ∙ ap (λ (c : List ℕ). get_or c 0 0) (sym cut) ∙ eqb-true _ 96 tick in
     subst (IsCharBoundary text) (let e : at + 0 ≡ at = omega arith in e) (IsCharBoundary-before_ascii text (at + 0) (omega arith) (omega (arith, here)))
 
--- where a code span lies
+-- the offsets of a code span
 pub code_places : (text run inside : List ℕ) (at size content : ℕ) → IsUtf8 text → run ≡ drop at text → size ≡ backticks run → (size ≡ 0 → ⊥) → inside ≡ drop size run → content ≤ length inside → backticks (drop content inside) ≡ size
     → IsCodeAt text at (record { content_start = at + size; content_end = at + size + content; end = at + size + content + size })
 code_places text run inside at size content utf8 cut is some behind le closes = record {

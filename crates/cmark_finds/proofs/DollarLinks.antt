@@ -1,4 +1,4 @@
--- Links from dollar signs to the next ones that may close what they open, and how many are visited.
+-- Links from dollar signs to the next ones that may close a formula, and the number of dollar signs visited.
 use Rattle.std.proofs.Common.{◌≡◌, ◌⊎◌, inl, inr, ℕ, zero, suc, ◌+◌, ◌-◌, ◌*◌, ◌<◌, ◌≤◌, Bool, true, false, ◌==◌, ◌&&◌, not, if◌then◌else◌, List, [], ◌∷◌, ◌++◌, length, drop, get_or, Option, None, Some, refl, sym, ap, subst, ◌∙◌, arith, true≢false, drop-cons, length-drop}
 use Rattle.std.specs.Prelude.{nat_le, nat_lt, option_map, slice_get, slice_set}
 use Rattle.std.specs.List.{prefix_len}
@@ -13,7 +13,7 @@ use Rattle.cmark_finds.specs.declared.dollars.Dollar.{Dollar}
 use Rattle.cmark_finds.specs.declared.dollars.Dollars.{Dollars}
 use Rattle.cmark_finds.proofs.DollarSteps.{IsListed, again, last-braces, listed-at, rest, sign, listed-here, listed-later}
 
--- ## Places go up
+-- ## Offsets increase
 
 abbrev AreUp : (low : ℕ) → List Dollar → Type 0
 AreUp low [] = Unit {0}
@@ -36,7 +36,7 @@ up-behind low [] i d up lt = absurd (omega (arith, lt))
 up-behind low (x ∷ xs) zero d up lt = up.1
 up-behind low (x ∷ xs) (suc i) d up lt = up-behind (suc x.place) xs i d up.1 (omega (arith, lt))
 
--- no more are listed than there are bytes
+-- at most as many dollar signs are listed as there are bytes
 pub few-listed : (at : ℕ) (escaped : Bool) (braces : Braces) (bs : List ℕ) → length (dollars_from at escaped braces bs) ≤ length bs
 few-listed at escaped braces [] = omega arith
 few-listed at escaped braces (b ∷ bs) = by_byte (is_dollar b) refl (few-listed (suc at) (escapes_next escaped b) (behind_byte escaped b braces) bs)
@@ -45,12 +45,12 @@ few-listed at escaped braces (b ∷ bs) = by_byte (is_dollar b) refl (few-listed
     by_byte true e le = let q = ap length (listed-here at escaped braces b bs e) in omega (arith, q, le)
     by_byte false e le = let q = ap length (listed-later at escaped braces b bs e) in omega (arith, q, le)
 
--- ## What closes
+-- ## The dollar sign that closes
 
 abbrev pub place_at : (i : ℕ) → List Dollar → Option ℕ
 place_at i ds = option_map (λ (d : Dollar). d.place) (slice_get ds i)
 
--- of those that all stand behind a place, the first that is not passed closes
+-- among dollar signs that are all after an offset, the first that is not passed closes
 closing-first : (from context : ℕ) (ds : List Dollar) → AreUp from ds → closing from context ds ≡ place_at (prefix_len (is_passed_in context) ds) ds
 closing-first from context [] up = refl
 closing-first from context (d ∷ ds) up = go (not d.is_escaped && (d.context == context)) refl (closing-first from context ds (up-weaker (suc d.place) from ds (omega (arith, up.0)) up.1))
@@ -64,7 +64,7 @@ place-behind ds zero k = ap (λ n. place_at n ds) (let q : k ≡ 0 + k = omega a
 place-behind [] (suc i) k = refl
 place-behind (d ∷ ds) (suc i) k = place-behind ds i k ∙ ap (λ n. place_at n (d ∷ ds)) (let q : suc (i + k) ≡ suc i + k = omega arith in q)
 
--- the link of the dollar sign with this index, which stands at a place, leads to what closes behind it
+-- the link of the dollar sign with this index leads to the one that closes after it
 pub linked-closes : (text links : List ℕ) (at index context : ℕ) (d : Dollar) → AreLinks (dollars_in text) links → index < length (dollars_in text) → (get_or (dollars_in text) index d).place ≡ at → (get_or (dollars_in text) index d).context ≡ context
     → closing (at + 1) context (drop index (dollars_in text)) ≡ place_at (get_or links index 0) (dollars_in text)
 linked-closes text links at index context d h lt place-is context-is =
@@ -78,13 +78,13 @@ linked-closes text links at index context d h lt place-is context-is =
     ∙ place-behind ds (index + 1) (prefix_len (is_passed_in context) (drop (index + 1) ds))
     ∙ ap (λ n. place_at n ds) (ap (λ x. index + 1 + prefix_len (is_passed_in x) (drop (index + 1) ds)) (sym context-is) ∙ sym (h.each index d lt))
 
--- ## The links are made from behind
+-- ## The links are made from the last to the first
 
--- those of the dollar signs from an index on are made
+-- the links of the dollar signs from an index on are made
 abbrev pub AreMade : (from : ℕ) → (listed : List Dollar) → (links : List ℕ) → Type 0
 AreMade from listed links = (i : ℕ) (d : Dollar) → from ≤ i → i < length listed → get_or links i 0 ≡ i + 1 + prefix_len (is_passed_in (get_or listed i d).context) (drop (i + 1) listed)
 
--- for each context it is known which is the first from there on
+-- the first dollar sign from there on is known for each context
 abbrev pub AreHeads : (from : ℕ) → (listed : List Dollar) → (heads : List ℕ) → Type 0
 AreHeads from listed heads = (c : ℕ) → get_or heads c (length listed) ≡ from + prefix_len (is_passed_in c) (drop from listed)
 
@@ -130,7 +130,7 @@ heads-passed index before listed heads d e lt escaped known c =
     sum : before + 1 + prefix_len (is_passed_in c) (drop (before + 1) listed) ≡ before + (1 + prefix_len (is_passed_in c) (drop (before + 1) listed))
     sum = omega arith
 
--- another one is the head of its context
+-- another dollar sign is the head of its context
 pub heads-set : (index before : ℕ) (listed : List Dollar) (heads now : List ℕ) (d : Dollar) → index ≡ before + 1 → before < length listed → (get_or listed before d).is_escaped ≡ false
     → ((k : ℕ) → get_or now k (length listed) ≡ (if k == (get_or listed before d).context then before else get_or heads k (length listed))) → AreHeads index listed heads → AreHeads before listed now
 heads-set index before listed heads now d e lt plain entries known c = go (cases_eq c context)
@@ -155,14 +155,14 @@ heads-set index before listed heads now d e lt plain entries known c = go (cases
         ∙ sum
         ∙ sym (ap (λ k. before + k) (heads-at before c listed d lt ∙ ap (λ t. if t then 1 + prefix_len (is_passed_in c) (drop (before + 1) listed) else 0) passed))
 
--- at first none is made, and none is known
+-- at first no link is made, and no head is known
 pub heads-end : (listed : List Dollar) → AreHeads (length listed) listed []
 heads-end listed c =
     (let q : length listed ≡ length listed + 0 = omega arith in q) ∙ ap (λ k. length listed + k) (sym (prefix_len-drop_all (is_passed_in c) listed (length listed) (omega arith)))
 
--- ## How many are visited
+-- ## The number of dollar signs visited
 
--- those that stand before a place stand before one further on
+-- the dollar signs before an offset are before a greater offset too
 pub before-more : (at further : ℕ) (ds : List Dollar) → at ≤ further → prefix_len (stands_before at) ds ≤ prefix_len (stands_before further) ds
 before-more at further [] le = omega arith
 before-more at further (d ∷ ds) le = go (nat_lt d.place at) refl (before-more at further ds le)
@@ -174,7 +174,7 @@ before-more at further (d ∷ ds) le = go (nat_lt d.place at) refl (before-more 
         omega (arith, more, i)
     go false e i = omega arith
 
--- the dollar sign that was asked for last stands no further than one that is asked for later
+-- the dollar sign that was looked up last is at or before one that is looked up later
 pub reached-low : (text : List ℕ) (at reached : ℕ) (d : Dollar) → at < length text → get_or text at 0 ≡ 36 → reached ≤ prefix_len (stands_before at) (dollars_in text) → (reached < length (dollars_in text)) × ((get_or (dollars_in text) reached d).place ≤ at)
 reached-low text at reached d lt is le =
     let listed : IsListed (dollars_in text) at (context_of (braces_at text at)) d = listed-at 0 false no_braces text at at d (let q : at ≡ 0 + at = omega arith in q) lt is in
@@ -186,7 +186,7 @@ reached-low text at reached d lt is le =
         let same : prefix_len (stands_before at) (dollars_in text) ≡ reached = omega (arith, more, le) in
         subst (λ k. (get_or (dollars_in text) k d).place ≤ at) same (omega (arith, listed.place_is))
 
--- the last sign that opens a formula, and what closes behind it
+-- the last sign that opens a formula, and the one that closes it
 pub last-sign : (text : List ℕ) (is_display : Bool) (at : ℕ) → at < length text → get_or text at 0 ≡ 36 → (is_display ≡ true → first_is is_dollar (drop (at + 1) text) ≡ true) → (at + signs_of is_display - 1 < length text) × (get_or text (at + signs_of is_display - 1) 0 ≡ 36)
 last-sign text true at lt is double =
     let h = again text at (double refl) in
@@ -208,7 +208,7 @@ last-closes text is_display at start found lt is e f =
     some true h = omega (arith, h)
     some false h = omega (arith, h)
 
--- what was asked for stands before what is asked for next
+-- a dollar sign that was looked up is before the one that is looked up next
 pub reached-next : (text : List ℕ) (is_display : Bool) (at : ℕ) → prefix_len (stands_before (at + signs_of is_display - 1)) (dollars_in text) ≤ prefix_len (stands_before (at + 1)) (dollars_in text)
 reached-next text true at = before-more (at + 2 - 1) (at + 1) (dollars_in text) (omega arith)
 reached-next text false at = before-more (at + 1 - 1) (at + 1) (dollars_in text) (omega arith)
@@ -216,7 +216,7 @@ reached-next text false at = before-more (at + 1 - 1) (at + 1) (dollars_in text)
 pub reached-further : (text : List ℕ) (at further : ℕ) (dollars : Dollars) → at ≤ further → IsReached text at dollars → IsReached text further dollars
 reached-further text at further dollars le h on = let low = h on in let more = before-more at further (dollars_in text) le in omega (arith, low, more)
 
--- one formula is sought: what was visited for it is paid for
+-- one search for a formula: its visits are paid for
 pub formula-pays : (text : List ℕ) (old mid new : Dollars) (at sign : ℕ) → at < length text → at ≤ sign → Lists text old mid → mid.is_listed ≡ true → (IsReached text sign mid → new.visited + mid.reached ≡ mid.visited + new.reached + 1) → new.is_listed ≡ true → new.reached < length (dollars_in text)
     → IsReached text at old → new.visited + may_visit text (at + 1) new ≤ old.visited + may_visit text at old
 formula-pays text old mid new at sign lt le lists listed pays on within reached = go old.is_listed refl

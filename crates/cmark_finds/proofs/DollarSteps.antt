@@ -15,7 +15,7 @@ use Rattle.cmark_grammar.specs.Tokens.{slice}
 use Rattle.cmark_finds.specs.Dollars.{IsFormulaAt, dollars_from, dollars_in, closing, braces_at, formula_at, signs_of, stands_before}
 use Rattle.cmark_finds.specs.declared.dollars.Dollar.{Dollar}
 
--- ## A byte more
+-- ## One more byte
 module _ (at : ℕ) (escaped : Bool) (braces : Braces) (b : ℕ) (bs : List ℕ) where
   abbrev pub rest : List Dollar
   rest = dollars_from (suc at) (escapes_next escaped b) (behind_byte escaped b braces) bs
@@ -29,7 +29,7 @@ module _ (at : ℕ) (escaped : Bool) (braces : Braces) (b : ℕ) (bs : List ℕ)
   pub listed-later : is_dollar b ≡ false → dollars_from at escaped braces (b ∷ bs) ≡ rest
   listed-later e = ap (λ t. (if t then sign ∷ [] else []) ++ rest) e
 
--- ## What closes stands among the bytes
+-- ## The dollar sign that closes is among the bytes
 record IsThere (at from : ℕ) (bs : List ℕ) (p : ℕ) : Type 0 where
   pub low : at ≤ p
   pub behind : from ≤ p
@@ -78,7 +78,7 @@ there from context at escaped braces [] p e = let z : ⊥ = cc in absurd z
 there from context at escaped braces (b ∷ bs) p e =
     there-step from context at escaped braces b bs p (there from context (suc at) (escapes_next escaped b) (behind_byte escaped b braces) bs p) e
 
--- ## The grammar's search is that for the dollar sign that closes
+-- ## The search of the grammar is the search for the dollar sign that closes
 abbrev between : (is_display : Bool) → (at last : ℕ) → (bs : List ℕ) → (p : ℕ) → Option Parsed
 between is_display at last bs p =
     if closes_formula is_display (get_or (last ∷ bs) (p - at) 0) (drop (suc (p - at)) bs)
@@ -152,12 +152,12 @@ formula-is is_display context from at last escaped braces [] le = refl
 formula-is is_display context from at last escaped braces (b ∷ bs) le =
     formula-step is_display context from at last escaped braces b bs le (formula-is is_display context from (suc at) b (escapes_next escaped b) (behind_byte escaped b braces) bs (omega (arith, le)))
 
--- ## The state behind some bytes
+-- ## The state after some bytes
 abbrev escaped_behind : (escaped : Bool) → List ℕ → Bool
 escaped_behind escaped [] = escaped
 escaped_behind escaped (b ∷ bs) = escaped_behind (escapes_next escaped b) bs
 
--- no dollar sign before a place closes what is closed from there on
+-- a dollar sign before `from` closes no formula whose content begins at `from`
 closed-from : (from context k at : ℕ) (escaped : Bool) (braces : Braces) (bs : List ℕ) → from ≡ at + k
     → closing from context (dollars_from at escaped braces bs) ≡ closing from context (dollars_from from (escaped_behind escaped (take k bs)) (braces_behind escaped (take k bs) braces) (drop k bs))
 closed-from from context zero at escaped braces bs e = ap (λ n. closing from context (dollars_from n escaped braces bs)) (let q : at ≡ from = omega (arith, e) in q)
@@ -173,7 +173,7 @@ closed-from from context (suc k) at escaped braces (b ∷ bs) e = by_byte (is_do
         ∙ ap (λ y. if y && (not escaped && (context_of braces == context)) then Some at else closing from context (rest at escaped braces b bs)) low
     by_byte false d = ap (closing from context) (listed-later at escaped braces b bs d)
 
--- behind a dollar sign nothing is escaped, and the braces are those before it
+-- after a dollar sign nothing is escaped, and the braces are those before it
 escaped-sign : (escaped : Bool) (bs : List ℕ) → escaped_behind escaped (bs ++ (36 ∷ [])) ≡ false
 escaped-sign true [] = refl
 escaped-sign false [] = refl
@@ -214,12 +214,12 @@ module _ (text : List ℕ) where
       let h = opened-one (at + 1) more again in
       subst (Opened at) two (record { low = h.low; within = h.within; sign = h.sign; unescaped = h.unescaped; braces = h.braces ∙ (opened-one at lt is).braces })
 
-  -- the braces in front of the last sign that opens are those in front of the first
+  -- the braces before the last opening sign are those before the first
   pub last-braces : (is_display : Bool) (at : ℕ) → at < length text → get_or text at 0 ≡ 36 → braces_at text (at + signs_of is_display - 1) ≡ braces_at text at
   last-braces true at lt is = ap (braces_at text) (let q : at + 2 - 1 ≡ at + 1 = omega arith in q) ∙ (opened-one at lt is).braces
   last-braces false at lt is = ap (braces_at text) (let q : at + 1 - 1 ≡ at = omega arith in q)
 
-  -- the search from there on, in the text's own places
+  -- the search from there on, in offsets of the text
   abbrev pub found_up_to : (is_display : Bool) → (start p : ℕ) → Option Parsed
   found_up_to is_display start p =
       if closes_formula is_display (get_or text (p - 1) 0) (drop (p + 1) text)
@@ -268,7 +268,7 @@ module _ (text : List ℕ) where
       placed None e = refl
       placed (Some p) e = in-text is_display start p h.low h.within h.sign (there-in start (context_of (braces_at text at)) p e).0
 
-  -- no byte that is ink follows
+  -- no byte follows that is not white space
   pub formula-none : (at : ℕ) → first_is is_dollar (drop (at + 1) text) ≡ false → first_is is_ink (drop (at + 1) text) ≡ false → None ≡ formula_at text at
   formula-none at single white = sym (
       ap (λ z. if z then display_in (braces_at text at) (drop (at + 2) text) else inline_in (braces_at text at) (drop (at + 1) text)) single
@@ -323,7 +323,7 @@ low-places : (at : ℕ) (escaped : Bool) (braces : Braces) (bs : List ℕ) (k : 
 low-places at escaped braces [] k d lt = absurd (omega (arith, lt))
 low-places at escaped braces (b ∷ bs) k d lt = low-step at escaped braces b bs k d (λ n h. low-places (suc at) (escapes_next escaped b) (behind_byte escaped b braces) bs n d h) lt
 
--- so many dollar signs stand in front of a place, where one stands no further than it
+-- j dollar signs are before an offset, at or after which another one follows
 abbrev pub AreBefore : (place j : ℕ) → List Dollar → Type 0
 AreBefore place j list = prefix_len (stands_before place) list ≡ j + prefix_len (stands_before place) (drop j list)
 
@@ -356,7 +356,7 @@ some-before at escaped braces bs place zero d h = omega arith
 some-before at escaped braces [] place (suc j) d h = let lt = h.0 in absurd (omega (arith, lt))
 some-before at escaped braces (b ∷ bs) place (suc j) d h = before-step at escaped braces b bs place j d (λ n q. some-before (suc at) (escapes_next escaped b) (behind_byte escaped b braces) bs place n d q) h
 
--- the dollar sign of a place stands behind those in front of it, with its context
+-- the dollar sign at an offset comes after those before it, with its context
 pub record IsListed (list : List Dollar) (place context : ℕ) (d : Dollar) : Type 0 where
   pub within : prefix_len (stands_before place) list < length list
   pub context_is : (get_or list (prefix_len (stands_before place) list) d).context ≡ context
@@ -397,7 +397,7 @@ listed-at at escaped braces (b ∷ bs) place (suc k) d e lt is =
     listed-step at escaped braces b bs place (context_of (braces_behind (escapes_next escaped b) (take k bs) (behind_byte escaped b braces))) k d e
     (listed-at (suc at) (escapes_next escaped b) (behind_byte escaped b braces) bs place k d (omega (arith, e)) (omega (arith, lt)) is)
 
--- none of those in front of a place closes what is closed behind it
+-- a dollar sign before an offset closes no formula that is opened after it
 closing-step : (from context place : ℕ) (d : Dollar) (ds : List Dollar) → place ≤ from → closing from context ds ≡ closing from context (drop (prefix_len (stands_before place) ds) ds)
     → closing from context (d ∷ ds) ≡ closing from context (drop (prefix_len (stands_before place) (d ∷ ds)) (d ∷ ds))
 closing-step from context place d ds le further = go (nat_lt d.place place) refl
@@ -418,7 +418,7 @@ pub closing-behind : (from context place : ℕ) (list : List Dollar) → place �
 closing-behind from context place [] le = refl
 closing-behind from context place (d ∷ ds) le = closing-step from context place d ds le (closing-behind from context place ds le)
 
--- ## Places
+-- ## Offsets
 module _ (text : List ℕ) (utf8 : IsUtf8 text) where
   small : (n : ℕ) → n ≡ 36 → n < 128
   small n e = omega (arith, e)
@@ -448,7 +448,7 @@ module _ (text : List ℕ) (utf8 : IsUtf8 text) where
       twice true h q = h
       twice false h q = absurd (true≢false (sym q))
 
--- ## What the code answers
+-- ## The result of the code
 module _ (text : List ℕ) (at : ℕ) (lt : at < length text) (is : get_or text at 0 ≡ 36) where
   pub formula-found : (double : Bool) → double ≡ first_is is_dollar (drop (at + 1) text) → true ≡ double || first_is is_ink (drop (at + 1) text)
       → formula_at text at ≡ found_by text double (at + signs_of double) (closing (at + signs_of double) (context_of (braces_at text at)) (dollars_in text))

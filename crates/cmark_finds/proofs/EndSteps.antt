@@ -1,4 +1,4 @@
--- Line endings and what stands in their places.
+-- Line endings and their replacements.
 use Rattle.std.proofs.Common.{◌≡◌, ℕ, zero, suc, ◌+◌, ◌-◌, ◌<◌, ◌≤◌, Bool, true, false, ◌==◌, ◌&&◌, ◌||◌, not, if◌then◌else◌, List, [], ◌∷◌, ◌++◌, length, take, drop, get_or, None, Some, refl, sym, ap, subst, ◌∙◌, arith, ⊎_elim, eqb-true, append_assoc, drop-drop}
 use Rattle.std.specs.Str.{IsCharBoundary, IsUtf8}
 use Rattle.std.proofs.lemmas.Bool.{or_parts, or_cases, false_from_ne_true}
@@ -16,7 +16,7 @@ module _ (mark : List ℕ) where
   end_step feed return another b bs =
       if feed || (return && not another) then mark ++ with_line_ends mark bs else if return then with_line_ends mark bs else b ∷ with_line_ends mark bs
 
-  -- a byte of no line ending
+  -- a byte that is not in a line ending
   plain_byte : (b : ℕ) (bs : List ℕ) → is_byte2 10 13 b ≡ false → with_line_ends mark (b ∷ bs) ≡ b ∷ with_line_ends mark bs
   plain_byte b bs e =
       let h = or_parts (b == 10) (b == 13) e in
@@ -100,7 +100,7 @@ first_there n [] lt = absurd (omega arith)
 first_there zero (b ∷ bs) lt = (omega arith, refl)
 first_there (suc n) (b ∷ bs) lt = first_there n bs (omega arith)
 
--- the first line ending, and none
+-- the first line ending, and no line ending
 pub no_end : (bytes text : List ℕ) → bytes ≡ text → IsFirstByte (is_byte2 10 13) bytes None → HasNoEnd text
 no_end bytes text same none = λ mark. all_plain mark text (λ k lt. false_from_ne_true _ (found k (omega arith) lt))
   where
@@ -132,7 +132,7 @@ first_end bytes text rest at size same utf8 first cut is =
     within : EndsWithin rest
     within = end_within rest there.0 there.1
 
--- one line more
+-- one more line
 pub line_pushed : (mark out one two rest front next all : List ℕ) (start end : ℕ) → EndsLine rest start end → one ≡ out ++ front → front ≡ take start rest → two ≡ one ++ mark → next ≡ drop end rest
     → out ++ with_line_ends mark rest ≡ all → two ++ with_line_ends mark next ≡ all
 line_pushed mark out one two rest front next all start end ends first_push front_is second_push next_is e =

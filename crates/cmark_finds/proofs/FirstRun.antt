@@ -8,7 +8,7 @@ use Rattle.cmark_grammar.specs.CodeSpans.{is_backtick, backticks, up_to_run}
 use Rattle.cmark_grammar.specs.LinkDefinitions.{Parsed, put}
 use Rattle.cmark_finds.specs.Shown.{ClosesFirst}
 
--- a backtick stands before that place
+-- a backtick is before that offset
 abbrev pub before : (goes_on : Bool) → List ℕ → ℕ → Bool
 before goes_on bs zero = goes_on
 before goes_on bs (suc k) = is_backtick (get_or bs k 0)
@@ -37,7 +37,7 @@ put_some b (Some inner) found e = (inner, refl, size)
     size = ap (λ (f : Parsed). length f.bytes) same
 
 module _ (size : ℕ) (some : 0 < size) where
-  -- where no run of this length begins
+  -- no run of this length begins here
   other_run : (b : ℕ) (bs : List ℕ) → (is_backtick b && (backticks (b ∷ bs) == size)) ≡ false → backticks (b ∷ bs) ≢ size
   other_run b bs e is = by_case (is_backtick b) refl
     where
@@ -96,7 +96,7 @@ module _ (text run inside : List ℕ) (at size content : ℕ) (cut : run ≡ dro
       ∙ ap is_backtick (sym (get_or-drop at text (size - 1) 0))
       ∙ prefix_len_passes is_backtick (drop at text) (size - 1) 0 (omega (arith, opener, some))
 
-  -- and no backtick follows it
+  -- no backtick follows it
   no_tick : backticks inside ≡ size → ⊥
   no_tick whole =
       let high = prefix_len-le-length is_backtick inside in

@@ -1,4 +1,4 @@
--- Where inline HTML ends.
+-- The end of inline HTML.
 use Rattle.std.proofs.Common.{◌≡◌, ◌⊎◌, inl, inr, true≢false, ℕ, suc, ◌+◌, ◌-◌, ◌<◌, Bool, true, false, if◌then◌else◌, List, length, drop, Option, None, Some, refl, sym, ap, ◌∙◌, arith, length-drop, drop-drop}
 use Rattle.std.specs.Prelude.{codes, option_map}
 use Rattle.std.specs.Str.{IsUtf8, IsCharBoundary}
@@ -7,13 +7,13 @@ use Rattle.cmark_grammar.specs.Letters.{starts, behind_first}
 use Rattle.cmark_grammar.specs.Tags.{behind_tag, no_prefix}
 use Rattle.cmark_scan_parts.proofs.Endings.{IsBehind, behind-rest, behind-boundary, tag-behind, opened-behind, processing-behind}
 
--- the place behind the byte
+-- the offset after the byte
 rest_place : (text r : List ℕ) → IsBehind 62 text r → drop (length text - length r) text ≡ r
 rest_place text r h =
     let n = ap length h.rest in let l = length-drop (suc h.place) text in let lt = h.inside in
     ap (λ k. drop k text) (let e : length text - length r ≡ suc h.place = omega arith in e) ∙ sym h.rest
 
--- what a find answers
+-- the result of a find
 find_in : (text : List ℕ) (at : ℕ) (o : Option (Option (List ℕ))) → ((r : List ℕ) → o ≡ Some (Some r) → IsBehind 62 (drop at text) r) → option_map (λ end. drop end text) (find_with text at o).end ≡ behind_opened o
 find_in text at None h = refl
 find_in text at (Some None) h = refl
@@ -28,7 +28,7 @@ module _ (text : List ℕ) (at : ℕ) where
       let n = ap length h.rest in let l = length-drop (suc h.place) (drop at text) in let m = length-drop at text in let lt = h.inside in
       omega arith
 
-  -- behind a tag
+  -- after a tag
   module _ (rest r : List ℕ) (cut : rest ≡ drop at text) (is : Some r ≡ behind_tag no_prefix rest) where
     tag : IsBehind 62 (drop at text) r
     tag = tag-behind no_prefix (drop at text) r (ap (behind_tag no_prefix) (sym cut) ∙ sym is)
@@ -42,7 +42,7 @@ module _ (text : List ℕ) (at : ℕ) where
     pub tag_ends : IsUtf8 text → IsCharBoundary text (length text - length r)
     tag_ends utf8 = behind-boundary 62 text r (omega arith) utf8 (behind-rest 62 text (drop at text) r (at, refl) tag)
 
-  -- what opens in front
+  -- the choice by the bytes that open the markup
   abbrev pub chosen : (opens instructs : Bool) → Option (List ℕ)
   chosen opens instructs =
       if opens then behind_opened (opened_in (drop 2 (drop at text))) else if instructs then behind_first (codes "?>") (drop 2 (drop at text)) else behind_tag no_prefix (drop at text)
@@ -71,7 +71,7 @@ module _ (text : List ℕ) (at : ℕ) where
         tag_value rest r cut is
         ∙ sym (ap (λ t. chosen t (starts (codes "<?") (drop at text))) (ap (starts (codes "<!")) (sym cut) ∙ one) ∙ ap (chosen false) (ap (starts (codes "<?")) (sym cut) ∙ two))
 
-    -- where markup opens, inline HTML is markup
+    -- if markup opens, inline HTML is markup
     pub is_markup : (opens instructs : Bool) → starts (codes "<!") rest ≡ opens → starts (codes "<?") rest ≡ instructs → (opens ≡ true) ⊎ (instructs ≡ true) → behind_inline_html (drop at text) ≡ behind_markup (drop at text)
     is_markup true instructs a b h =
         ap (λ t. chosen t (starts (codes "<?") (drop at text))) (ap (starts (codes "<!")) (sym cut) ∙ a)

@@ -10,14 +10,14 @@ use Rattle.cmark_grammar.specs.LinkDefinitions.{Parsed}
 use Rattle.cmark_finds.specs.Backticks.{AreListed, IsListed}
 use Rattle.cmark_finds.proofs.FirstRun.{IsFirst, first_run}
 
--- a run begins inside of the text
+-- a run begins inside the text
 some_inside : (text : List ℕ) (k : ℕ) → 0 < backticks (drop k text) → k < length text
 some_inside text k some =
     let le = prefix_len-le-length is_backtick (drop k text) in
     let l = length-drop k text in
     omega (arith, some, le, l)
 
--- no backtick stands behind a run
+-- no backtick follows a run
 run_stops : (run : List ℕ) → backticks (drop (backticks run) run) ≡ 0
 run_stops run = go (backticks (drop (backticks run) run)) refl
   where
@@ -73,7 +73,7 @@ module _ (text last : List ℕ) (from at : ℕ) (listed : AreListed text last fr
       go true e = rw e refl
       go false e = rw e (other (up_to_run (backticks (drop at text)) false (drop (backticks (drop at text)) (drop at text))) refl (positive (backticks (drop at text)) e))
 
-  -- where no run of the length is listed behind it, no run closes the one at this place
+  -- if no later run of this length is listed, no run closes the one at this offset
   pub lacking : (size : ℕ) → size ≡ backticks (drop at text) → (size < length last → get_or last size 0 ≤ at) → code_in (drop at text) ≡ None
   lacking size is gone = lacking_run (subst (λ n. n < length last → get_or last n 0 ≤ at) is gone)
 
@@ -105,7 +105,7 @@ listed_more text last next from at start size listed le inside is positive plain
         let same : start ≡ place = omega (arith, b, d) in
         subst (IsListed next place) (is ∙ ap (λ k. backticks (drop k text)) same) (subst (λ k. IsListed next k size) same added)
 
--- behind the last run
+-- after the last run
 listed_all : (text last : List ℕ) (from at : ℕ) → AreListed text last from at → ((k : ℕ) → at ≤ k → k < length text → is_backtick (get_or text k 0) ≡ false) → AreListed text last from (length text)
 listed_all text last from at listed plain place low high begins some = go (cases_lt place at)
   where
@@ -119,7 +119,7 @@ listed_all text last from at listed plain place low high begins some = go (cases
     go (inl a) = listed place low a begins some
     go (inr a) = absurd (none a)
 
--- the run that `memchr` finds behind a place is listed, and those before it are
+-- the run that `memchr` finds after an offset is listed, and so are the runs before it
 pub listed_next : (text last next rest run : List ℕ) (from at found size : ℕ) → rest ≡ drop at text → at ≤ length text → IsFirstByte (is_byte 96) rest (Some found) → run ≡ drop (at + found) text → size ≡ backticks run
     → AreListed text last from at → IsListed next (at + found) size → ((place other : ℕ) → place ≤ at + found → IsListed last place other → IsListed next place other) → AreListed text next from (at + found + size)
 listed_next text last next rest run from at found size cut le first there is listed added others =
@@ -152,7 +152,7 @@ listed_next text last next rest run from at found size cut le first there is lis
         go zero e = absurd (true≢false (sym tick ∙ ap (λ k. is_backtick (get_or run k 0)) (sym e) ∙ prefix_len_stops is_backtick run 0 (omega (arith, e, inside))))
         go (suc n) e = omega (arith, is, e)
 
--- and where none is found, all are
+-- if `memchr` finds no run, all runs are listed
 pub listed_end : (text last rest : List ℕ) (from at : ℕ) → rest ≡ drop at text → IsFirstByte (is_byte 96) rest None → AreListed text last from at → AreListed text last from (length text)
 listed_end text last rest from at cut first listed = listed_all text last from at listed plain
   where

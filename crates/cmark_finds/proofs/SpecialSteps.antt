@@ -12,7 +12,7 @@ use Rattle.cmark_grammar.specs.Options.{Options}
 use Rattle.cmark_grammar.specs.SpecialBytes.{is_one_of, is_always_special, is_special}
 use Rattle.cmark_finds.specs.Special.{has_byte, IsTableOf}
 
--- what each sign of a list is
+-- P holds of each byte of a list
 abbrev pub HaveAll : (P : ℕ → Type 0) → List ℕ → Type 0
 HaveAll P [] = Unit {0}
 HaveAll P (sign ∷ signs) = P sign × HaveAll P signs
@@ -29,7 +29,7 @@ module _ (P : ℕ → Type 0) where
   if_any : (on : Bool) (signs : List ℕ) (b : ℕ) → HaveAll P signs → (on && is_one_of signs b) ≡ true → P b
   if_any on signs b h e = one_has signs b h (and_parts on (is_one_of signs b) e).1
 
-  -- what is true of each sign that the definition names is true of each special byte
+  -- a property of each byte that the definition names holds of each special byte
   special_has : HaveAll P (codes "\n\r*_&\\[]<!`") → HaveAll P (codes "|~^=") → HaveAll P (codes "${}") → HaveAll P (codes ".-\"'")
       → (o : Options) (b : ℕ) → is_special o b ≡ true → P b
   special_has always single math smart o b e =
@@ -57,7 +57,7 @@ special_is_ascii =
 abbrev pub may_be_special : List ℕ
 may_be_special = codes "\n\r*_&\\[]<!`|~^=${}.-\"'"
 
--- a byte that is none of them is special under no options
+-- a byte that is not one of them is special under no options
 pub plain_is_not_special : (o : Options) (b : ℕ) → is_one_of may_be_special b ≡ false → is_special o b ≡ false
 plain_is_not_special o b e = go (is_special o b) refl
   where
@@ -82,7 +82,7 @@ is_byte n = go may_be_special n
     go (sign ∷ signs) zero h = h.0
     go (sign ∷ signs) (suc n) h = go signs n h.1
 
--- a table that is right for all bytes but those that are to come, with one more of them
+-- a table that is right for all bytes except those that are still to be set, with one more byte set
 pub marked : (o : Options) (table : List Bool) (i k : ℕ) (is : Bool) → i < 22 → length table ≡ 256 → is ≡ is_special o (get_or may_be_special i 0)
     → (is_one_of (drop i may_be_special) k ≡ false → has_byte table k ≡ is_special o k)
     → is_one_of (drop (i + 1) may_be_special) k ≡ false → has_byte (set table (get_or may_be_special i 0) is) k ≡ is_special o k
@@ -103,7 +103,7 @@ marked o table i k is lt size told before after = go (sign == k) refl
         get_or-set_other table sign k is false (λ e. eqb-false sign k h (sym e))
         ∙ before (ap (λ signs. is_one_of signs k) parts ∙ ap (λ b. b || is_one_of (drop (i + 1) may_be_special) k) h ∙ after)
 
--- a byte of typographic punctuation is special with it alone
+-- a byte of typographic punctuation is special only with that option
 off : (x : Bool) → (x && false) ≡ false
 off true = refl
 off false = refl
@@ -130,7 +130,7 @@ smart_alone o b is = go is
     go (inr (inl e)) = same 34 one e
     go (inr (inr e)) = same 39 one e
 
--- where the first special byte stands
+-- the first special byte is at a character boundary
 pub next_boundary : (o : Options) (table : List Bool) (bytes : List ℕ) (at size : ℕ) → IsTableOf o table → ((i : ℕ) → get_or bytes i 0 < 256) → at ≤ length bytes
     → size ≡ prefix_len (λ b. not (has_byte table b)) (drop at bytes) → IsCharBoundary bytes (at + size)
 next_boundary o table bytes at size is fits le e =
@@ -155,7 +155,7 @@ next_boundary o table bytes at size is fits le e =
     absurd-high : get_or bytes (at + size) 0 < 128 → 128 ≤ get_or bytes (at + size) 0 → 192 ≤ get_or bytes (at + size) 0
     absurd-high low high = absurd (omega (arith, low, high))
 
--- a test of several, in two ways of writing
+-- a disjunction of four tests, written in two ways
 four_or : (a b c d : Bool) → (((a || b) || c) || d) ≡ (a || (b || (c || (d || false))))
 four_or true b c d = refl
 four_or false true c d = refl
@@ -165,7 +165,7 @@ four_or false false false d = sym (or-false d)
 pub one_of_four : (table : List Bool) (a b c d : ℕ) → (((has_byte table a || has_byte table b) || has_byte table c) || has_byte table d) ≡ list_any (has_byte table) (a ∷ b ∷ c ∷ d ∷ [])
 one_of_four table a b c d = four_or (has_byte table a) (has_byte table b) (has_byte table c) (has_byte table d)
 
--- bytes of which the table has none are passed
+-- bytes that are not in the table are passed
 pub passes : (table : List Bool) (front bs : List ℕ) → list_any (has_byte table) front ≡ false
     → prefix_len (λ b. not (has_byte table b)) (front ++ bs) ≡ length front + prefix_len (λ b. not (has_byte table b)) bs
 passes table [] bs e = omega arith

@@ -1,4 +1,4 @@
--- How many runs of backticks are looked at.
+-- The number of runs of backticks that are looked at.
 use Rattle.std.proofs.Common.{◌≡◌, ◌≢◌, ◌⊎◌, inl, inr, ℕ, zero, suc, ◌+◌, ◌-◌, ◌*◌, ◌<◌, ◌≤◌, Bool, true, false, ◌==◌, ◌&&◌, not, if◌then◌else◌, List, [], ◌∷◌, ◌++◌, length, drop, get_or, Option, None, Some, refl, sym, ap, subst, ◌∙◌, arith, true≢false, drop-drop, length-drop}
 use Rattle.std.specs.Prelude.{cond, is_some, nat_lt, option_map, slice_set}
 use Rattle.std.specs.List.{prefix_len}
@@ -14,7 +14,7 @@ use Rattle.cmark_finds.specs.declared.backtick_runs.BacktickRuns.{BacktickRuns}
 
 -- ## Runs among bytes
 
--- a run that goes on counts no more than one that begins
+-- a run that continues counts at most as much as one that begins
 runs-going : (g : Bool) (bs : List ℕ) → runs_in true bs ≤ runs_in g bs
 runs-going g [] = omega arith
 runs-going g (b ∷ bs) = go (is_backtick b) g
@@ -29,7 +29,7 @@ runs-fresh : (g : Bool) (bs : List ℕ) → runs_in g bs ≤ runs_in false bs
 runs-fresh true bs = runs-going false bs
 runs-fresh false bs = omega arith
 
--- no more begin than there are bytes
+-- at most as many runs begin as there are bytes
 pub runs-few : (g : Bool) (bs : List ℕ) → runs_in g bs ≤ length bs
 runs-few g [] = omega arith
 runs-few g (b ∷ bs) = go (is_backtick b && not g) (runs-few (is_backtick b) bs)
@@ -50,7 +50,7 @@ runs-behind (suc k) g (b ∷ bs) = go (is_backtick b && not g) (runs-behind k (i
 none-more : (n : ℕ) → 0 + n ≡ n
 none-more n = omega arith
 
--- bytes in front that are no backticks
+-- bytes at the start that are not backticks
 runs-plain : (k : ℕ) (bs : List ℕ) → k ≤ length bs → ((i : ℕ) → i < k → is_backtick (get_or bs i 0) ≡ false) → runs_in false bs ≡ runs_in false (drop k bs)
 runs-plain zero bs le none = refl
 runs-plain (suc k) [] le none = refl
@@ -58,7 +58,7 @@ runs-plain (suc k) (b ∷ bs) le none =
     let plain : is_backtick b ≡ false = none 0 (omega arith) in
     ap (λ t. (if t && true then 1 else 0) + runs_in t bs) plain ∙ none-more (runs_in false bs) ∙ runs-plain k bs (omega (arith, le)) (λ i lt. none (suc i) (omega (arith, lt)))
 
--- a run that goes on
+-- a run that continues
 runs-on : (bs : List ℕ) → runs_in true bs ≡ runs_in false (drop (backticks bs) bs)
 runs-on [] = refl
 runs-on (b ∷ bs) = go (is_backtick b) refl (runs-on bs)
@@ -67,7 +67,7 @@ runs-on (b ∷ bs) = go (is_backtick b) refl (runs-on bs)
     go true e i = ap (λ t. (if t && false then 1 else 0) + runs_in t bs) e ∙ none-more (runs_in true bs) ∙ i ∙ ap (λ k. runs_in false (drop k (b ∷ bs))) (let q : suc (backticks bs) ≡ 1 + backticks bs = omega arith in q) ∙ sym (ap (λ t. runs_in false (drop (cond t (1 + prefix_len is_backtick bs) 0) (b ∷ bs))) e)
     go false e i = ap (λ t. (if t && false then 1 else 0) + runs_in t bs) e ∙ sym (ap (λ t. (if t && true then 1 else 0) + runs_in t bs) e) ∙ sym (ap (λ t. runs_in false (drop (cond t (1 + prefix_len is_backtick bs) 0) (b ∷ bs))) e)
 
--- a run in front
+-- a run at the start
 runs-one : (bs : List ℕ) → is_backtick (get_or bs 0 0) ≡ true → runs_in false bs ≡ 1 + runs_in false (drop (backticks bs) bs)
 runs-one [] e = absurd (true≢false (sym e))
 runs-one (b ∷ bs) e =
@@ -85,7 +85,7 @@ run-next rest run next at count first there is behind =
     ap (λ (l : List ℕ). is_backtick (get_or l 0 0)) there ∙ ap is_backtick (get_or-drop at rest 0 0 ∙ ap (λ k. get_or rest k 0) (let z : at + 0 ≡ at = omega arith in z)) ∙ first.1 in
     (front ∙ runs-one run tick ∙ ap (λ l. 1 + runs_in false l) (ap (λ k. drop k run) (sym is) ∙ sym behind), front)
 
--- where none is found, none is left
+-- if no run is found, no run is left
 pub run-none : (rest : List ℕ) → IsFirstByte (is_byte 96) rest None → runs_in false rest ≡ 0
 run-none rest first = runs-plain (length rest) rest (omega arith) (λ i lt. false_from_ne_true _ (first i (omega arith) lt)) ∙ ap (runs_in false) (gone rest)
   where
@@ -93,7 +93,7 @@ run-none rest first = runs-plain (length rest) rest (omega arith) (λ i lt. fals
     gone [] = refl
     gone (x ∷ xs) = gone xs
 
--- ## A run that stands there closes
+-- ## A run in the table closes
 
 put-none : (b : ℕ) (o : Option Parsed) → put b o ≡ None → o ≡ None
 put-none b None e = refl
@@ -130,7 +130,7 @@ map-none : (n : ℕ) (o : Option Parsed) → option_map (behind_run n) o ≡ Non
 map-none n None e = refl
 map-none n (Some found) e = absurd (let q : ⊥ = cc in q)
 
--- where a run of the length is listed behind it, the one at this place is closed
+-- if a later run of this length is listed, it closes the one at this offset
 pub closes-later : (text last : List ℕ) (from at size : ℕ) → AreReal text last from → size ≡ backticks (drop at text) → from ≤ at → at < get_or last size 0 → code_in (drop at text) ≢ None
 closes-later text last from at size real is low later none = go (backticks (drop at text) == 0) refl
   where
@@ -187,7 +187,7 @@ set-entry none old new size start lt same k = go (cases_eq k size)
     go (inl e) = ap (λ n. get_or (slice_set new size start) n none) e ∙ get_or-set_same new size start none lt ∙ sym (ap (λ b. if b then start else get_or old k none) (eq-eqb k size e))
     go (inr differs) = get_or-set_other new size k start none differs ∙ same k ∙ sym (ap (λ b. if b then start else get_or old k none) (ne_eqb k size differs))
 
--- one run more is in the table: it begins behind a byte that is no backtick, unless it is the first
+-- one more run is in the table: it begins after a byte that is not a backtick, unless it is the first
 pub real-next : (text last next rest run : List ℕ) (from at found size : ℕ) → rest ≡ drop at text → at ≤ length text → IsFirstByte (is_byte 96) rest (Some found) → run ≡ drop (at + found) text → size ≡ backticks run → (from < at → is_backtick (get_or text at 0) ≡ false) → from ≤ at
     → ((k : ℕ) → get_or next k 0 ≡ (if k == size then at + found else get_or last k 0)) → AreReal text last from → AreReal text next from
 real-next text last next rest run from at found size cut le first there is stops low entries real k later = go (cases_eq k size)
@@ -233,7 +233,7 @@ real-next text last next rest run from at found size cut le first there is stops
         let entry : get_or next k 0 ≡ get_or last k 0 = entries k ∙ ap (λ b. if b then at + found else get_or last k 0) (ne_eqb k size differs) in
         subst (λ p. IsRunAt text p k) (sym entry) (real k (omega (arith, later, entry)))
 
--- behind a run stands no backtick
+-- a run is not followed by a backtick
 pub stops-next : (text run : List ℕ) (at size : ℕ) → run ≡ drop at text → size ≡ backticks run → is_backtick (get_or text (at + size) 0) ≡ false
 stops-next text run at size there is = go (cases_lt (backticks run) (length run))
   where
@@ -244,7 +244,7 @@ stops-next text run at size there is = go (cases_lt (backticks run) (length run)
     go (inl lt) = ap is_backtick byte ∙ prefix_len_stops is_backtick run 0 lt
     go (inr le) = ap is_backtick (byte ∙ get_or_past run (backticks run) 0 le)
 
--- one run more is looked at
+-- one more run is looked at
 pub list-next : (text rest run : List ℕ) (at found size : ℕ) → rest ≡ drop at text → IsFirstByte (is_byte 96) rest (Some found) → run ≡ drop (at + found) text → size ≡ backticks run → runs_in false (drop at text) ≡ 1 + runs_in false (drop (at + found + size) text)
 list-next text rest run at found size cut first there is =
     let front : run ≡ drop found rest = there ∙ sym (drop-drop found at text) ∙ ap (drop found) (sym cut) in
@@ -254,7 +254,7 @@ list-next text rest run at found size cut first there is =
 pub list-few : (text : List ℕ) (from old new left : ℕ) → new + left ≡ old + runs_in false (drop from text) → new ≤ old + (length text - from)
 list-few text from old new left e = let few = runs-few false (drop from text) in let len = length-drop from text in omega (arith, few, len, e)
 
--- ## What a code span costs
+-- ## The cost of a code span
 
 module _ (text run inside : List ℕ) (at size : ℕ) (there : run ≡ drop at text) (behind : inside ≡ drop size run) (is : size ≡ backticks run) (some : size ≡ 0 → ⊥) where
   whole : (length inside + size ≤ length text - at) × (0 < size)
@@ -283,7 +283,7 @@ module _ (text run inside : List ℕ) (at size : ℕ) (there : run ≡ drop at t
     pub found-less : new < old + (at + size + content + size - at)
     found-less = let w = whole in let few = runs-behind content false inside in omega (arith, w.1, few, counts)
 
--- ## What is sought in vain costs
+-- ## The cost of a search in vain
 
 pub lack-most : (text : List ℕ) (at visited : ℕ) (runs : BacktickRuns) → at < length text → visited ≡ runs.visited + entries_for at runs → visited ≤ runs.visited + may_visit text at runs
 lack-most text at visited runs lt e = go runs.from e

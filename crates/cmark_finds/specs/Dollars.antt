@@ -12,15 +12,15 @@ use Rattle.cmark_finds.specs.declared.dollars.Dollar.{Dollar}
 use Rattle.cmark_finds.specs.declared.dollars.Dollars.{Dollars}
 use Rattle.cmark_finds.specs.declared.dollars.Formula.{Formula}
 
--- the braces that were entered stand in the table from the outermost inwards
+-- the contexts entered: the code has the outermost first, and the grammar the innermost first
 abbrev pub shown_braces : Braces → grammar.Braces
 shown_braces braces = record { entered = reverse braces.entered.items; outermost = braces.outermost; next = braces.next }
 
--- the dollar sign that this byte is, if it is one
+-- this byte as a dollar sign, if it is one
 abbrev pub dollar_here : (at : ℕ) → (escaped : Bool) → grammar.Braces → ℕ → List Dollar
 dollar_here at escaped braces b = if is_dollar b then record { place = at; context = context_of braces; is_escaped = escaped } ∷ [] else []
 
--- the dollar signs of these bytes, which stand from a place on, behind these braces
+-- the dollar signs of these bytes, which begin at an offset and come after these braces
 abbrev pub dollars_from : (at : ℕ) → (escaped : Bool) → grammar.Braces → List ℕ → List Dollar
 dollars_from at escaped braces [] = []
 dollars_from at escaped braces (b ∷ bs) = dollar_here at escaped braces b ++ dollars_from (suc at) (escapes_next escaped b) (behind_byte escaped b braces) bs
@@ -28,16 +28,16 @@ dollars_from at escaped braces (b ∷ bs) = dollar_here at escaped braces b ++ d
 abbrev pub dollars_in : (text : List ℕ) → List Dollar
 dollars_in text = dollars_from 0 false no_braces text
 
--- a dollar sign closes nothing in this context
+-- a dollar sign that closes no formula of this context
 abbrev pub is_passed_in : (context : ℕ) → Dollar → Bool
 is_passed_in context d = not (not d.is_escaped && (d.context == context))
 
--- each of these dollar signs has the index of the next one that may close what it opens
+-- the link of each of these dollar signs is the index of the next dollar sign that may close its formula
 pub record AreLinks (listed : List Dollar) (links : List ℕ) : Type 0 where
   pub whole : length links ≡ length listed
   pub each : (i : ℕ) (d : Dollar) → i < length listed → get_or links i 0 ≡ i + 1 + prefix_len (is_passed_in (get_or listed i d).context) (drop (i + 1) listed)
 
--- the table is that of this text, once it is listed
+-- the table belongs to this text, once it is listed
 pub record AreListed (text : List ℕ) (dollars : Dollars) : Type 0 where
   pub dollars_are : dollars.listed.items ≡ dollars_in text
   pub links : AreLinks (dollars_in text) dollars.following.items
@@ -45,48 +45,48 @@ pub record AreListed (text : List ℕ) (dollars : Dollars) : Type 0 where
 abbrev pub AreDollarsOf : (text : List ℕ) → Dollars → Type 0
 AreDollarsOf text dollars = dollars.is_listed ≡ true → AreListed text dollars
 
--- ## How many dollar signs are visited
+-- ## The number of dollar signs visited
 
 abbrev pub stands_before : (place : ℕ) → Dollar → Bool
 stands_before place d = nat_lt d.place place
 
--- the dollar sign that was asked for last stands no further than a place from which on others are asked for
+-- the dollar sign that was looked up last is not after the offset from which on others are looked up
 abbrev pub IsReached : (text : List ℕ) → (at : ℕ) → Dollars → Type 0
 IsReached text at dollars = dollars.is_listed ≡ true → dollars.reached ≤ prefix_len (stands_before at) (dollars_in text)
 
--- at most so many are still visited where formulas are sought from a place of the text on, in turn: each of them twice to list them, and
--- once to find one by its place; and for each byte one that may close
+-- an upper bound of the dollar signs still visited if formulas are looked up from an offset of the text on, in order. Each dollar sign is
+-- visited twice to list it and once to find it by its offset. For each byte one closing dollar sign may be visited
 abbrev pub may_visit : (text : List ℕ) → (at : ℕ) → Dollars → ℕ
 may_visit text at dollars = (if dollars.is_listed then length (dollars_in text) - dollars.reached else 3 * length text) + (length text - at)
 
--- the table is listed: nothing changes if it was, else all dollar signs are visited twice
+-- the table is listed: nothing changes if it was; otherwise all dollar signs are visited twice
 pub record Lists (text : List ℕ) (old new : Dollars) : Type 0 where
   pub was : old.is_listed ≡ true → (new.visited ≡ old.visited) × (new.reached ≡ old.reached)
   pub made : old.is_listed ≡ false → (new.visited ≡ old.visited + length (dollars_in text) + length (dollars_in text)) × (new.reached ≡ 0)
 
--- the place of the first of these dollar signs from a place on that no backslash escapes and that stands in this context
+-- the offset of the first of these dollar signs from `from` on that is in this context and not escaped by a backslash
 abbrev pub closing : (from context : ℕ) → List Dollar → Option ℕ
 closing from context [] = None
 closing from context (d ∷ ds) = if nat_le from d.place && (not d.is_escaped && (d.context == context)) then Some d.place else closing from context ds
 
--- the braces in front of a place
+-- the braces before an offset
 abbrev pub braces_at : (text : List ℕ) → (at : ℕ) → grammar.Braces
 braces_at text at = braces_behind false (take at text) no_braces
 
--- what the dollar sign at this place opens: a formula in the line, or in front of another one a display
+-- the formula that the dollar sign at this offset opens: display math if another dollar sign follows, and otherwise inline math
 abbrev pub formula_at : (text : List ℕ) → (at : ℕ) → Option Parsed
 formula_at text at =
     if first_is is_dollar (drop (at + 1) text) then display_in (braces_at text at) (drop (at + 2) text) else inline_in (braces_at text at) (drop (at + 1) text)
 
--- what a formula of a text holds, and what is behind it
+-- the content of a formula of a text, and the text after it
 abbrev pub shown_formula : (text : List ℕ) → Formula → Parsed
 shown_formula text formula = record { bytes = slice text formula.content_start formula.content_end; behind = drop formula.end text }
 
--- how many dollar signs stand at each end
+-- the number of dollar signs at each end
 abbrev pub signs_of : (is_display : Bool) → ℕ
 signs_of is_display = if is_display then 2 else 1
 
--- a formula that is opened at this place: where it and what it holds begin and end no character is cut
+-- a formula that is opened at this offset: it and its content begin and end at character boundaries
 pub record IsFormulaAt (text : List ℕ) (at : ℕ) (formula : Formula) : Type 0 where
   pub opens : formula.content_start ≡ at + signs_of formula.is_display
   pub ordered : formula.content_start ≤ formula.content_end

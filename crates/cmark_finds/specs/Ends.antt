@@ -3,11 +3,11 @@ use Rattle.std.specs.Prelude.{ℕ, ◌≡◌, ◌<◌, List, ◌++◌, take, dro
 use Rattle.std.specs.Str.{IsCharBoundary}
 use Rattle.cmark_grammar.specs.CodeSpans.{with_line_ends}
 
--- no line ends there
+-- the text has no line ending
 abbrev pub HasNoEnd : List ℕ → Type 0
 HasNoEnd text = (mark : List ℕ) → with_line_ends mark text ≡ text
 
--- the first line ending lies between these places
+-- the first line ending is between these offsets
 pub record EndsLine (text : List ℕ) (start end : ℕ) : Type 0 where
   pub low : start < end
   pub starts : IsCharBoundary text start

@@ -1,4 +1,4 @@
--- What the values of structs mean.
+-- The meaning of the structs of the code.
 use Rattle.std.specs.Prelude.{◌≡◌, ◌≢◌, ◌<◌, ◌≤◌, ◌+◌, ◌-◌, ℕ, false, List, drop, get_or}
 use Rattle.std.specs.Str.{IsCharBoundary}
 use Rattle.cmark_grammar.specs.CodeSpans.{is_backtick, backticks}
@@ -6,12 +6,11 @@ use Rattle.cmark_grammar.specs.LinkDefinitions.{Parsed}
 use Rattle.cmark_grammar.specs.Tokens.{slice}
 use Rattle.cmark_finds.specs.declared.code.CodeSpan.{CodeSpan}
 
--- what a code span of a text holds, and what is behind it
+-- the content of a code span of a text, and the text after it
 abbrev pub shown_code : (text : List ℕ) → CodeSpan → Parsed
 shown_code text span = record { bytes = slice text span.content_start span.content_end; behind = drop span.end text }
 
--- a code span with its opening run at this place: its runs have the same length, and where they begin and end no character
--- is cut
+-- a code span whose opening run is at this offset: its runs have the same length, and begin and end at character boundaries
 pub record IsCodeAt (text : List ℕ) (at : ℕ) (span : CodeSpan) : Type 0 where
   pub opens : span.content_start ≡ at + backticks (drop at text)
   pub ordered : span.content_start ≤ span.content_end
@@ -20,8 +19,7 @@ pub record IsCodeAt (text : List ℕ) (at : ℕ) (span : CodeSpan) : Type 0 wher
   pub stops : IsCharBoundary text span.content_end
   pub ends : IsCharBoundary text span.end
 
--- its closing run is the first of that length behind the opening one: a run begins there, and none that begins before has
--- that length
+-- its closing run is the first of its length after the opening one: a run begins there, and no earlier one has that length
 pub record ClosesFirst (text : List ℕ) (at : ℕ) (span : CodeSpan) : Type 0 where
   pub begins : is_backtick (get_or text (span.content_end - 1) 0) ≡ false
   pub whole : backticks (drop span.content_end text) ≡ backticks (drop at text)

@@ -1,4 +1,4 @@
-//! Where the runs of backticks of a text stand, so that no search goes over it in vain twice (CommonMark 6.1).
+//! The runs of backticks of a text, so that the text is searched in vain at most once (CommonMark 6.1).
 
 ghost use Rattle.std.specs.Prelude.{◌≡◌, ◌≢◌, ◌≤◌, ◌<◌, ◌+◌, ◌-◌, ◌^◌, ◌==◌, true, false, ℕ, List, None, Some, length, drop, get_or, if◌then◌else◌, IfOk, IfSome, OnErr, OnOk, option_map};
 ghost use Rattle.std.specs.Str.{IsCharBoundary};
@@ -10,20 +10,20 @@ use crate::code::{CodeSpan, backticks, code_span};
 use memchr::memchr;
 use std::alloc::{AllocError, Global};
 
-/// The runs of backticks of one text. They are listed once, when a code span was sought in vain; from then on it is known which
+/// The runs of backticks of one text. They are listed after the first search for a code span in vain. From then on it is known which
 /// lengths have no closing run, and no search is in vain.
 #[derive(Drop)]
 pub struct BacktickRuns {
-    /// For each length the place of the last run of exactly so many backticks; 0 where there is none.
+    /// For each length the offset of the last run of exactly this length; 0 if there is none.
     last: Vec<usize>,
-    /// The place behind which all runs are listed; `None` as long as no search was in vain.
+    /// The offset after which all runs are listed; `None` as long as no search was in vain.
     from: Option<usize>,
-    /// How many runs were looked at, in the text or by their entry of the table.
+    /// How many runs were looked at, in the text or by their table entry.
     pub visited: u128,
 }
 
 impl BacktickRuns {
-    /// The runs of a text in which none was sought yet. They take no memory.
+    /// The runs of a text that was not searched yet. They take no memory.
     pub fn new(alloc: Global) -> BacktickRuns
         ensures runs { (text : List ℕ) → AreRunsOf text result }
         ensures reached { (at : ℕ) → IsReached at result }
@@ -37,8 +37,8 @@ impl BacktickRuns {
         }
     }
 
-    /// The code span whose opening run of backticks stands at this place, as `code_span` finds it. All calls must be made with
-    /// the same text. Fails only where memory is refused.
+    /// The code span whose opening run of backticks is at the offset `at`, as `code_span` finds it. All calls have to be made with the same
+    /// text. Fails only if memory is refused.
     pub fn code_span(&mut self, text: &str, at: usize) -> Result<Option<CodeSpan>, AllocError>
         requires place { IsCharBoundary text.now at }
         requires runs { AreRunsOf text.now self.old }
@@ -63,7 +63,7 @@ impl BacktickRuns {
         Ok(found)
     }
 
-    /// Whether it is known that no run closes the one at this place, by the entry of its length.
+    /// Whether the table shows that no run closes the one at the offset `at`.
     fn lacks(&mut self, text: &str, at: usize) -> bool
         requires place { at ≤ length text.now }
         requires runs { AreRunsOf text.now self.old }
@@ -84,7 +84,7 @@ impl BacktickRuns {
         size >= self.last.len() || self.last[size] <= at
     }
 
-    /// Lists the runs behind a place.
+    /// Lists the runs from the offset `from` on.
     fn list(&mut self, text: &str, from: usize) -> Result<(), AllocError>
         requires within { from ≤ length text.now }
         requires room { self.old.visited + length text.now < 2 ^ 128 }
@@ -111,7 +111,7 @@ impl BacktickRuns {
     }
 }
 
-/// Lists a run of so many backticks, which begins behind all that are listed.
+/// Lists a run of `size` backticks at the offset `start`, which is after all runs that are listed.
 fn add_run(last: &mut Vec<usize>, start: usize, size: usize) -> Result<(), AllocError>
     ensures entries { OnOk result ((k : ℕ) → get_or last.new.items k 0 ≡ (if k == size then start else get_or last.old.items k 0)) }
     ensures added { OnOk result (IsListed last.new.items start size) }

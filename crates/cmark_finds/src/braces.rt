@@ -1,4 +1,4 @@
-//! The contexts into which braces part a text (this profile's own).
+//! The contexts into which braces divide a text (this profile's own).
 
 ghost use Rattle.std.specs.Prelude.{◌≡◌, ◌≤◌, ◌<◌, ◌+◌, false, OnOk};
 ghost use Rattle.cmark_grammar.specs.Formulas.{no_braces, context_of, behind_byte};
@@ -9,19 +9,19 @@ use std::alloc::{AllocError, Global};
 /// The number of the outermost context at first.
 const FIRST_OUTERMOST: u8 = 255;
 
-/// The contexts at a place of a text. They have numbers modulo 256.
+/// The contexts at an offset of a text. They are numbered modulo 256.
 #[derive(Drop)]
 pub(crate) struct Braces {
-    /// The numbers of the contexts that were entered, the outer ones first.
+    /// The numbers of the contexts that were entered, the outermost first.
     entered: Vec<u8>,
     /// The number of the outermost context.
     outermost: u8,
-    /// How many numbers were given.
+    /// How many numbers were used.
     next: usize,
 }
 
 impl Braces {
-    /// The contexts at the begin of a text.
+    /// The contexts at the start of a text.
     pub fn new(alloc: Global) -> Braces
         ensures braces { shown_braces result ≡ no_braces }
         ensures next { result.next ≡ 0 }
@@ -43,7 +43,7 @@ impl Braces {
         }
     }
 
-    /// Goes on behind a byte. Where a backslash escapes it, it is no brace.
+    /// Moves past a byte. It is not a brace if a backslash escapes it.
     pub fn pass(&mut self, is_escaped: bool, byte: u8) -> Result<(), AllocError>
         requires room { self.old.next < 18446744073709551615 }
         ensures braces { OnOk result (shown_braces self.new ≡ behind_byte is_escaped byte (shown_braces self.old)) }

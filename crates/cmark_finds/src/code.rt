@@ -14,18 +14,18 @@ use cmark_search::find_backtick;
 use cmark_text_parts::CowStr;
 use std::alloc::{AllocError, Global};
 
-/// Where a code span lies in its text.
+/// The offsets of a code span in its text.
 #[derive(Clone, Copy)]
 pub struct CodeSpan {
-    /// The place behind the opening run of backticks.
+    /// The end of the opening run of backticks, exclusive.
     pub content_start: usize,
-    /// Where the closing run begins.
+    /// The offset of the closing run.
     pub content_end: usize,
-    /// The place behind the closing run.
+    /// The end of the closing run, exclusive.
     pub end: usize,
 }
 
-/// How many backticks stand in front.
+/// The number of backticks at the start.
 pub(crate) fn backticks(bytes: &[u8]) -> usize
     ensures value { result ≡ backticks bytes.now }
     ensures within { result ≤ length bytes.now }
@@ -33,7 +33,7 @@ pub(crate) fn backticks(bytes: &[u8]) -> usize
     bytes.iter().take_while(|byte| **byte == b'`').count()
 }
 
-/// Where the first run of exactly so many backticks begins. `visited` counts the runs that are looked at, this one among them.
+/// The offset of the first run of exactly `size` backticks. `visited` counts the runs that are looked at, including this one.
 fn find_run(bytes: &[u8], size: usize, visited: &mut u128) -> Option<usize>
     requires { visited.old + length bytes.now < 2 ^ 128 }
     ensures counts { MatchOption result (visited.new ≡ visited.old + runs_in false bytes.now) (λ at. visited.new + runs_in false (drop at bytes.now) ≡ visited.old + runs_in false bytes.now + 1) }
@@ -56,9 +56,8 @@ fn find_run(bytes: &[u8], size: usize, visited: &mut u128) -> Option<usize>
     None
 }
 
-/// The code span whose opening run of backticks stands at this place of the text (CommonMark 6.1): it is closed by the first
-/// later run of exactly as many. `None` where no backtick stands there, and where no such run follows. `visited` counts the runs that
-/// are looked at.
+/// The code span whose opening run of backticks is at the offset `at` of the text (CommonMark 6.1). It is closed by the first later run of
+/// the same length. `None` if no backtick is at this offset, or if no such run follows. `visited` counts the runs that are looked at.
 pub fn code_span(text: &str, at: usize, visited: &mut u128) -> Option<CodeSpan>
     requires place { IsCharBoundary text.now at }
     requires room { visited.old + length text.now < 2 ^ 128 }
@@ -85,14 +84,14 @@ pub fn code_span(text: &str, at: usize, visited: &mut u128) -> Option<CodeSpan>
     })
 }
 
-/// How many bytes are no spaces.
+/// The number of bytes that are not spaces.
 fn others(bytes: &[u8]) -> usize
     ensures { result ≡ count_by (λ b. not (is_space b)) bytes.now }
 {
     bytes.iter().filter(|byte| **byte != b' ').count()
 }
 
-/// Whether a space stands at both ends, and not all bytes are spaces.
+/// Whether there is a space at both ends, and not all bytes are spaces.
 fn is_padded(bytes: &[u8]) -> bool
     ensures { result ≡ is_padded bytes.now }
 {
@@ -112,7 +111,7 @@ fn without_padding(text: &str) -> &str
     }
 }
 
-/// The text of what a code span holds, where no line ends in it (CommonMark 6.1): a part of that.
+/// The text of a code span with this content, which has no line ending (CommonMark 6.1): a part of the content.
 #[inline(always)]
 pub fn code_part<'t>(content: &'t str) -> Option<&'t str>
     ensures value { IfSome result (λ made. made.now ≡ code_text content.entry.now) }
@@ -125,8 +124,8 @@ pub fn code_part<'t>(content: &'t str) -> Option<&'t str>
     Some(without_padding(content))
 }
 
-/// The text of what a code span holds (CommonMark 6.1): each line ending is a space, and then one space is taken from each
-/// end, if both ends are spaces and not all is. It is borrowed where no line ends in it; fails only where memory is refused.
+/// The text of a code span with this content (CommonMark 6.1). Each line ending becomes a space. Then one space is removed at each end, if
+/// both ends are spaces and not all bytes are. The text is borrowed if the content has no line ending. Fails only if memory is refused.
 pub fn code_text<'t>(alloc: Global, content: &'t str) -> Result<CowStr<'t>, AllocError>
     ensures value { IfOk result (λ made. text_bytes made ≡ code_text content.entry.now) }
     ensures lent { takes_lines content.entry.now ≡ false → IfOk result IsBorrowed }

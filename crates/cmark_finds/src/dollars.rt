@@ -12,16 +12,16 @@ use crate::braces::Braces;
 use cmark_scan_parts::bytes::escapes_next;
 use std::alloc::{AllocError, Global};
 
-/// Where a formula lies in its text.
+/// The offsets of a formula in its text.
 #[derive(Clone, Copy)]
 pub struct Formula {
-    /// The place behind the dollar signs that open it.
+    /// The end of the opening dollar signs, exclusive.
     pub content_start: usize,
-    /// Where the dollar signs begin that close it.
+    /// The offset of the closing dollar signs.
     pub content_end: usize,
-    /// The place behind these.
+    /// The end of the closing dollar signs, exclusive.
     pub end: usize,
-    /// Whether it is a display, which has two dollar signs at each end.
+    /// Whether it is display math, which has two dollar signs at each end.
     pub is_display: bool,
 }
 
@@ -29,28 +29,29 @@ pub struct Formula {
 #[derive(Clone, Copy)]
 struct Dollar {
     place: usize,
-    /// The number of the context of braces in which it stands.
+    /// The number of its context of braces.
     context: u8,
-    /// Whether a backslash escapes it, so that it closes nothing.
+    /// Whether a backslash escapes it, so that it cannot close a formula.
     is_escaped: bool,
 }
 
-/// The dollar signs of one text. They are listed once, when a formula is sought for the first time.
+/// The dollar signs of one text. They are listed at the first search for a formula.
 #[derive(Drop)]
 pub struct Dollars {
     alloc: Global,
     listed: Vec<Dollar>,
-    /// For each of them the index of the next one of its context that no backslash escapes; their number, where there is none.
+    /// For each dollar sign the index of the next one in its context that no backslash escapes; the number of dollar signs if there is
+    /// none.
     following: Vec<usize>,
     is_listed: bool,
-    /// The index of the dollar sign that was asked for last.
+    /// The index of the dollar sign that was looked up last.
     reached: usize,
-    /// How many dollar signs were visited: all of them twice to list them, and then in searches.
+    /// How many dollar signs were visited: each one twice to list it, and then in searches.
     pub visited: u128,
 }
 
 impl Dollars {
-    /// The dollar signs of a text in which no formula was sought yet. They take no memory.
+    /// The dollar signs of a text that was not searched yet. They take no memory.
     pub fn new(alloc: Global) -> Dollars
         ensures dollars { (text : List ℕ) → AreDollarsOf text result }
         ensures reached { (text : List ℕ) (at : ℕ) → IsReached text at result }
@@ -67,11 +68,15 @@ impl Dollars {
         }
     }
 
-    /// The formula that the dollar sign at this place opens (this profile's own): one in the line in front of a byte that is no white
-    /// space, and in front of another dollar sign a display. The first later dollar sign of the same context of braces that no
-    /// backslash escapes decides: behind a byte that is no white space it closes a formula in the line, in front of another one a
-    /// display. `None` where it does not. All calls must be made with the same text. Fails only where memory is refused.
-    // Few texts have formulas. Inlined, this makes the function that reads a span so large that it is not inlined into its loop.
+    /// The formula that the dollar sign at the offset `at` opens (this profile's own), or `None`. It opens display math if another dollar
+    /// sign follows, and inline math if a byte that is not white space follows.
+    ///
+    /// The first later dollar sign in the same context of braces that no backslash escapes decides. It closes inline math if a byte that is
+    /// not white space is before it, and display math if another dollar sign follows it. Otherwise there is no formula.
+    ///
+    /// All calls have to be made with the same text. Fails only if memory is refused.
+    // Few texts have formulas. If this function were inlined, the function that reads a span would be too large to be inlined into its
+    // loop.
     #[inline(never)]
     pub fn formula(&mut self, text: &str, at: usize) -> Result<Option<Formula>, AllocError>
         requires within { at < length text.now }
@@ -100,7 +105,7 @@ impl Dollars {
         Ok(formula_up_to(text, content_start, closer, is_display))
     }
 
-    /// Lists the dollar signs, unless they are listed.
+    /// Lists the dollar signs, unless they are listed already.
     fn list(&mut self, text: &str) -> Result<(), AllocError>
         requires dollars { AreDollarsOf text.now self.old }
         requires room { self.old.visited < 2 ^ 127 }
@@ -122,8 +127,7 @@ impl Dollars {
         Ok(())
     }
 
-    /// The place of the first later dollar sign of the same context of braces as the one at this place that no backslash escapes, if there
-    /// is one.
+    /// The offset of the first later dollar sign that is in the same context of braces as the one at `at` and not escaped, if there is one.
     fn closer(&mut self, text: &str, at: usize) -> Option<usize>
         requires dollars { AreDollarsOf text.now self.old }
         requires listed { self.old.is_listed ≡ true }
@@ -146,7 +150,7 @@ impl Dollars {
         self.place(self.following[index])
     }
 
-    /// The place of the dollar sign with this index, if there is one.
+    /// The offset of the dollar sign with this index, if there is one.
     fn place(&self, index: usize) -> Option<usize>
         ensures { result ≡ option_map (λ d. d.place) (slice_get self.now.listed.items index) }
     {
@@ -157,8 +161,8 @@ impl Dollars {
         }
     }
 
-    /// The index of the dollar sign at this place, sought from one on in front of which none stands behind it. Dollar signs are mostly
-    /// asked for in turn.
+    /// The index of the dollar sign at the offset `at`. The search begins at the index `first`: no dollar sign with a smaller index is
+    /// after `at`. Dollar signs are usually looked up in order.
     fn index_of(&self, text: &str, at: usize, first: usize) -> usize
         requires listed { self.now.listed.items ≡ dollars_in text.now }
         requires within { at < length text.now }
@@ -176,8 +180,7 @@ impl Dollars {
         index
     }
 
-    /// An index in front of which no dollar sign stands behind this place: that of the dollar sign that was asked for last, if it stands no
-    /// further.
+    /// An index for `index_of` to begin at: the dollar sign that was looked up last, if it is not after `at`, and otherwise the first.
     fn first_index(&self, text: &str, at: usize) -> usize
         requires listed { self.now.listed.items ≡ dollars_in text.now }
         requires within { at < length text.now }
@@ -193,7 +196,8 @@ impl Dollars {
     }
 }
 
-/// For each of these dollar signs the index of the next one of its context that no backslash escapes; their number, where there is none.
+/// For each of these dollar signs the index of the next one in its context that no backslash escapes; the number of dollar signs if there
+/// is none.
 fn link_dollars(alloc: Global, listed: &[Dollar]) -> Result<Vec<usize>, AllocError>
     ensures { IfOk result (λ links. AreLinks listed.now links.items) }
 {
@@ -213,7 +217,7 @@ fn link_dollars(alloc: Global, listed: &[Dollar]) -> Result<Vec<usize>, AllocErr
     Ok(links)
 }
 
-/// The head of a context: `none`, where the table has none.
+/// The head of a context, or `none` if the table has no head for it.
 fn head_of(heads: &[usize], context: usize, none: usize) -> usize
     ensures { result ≡ get_or heads.now context none }
 {
@@ -224,7 +228,7 @@ fn head_of(heads: &[usize], context: usize, none: usize) -> usize
     }
 }
 
-/// Sets the head of a context. The table goes no further than to the greatest context that has one, and has `none` for the others.
+/// Sets the head of a context. The table ends with the greatest context that has a head, and has `none` for contexts without one.
 fn set_head(
     heads: &mut Vec<usize>,
     context: usize,
@@ -258,7 +262,7 @@ fn list_dollars(alloc: Global, bytes: &[u8]) -> Result<Vec<Dollar>, AllocError>
     Ok(listed)
 }
 
-/// Lists the byte at a place, if it is a dollar sign.
+/// Lists the byte at an offset, if it is a dollar sign.
 fn list_dollar(
     listed: &mut Vec<Dollar>,
     braces: &Braces,
@@ -279,7 +283,7 @@ fn list_dollar(
     Ok(())
 }
 
-/// Whether the dollar sign at a place may open a formula: a display, or one in front of a byte that is no white space.
+/// Whether the dollar sign at an offset may open a formula: display math, or inline math if the next byte is not white space.
 fn opens(bytes: &[u8], at: usize, is_display: bool) -> bool
     requires { at < length bytes.now }
     ensures { result ≡ is_display || first_is is_ink (drop (at + 1) bytes.now) }
@@ -287,28 +291,28 @@ fn opens(bytes: &[u8], at: usize, is_display: bool) -> bool
     is_display || is_ink_at(bytes, at + 1)
 }
 
-/// Whether a dollar sign stands at a place.
+/// Whether a dollar sign is at an offset.
 fn is_dollar_at(bytes: &[u8], at: usize) -> bool
     ensures { result ≡ first_is is_dollar (drop at bytes.now) }
 {
     at < bytes.len() && bytes[at] == b'$'
 }
 
-/// Whether a byte stands at a place that is no white space.
+/// Whether a byte that is not white space is at an offset.
 fn is_ink_at(bytes: &[u8], at: usize) -> bool
     ensures { result ≡ first_is is_ink (drop at bytes.now) }
 {
     at < bytes.len() && is_ink(bytes[at])
 }
 
-/// Whether a byte is no tab, line feed, form feed, carriage return or space.
+/// Whether a byte is not a tab, line feed, form feed, carriage return or space.
 fn is_ink(byte: u8) -> bool
     ensures { result ≡ is_ink byte }
 {
     !byte.is_ascii_whitespace()
 }
 
-/// How many dollar signs stand at each end.
+/// The number of dollar signs at each end.
 fn signs_of(is_display: bool) -> usize
     ensures value { result ≡ signs_of is_display }
     ensures few { result ≤ 2 }
@@ -316,7 +320,7 @@ fn signs_of(is_display: bool) -> usize
     if is_display { 2 } else { 1 }
 }
 
-/// Whether a formula is closed by the dollar sign at this place, which is the first of its context.
+/// Whether the dollar sign at the offset `closer`, which is the first later dollar sign of the context, closes a formula.
 fn closes(bytes: &[u8], closer: usize, is_display: bool) -> bool
     requires low { 0 < closer }
     requires within { closer < length bytes.now }
@@ -329,8 +333,8 @@ fn closes(bytes: &[u8], closer: usize, is_display: bool) -> bool
     }
 }
 
-/// The formula that begins behind its opening dollar signs at a place, and whose context of braces has its first further dollar sign
-/// at another, if that one closes it.
+/// The formula whose content begins at `start`, if the dollar sign at `closer` closes it. `closer` has to be the next dollar sign of the
+/// formula's context.
 fn formula_up_to(text: &str, start: usize, closer: usize, is_display: bool) -> Option<Formula>
     requires starts { IsCharBoundary text.now start }
     requires low { 0 < start }

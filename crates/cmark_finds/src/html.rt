@@ -10,7 +10,7 @@ use cmark_scan_parts::{
     HtmlFind, HtmlScanGuard, scan_inline_html_comment, scan_inline_html_processing, scan_tag,
 };
 
-/// Whether these bytes stand in front.
+/// Whether the bytes begin with `prefix`.
 fn starts(bytes: &[u8], prefix: &[u8]) -> bool
     ensures value { result ≡ starts prefix.now bytes.now }
     ensures within { result ≡ true → length prefix.now ≤ length bytes.now }
@@ -18,8 +18,8 @@ fn starts(bytes: &[u8], prefix: &[u8]) -> bool
     bytes.starts_with(prefix)
 }
 
-/// The place behind the inline HTML that begins at this place of the text (CommonMark 6.6): an open or a closing tag, a
-/// comment, a processing instruction, a declaration or a CDATA section.
+/// The end of the inline HTML that begins at the offset `at` of the text (CommonMark 6.6): an open or a closing tag, a comment, a
+/// processing instruction, a declaration or a CDATA section.
 pub fn inline_html(text: &str, at: usize) -> Option<usize>
     requires { IsCharBoundary text.now at }
     ensures value { option_map (λ end. drop end text.now) result ≡ behind_inline_html (drop at text.now) }
@@ -38,8 +38,8 @@ pub fn inline_html(text: &str, at: usize) -> Option<usize>
     Some(bytes.len() - behind.len())
 }
 
-/// The find of the comment, processing instruction, declaration or CDATA section whose `<` stands at this place of the text (CommonMark
-/// 6.6); where no such thing opens there by its first two bytes, nothing is passed. `guard` has the marks of this text.
+/// The search for a comment, processing instruction, declaration or CDATA section whose `<` is at the offset `at` of the text (CommonMark
+/// 6.6). If the first two bytes open no such construct, no byte is passed. `guard` has the marks of this text.
 pub fn inline_markup(text: &str, at: usize, guard: &mut HtmlScanGuard) -> HtmlFind
     requires place { IsCharBoundary text.now at }
     requires marks { AreMarks text.now (at + 2) guard.old }

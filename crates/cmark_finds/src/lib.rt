@@ -1,9 +1,9 @@
-//! What is found in the text of a leaf (CommonMark 6): code spans, inline HTML, formulas, and the bytes at which a span may
-//! begin or end. Links and line breaks are found by `cmark_links`.
+//! Searches in the text of a leaf (CommonMark 6): code spans, inline HTML, formulas, and the bytes at which a span may begin or end.
+//! `cmark_links` finds links and line breaks.
 //!
-//! The text of a leaf are its lines one behind the other, with the line endings between them and the blanks in front of later
-//! lines, without the prefixes of containers. Inline HTML but tags is sought in the source itself. Places are byte offsets of the
-//! text that is handed in.
+//! The text of a leaf consists of its lines, one after the other, without the prefixes of containers. It includes the line endings between
+//! them and the blanks before later lines. Inline HTML other than tags is searched in the source itself. Offsets are byte offsets of the
+//! text that is passed in.
 #![tactic(auto)]
 
 mod backtick_runs;

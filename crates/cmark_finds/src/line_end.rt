@@ -9,19 +9,19 @@ use cmark_scan_parts::bytes::ending_len;
 use cmark_search::find_line_end;
 use std::alloc::{AllocError, Global};
 
-/// Whether a line ends in the text.
+/// Whether the text has a line ending.
 pub fn has_line_ending(text: &str) -> bool
     ensures { result ≡ takes_lines text.now }
 {
     find_line_end(text.as_bytes()).is_some()
 }
 
-/// Where a line ending lies.
+/// The offsets of a line ending.
 #[derive(Clone, Copy)]
 struct LineEnding {
-    /// Where it begins.
+    /// Its start.
     start: usize,
-    /// The place behind it.
+    /// Its end, exclusive.
     end: usize,
 }
 
@@ -35,7 +35,7 @@ fn find_line_ending(text: &str) -> Option<LineEnding>
     Some(LineEnding { start, end })
 }
 
-/// The text with a mark in the place of each line ending.
+/// The text with each line ending replaced by `mark`.
 pub fn with_line_ends(alloc: Global, text: &str, mark: &str) -> Result<String, AllocError>
     ensures { IfOk result (λ made. string_bytes made ≡ with_line_ends mark.now text.now) }
 {

@@ -1,4 +1,4 @@
-//! The bytes that inline parsing looks at (CommonMark 6).
+//! The bytes at which inline parsing stops (CommonMark 6).
 
 ghost use Rattle.std.specs.Prelude.{◌≡◌, ◌≤◌, ◌∷◌, [], not, length};
 ghost use Rattle.std.specs.List.{prefix_len, list_any};
@@ -14,12 +14,12 @@ use cmark_text_parts::Options;
 /// The bytes that are special under some options.
 const MAY_BE_SPECIAL: &[u8; 22] = b"\n\r*_&\\[]<!`|~^=${}.-\"'";
 
-/// What a callback answers about a special byte.
+/// What a callback returns for a special byte.
 #[derive(Drop)]
 pub enum LoopInstruction<T> {
-    /// Go on behind the byte and so many bytes more.
+    /// Continue after the byte and this number of further bytes.
     ContinueAndSkip(usize),
-    /// End with this place and this value.
+    /// End with this offset and this value.
     BreakAtWith(usize, T),
 }
 
@@ -51,9 +51,9 @@ fn is_special(options: Options, byte: u8) -> bool
     }
 }
 
-/// The table of special bytes: true at line feed, carriage return, `*`, `_`, `&`, backslash, `[`, `]`, `<`, `!` and backtick; at
-/// `|` with tables, `~` with strikethrough or subscript, `^` with superscript, `=` with highlight, `$`, `{` and `}` with math, and at `.`, `-`
-/// and both quotes with smart punctuation.
+/// The table of special bytes: true at line feed, carriage return, `*`, `_`, `&`, backslash, `[`, `]`, `<`, `!` and backtick. Options add
+/// bytes: `|` with tables, `~` with strikethrough or subscript, `^` with superscript, `=` with highlight, `$`, `{` and `}` with math, and
+/// `.`, `-` and both quotes with smart punctuation.
 pub fn special_bytes(options: Options) -> [bool; 256]
     ensures { IsTableOf (shown_options options) result }
 {
@@ -64,7 +64,7 @@ pub fn special_bytes(options: Options) -> [bool; 256]
     table
 }
 
-/// Whether the table has a byte.
+/// Whether a byte is in the table.
 #[inline]
 fn has_byte(table: &[bool; 256], byte: u8) -> bool
     ensures { result ≡ has_byte table.now byte }
@@ -72,7 +72,7 @@ fn has_byte(table: &[bool; 256], byte: u8) -> bool
     table[byte as usize]
 }
 
-/// Whether the table has one of four bytes.
+/// Whether one of four bytes is in the table.
 #[inline(always)]
 fn has_one(table: &[bool; 256], a: u8, b: u8, c: u8, d: u8) -> bool
     ensures { result ≡ list_any (has_byte table.now) (a ∷ b ∷ c ∷ d ∷ []) }
@@ -80,8 +80,8 @@ fn has_one(table: &[bool; 256], a: u8, b: u8, c: u8, d: u8) -> bool
     has_byte(table, a) | has_byte(table, b) | has_byte(table, c) | has_byte(table, d)
 }
 
-/// How many bytes stand in front of the first that the table has, or in all, where it has none. They are looked at by eights
-/// while that many are left.
+/// The number of bytes before the first that is in the table; all of them if there is none. Eight bytes are looked at per step as long as
+/// eight are left.
 fn plain_size(table: &[bool; 256], bytes: &[u8]) -> usize
     ensures value { result ≡ prefix_len (λ b. not (has_byte table.now b)) bytes.now }
     ensures within { result ≤ length bytes.now }
@@ -98,7 +98,7 @@ fn plain_size(table: &[bool; 256], bytes: &[u8]) -> usize
     passed + front_size(table, rest)
 }
 
-/// The same, byte by byte.
+/// Like `plain_size`, byte by byte.
 fn front_size(table: &[bool; 256], bytes: &[u8]) -> usize
     ensures value { result ≡ prefix_len (λ b. not (has_byte table.now b)) bytes.now }
     ensures within { result ≤ length bytes.now }
@@ -109,8 +109,8 @@ fn front_size(table: &[bool; 256], bytes: &[u8]) -> usize
         .count()
 }
 
-/// The first place from `at` on whose byte the table has, or the length, where there is none. With the table of special bytes
-/// it is no place inside a character.
+/// The offset of the first byte from `at` on that is in the table; the length if there is none. With the table of special bytes it is a
+/// character boundary.
 pub fn next_special(table: &[bool; 256], bytes: &[u8], at: usize) -> usize
     requires { at ≤ length bytes.now }
     ensures value { result ≡ next_in table.now bytes.now at }
@@ -120,8 +120,8 @@ pub fn next_special(table: &[bool; 256], bytes: &[u8], at: usize) -> usize
     at + plain_size(table, &bytes[at..])
 }
 
-/// Asks the callback about each byte from `ix` on that the table has, in turn, with its place. `ContinueAndSkip(n)` passes so
-/// many bytes more, `BreakAtWith(end, value)` ends with that pair. Where it never answers that, the length and `None` come back.
+/// Calls the callback for each byte from `ix` on that is in the table, in order, with its offset. `ContinueAndSkip(n)` skips `n` further
+/// bytes; `BreakAtWith(end, value)` ends the iteration with that pair. If the callback never ends it, the result is the length and `None`.
 pub fn iterate_special_bytes<T, F: FnMut(usize, u8) -> LoopInstruction<Option<T>>>(
     table: &[bool; 256],
     bytes: &[u8],

@@ -37,7 +37,7 @@ white_space = refl
 no_words : attributes_of [] ≡ no_attributes
 no_words = refl
 
--- they are taken off, and the blanks before them too
+-- attributes are removed, and the blanks before them too
 taken_off : read (codes "# a {#b}\n") ≡ node (Heading 1 (identified (codes "b"))) 0 9 ∷ node (Text (codes "a")) 2 3 ∷ []
 unfolding blocks begin opens texts lazily enter keeps underlines
 taken_off = refl
@@ -56,7 +56,7 @@ behind_no_closing_sequence : read (codes "# {#b} #") ≡ node (Heading 1 no_attr
 unfolding blocks begin opens texts lazily enter keeps underlines
 behind_no_closing_sequence = refl
 
--- the last braces, which hold no others
+-- the last braces are the attributes, which contain no braces
 last_braces : read (codes "# {.a{.b}") ≡ node (Heading 1 (classed (codes "b"))) 0 9 ∷ node (Text (codes "{.a")) 2 5 ∷ []
 unfolding blocks begin opens texts lazily enter keeps underlines
 last_braces = refl
@@ -74,7 +74,7 @@ nothing_left : read (codes "# {}") ≡ node (Heading 1 no_attributes) 0 4 ∷ []
 unfolding blocks begin opens texts lazily enter keeps underlines
 nothing_left = refl
 
--- a paragraph has none
+-- a paragraph has no attributes
 paragraph : read (codes "a {#b}") ≡ node Paragraph 0 6 ∷ node (Text (codes "a {#b}")) 0 6 ∷ []
 unfolding blocks begin opens texts lazily enter keeps underlines
 paragraph = refl
@@ -89,17 +89,17 @@ setext_no_option : outline (document (codes "a {#b}\n===\n") no_options basic_en
 unfolding blocks begin opens texts lazily enter keeps underlines
 setext_no_option = refl
 
--- braces over lines, whose endings part words
+-- braces over several lines, whose endings separate words
 over_lines : read (codes "a {#b\n.c}\n===") ≡ node (Heading 1 (record no_attributes { id = Some (codes "b"); classes = codes "c" ∷ [] })) 0 13 ∷ node (Text (codes "a")) 0 1 ∷ []
 unfolding blocks begin opens texts lazily enter keeps underlines
 over_lines = refl
 
--- the lines before the braces stay, without the white space behind them
+-- the lines before the braces stay, without the white space after them
 on_a_line_of_their_own : read (codes "a\n b  \r\n{.c}\n---\n") ≡ node (Heading 2 (classed (codes "c"))) 0 17 ∷ node (Text (codes "a\n b")) 0 4 ∷ []
 unfolding blocks begin opens texts lazily enter keeps underlines
 on_a_line_of_their_own = refl
 
--- prefixes are none of them
+-- prefixes are not part of the attributes
 behind_prefixes : read (codes "> a {#b\n>  .c}\n> ===") ≡ node (BlockQuote None) 0 20 ∷ node (Heading 1 (record no_attributes { id = Some (codes "b"); classes = codes "c" ∷ [] })) 2 20 ∷ node (Text (codes "a")) 2 3 ∷ []
 unfolding blocks begin opens texts lazily enter keeps underlines
 behind_prefixes = refl

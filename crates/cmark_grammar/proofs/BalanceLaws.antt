@@ -65,7 +65,7 @@ put_event zero e others = e ∷ others
 put_event (suc starts) e [] = e ∷ []
 put_event (suc starts) e (x ∷ others) = x ∷ put_event starts e others
 
--- an event of its own may stand anywhere: in the element that begins in front, or behind it
+-- a single event may come anywhere: in the element that begins first, or after it
 put-within : (starts : ℕ) (e : Event) (tag : Tag) (inside after : List Event) → IsSingle e → ((n : ℕ) → Balanced (put_event n e inside)) → ((n : ℕ) → Balanced (put_event n e after)) → Balanced inside → Balanced after
     → Balanced (Start tag ∷ put_event starts e (inside ++ (End (end_of tag) ∷ after)))
 put-within starts e tag inside after s pi pa i a = ⊎_elim (λ l. subst (λ es. Balanced (Start tag ∷ es)) (sym l) (Element tag (put_event starts e inside) after (pi starts) a))

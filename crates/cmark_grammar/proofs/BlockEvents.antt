@@ -1,4 +1,4 @@
--- The events of block documents with their ranges: what the definitions give for texts of each construct.
+-- The events of block documents with their ranges, computed for texts of each construct.
 use Rattle.std.specs.Prelude.{◌≡◌, ℕ, List, [], ◌∷◌, codes, map}
 use Rattle.std.proofs.Common.{refl}
 use Rattle.cmark_grammar.specs.Leaves.{underlines}
@@ -63,7 +63,7 @@ loose_list : ranges_of (codes "- a\n\n- b\n")
 unfolding blocks begin opens texts lazily enter keeps underlines
 loose_list = refl
 
--- a list within an item begins behind the prefix of that item
+-- a list within an item begins after the prefix of that item
 nested_list : ranges_of (codes "7. a\n   - b\n")
     ≡ (0, 12) ∷ (0, 12) ∷ (3, 4) ∷ (8, 12) ∷ (8, 12) ∷ (10, 11) ∷ (8, 12) ∷ (8, 12) ∷ (0, 12) ∷ (0, 12) ∷ []
 unfolding blocks begin opens texts lazily enter keeps underlines
@@ -74,7 +74,7 @@ raw_lines : ranges_of (codes "a&amp;b\\*c  \nd\n e\n") ≡ (0, 18) ∷ (0, 17) �
 unfolding blocks begin opens texts lazily enter keeps underlines
 raw_lines = refl
 
--- behind a prefix a new one begins, with what is left of the indent; a tab that the prefix cuts goes with it
+-- after a prefix a new stretch begins, with the rest of the indent; a tab that the prefix takes in part belongs to the prefix
 raw_lines_in_item : ranges_of (codes "- a\n  b\n   c\n\td\n")
     ≡ (0, 16) ∷ (0, 16) ∷ (2, 4) ∷ (6, 8) ∷ (10, 13) ∷ (14, 15) ∷ (0, 16) ∷ (0, 16) ∷ []
 unfolding blocks begin opens texts lazily enter keeps underlines

@@ -79,7 +79,7 @@ module _ (options : Options) where
       go Waits (suc n) le = omega (arith, le)
       go Stops n le = omega arith
 
-  -- what an opening says of the lines ahead
+  -- an opening fits the lines ahead
   abbrev pub Fits : Opening → List Row → Type 0
   Fits Blank ahead = Unit {0}
   Fits (Nests k) ahead = Unit {0}
@@ -144,7 +144,7 @@ module _ (options : Options) where
       go true le = omega (arith, le)
       go false le = omega arith
 
-  -- a table's head has a line behind it
+  -- a line follows a table's head
   fits_table : (r : Row) (ahead : List Row) → Fits (table_if options (table_head options r ahead) ahead) ahead
   fits_table r ahead = go (options.tables && (not r.lazy && holds_pipe (words_of r)))
     where
@@ -194,7 +194,7 @@ module _ (options : Options) where
   pub opens-len : (r : Row) (ahead : List Row) (leaf : Leaf) (n : ℕ) → opens options r ahead ≡ Takes leaf n → n ≤ length ahead
   opens-len r ahead leaf n e = subst (λ o. Fits o ahead) e (fits_opens r ahead)
 
-  -- a container takes a column behind the indent at least
+  -- a container takes at least one column after the indent
   abbrev pub IsWide : Row → Opening → Type 0
   IsWide r Blank = Unit {0}
   IsWide r (Nests k) = indent_of r < marker_width k r
@@ -211,7 +211,7 @@ module _ (options : Options) where
   wide_or r (Takes leaf n) y p q = p
   wide_or r Plain y p q = q
 
-  -- and a marker too
+  -- so does a container, if there is one
   abbrev pub SomeWide : Row → Option Container → Type 0
   SomeWide r None = Unit {0}
   SomeWide r (Some k) = indent_of r < marker_width k r
@@ -363,7 +363,7 @@ module _ (options : Options) where
   pub enter_len : (k : Container) (r : Row) (ahead : List Row) → opens options r ahead ≡ Nests k → length (enter k r).columns < length r.columns
   enter_len k r ahead e = fewer k r (subst (IsWide r) e (wide_opens r ahead)) (opens-some r ahead k e)
 
-  -- so it has behind the container's own marker
+  -- the line after the container's own marker is shorter
   pub marker_len : (k : Container) (r : Row) (ahead : List Row) → opens options r ahead ≡ Nests k → length (without (marker_width k r) r).columns < length r.columns
   marker_len k r ahead e =
       let wide : indent_of r < marker_width k r = subst (IsWide r) e (wide_opens r ahead) in
@@ -399,7 +399,7 @@ module _ (options : Options) where
   or_no true y e = e
   or_no false y e = refl
 
-  -- a line that has the prefix is whole, and so is what is left of it
+  -- a line that has the prefix lacks none, and neither does its rest
   pub kept-whole : (k : Container) (bare : Bool) (r s : Row) → keeps k bare r ≡ Some s → s.lazy ≡ false
   unfolding keeps
   kept-whole k bare r s e = go (r.lazy || (bare && is_blank_line r)) refl e
@@ -481,7 +481,7 @@ module _ (options : Options) where
       go true e = inr (texts-lazy r ahead [] e ∙ subst (λ s. texts options s [] ≡ true) (lazy-same r e) t)
       go false e = inl e
 
-  -- what begins something else than a blank line is not blank
+  -- a line that begins anything except a blank line is not blank
   pub opens-words : (r : Row) (ahead : List Row) → r.lazy ≡ false → opens options r ahead ≢ Blank → is_blank_line r ≡ false
   unfolding opens
   opens-words r ahead w ne = go (is_blank_line r) refl
@@ -518,7 +518,8 @@ module _ (options : Options) where
       go true q = marker-defines r width q
       go false q = absurd (let p : None ≡ Some width = q in cc)
 
-  -- behind a task marker text begins a paragraph, and behind a title a marker a definition; elsewhere a line begins what it begins at any other place
+  -- after a task marker, text begins a paragraph; after a title, a marker begins a definition; at any other place a line begins the same
+  -- block
   pub at-or : (place : Place) (r : Row) (ahead : List Row)
       → ((r.lazy ≡ false) × (opens_at options place r ahead ≡ text_begun r)) ⊎ (((width : ℕ) × (opens_at options place r ahead ≡ Nests (ListDefinition width)) × Defines r width) ⊎ (opens_at options place r ahead ≡ opens options r ahead))
   at-or place r ahead = go (is_behind_task place) r.lazy (definition_at options place r) refl refl refl
@@ -535,7 +536,7 @@ module _ (options : Options) where
       go true true d et ez ed = inr (other d ed (ap (λ b. if b && not r.lazy then text_begun r else definition_or (definition_at options place r) (opens options r ahead)) et ∙ ap (λ b. if true && not b then text_begun r else definition_or (definition_at options place r) (opens options r ahead)) ez))
       go true false d et ez ed = inl (ez, ap (λ b. if b && not r.lazy then text_begun r else definition_or (definition_at options place r) (opens options r ahead)) et ∙ ap (λ b. if true && not b then text_begun r else definition_or (definition_at options place r) (opens options r ahead)) ez)
 
-  -- what holds of text, of a definition and of what begins at any place holds of what begins at this one
+  -- a property of text, of a definition, and of the opening at any other place holds of the opening at this place
   pub at-either : (Holds : Opening → Type 0) (place : Place) (r : Row) (ahead : List Row) → (r.lazy ≡ false → Holds (text_begun r)) → ((width : ℕ) → Defines r width → Holds (Nests (ListDefinition width))) → Holds (opens options r ahead) → Holds (opens_at options place r ahead)
   at-either Holds place r ahead text defined other =
       ⊎_elim (λ p. subst Holds (sym p.1) (text p.0)) (λ q. ⊎_elim (λ d. subst Holds (sym d.1) (defined d.0 d.2)) (λ o. subst Holds (sym o) other) q) (at-or place r ahead)
@@ -581,7 +582,7 @@ module _ (options : Options) where
   pub at-len : (place : Place) (r : Row) (ahead : List Row) (leaf : Leaf) (n : ℕ) → opens_at options place r ahead ≡ Takes leaf n → n ≤ length ahead
   at-len place r ahead leaf n e = opens-len r ahead leaf n (at-takes place r ahead leaf n e)
 
-  -- a definition's marker is a column behind the indent
+  -- a definition's marker takes a column after the indent
   pub defines-wide : (r : Row) (width : ℕ) → Defines r width → indent_of r < width
   defines-wide r width d = let e : width ≡ width_with 1 r = d.wide in omega (arith, e)
 
@@ -623,18 +624,18 @@ module _ (options : Options) where
   blank-at place r ahead e b =
       at-either (λ o. o ≡ Blank) place r ahead (λ l. ap (λ z. if z then Blank else Plain) b) (λ width d. absurd (true≢false (sym b ∙ colon-words r d.colon))) e
 
-  -- the same begins at places that do not differ in what stands before
+  -- the same block begins at places that agree on task markers and titles
   pub at-same : (one other : Place) (r : Row) (ahead : List Row) → is_behind_task one ≡ is_behind_task other → is_behind_title one ≡ is_behind_title other → opens_at options one r ahead ≡ opens_at options other r ahead
   at-same one other r ahead e f =
       ap (λ z. if z && not r.lazy then text_begun r else definition_or (definition_at options one r) (opens options r ahead)) e
       ∙ ap (λ z. if is_behind_task other && not r.lazy then text_begun r else definition_or (if z then definition_marker options r else None) (opens options r ahead)) f
 
-  -- where no definition may begin, and no text behind a task marker
+  -- no definition may begin, and the place is not after a task marker
   pub at-plain : (place : Place) (r : Row) (ahead : List Row) → is_behind_task place ≡ false → definition_at options place r ≡ None → opens_at options place r ahead ≡ opens options r ahead
   at-plain place r ahead e d =
       ap (λ z. if z && not r.lazy then text_begun r else definition_or (definition_at options place r) (opens options r ahead)) e ∙ ap (λ o. definition_or o (opens options r ahead)) d
 
-  -- with the option off none begins
+  -- with the option off no definition begins
   pub off-defines : (place : Place) (r : Row) → options.definition_list ≡ false → definition_at options place r ≡ None
   off-defines place r e = go (is_behind_title place)
     where

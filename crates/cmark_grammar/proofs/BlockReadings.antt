@@ -1,4 +1,4 @@
--- The readings of places where the standard is silent, or this profile's own: each met by a text.
+-- The readings of texts about which the standard is silent, or which are this profile's own.
 use Rattle.std.specs.Prelude.{◌≡◌, ℕ, List, [], ◌∷◌, codes, None}
 use Rattle.std.specs.Fmt.{digits}
 use Rattle.std.proofs.Common.{refl}
@@ -13,7 +13,7 @@ use Rattle.cmark_grammar.specs.BlockDocument.{Paragraph, Heading, BlockQuote, In
 use Rattle.cmark_grammar.specs.Derivation.{document}
 use Rattle.cmark_grammar.proofs.BlockSamples.{written}
 
--- directly behind a definition a lazy line begins a paragraph, and no definition
+-- directly after a definition a lazy line begins a paragraph, and not a definition
 lazy_line_behind_definition : written (document (codes "> [a]: /u\n[b]: /v\n\n[b]\n") no_options basic_entity) ≡ codes "<blockquote>\n<p>[b]: /v</p>\n</blockquote>\n<p>[b]</p>\n"
 unfolding blocks begin opens texts lazily enter keeps underlines
 lazy_line_behind_definition = refl
@@ -23,7 +23,7 @@ no_lazy_line_in_definition : written (document (codes "> [a]:\n/u\n") no_options
 unfolding blocks begin opens texts lazily enter keeps underlines
 no_lazy_line_in_definition = refl
 
--- nor one that could not go on with a paragraph
+-- a definition has no line that could not continue a paragraph
 break_in_definition : written (document (codes "[a]:\n***\n") no_options basic_entity) ≡ codes "<p>[a]:</p>\n<hr />\n"
 unfolding blocks begin opens texts lazily enter keeps underlines
 break_in_definition = refl
@@ -45,7 +45,7 @@ titles_over_lines : written (document (codes "[a]: /u 'x\n  y'\nz\n") no_options
 unfolding blocks begin opens texts lazily enter keeps underlines
 titles_over_lines = refl
 
--- no paragraph is open behind a definition
+-- no paragraph is open after a definition
 code_behind_definition : written (document (codes "[a]: /u\n    b\n") no_options basic_entity) ≡ codes "<pre><code>b\n</code></pre>\n"
 unfolding blocks begin opens texts lazily enter keeps underlines
 code_behind_definition = refl
@@ -83,8 +83,8 @@ backslash_at_the_end : written (document (codes "a\\\n") no_options basic_entity
 unfolding blocks begin opens texts lazily enter keeps underlines
 backslash_at_the_end = refl
 
--- lines stand as they are written, with the spaces in front of later ones; the spaces in front of the first line and at the end of
--- the last one are no part of it
+-- lines are raw, with the spaces at the beginning of later lines. The spaces before the first line and after the last one do not belong to
+-- the content
 raw_lines : outline (document (codes " \\*a&amp;  \n\tb\\\nc \n") no_options basic_entity) ≡ node Paragraph 1 19 ∷ node (Text (codes "\\*a&amp;  \n\tb\\\nc")) 1 17 ∷ []
 unfolding blocks begin opens texts lazily enter keeps underlines
 raw_lines = refl
@@ -116,7 +116,7 @@ quote_in_item_ends_code : written (document (codes "- a\n\n      b\n\n\n  c\n") 
 unfolding blocks begin opens texts lazily enter keeps underlines
 quote_in_item_ends_code = refl
 
--- CR LF and lone CR end lines too; in the raw content of a paragraph they stand as they are
+-- CR LF and a lone CR end lines too; in the raw content of a paragraph they are kept
 line_ends : written (document (97 ∷ 13 ∷ 10 ∷ 98 ∷ 13 ∷ 13 ∷ 35 ∷ 32 ∷ 99 ∷ 13 ∷ []) no_options basic_entity) ≡ codes "<p>a\r\nb</p>\n<h1>c</h1>\n"
 unfolding blocks begin opens texts lazily enter keeps underlines
 line_ends = refl
@@ -134,17 +134,17 @@ list_ranges : ranges_in (codes " - a\n\n - b\n") ≡ 0 ∷ 11 ∷ 0 ∷ 6 ∷ 3 
 unfolding blocks begin opens texts lazily enter keeps underlines
 list_ranges = refl
 
--- a block quote from its marker; behind a prefix a new stretch begins
+-- the range of a block quote begins at its marker; after a prefix a new stretch begins
 quote_ranges : ranges_in (codes " > a\n > b\n") ≡ 1 ∷ 10 ∷ 3 ∷ 10 ∷ 3 ∷ 5 ∷ 8 ∷ 9 ∷ []
 unfolding blocks begin opens texts lazily enter keeps underlines
 quote_ranges = refl
 
--- an item behind a tab of which the block quote took a column begins behind the tab
+-- an item after a tab of which the block quote took a column begins after the tab
 cut_tab_item : ranges_in (codes ">\t- a\n") ≡ 0 ∷ 6 ∷ 2 ∷ 6 ∷ 2 ∷ 6 ∷ 4 ∷ 6 ∷ 4 ∷ 5 ∷ []
 unfolding blocks begin opens texts lazily enter keeps underlines
 cut_tab_item = refl
 
--- what is left of a tab in code is a text of spaces that takes no byte
+-- the rest of a tab in code is a text of spaces with an empty range
 cut_tab_code : outline (document (codes ">\t\tfoo\n") no_options basic_entity) ≡
     node (BlockQuote None) 0 7 ∷ node IndentedCode 3 7 ∷ node (OwnedText (codes "  ")) 3 3 ∷ node (Text (codes "foo\n")) 3 7 ∷ []
 unfolding blocks begin opens texts lazily enter keeps underlines

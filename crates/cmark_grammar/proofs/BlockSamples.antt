@@ -1,6 +1,6 @@
--- Examples of CommonMark, most of its block sections, that hold no spans: what the definitions give for each text is the standard's
--- HTML, with each `"` of a text as it stands. The content of leaves is raw: blanks in front of later lines stand in it, and a line
--- break takes them away when its spans are read.
+-- Most of the examples in CommonMark's block sections that contain no spans: the HTML of the definitions is the standard's, except that
+-- each `"` of a text is literal. The content of leaves is raw: it contains the blanks at the beginning of later lines, which a line break
+-- removes when the spans are read.
 use Rattle.std.specs.Prelude.{◌≡◌, ℕ, List, codes, map}
 use Rattle.std.specs.Fmt.{digits}
 use Rattle.std.proofs.Common.{refl}

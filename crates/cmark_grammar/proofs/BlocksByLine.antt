@@ -1,4 +1,4 @@
--- Line by line come the same blocks.
+-- The blocks found line by line are the same.
 use Rattle.std.proofs.Common.{◌≡◌, ℕ, zero, suc, Bool, true, false, ◌&&◌, List, [], ◌∷◌, ◌++◌, length, refl, sym, ap, ◌∙◌, append_assoc, append-nil, Option, Some, None, true≢false}
 use Rattle.std.specs.Prelude.{if◌then◌else◌, nat_le}
 use Rattle.cmark_grammar.specs.Options.{Options}
@@ -20,13 +20,13 @@ use Rattle.cmark_grammar.specs.BlocksByLine.{Verbatim, Indented, Fenced, HtmlLin
 use Rattle.cmark_grammar.proofs.BlocksSound.{join_assoc, join-Nil, within_row, bare_push}
 use Rattle.cmark_grammar.proofs.BlockLaws.{no_metadata, strip_lazy, at-either, blank-at}
 
--- what a leaf's lines that have waited are, when so many of the lines ahead belong to it
+-- the open block after a leaf's waiting lines, if `n` more of the lines ahead belong to it
 abbrev pub waited : Blocks → Leaf → Row → (had waiting : List Row) → ℕ → Open
 waited closed leaf first had [] n = IsInLeaf closed leaf first had n
 waited closed leaf first had (r ∷ waiting) zero = IsBetween (join (join closed (LeafBlock leaf first had Nil)) (blank_lines (r ∷ waiting)))
 waited closed leaf first had (r ∷ waiting) (suc n) = IsInLeaf closed leaf first (had ++ (r ∷ waiting)) (suc n)
 
--- what is open, with these lines ahead
+-- the open block of the model, with these lines ahead
 abbrev pub seen : OpenLines → List Row → Open
 seen (Between closed) ahead = IsBetween closed
 seen BehindTag ahead = IsBehindTag
@@ -244,7 +244,7 @@ module _ (options : Options) where
   unfolding lines_begin begin
   begin_seen closed r ahead = begin_at_seen (place_behind Apart closed) closed r ahead
 
-  -- one more line leads to the same
+  -- another line leads to the same open block
   feed_seen : (o : OpenLines) (r : Row) (ahead : List Row) → seen (lines_feed options o r ahead) ahead ≡ feed options (seen o (show_as r.lazy r ahead)) r ahead
   feed_seen (Between closed) r ahead = begin_seen closed r ahead
   feed_seen BehindTag r ahead = begin_at_seen BehindLazy Nil r ahead

@@ -12,7 +12,7 @@ use Rattle.cmark_grammar.specs.Options.{Options}
 use Rattle.cmark_grammar.specs.Places.{Place, Apart, BehindLazy, BehindTask, BehindTitle, allows_lazy, over_blank}
 
 module _ (options : Options) where
-  -- with more lines to come, the blocks go on from what is open
+  -- with more lines to come, the open block grows into these blocks
   pub record GoesOnParagraph (closed : Blocks) (first : Row) (had more : List Row) (all : Blocks) : Type 0 where
     pub tail : List Row
     pub rest : List Row
@@ -70,7 +70,7 @@ module _ (options : Options) where
   Extends (InLeaf closed leaf first had left) more all = GoesOnLeaf closed leaf first had left more all
   Extends (InContainer closed k first had inside) more all = GoesOnContainer (λ ls bs. Extends inside ls bs) closed k first had more all
 
-  -- what is ahead inside
+  -- the lines ahead inside a container
   within_shown : (k : Container) (b : Bool) (ls : List Row) → within k b (shown ls) ≡ shown (strips k b ls)
   within_shown k b [] = refl
   within_shown k b (r ∷ ls) = within_row options k b r (shown ls) ∙ ap (show_as (strip k b r).lazy (strip k b r)) (within_shown k false ls)
@@ -84,7 +84,7 @@ module _ (options : Options) where
       up_to b [] (q ∷ qs) s = ap (λ z. show_as z (strip k b q) (shown (strips k false qs))) (ap (λ s. s.lazy) (strip_lazy options k b q s.0))
       up_to b (r ∷ t) q s = ap (show_as (strip k b r).lazy (strip k b r)) (up_to false t q (subst (λ z. Ends options k z inside q) (sym (bare_false options t)) s))
 
-  -- as many lines as are shown are whole
+  -- if all taken lines are shown, they lack no prefix
   all_whole : (took rest : List Row) → length took ≤ length (shown (took ++ rest)) → (AreWhole options) took
   all_whole [] rest le = tt
   all_whole (q ∷ took) rest le = go q.lazy refl le (λ l. all_whole took rest l)
@@ -93,7 +93,7 @@ module _ (options : Options) where
       go true e le ih = absurd (omega arith)
       go false e le ih = (e, ih (omega arith))
 
-  -- a body's first line lacks a prefix only where it begins a paragraph directly behind a leaf that allows it
+  -- the first line of a body is lazy only if it begins a paragraph directly after a leaf that allows it
   body_lazy : (behind : Place) (r : Row) (more : List Row) (all : Blocks) → Body options behind (r ∷ more) all → r.lazy ≡ true → (allows_lazy behind ≡ true) × (texts options r [] ≡ true)
   body_lazy behind r more Nil b lazy = cc
   body_lazy behind r more (BlankLine line after) b lazy =
@@ -142,7 +142,7 @@ module _ (options : Options) where
   next_of r more [] rest e = inl (refl, sym e)
   next_of r more (s ∷ t) rest e = let same : s ≡ r = cc in inr (t, ap (λ x. x ∷ t) same, cc)
 
-  -- where no line is left, the blocks are the model's
+  -- if no line is left, the blocks are the model's
   extends_close : (o : Open) (all : Blocks) → Extends o [] all → all ≡ close o
   extends_close BehindTag all h = body_none BehindLazy all h
   extends_close (Between closed) all h = h.is ∙ ap (join closed) (body_none (place_behind Apart closed) h.after h.body) ∙ join-Nil options closed
@@ -187,7 +187,7 @@ module _ (options : Options) where
   inside_extends (Item delimiter number width task) o first more inside h body = h body
   inside_extends (ListDefinition width) o first more inside h body = h body
 
-  -- what a line begins, the blocks go on from
+  -- the open block after the opening of a line grows into these blocks
   begin_extends : (n : ℕ) (closed : Blocks) (behind : Place) (r : Row) (more : List Row) (all : Blocks) → length r.columns < n → over_blank behind ≡ over_blank (place_behind Apart closed) → Body options behind (r ∷ more) all → Extends (begin_in options n behind closed r (shown more)) more (join closed all)
   begin_extends zero closed behind r more all lt stands b = absurd (omega arith)
   begin_extends (suc n) closed behind r more all lt stands b =
@@ -254,7 +254,7 @@ module _ (options : Options) where
   begin_all closed behind r more after is b =
       subst (λ z. Extends (begin_at options z closed r (shown more)) more (join closed after)) (sym is) (begin_at_all closed behind r more after (ap over_blank (sym is)) b)
 
-  -- a lazy line stands where what is open takes one
+  -- a lazy line comes only if the open block takes one
   lazy_suits : (o : Open) (r : Row) (more : List Row) (all : Blocks) → r.lazy ≡ true → Extends o (r ∷ more) all → (texts options r [] ≡ true) × (takes_lazy o ≡ true)
   lazy_suits (Between closed) r more all lazy h = absurd (true≢false (sym lazy ∙ body_whole (place_behind Apart closed) r more h.after h.past h.body))
   lazy_suits BehindTag r more all lazy h = ((body_lazy BehindLazy r more all h lazy).1, refl)
@@ -281,7 +281,7 @@ module _ (options : Options) where
       (subst (λ q. texts options q [] ≡ true) (lazy-same options r lazy) p.0, p.1))
       (next_of r more h.tail h.rest h.split)
 
-  -- one more line
+  -- another line
   step : (so : Place) (before : List Row) (o : Open) (r : Row) (more : List Row) (all : Blocks) (ahead : List Row) → Holds options so before o ahead → Extends o (r ∷ more) all → Extends (feed options o r (shown more)) more all
   step so before (Between closed) r more all ahead holds h =
       subst (Extends (begin options closed r (shown more)) more) (sym h.is) (begin_all closed (place_behind Apart closed) r more h.after refl h.body)

@@ -1,4 +1,4 @@
--- The model's blocks are the blocks of the lines: what holds of what is open, line by line.
+-- The model's blocks are the blocks of the lines: an invariant of the open block, line by line.
 use Rattle.std.proofs.Common.{◌≡◌, ◌⊎◌, inl, inr, ⊎_elim, ℕ, zero, suc, ◌+◌, ◌≤◌, ◌<◌, Bool, true, false, ◌&&◌, List, [], ◌∷◌, ◌++◌, length, refl, sym, ap, ◌∙◌, subst, arith, append_assoc, append-nil, Option, Some, None, true≢false}
 use Rattle.cmark_grammar.specs.Rows.{Row, rows, rows_from, lazy_row, show_as, shown}
 use Rattle.cmark_grammar.specs.Lines.{lines}
@@ -44,7 +44,7 @@ module _ (options : Options) where
   place_behind-join place (LeafBlock leaf first more after) b = place_behind-join (behind_leaf leaf) after b
   place_behind-join place (ContainerBlock k first more inside after) b = place_behind-join (behind_container k) after b
 
-  -- what is shown ahead of lines
+  -- the lines ahead that are shown of shown lines
   pub shown-shown : (a b : List Row) → shown (a ++ shown b) ≡ shown (a ++ b)
   shown-shown [] [] = refl
   shown-shown [] (r ∷ b) = go r.lazy refl (shown-shown [] b)
@@ -91,7 +91,7 @@ module _ (options : Options) where
   AreLazy-push k b (m ∷ more) r ahead still t is =
       ((λ lacks. ap (lazily options k m) (sym (shown_push more r ahead still)) ∙ t.0 lacks), AreLazy-push k false more r ahead still t.1 (λ lacks. is (subst (λ z. keeps k z r ≡ None) (bare_false more) lacks)))
 
-  -- these lines are known, and whatever goes on behind them with these ahead may stand behind these blocks
+  -- these lines have these blocks, and any lines with these ahead may follow them
   abbrev pub Follows : (so : Place) → List Row → Blocks → Place → List Row → List Row → Type 0
   Follows so before closed behind known ahead =
       (rest : List Row) (after : Blocks) → shown rest ≡ ahead → Body options behind (known ++ rest) after → Body options so (before ++ (known ++ rest)) (join closed after)
@@ -109,7 +109,7 @@ module _ (options : Options) where
     pub begun : MayBegin options behind first
     pub opened : opens_at options behind first (shown (more ++ ahead)) ≡ opening
 
-  -- these lines have led to what is open, with these ahead
+  -- these lines lead to this open block, with these ahead
   abbrev pub Holds : (so : Place) → List Row → Open → List Row → Type 0
   Holds so all (Between closed) ahead = IsBetween so all closed ahead
   Holds so all BehindTag ahead = (so ≡ BehindLazy) × (all ≡ [])
@@ -119,7 +119,7 @@ module _ (options : Options) where
       Began so all closed first more ahead (Nests k) × Holds (place_in k) (insides k first more) inside (within k (bare_after (is_bare_start k first) more) ahead)
       × AreLazy options k (is_bare_start k first) more ahead
 
-  -- where the lines end behind a block
+  -- the lines end after a block
   ends_with : (so : Place) (all : List Row) (closed : Blocks) (first : Row) (more : List Row) (opening : Opening) (block : Blocks) → (b : Began so all closed first more [] opening) → Body options b.behind (first ∷ (more ++ [])) block → Body options so all (join closed block)
   ends_with so all closed first more opening block b body =
       subst (λ ls. Body options so ls (join closed block)) (ap (λ ls. b.before ++ (first ∷ ls)) (append-nil more) ∙ sym b.cut) (b.follows [] block refl body)
@@ -127,7 +127,7 @@ module _ (options : Options) where
   all_left : (n left : ℕ) → left ≤ 0 → n + left ≡ n
   all_left n left le = omega arith
 
-  -- where the lines end, what is open is a body
+  -- when the lines end, the open block is a body
   pub close_body : (so : Place) (all : List Row) (o : Open) → Holds so all o [] → Body options so all (close o)
   close_body so all (Between closed) h =
       subst (λ ls. Body options so ls closed) (append-nil all) (subst (Body options so (all ++ [])) (join-Nil closed) (h.follows [] Nil refl refl))
@@ -142,7 +142,7 @@ module _ (options : Options) where
       ends_with so all closed first more (Nests k) (ContainerBlock k first more (close inside) Nil) h.0
       (record { rest = []; cut = refl; opened = h.0.opened; contents = close_body (place_in k) (insides k first more) inside h.1; others = h.2; stops = tt; after = refl })
 
-  -- whether a lazy line may stand behind them is seen on what is open
+  -- the open block determines whether a lazy line may follow
   pub close_ends : (so : Place) (all : List Row) (o : Open) (ahead : List Row) → Holds so all o ahead → ends_lazily (allows_lazy so) (close o) ≡ takes_lazy o
   close_ends so all (Between closed) ahead h = h.ended
   close_ends so all BehindTag ahead h = ap allows_lazy h.0
@@ -151,7 +151,7 @@ module _ (options : Options) where
   close_ends so all (InContainer closed k first more inside) ahead h =
       ends_lazily-join (allows_lazy so) closed (ContainerBlock k first more (close inside) Nil) ∙ close_ends (place_in k) (insides k first more) inside (within k (bare_after (is_bare_start k first) more) ahead) h.1
 
-  -- one more line belongs to the block
+  -- another line belongs to the block
   grows : (so : Place) (all : List Row) (closed : Blocks) (first : Row) (more : List Row) (r : Row) (ahead : List Row) (opening : Opening) → shown ahead ≡ ahead → Began so all closed first more (show_as r.lazy r ahead) opening → Began so (all ++ r ∷ []) closed first (more ++ r ∷ []) ahead opening
   grows so all closed first more r ahead opening still b = record {
     before = b.before;
@@ -168,13 +168,13 @@ module _ (options : Options) where
           subst (λ ls. Body options so (b.before ++ (first ∷ ls)) (join closed after)) (sym q)
           (b.follows (r ∷ rest) after (ap (show_as r.lazy r) e) (subst (λ ls. Body options b.behind (first ∷ ls) after) q body))
 
-  -- a line goes on behind a block that ends before it
+  -- a line continues after a block that ends before it
   past_block : (so : Place) (all : List Row) (closed : Blocks) (first : Row) (more : List Row) (r : Row) (ahead : List Row) (opening : Opening) (block : Blocks) (behind : Place) → (b : Began so all closed first more (show_as r.lazy r ahead) opening) → ((rest : List Row) (after : Blocks) → shown rest ≡ ahead → Body options behind (r ∷ rest) after → Body options b.behind (first ∷ (more ++ (r ∷ rest))) (join block after)) → Follows so all (join closed block) behind (r ∷ []) ahead
   past_block so all closed first more r ahead opening block behind b body_of rest after e body =
       rw (b.cut, append_assoc b.before (first ∷ more) (r ∷ rest), join_assoc closed block after)
       (b.follows (r ∷ rest) (join block after) (ap (show_as r.lazy r) e) (body_of rest after e body))
 
-  -- directly behind an alert's tag
+  -- directly after an alert's tag
   behind_tag : (k : Container) (r : Row) (o : Open) (ahead : List Row) → Holds (place_in k) (r ∷ []) o ahead → Holds (place_in k) (unless_tag (is_alert k) r []) (inside_begun (is_alert k) o) ahead
   behind_tag (BlockQuote None) r o ahead h = h
   behind_tag (Footnote label old size) r o ahead h = h
@@ -182,7 +182,7 @@ module _ (options : Options) where
   behind_tag (Item delimiter number width task) r o ahead h = h
   behind_tag (ListDefinition width) r o ahead h = h
 
-  -- what a line begins
+  -- the opening of a line
   begin_in_holds : (so : Place) (n : ℕ) (before : List Row) (closed : Blocks) (behind : Place) (r : Row) (ahead : List Row) → length r.columns < n → MayBegin options behind r → shown ahead ≡ ahead → over_blank behind ≡ over_blank (place_behind Apart closed) → Follows so before closed behind (r ∷ []) ahead → Holds so (before ++ r ∷ []) (begin_in options n behind closed r ahead) ahead
   begin_in_holds so zero before closed behind r ahead lt begun still stands follows = absurd (omega arith)
   begin_in_holds so (suc n) before closed behind r ahead lt begun still stands follows =
@@ -216,17 +216,17 @@ module _ (options : Options) where
   begin_at_holds : (so : Place) (before : List Row) (closed : Blocks) (behind : Place) (r : Row) (ahead : List Row) → MayBegin options behind r → shown ahead ≡ ahead → over_blank behind ≡ over_blank (place_behind Apart closed) → Follows so before closed behind (r ∷ []) ahead → Holds so (before ++ r ∷ []) (begin_at options behind closed r ahead) ahead
   begin_at_holds so before closed behind r ahead = begin_in_holds so (suc (length r.columns)) before closed behind r ahead (omega arith)
 
-  -- behind a block that has ended
+  -- after a block that has ended
   begin_holds : (so : Place) (before : List Row) (closed : Blocks) (behind : Place) (r : Row) (ahead : List Row) → MayBegin options behind r → shown ahead ≡ ahead → place_behind Apart closed ≡ behind → Follows so before closed behind (r ∷ []) ahead → Holds so (before ++ r ∷ []) (begin options closed r ahead) ahead
   unfolding begin
   begin_holds so before closed behind r ahead begun still is follows =
       subst (λ z. Holds so (before ++ r ∷ []) (begin_at options z closed r ahead) ahead) (sym is) (begin_at_holds so before closed behind r ahead begun still (ap over_blank (sym is)) follows)
 
-  -- a line is whole, or goes on with the paragraph that is open
+  -- a line lacks no prefix, or continues the open paragraph
   abbrev pub Suits : Open → Row → Type 0
   Suits o r = (r.lazy ≡ false) ⊎ ((texts options (lazy_row r) [] ≡ true) × (takes_lazy o ≡ true))
 
-  -- what is ahead inside, with one more line
+  -- the lines ahead inside a container, with one further line
   pub within_row : (k : Container) (b : Bool) (r : Row) (ahead : List Row) → within k b (show_as r.lazy r ahead) ≡ show_as (strip k b r).lazy (strip k b r) (within k false ahead)
   within_row k b r ahead = go r.lazy refl
     where
@@ -234,7 +234,7 @@ module _ (options : Options) where
       go true e = sym (ap (λ z. show_as z (strip k b r) (within k false ahead)) (strip-still options k b r e))
       go false e = refl
 
-  -- nothing is ahead inside where the prefix is lacking
+  -- no line is ahead inside a container if the prefix is missing
   within_off : (k : Container) (b : Bool) (r : Row) (ahead : List Row) → keeps k b r ≡ None → within k b (show_as r.lazy r ahead) ≡ []
   within_off k b r ahead ne = within_row k b r ahead ∙ ap (λ z. show_as z (strip k b r) (within k false ahead)) (ap (λ s. s.lazy) (strip_lazy options k b r ne))
 
@@ -371,7 +371,7 @@ module _ (options : Options) where
         AreLazy-push k (is_bare_start k first) more r ahead still h.2 may,
       )
 
-      -- inside the container the line is whole, or goes on with the paragraph
+      -- inside the container the line lacks no prefix, or continues the paragraph
       go : (o : Option Row) → keeps k bare r ≡ o → (l : Bool) → (lazily options k r ahead && takes_lazy inside) ≡ l → (Suits inside (strip k bare r) → Holds (place_in k) (insides k first more ++ strip k bare r ∷ []) (feed options inside (strip k bare r) (within k false ahead)) (within k false ahead)) → Holds so (all ++ r ∷ []) (kept_or o l (InContainer closed k first (more ++ r ∷ []) (feed options inside (strip k bare r) (within k false ahead))) (begin options (join closed block) r ahead)) ahead
       go (Some s) e l el ih = on (λ lacks. absurd (let q : Some s ≡ None = sym e ∙ lacks in cc)) (ih (inl (strip_whole options k bare r s e)))
       go None e true el ih = let p = is_both (lazily options k r ahead) (takes_lazy inside) el in on (λ lacks. p.0) (ih (inr (ap (λ s. texts options (lazy_row s) []) (strip_lazy options k bare r e) ∙ lazily-texts options k r ahead [] p.0, p.1)))

@@ -1,4 +1,4 @@
--- The ranges of a derived document begin and end where characters do.
+-- The ranges of a derived document begin and end at character boundaries.
 use Rattle.std.proofs.Common.{◌≡◌, ◌⊎◌, inl, inr, ⊎_elim, ℕ, zero, suc, ◌+◌, ◌-◌, ◌<◌, Bool, true, false, ◌==◌, ◌&&◌, ◌||◌, not, List, [], ◌∷◌, ◌++◌, length, drop, get_or, refl, sym, ap, ◌∙◌, subst, arith, append_assoc, append-nil, Option, Some, None, true≢false, length-append, get_or-append-add}
 use Rattle.std.proofs.lemmas.List.Sums.{take_while-cons}
 use Rattle.std.specs.Prelude.{cond, if◌then◌else◌, IsUtf8, IsCharBoundary}
@@ -188,7 +188,7 @@ content-stop b e = go (b == line_feed) (b == carriage_return) refl refl e
     go false true ex ey q = is-ascii b 13 (omega arith) ey
     go false false ex ey q = absurd (true≢false q)
 
--- behind its content a line has a byte that is ASCII, or nothing
+-- after the content of a line comes an ASCII byte, or nothing
 abbrev Stopped : List ℕ → Type 0
 Stopped tail = (tail ≡ []) ⊎ ((b : ℕ) × ((bs : List ℕ) × (tail ≡ b ∷ bs) × (b < 128)))
 
@@ -248,7 +248,7 @@ module _ (text : List ℕ) (utf8 : IsUtf8 text) where
       go true q p r = tab-good at 0 (to_tab_stop column) (expand (column + to_tab_stop column) (suc at) bs) (edges (is-ascii b 9 (omega arith) q)) p
       go false q p r = (((λ x. absurd (true≢false x)), edges), r)
 
-  -- behind a line that an ASCII byte ends
+  -- after a line that an ASCII byte ends
   last-edge : (before line after : List ℕ) → text ≡ before ++ (line ++ after) → LastAscii line → IsCharBoundary text (length before + length line)
   last-edge before [] after e a = absurd (let z : ⊥ = a in z)
   last-edge before (b ∷ []) after e a = subst (IsCharBoundary text) (let s : suc (length before) ≡ length before + 1 = omega arith in s) (around before b after e a).1
@@ -256,7 +256,7 @@ module _ (text : List ℕ) (utf8 : IsUtf8 text) where
       subst (IsCharBoundary text) (ap (λ n. n + length (c ∷ line)) (snoc-len before b) ∙ (let s : suc (length before) + length (c ∷ line) ≡ length before + length (b ∷ (c ∷ line)) = omega arith in s))
       (last-edge (before ++ b ∷ []) (c ∷ line) after (e ∙ snoc before b ((c ∷ line) ++ after)) a)
 
-  -- where a line's content has ended comes an ASCII byte, or nothing
+  -- after the end of a line's content comes an ASCII byte, or nothing
   tail-edge : (before tail after : List ℕ) → text ≡ before ++ (tail ++ after) → IsCharBoundary text (length before + length tail) → (tail ≡ []) ⊎ ((b : ℕ) × ((bs : List ℕ) × (tail ≡ b ∷ bs) × (b < 128))) → IsCharBoundary text (length before) × (length tail ≡ 2 → IsCharBoundary text (suc (length before)))
   tail-edge before tail after e past (inl none) = (
     subst (IsCharBoundary text) (let n : length tail ≡ 0 = ap length none in let s : length before + length tail ≡ length before = omega (arith, n) in s) past,

@@ -1,4 +1,4 @@
--- The columns of some bytes, and what is seen of the bytes in them.
+-- The columns of some bytes, and the properties of bytes in them.
 use Rattle.std.proofs.Common.{◌≡◌, ℕ, zero, suc, ◌+◌, ◌-◌, ◌%◌, ◌≤◌, Bool, true, false, ◌==◌, cond, List, [], ◌∷◌, ◌++◌, drop, refl, sym, ap, ◌∙◌, subst, arith, eqb-true, ne_eqb}
 use Rattle.std.specs.Prelude.{if◌then◌else◌}
 use Rattle.std.specs.List.{prefix_len}
@@ -11,7 +11,7 @@ on_byte p c = p c.byte
 some_columns : (column : ℕ) → (n : ℕ) × (to_tab_stop column ≡ suc n)
 some_columns column = (3 - column % 4, omega arith)
 
--- the columns of a byte are a tab's, up to the next stop, or one; those of the bytes behind it follow
+-- the columns of a byte are a tab's, up to the next stop, or one column; the columns of the bytes after it follow
 data Shape (column at b : ℕ) : Type 0 where
   tabbed : b ≡ tab → (n column' : ℕ) → column' ≡ column + suc n → 4 ≤ column' → ((bs : List ℕ) → expand column at (b ∷ bs) ≡ tab_columns at 0 (suc n) ++ expand column' (suc at) bs) → Shape column at b
   plain : (b == tab) ≡ false → ((bs : List ℕ) → expand column at (b ∷ bs) ≡ record { byte = b; at = at; part = 0 } ∷ expand (suc column) (suc at) bs) → Shape column at b
@@ -34,7 +34,7 @@ one_more k = omega arith
 drop_one_more : {A : Type 0} → (x : A) (xs : List A) (k : ℕ) → drop (1 + k) (x ∷ xs) ≡ drop k xs
 drop_one_more x xs k = ap (λ m. drop m (x ∷ xs)) (sym (one_more k))
 
--- what passes in front
+-- the bytes at the beginning that pass
 module _ (p : ℕ → Bool) where
   tab_prefix : (at part n : ℕ) (cs : List Column) → p tab ≡ true → prefix_len (on_byte p) (tab_columns at part n ++ cs) ≡ n + prefix_len (on_byte p) cs
   tab_prefix at part zero cs e = omega arith
@@ -89,12 +89,12 @@ module _ (p : ℕ → Bool) where
           by true f = behind_all column (suc column) at b bs (record { byte = b; at = at; part = 0 } ∷ []) 1 f (e bs) (ap (λ t. cond t (1 + prefix_len (on_byte p) (expand (suc column) (suc at) bs)) 0) f) (λ k cs. drop_one_more (record { byte = b; at = at; part = 0 }) cs k) (ih (suc column) (suc at))
           by false f = behind_none column at b bs f (ap (prefix_len (on_byte p)) (e bs) ∙ ap (λ t. cond t (1 + prefix_len (on_byte p) (expand (suc column) (suc at) bs)) 0) f)
 
-  -- the columns behind those that pass are the columns of the bytes behind those that pass
+  -- the columns after those that pass are the columns of the bytes after those that pass
   pub drop-prefix : (column at : ℕ) (bs : List ℕ) → (column' : ℕ) × (drop (prefix_len (on_byte p) (expand column at bs)) (expand column at bs) ≡ expand column' (at + prefix_len p bs) (drop (prefix_len p bs) bs))
   unfolding Behind
   drop-prefix column at bs = behind column at bs
 
-  -- where no tab passes, as many columns pass as bytes
+  -- if no tab passes, the numbers of columns and of bytes that pass are equal
   pub prefix_len-expand : (column at : ℕ) (bs : List ℕ) → p tab ≡ false → prefix_len (on_byte p) (expand column at bs) ≡ prefix_len p bs
   prefix_len-expand column at [] no_tab = refl
   prefix_len-expand column at (b ∷ bs) no_tab = go (shape column at b) (prefix_len-expand (suc column) (suc at) bs no_tab)

@@ -55,7 +55,7 @@ expand-tabs column at (b ∷ bs) = go (b == tab) (expand-tabs (column + to_tab_s
 abbrev Sits : ℕ → Row → Type 0
 Sits from r = Lies from r × AreTabs r.columns
 
--- lines of which each ends behind where the one before it has ended
+-- lines each of which begins at the end of the one before it
 abbrev Fed : ℕ → List Row → ℕ → Type 0
 Fed from [] to = from ≤ to
 Fed from (r ∷ rs) to = (from < r.line_end) × Sits from r × Fed r.line_end rs to
@@ -94,7 +94,7 @@ strips-fed k bare from [] to f = f
 strips-fed k bare from (r ∷ rs) to f =
     (subst (λ p. from < p) (sym (strip-line_end k bare r)) f.0, strip-sits k bare from r f.1, subst (λ p. Fed p (strips k false rs) to) (sym (strip-line_end k bare r)) (strips-fed k false r.line_end rs to f.2))
 
--- the first column behind the indent is no blank
+-- the first column after the indent is not blank
 indent-stop : (cs : List Column) (c : Column) (rest : List Column) → without_indent cs ≡ c ∷ rest → is_blank c ≡ false
 indent-stop [] c rest e = absurd (let q : [] ≡ c ∷ rest = e in cc)
 indent-stop (d ∷ cs) c rest e = go (is_blank d) refl (subst (λ l. drop (length l) (d ∷ cs) ≡ c ∷ rest) (take_while-cons is_blank d cs) e) (indent-stop cs c rest)
@@ -103,7 +103,7 @@ indent-stop (d ∷ cs) c rest e = go (is_blank d) refl (subst (λ l. drop (lengt
     go true b f ih = ih f
     go false b f ih = let q : d ≡ c = let g : d ∷ cs ≡ c ∷ rest = f in cc in subst (λ x. is_blank x ≡ false) q b
 
--- a line that is not blank takes a byte behind its indent
+-- a line that is not blank has a byte after its indent
 pub next-place : (from : ℕ) (r : Row) → Sits from r → is_blank_line r ≡ false → start_of r < first_place r.content_end (drop (suc (indent r.columns)) r.columns)
 next-place from r s e = go (without_indent r.columns) refl (start-Runs from r s.0) (drop-tabs (indent r.columns) r.columns s.1)
   where
@@ -292,7 +292,7 @@ abbrev is_table : Leaf → ℕ
 is_table (TableLeaf alignments) = 1
 is_table _ = 0
 
--- a leaf's nodes, where its first line is not blank
+-- a leaf's nodes, if its first line is not blank
 leaf-count : (text : List ℕ) (options : Options) (lookup : Lookup) (from : ℕ) (leaf : Leaf) (first : Row) (more : List Row) (after : BlockDocument) → Sits from first → is_blank_line first ≡ false → Fed first.line_end more (last_line_end first more) → LeafFilled leaf first more
     → 4 * from + count_nodes (leaf_then text options lookup leaf first more after) ≤ 4 * last_line_end first more + (count_nodes after + 262144 * is_table leaf)
 leaf-count text options lookup from leaf first more after s e f few = go leaf few
@@ -362,7 +362,7 @@ list-table delimiter number tight = go (delimiter == definition_delimiter)
     go true = refl
     go false = refl
 
--- a paragraph, as a title or as itself: the document behind it is that of this list or of none
+-- a paragraph, as a title or as itself: the document after it begins in this list or in none
 title-count : (is_title tight : Bool) (other : BlockKind) (start end : ℕ) (inside after behind : BlockDocument) → count_table other ≡ 0 → (is_title ≡ true → NoTableFirst after) → (from most : ℕ)
     → from + count_nodes after ≤ most + 262144 * count_tables after → from + count_nodes behind ≤ most + 262144 * count_tables behind → (d : BlockDocument) → d ≡ (if is_title then item_then true (DefinitionList tight) (node DefinitionListTitle start end) inside after else Node (node other start end) inside behind)
     → from + count_nodes d ≤ 2 + (count_nodes inside + most) + 262144 * count_tables d
@@ -378,7 +378,7 @@ title-tables : (is_title tight : Bool) (other : BlockKind) (start end : ℕ) (in
 title-tables true tight other start end inside after behind k f most a b = let t = item-tables true (DefinitionList tight) (node DefinitionListTitle start end) inside after refl refl f in omega (arith, t, a)
 title-tables false tight other start end inside after behind k f most a b = omega (arith, k, b)
 
--- texts hold no table
+-- texts contain no table
 texts-tables : (ps : List Piece) (after : BlockDocument) → count_tables (texts_then ps after) ≡ count_tables after
 texts-tables [] after = refl
 texts-tables (p ∷ ps) after = let k = kind p.owned in let ih = texts-tables ps after in omega (arith, k, ih)
@@ -498,7 +498,7 @@ module _ (text : List ℕ) (options : Options) (lookup : Lookup) where
   item-first true list item inside Nil l = l
   item-first true list item inside (Node others items rest) l = l
 
-  -- a list that goes on is no table
+  -- a list that continues is not a table
   list-first : (direct : Bool) (before : Option ListBefore) (delimiter : ℕ) (b : Blocks) → goes_on delimiter b ≡ true → NoTableFirst (document_of text options lookup direct before b)
   list-first direct before delimiter NoBlocks e = tt
   list-first direct before delimiter (BlankLine line after) e = list-first direct before delimiter after e

@@ -1,4 +1,5 @@
--- Documents with definition lists, by computation: which lines begin definitions, which paragraphs are titles, and where nodes stand.
+-- Documents with definition lists, by computation: the lines that begin definitions, the paragraphs that are titles, and the places of
+-- nodes.
 use Rattle.std.specs.Prelude.{◌≡◌, ◌∷◌, [], true, false, codes, None, map, List, ℕ}
 use Rattle.std.proofs.Common.{refl}
 use Rattle.cmark_grammar.specs.Attributes.{no_attributes}
@@ -22,7 +23,7 @@ definitions = record no_options { definition_list = true }
 abbrev with_tasks : Options
 with_tasks = record no_options { definition_list = true; tasklists = true }
 
--- a title and its definition, whose paragraph is none of its own
+-- a title and its definition; the title's paragraph is not a node of its own
 simple : outline (document (codes "Term\n: def\n") definitions basic_entity) ≡
     node (DefinitionList true) 0 11 ∷ node DefinitionListTitle 0 5 ∷ node (Text (codes "Term")) 0 4 ∷
     node DefinitionListDefinition 5 11 ∷ node TightParagraph 7 11 ∷ node (Text (codes "def")) 7 10 ∷ []
@@ -34,7 +35,7 @@ off : outline (document (codes "Term\n: def\n") no_options basic_entity) ≡ nod
 unfolding blocks begin opens texts lazily enter keeps underlines
 off = refl
 
--- no blank has to stand behind the marker, and then its width is one
+-- no blank is required after the marker; without a blank the width is 1
 no_blank : outline (document (codes "A\n:b\n c\n") definitions basic_entity) ≡
     node (DefinitionList true) 0 8 ∷ node DefinitionListTitle 0 2 ∷ node (Text (codes "A")) 0 1 ∷
     node DefinitionListDefinition 2 8 ∷ node TightParagraph 3 8 ∷ node (Text (codes "b\n")) 3 5 ∷ node (Text (codes "c")) 6 7 ∷ []
@@ -72,7 +73,7 @@ one_list : outline (document (codes "A\n: b\n: c\n\nD\n: e\n") definitions basic
 unfolding blocks begin opens texts lazily enter keeps underlines
 one_list = refl
 
--- a paragraph without a definition behind it stands behind the list
+-- a paragraph without a definition after it comes after the list
 behind_list : outline (document (codes "A\n: b\n\nC\n") definitions basic_entity) ≡
     node (DefinitionList true) 0 7 ∷ node DefinitionListTitle 0 2 ∷ node (Text (codes "A")) 0 1 ∷
     node DefinitionListDefinition 2 7 ∷ node TightParagraph 4 6 ∷ node (Text (codes "b")) 4 5 ∷ node Paragraph 7 9 ∷ node (Text (codes "C")) 7 8 ∷ []
@@ -86,7 +87,7 @@ last_paragraph : outline (document (codes "A\n\nB\n: c\n") definitions basic_ent
 unfolding blocks begin opens texts lazily enter keeps underlines
 last_paragraph = refl
 
--- a heading is no title, nor is a link reference definition; what would be one is, if a definition interrupts it
+-- a heading is not a title, nor is a link reference definition; a paragraph that looks like one is, if a definition interrupts it
 behind_heading : outline (document (codes "# A\n: b\n") definitions basic_entity) ≡
     node (Heading 1 no_attributes) 0 4 ∷ node (Text (codes "A")) 2 3 ∷ node Paragraph 4 8 ∷ node (Text (codes ": b")) 4 7 ∷ []
 unfolding blocks begin opens texts lazily enter keeps underlines
@@ -105,7 +106,7 @@ unfinished : outline (document (codes "[a]:\n:b\n") definitions basic_entity) �
 unfolding blocks begin opens texts lazily enter keeps underlines
 unfinished = refl
 
--- where a line lacks a prefix it is text, but for that of a definition
+-- a lazy line is text, except in a definition, where a marker begins another one
 lazy_in_quote : outline (document (codes "> A\n: b\n") definitions basic_entity) ≡
     node (BlockQuote None) 0 8 ∷ node Paragraph 2 8 ∷ node (Text (codes "A\n: b")) 2 7 ∷ []
 unfolding blocks begin opens texts lazily enter keeps underlines
@@ -124,7 +125,7 @@ lazy_in_both : outline (document (codes "> A\n> : x\n: b\n") definitions basic_e
 unfolding blocks begin opens texts lazily enter keeps underlines
 lazy_in_both = refl
 
--- a definition whose first line is blank ends at a blank line directly behind it
+-- a definition whose first line is blank ends at a blank line directly after it
 bare : outline (document (codes "A\n:\n\n  x\n") definitions basic_entity) ≡
     node (DefinitionList true) 0 4 ∷ node DefinitionListTitle 0 2 ∷ node (Text (codes "A")) 0 1 ∷ node DefinitionListDefinition 2 4 ∷
     node Paragraph 7 9 ∷ node (Text (codes "x")) 7 8 ∷ []
@@ -151,7 +152,7 @@ ended : outline (document (codes "A\n: b\n***\nC\n: d\n") definitions basic_enti
 unfolding blocks begin opens texts lazily enter keeps underlines
 ended = refl
 
--- in an item, the list is one of its blocks: a blank line inside the list leaves the item's list tight, one behind it does not
+-- in an item, the list is one of its blocks: a blank line inside the list leaves the item's list tight, a blank line after it does not
 in_item : outline (document (codes "- A\n\n  : b\n") definitions basic_entity) ≡
     node (BlockList None true) 0 11 ∷ node ListItem 0 11 ∷ node (DefinitionList false) 2 11 ∷ node DefinitionListTitle 2 4 ∷ node (Text (codes "A")) 2 3 ∷
     node DefinitionListDefinition 7 11 ∷ node Paragraph 9 11 ∷ node (Text (codes "b")) 9 10 ∷ []
@@ -171,7 +172,7 @@ title_in_item : outline (document (codes "- A\n  : b\n\n  C\n  : d\n") definitio
 unfolding blocks begin opens texts lazily enter keeps underlines
 title_in_item = refl
 
--- a task marker stands before the list in the document, and is read first in its title (GFM 5.3)
+-- in the document a task marker comes before the list; its event is the first one in the title (GFM 5.3)
 task : outline (document (codes "- [x] a\n  : b\n") with_tasks basic_entity) ≡
     node (BlockList None true) 0 14 ∷ node ListItem 0 14 ∷ node (TaskMarker true) 2 5 ∷ node (DefinitionList true) 6 14 ∷ node DefinitionListTitle 6 8 ∷ node (Text (codes "a")) 6 7 ∷
     node DefinitionListDefinition 10 14 ∷ node TightParagraph 12 14 ∷ node (Text (codes "b")) 12 13 ∷ []

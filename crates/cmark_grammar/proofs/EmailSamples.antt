@@ -63,7 +63,7 @@ label_of_64 = refl
 two_at_signs : is_email (codes "a@b@c") ≡ false
 two_at_signs = refl
 
--- the bytes below a number that a local part may have, the greatest first
+-- the bytes below a number that a local part may contain, the greatest first
 abbrev local_below : ℕ → List ℕ
 local_below zero = []
 local_below (suc n) = if is_local_byte n then n ∷ local_below n else local_below n

@@ -555,12 +555,12 @@ blanks_beside_equals : marked (codes "== a ==") ≡ codes "== a =="
 unfolding ucd_category is_unicode_white_space is_unicode_punctuation agrees pair_of rest_of_opener rest_of_closer kinds_of deactivates closed
 blanks_beside_equals = refl
 
--- a closing run takes the nearest of its kind, and what stands between opens nothing any more
+-- a closing run takes the nearest opener of its kind, and the runs between them open nothing any more
 nearest_equals : marked (codes "==a *b ~c== d* e~") ≡ codes "<mark>a *b ~c</mark> d* e~"
 unfolding ucd_category is_unicode_white_space is_unicode_punctuation agrees pair_of rest_of_opener rest_of_closer kinds_of deactivates closed
 nearest_equals = refl
 
--- those that find none leave the others open
+-- closing runs without an opener leave the others open
 equals_and_tildes : marked (codes "~a b== c~ ==d e~ f==") ≡ codes "<del>a b== c</del> <mark>d e~ f</mark>"
 unfolding ucd_category is_unicode_white_space is_unicode_punctuation agrees pair_of rest_of_opener rest_of_closer kinds_of deactivates closed
 equals_and_tildes = refl

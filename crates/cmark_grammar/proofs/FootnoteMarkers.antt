@@ -41,7 +41,7 @@ label-colon bs (Some f) found eo e = go (is_label f.bytes) e
         let p = colon-is f.bytes f.behind found q in
         subst (λ l. drop (suc (length l)) bs ≡ 58 ∷ found.behind) p.0 (up-to-behind 93 91 false false bs f eo ∙ p.1)
 
--- behind `[^`, the label and `]` the colon stands, and behind it what was found
+-- after `[^`, the label and `]` comes the colon, and then the rest
 pub colon-at : (bs : List ℕ) (found : Parsed) → footnote_in bs ≡ Some found → drop (suc (suc (suc (length found.bytes)))) bs ≡ 58 ∷ found.behind
 colon-at [] found e = absurd (let q : None ≡ Some found = e in cc)
 colon-at (b ∷ bs) found e = outer (b == 91) e

@@ -30,7 +30,7 @@ note = Footnote (codes "a") false 5
 abbrev old_note : Container
 old_note = Footnote (codes "a") true 5
 
--- a label and a colon right behind it
+-- a label and a colon directly after it
 pub simple : label_of (codes "[^a]: b") ≡ Some (codes "a")
 simple = refl
 
@@ -62,12 +62,12 @@ no_caret = refl
 pub tab_in_label : marker_columns (codes "a\tb") (line (codes "[^a\tb]: c")).columns ≡ 7
 tab_in_label = refl
 
--- the blanks behind the marker are skipped
+-- the blanks after the marker are skipped
 pub first_line : bytes_of (enter (Footnote (codes "a") false 5) (line (codes "  [^a]:   b"))).columns ≡ codes "b"
 unfolding enter
 first_line = refl
 
--- labels of links that begin with `^` and go on
+-- a label that begins with `^` and has more bytes is not a link's
 pub caret_alone : is_footnote_label (codes "[^]: /u") ≡ false
 caret_alone = refl
 
@@ -99,7 +99,7 @@ pub old_blank_line : left_of (keeps old_note false (line (codes " "))) ≡ None
 unfolding keeps
 old_blank_line = refl
 
--- its node: the label's normal form, from the marker to behind the last line
+-- its node: the label's normal form, from the marker to the end of the last line
 pub its_node : document_of (codes " [^a  B]: c") no_options (λ name. None) false None
     (ContainerBlock (Footnote (codes "a  B") false 8) (line (codes " [^a  B]: c")) [] (grammar.Paragraph (enter (Footnote (codes "a  B") false 8) (line (codes " [^a  B]: c"))) [] grammar.Nil) grammar.Nil)
     ≡ Node (node (FootnoteDefinition (codes "a B")) 1 11) (Node (node Paragraph 10 11) (Node (node (Text (codes "c")) 10 11) Nil Nil) Nil) Nil
@@ -109,7 +109,7 @@ its_node = refl
 abbrev footnotes : Options
 footnotes = record no_options { footnotes = true }
 
--- a blank line behind it parts it from the next block of an item
+-- a blank line after it separates it from the next block of an item
 pub parts : outline (document (codes "- [^a]: b\n\n  c") footnotes basic_entity) ≡
     node (BlockList None false) 0 14 ∷ node ListItem 0 14 ∷ node (FootnoteDefinition (codes "a")) 2 11 ∷ node Paragraph 8 10 ∷ node (Text (codes "b")) 8 9 ∷ node Paragraph 13 14 ∷ node (Text (codes "c")) 13 14 ∷ []
 unfolding blocks begin opens texts lazily enter keeps underlines
@@ -121,7 +121,7 @@ pub parts_items : outline (document (codes "- [^a]: b\n\n- c") footnotes basic_e
 unfolding blocks begin opens texts lazily enter keeps underlines
 parts_items = refl
 
--- a footnote definition that holds nothing ends with its blank lines too
+-- an empty footnote definition ends with its blank lines too
 pub loose_behind_nothing : outline (document (codes "- [^a]:\n\n  b") footnotes basic_entity) ≡
     node (BlockList None false) 0 12 ∷ node ListItem 0 12 ∷ node (FootnoteDefinition (codes "a")) 2 9 ∷ node Paragraph 11 12 ∷ node (Text (codes "b")) 11 12 ∷ []
 unfolding blocks begin opens texts lazily enter keeps underlines
@@ -133,7 +133,7 @@ pub tight_behind_nothing : outline (document (codes "- [^a]:\n  b") footnotes ba
 unfolding blocks begin opens texts lazily enter keeps underlines
 tight_behind_nothing = refl
 
--- where none stands there, the list is tight
+-- without a blank line the list is tight
 pub tight : outline (document (codes "- [^a]: b\n- c") footnotes basic_entity) ≡
     node (BlockList None true) 0 13 ∷ node ListItem 0 10 ∷ node (FootnoteDefinition (codes "a")) 2 10 ∷ node Paragraph 8 10 ∷ node (Text (codes "b")) 8 9 ∷ node ListItem 10 13 ∷ node TightParagraph 12 13 ∷ node (Text (codes "c")) 12 13 ∷ []
 unfolding blocks begin opens texts lazily enter keeps underlines

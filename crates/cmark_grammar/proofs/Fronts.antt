@@ -1,9 +1,9 @@
--- What holds of the first elements of a list.
+-- Properties of the first elements of a list.
 use Rattle.std.proofs.Common.{◌≡◌, ℕ, zero, suc, ◌+◌, ◌≤◌, ◌<◌, Bool, true, false, List, [], ◌∷◌, length, drop, take_while, refl, sym, subst, arith}
 use Rattle.std.proofs.lemmas.List.Sums.{take_while-cons}
 use Rattle.std.specs.Prelude.{cond}
 
--- what holds of the first n elements, as far as there are any
+-- a property of the first `n` elements, as far as there are any
 abbrev pub Front : {X : Type 0} → (X → Type 0) → ℕ → List X → Type 0
 Front Q n [] = Unit {0}
 Front Q zero (x ∷ xs) = Unit {0}

@@ -1,5 +1,4 @@
--- The HTML of some events: each kind of block and span, images, whose alternative text is the text of what is inside, tables,
--- footnotes and metadata.
+-- The HTML of some events: each kind of block and span, images, whose alternative text is the text inside, tables, footnotes and metadata.
 use Rattle.std.specs.Prelude.{◌≡◌, ℕ, true, false, List, [], ◌∷◌, ◌++◌, codes, None, Some}
 use Rattle.std.specs.Fmt.{digits}
 use Rattle.std.proofs.Common.{refl}
@@ -23,7 +22,7 @@ link_of kind destination title = Start (tag.Link (record { link_type = kind; des
 abbrev pub link : List ℕ → Event
 link destination = link_of Inline destination []
 
--- a line feed stands in front of a block unless the writer is at a line start
+-- a line feed precedes a block unless the writer is at a line start
 line_start : html (Text (codes "a") ∷ Rule ∷ Rule ∷ []) ≡ codes "a\n<hr />\n<hr />\n"
 line_start = refl
 
@@ -108,7 +107,7 @@ table : html (Start (tag.Table (Left ∷ Unaligned ∷ Center ∷ Right ∷ []))
     ≡ codes "<table><thead><tr><th style=\"text-align: left\">a</th><th>b</th></tr></thead><tbody>\n<tr><td style=\"text-align: left\">c</td><td>d</td><td style=\"text-align: center\">e</td><td style=\"text-align: right\">f</td><td>g</td></tr>\n</tbody></table>\n"
 table = refl
 
--- a cell is aligned as its column of the last table, and stands in the head until a head has ended
+-- a cell is aligned as its column of the last table, and belongs to the head until a head has ended
 last_table : html (cell (codes "a") ++ (Start (tag.Table (Left ∷ Right ∷ [])) ∷ (cell (codes "b") ++ (End end.TableHead ∷ (cell (codes "c") ++ (Start tag.TableHead ∷ cell (codes "d")))))))
     ≡ codes "<th>a</th><table><th style=\"text-align: right\">b</th></tr></thead><tbody>\n<td>c</td><thead><tr><th style=\"text-align: left\">d</th>"
 last_table = refl
@@ -125,7 +124,7 @@ footnotes : html (Start tag.Paragraph ∷ FootnoteReference (codes "b") ∷ Foot
 unfolding digits
 footnotes = refl
 
--- two names are two footnotes where their case differs; in an alternative text neither the definition nor its number is written
+-- two names that differ in case are two footnotes; in an alternative text neither the definition nor its number is written
 footnotes_by_exact_names : html (Start (tag.FootnoteDefinition (codes "\"")) ∷ End end.FootnoteDefinition ∷ image (codes "d") [] ∷ FootnoteReference (codes "A") ∷ Start (tag.FootnoteDefinition (codes "b")) ∷ End end.FootnoteDefinition ∷ End end.Image ∷ FootnoteReference (codes "a") ∷ FootnoteReference (codes "A") ∷ [])
     ≡ codes "<div class=\"footnote-definition\" id=\"&quot;\"><sup class=\"footnote-definition-label\">1</sup></div>\n<img src=\"d\" alt=\"[2]\" /><sup class=\"footnote-reference\"><a href=\"#a\">3</a></sup><sup class=\"footnote-reference\"><a href=\"#A\">2</a></sup>"
 unfolding digits

@@ -1,4 +1,4 @@
--- Tokens of texts, and what closing brackets come to, computed.
+-- Tokens of texts, and the results of closing brackets, computed.
 use Rattle.std.specs.Prelude.{◌≡◌, ℕ, zero, suc, Bool, true, false, List, [], ◌∷◌, ◌++◌, codes, bytes_eq, if◌then◌else◌, length, map, Option, Some, None}
 use Rattle.std.specs.Str.{chars}
 use Rattle.std.proofs.Common.{refl}
@@ -51,27 +51,27 @@ whole text = paragraph (stretch 0 (length text) ∷ [])
 abbrev pub stands : ItemKind → (start end resume : ℕ) → Token
 stands kind start end resume = Stands (record { kind = kind; start = start; end = end }) resume
 
--- bytes that stand for themselves are one text
+-- adjacent literal bytes are one text
 plain_text : token (reading no_options (codes "ab c*")) (whole (codes "ab c*")) 0 ≡ stands Plain 0 4 4
 unfolding encode chars token ucd_category is_unicode_white_space is_unicode_punctuation
 plain_text = refl
 
--- a text begins behind a backslash that is dropped
+-- a text begins after a backslash that is removed
 behind_backslash : token (reading no_options (codes "\\*a")) (whole (codes "\\*a")) 0 ≡ stands Plain 1 3 3
 unfolding encode chars token ucd_category is_unicode_white_space is_unicode_punctuation
 behind_backslash = refl
 
--- a line break takes the blanks behind it, and its range is the line ending
+-- a line break removes the blanks after it, and its range is the line ending
 soft_break : token (reading no_options (codes "a \n  b")) (whole (codes "a \n  b")) 1 ≡ stands SoftBreak 2 3 5
 unfolding encode chars token ucd_category is_unicode_white_space is_unicode_punctuation
 soft_break = refl
 
--- behind two spaces it is hard, and begins with the blanks
+-- after two spaces it is hard, and begins with the blanks
 hard_break : token (reading no_options (codes "a   \n b")) (whole (codes "a   \n b")) 1 ≡ stands HardBreak 1 5 6
 unfolding encode chars token ucd_category is_unicode_white_space is_unicode_punctuation
 hard_break = refl
 
--- a code span keeps the blanks in front of its lines
+-- a code span keeps the blanks at the beginning of its lines
 code_with_blanks : token (reading no_options (codes "`a\n  b`")) (whole (codes "`a\n  b`")) 0 ≡ stands (Code (codes "a   b")) 0 7 7
 unfolding encode chars token ucd_category is_unicode_white_space is_unicode_punctuation
 code_with_blanks = refl
@@ -86,7 +86,7 @@ comment_over_prefix : token (reading no_options (codes "<!-- a\n> -->")) (paragr
 unfolding encode chars token ucd_category is_unicode_white_space is_unicode_punctuation
 comment_over_prefix = refl
 
--- the marker of a block quote closes a declaration, and the text goes on behind the prefix
+-- the marker of a block quote closes a declaration, and the text continues after the prefix
 declaration_at_marker : token (reading no_options (codes "<!A\n>  b")) (paragraph (stretch 0 4 ∷ (stretch 6 8 ∷ []))) 0 ≡ stands Html 0 5 7
 unfolding encode chars token ucd_category is_unicode_white_space is_unicode_punctuation
 declaration_at_marker = refl
@@ -111,7 +111,7 @@ other_context : token (reading math (codes "$a{$}b$")) (whole (codes "$a{$}b$"))
 unfolding encode chars token ucd_category is_unicode_white_space is_unicode_punctuation
 other_context = refl
 
--- the first of the same context decides
+-- the first dollar sign of the same context decides
 first_dollar_decides : token (reading math (codes "$a $b$")) (whole (codes "$a $b$")) 0 ≡ stands Own 0 1 1
 unfolding encode chars token ucd_category is_unicode_white_space is_unicode_punctuation
 first_dollar_decides = refl
@@ -142,7 +142,7 @@ contexts_of_255_braces : context_behind (copies 255 123) ≡ 254
 unfolding copies context_behind
 contexts_of_255_braces = refl
 
--- so the dollar sign behind 256 braces closes, and that behind 255 does not
+-- so the dollar sign after 256 braces closes, and the one after 255 does not
 formula_of_256_braces : inline_in no_braces (97 ∷ (copies 256 123 ++ codes "b$c")) ≡ Some (record { bytes = 97 ∷ (copies 256 123 ++ codes "b"); behind = codes "c" })
 unfolding copies
 formula_of_256_braces = refl
@@ -165,7 +165,7 @@ empty_display : token (reading math (codes "$$$$")) (whole (codes "$$$$")) 0 ≡
 unfolding encode chars token ucd_category is_unicode_white_space is_unicode_punctuation
 empty_display = refl
 
--- one dollar sign closes none
+-- a single dollar sign does not close a display formula
 display_closed_by_two : token (reading math (codes "$$a$b$$")) (whole (codes "$$a$b$$")) 0 ≡ stands Own 0 1 1
 unfolding encode chars token ucd_category is_unicode_white_space is_unicode_punctuation
 display_closed_by_two = refl
@@ -205,8 +205,8 @@ closing start = record { is_image = false; start = start; end = suc start }
 abbrev state_at : (at expansion_left : ℕ) → List Opener → State
 state_at at expansion_left openers = record { at = at; expansion_left = expansion_left; label_close = None; asked = []; openers = openers }
 
--- what it forms: nothing; or with how many nearer opening brackets, and from where on the text is read; and behind it which brackets
--- stand, which are doubled and which inactive
+-- the result of a closing bracket: nothing; or the number of nearer opening brackets, the place at which reading resumes, and the brackets
+-- that are then neither used up nor dropped, doubled and inactive
 pub data Came : Type 0 where
   ToNothing : Came
   ToLink : (nearer : ℕ) → (destination : List ℕ) → (resume : ℕ) → Came
@@ -231,7 +231,7 @@ left (Asks question answered) = []
 abbrev decided : Options → (text : List ℕ) → (close expansion_left : ℕ) → List Opener → Decision
 decided options text close expansion_left openers = decide (reading options text) (whole text) (state_at close expansion_left openers) (closing close)
 
--- a closing bracket takes the nearest opening one that stands
+-- a closing bracket takes the nearest opening one that is not used up
 nearest_that_stands : comes_as (decided no_options (codes "[[a] b](u)") 6 100 (used 1 ∷ fresh 0 ∷ [])) ≡ ToLink 1 (codes "u") 10
 unfolding caseless encode chars decide ucd_category
 nearest_that_stands = refl
@@ -251,7 +251,7 @@ link_makes_inactive : map Opener.is_inactive (left (decided no_options (codes "[
 unfolding caseless encode chars decide ucd_category
 link_makes_inactive = refl
 
--- an image makes none inactive
+-- an image makes no bracket inactive
 image_makes_none : map Opener.is_inactive (left (decided no_options (codes "[![a](u)") 4 100 (bracket_at true 1 3 ∷ fresh 0 ∷ []))) ≡ false ∷ []
 unfolding caseless encode chars decide ucd_category
 image_makes_none = refl
@@ -261,7 +261,7 @@ shortcut : comes_as (decided no_options (codes "[x] a") 2 100 (fresh 0 ∷ [])) 
 unfolding caseless encode chars decide ucd_category
 shortcut = refl
 
--- a collapsed reference swallows the brackets behind it
+-- a collapsed reference includes the brackets after it
 collapsed : comes_as (decided no_options (codes "[x][]") 2 100 (fresh 0 ∷ [])) ≡ ToLink 0 (codes "/u") 5
 unfolding caseless encode chars decide ucd_category
 collapsed = refl
@@ -271,22 +271,22 @@ full : comes_as (decided no_options (codes "[a][x]") 2 100 (fresh 0 ∷ [])) ≡
 unfolding caseless encode chars decide ucd_category
 full = refl
 
--- where its label has no definition, the text between the brackets is not tried
+-- if its label has no definition, the text between the brackets is not tried
 full_without_definition : comes_as (decided no_options (codes "[x][a]") 2 100 (fresh 0 ∷ [])) ≡ ToNothing
 unfolding caseless encode chars decide ucd_category
 full_without_definition = refl
 
--- where nothing is left of the reference expansion limit nothing is looked up
+-- when the reference expansion limit is used up nothing is looked up
 spent : comes_as (decided no_options (codes "[x]") 2 0 (fresh 0 ∷ [])) ≡ ToNothing
 unfolding caseless encode chars decide ucd_category
 spent = refl
 
--- a footnote reference, also where nothing is left of the reference expansion limit
+-- a footnote reference, also when the reference expansion limit is used up
 footnote : comes_as (decided footnotes (codes "[^1]") 3 0 (fresh 0 ∷ [])) ≡ ToFootnote 0 (codes "1")
 unfolding caseless encode chars decide ucd_category
 footnote = refl
 
--- drops those that stand before it
+-- a footnote reference drops the brackets before it
 footnote_drops : map Opener.stands (left (decided footnotes (codes "[![[^1]") 6 100 (fresh 3 ∷ bracket_at true 1 3 ∷ fresh 0 ∷ []))) ≡ false ∷ (false ∷ [])
 unfolding caseless encode chars decide ucd_category
 footnote_drops = refl
@@ -306,12 +306,12 @@ empty_name : comes_as (decided wikilinks (codes "[[|b]]") 4 100 (fresh 1 ∷ fre
 unfolding caseless encode chars decide ucd_category
 empty_name = refl
 
--- one that was tried is not tried again
+-- a doubled bracket that was tried is not tried again
 undoubled : map Opener.doubles (left (decided wikilinks (codes "[[|b]]") 4 100 (fresh 1 ∷ fresh 0 ∷ []))) ≡ true ∷ (false ∷ [])
 unfolding caseless encode chars decide ucd_category
 undoubled = refl
 
--- two brackets that an image parts are not doubled
+-- two brackets with an image's bracket between them are not doubled
 image_in_between : comes_as (decided wikilinks (codes "[![a]]") 4 100 (bracket_at true 1 3 ∷ fresh 0 ∷ [])) ≡ ToNothing
 unfolding caseless encode chars decide ucd_category
 image_in_between = refl

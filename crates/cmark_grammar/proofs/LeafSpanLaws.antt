@@ -1,4 +1,4 @@
--- The leaves of each document can stand with spans.
+-- The leaves of each document can have spans.
 use Rattle.std.proofs.Common.{ℕ, List, [], ◌∷◌, refl}
 use Rattle.cmark_grammar.specs.Event.{Ranged}
 use Rattle.cmark_grammar.specs.LeafSpans.{AreGiven, Nothing}

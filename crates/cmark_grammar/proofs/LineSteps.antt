@@ -45,7 +45,7 @@ first_inside : (b : ℕ) (bs : List ℕ) → is_content b ≡ true → ends_line
 first_inside b bs e f h =
     ap (λ p. if p then (b ∷ []) ∷ lines bs else onto b (lines bs)) f ∙ h ∙ ap (λ n. take n (b ∷ bs) ∷ lines (drop n (b ∷ bs))) (sym (line_len-inside b bs e))
 
--- the first line, and those behind it
+-- the first line, and the lines after it
 lines-first : (b : ℕ) (bs : List ℕ) → FirstOf (b ∷ bs)
 lines-first b [] = go (role b)
   where

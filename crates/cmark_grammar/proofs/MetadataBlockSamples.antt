@@ -18,13 +18,13 @@ yaml = record no_options { yaml_style_metadata_blocks = true }
 abbrev pluses : Options
 pluses = record no_options { pluses_delimited_metadata_blocks = true }
 
--- the lines between stand as they are, as one text
+-- the lines between the delimiters are one literal text
 between : outline (document (codes "---\na: *b*\n\n\tc\n--- \nd\n") yaml basic_entity) ≡
     node (MetadataBlock YamlStyle) 0 20 ∷ node (Text (codes "a: *b*\n\n\tc\n")) 4 15 ∷ node Paragraph 20 22 ∷ node (Text (codes "d")) 20 21 ∷ []
 unfolding blocks begin opens texts lazily enter keeps underlines
 between = refl
 
--- with the option off there is none
+-- with the option off there is no metadata block
 off : outline (document (codes "---\na\n---\n") pluses basic_entity) ≡ node ThematicBreak 0 4 ∷ node (Heading 2 no_attributes) 4 10 ∷ node (Text (codes "a")) 4 5 ∷ []
 unfolding blocks begin opens texts lazily enter keeps underlines
 off = refl
@@ -40,12 +40,12 @@ dots : outline (document (codes "---\na\n...\nb") yaml basic_entity) ≡
 unfolding blocks begin opens texts lazily enter keeps underlines
 dots = refl
 
--- none without a line that ends it
+-- no metadata block without a line that ends it
 not_ended : outline (document (codes "---\na\n +++\n") yaml basic_entity) ≡ node ThematicBreak 0 4 ∷ node Paragraph 4 11 ∷ node (Text (codes "a\n +++")) 4 10 ∷ []
 unfolding blocks begin opens texts lazily enter keeps underlines
 not_ended = refl
 
--- none before a blank line, or before the line that would end it
+-- no metadata block before a blank line, or before the line that would end it
 before_blank : outline (document (codes "---\n\n---\n") yaml basic_entity) ≡ node ThematicBreak 0 4 ∷ node ThematicBreak 5 9 ∷ []
 unfolding blocks begin opens texts lazily enter keeps underlines
 before_blank = refl
@@ -54,7 +54,7 @@ empty : outline (document (codes "---\n...\na\n---\n") yaml basic_entity) ≡ no
 unfolding blocks begin opens texts lazily enter keeps underlines
 empty = refl
 
--- none behind an indent, and none in a container
+-- no metadata block after an indent, or in a container
 indented : outline (document (codes " ---\na\n---\n") yaml basic_entity) ≡ node ThematicBreak 1 5 ∷ node (Heading 2 no_attributes) 5 11 ∷ node (Text (codes "a")) 5 6 ∷ []
 unfolding blocks begin opens texts lazily enter keeps underlines
 indented = refl
@@ -64,7 +64,7 @@ in_quote : outline (document (codes ">---\n>a\n>---\n") yaml basic_entity) ≡
 unfolding blocks begin opens texts lazily enter keeps underlines
 in_quote = refl
 
--- none in a footnote definition as such definitions were read before, which has no prefix
+-- no metadata block in a footnote definition of the old style, which has no prefix
 abbrev with_notes : Options
 with_notes = record no_options { footnotes = true; old_footnotes = true; yaml_style_metadata_blocks = true }
 
@@ -78,7 +78,7 @@ in_empty_definition : outline (document (codes "[^1]:\n---\nb\n---\n") with_note
 unfolding blocks begin opens texts lazily enter keeps underlines
 in_empty_definition = refl
 
--- nor behind a container in it that ends there
+-- nor after a container in it that ends there
 in_definition_behind_quote : outline (document (codes "[^1]: > a\n---\nb\n---\n") with_notes basic_entity) ≡
     node (FootnoteDefinition (codes "1")) 0 20 ∷ node (BlockQuote None) 6 10 ∷ node Paragraph 8 10 ∷ node (Text (codes "a")) 8 9 ∷ node ThematicBreak 10 14 ∷ node (Heading 2 no_attributes) 14 20 ∷ node (Text (codes "b")) 14 15 ∷ []
 unfolding blocks begin opens texts lazily enter keeps underlines
@@ -90,7 +90,7 @@ behind_definition : outline (document (codes "[^1]: a\n\n---\nb\n---\n") with_no
 unfolding blocks begin opens texts lazily enter keeps underlines
 behind_definition = refl
 
--- behind a container that ends with it
+-- after a container that ends with it
 behind_block_quote : outline (document (codes "> a\n---\nb\n---\n") yaml basic_entity) ≡
     node (BlockQuote None) 0 4 ∷ node Paragraph 2 4 ∷ node (Text (codes "a")) 2 3 ∷ node (MetadataBlock YamlStyle) 4 14 ∷ node (Text (codes "b\n")) 8 10 ∷ []
 unfolding blocks begin opens texts lazily enter keeps underlines

@@ -1,4 +1,4 @@
--- Metadata blocks stand outside of all containers: a line in one has lost a column, is held, lacks a prefix, or has no column left.
+-- Metadata blocks are outside of all containers: a line in a container has lost a column, is held, lacks a prefix, or has no column left.
 use Rattle.std.proofs.Common.{◌≡◌, ◌≢◌, ◌⊎◌, inl, inr, ⊎_elim, ℕ, zero, suc, ◌+◌, ◌≤◌, ◌<◌, Bool, true, false, ◌==◌, ◌&&◌, ◌||◌, not, List, [], ◌∷◌, ◌++◌, length, drop, refl, sym, ap, ◌∙◌, subst, Option, Some, None, arith, ne_eqb, true≢false}
 use Rattle.std.specs.Prelude.{if◌then◌else◌, nat_le}
 use Rattle.cmark_grammar.specs.Options.{Options}
@@ -45,7 +45,7 @@ expand-Behind first column at (b ∷ bs) le =
     go true p q = tab-Behind first at 0 (to_tab_stop column) (expand (column + to_tab_stop column) (suc at) bs) le p
     go false p q = (le, q)
 
--- the columns of a line of a text, from which some may have been taken in front
+-- the columns of a line of a text, from which some at the beginning may have been taken
 abbrev IsLine : Row → Type 0
 IsLine r = Runs (begin_of r) r.columns r.content_end × Behind r.at r.columns
 
@@ -76,7 +76,7 @@ row-line at (l ∷ ls) =
 without-line : (n : ℕ) (r : Row) → IsLine r → IsLine (without n r)
 without-line n r h = ((drop-Runs n (begin_of r) r.columns r.content_end h.0).0, drop-Behind n r.at r.columns h.1)
 
--- and one column taken is enough to stand in a container
+-- a line from which a column was taken is in a container
 without-inside : (n : ℕ) (r : Row) → 0 < n → IsLine r → IsInside (without n r)
 without-inside zero r lt h = absurd (omega (arith, lt))
 without-inside (suc n) r lt h = go r.columns h.0 h.1
@@ -165,7 +165,7 @@ insides-line k first more h hs = each-unless IsLine (is_alert k) (enter k first)
 insides-inside : (k : Container) (first : Row) (more : List Row) → HasPrefix k → 0 < width_of k first → IsLine first → Each IsLine more → Each IsInside (insides k first more)
 insides-inside k first more w lt h hs = each-unless IsInside (is_alert k) (enter k first) (strips k (is_bare_start k first) more) (enter-inside k first lt h) (strips-inside k (is_bare_start k first) more w hs)
 
--- what begins no metadata block
+-- a beginning that is not a metadata block
 abbrev IsOther : Opening → Type 0
 IsOther Blank = Unit {0}
 IsOther (Nests k) = Unit {0}
@@ -225,7 +225,7 @@ module _ (options : Options) where
       (other_or (fenced_if (fence_of (indent_of r) (words_of r)) ahead) (text_of options r ahead) (other_fenced (fence_of (indent_of r) (words_of r)) ahead)
       (other_text r ahead))))
 
-  -- a line in a container begins none
+  -- a line in a container begins no metadata block
   no-kind : (r : Row) → (r.held ≡ true) ⊎ ((r.columns ≡ []) ⊎ (r.at < begin_of r)) → metadata_kind options r ≡ None
   no-kind r inside = ⊎_elim held (λ i. ⊎_elim bare further i) inside
     where

@@ -49,7 +49,7 @@ pub tight_called_loose : Refused (codes "- a\n- b\n") (codes "<ul>\n<li>\n<p>a</
 unfolding blocks begin opens texts lazily enter keeps underlines
 tight_called_loose = refused (codes "- a\n- b\n") (codes "<ul>\n<li>\n<p>a</p>\n</li>\n<li>\n<p>b</p>\n</li>\n</ul>\n") refl refl
 
--- no title holds a blank line
+-- a title contains no blank line
 pub blank_line_in_title : Refused (codes "[a]: /u \"x\n\ny\"\n") (codes "")
 unfolding blocks begin opens texts lazily enter keeps underlines
 blank_line_in_title = refused (codes "[a]: /u \"x\n\ny\"\n") (codes "") refl refl
@@ -74,7 +74,7 @@ pub trailing_blank_in_code : Refused (codes "    a\n\nb\n") (codes "<pre><code>a
 unfolding blocks begin opens texts lazily enter keeps underlines
 trailing_blank_in_code = refused (codes "    a\n\nb\n") (codes "<pre><code>a\n</code></pre>\n<pre><code></code></pre>\n<p>b</p>\n") refl refl
 
--- a blank line parts two block quotes
+-- a blank line separates two block quotes
 pub quote_over_blank : Refused (codes "> a\n\n> b\n") (codes "<blockquote>\n<p>a</p>\n<p>b</p>\n</blockquote>\n")
 unfolding blocks begin opens texts lazily enter keeps underlines
 quote_over_blank = refused (codes "> a\n\n> b\n") (codes "<blockquote>\n<p>a</p>\n<p>b</p>\n</blockquote>\n") refl refl

@@ -1,4 +1,4 @@
--- The nodes of a derived document stand in order in the text, each around what is inside it.
+-- The nodes of a derived document are in order in the text, each around the nodes inside it.
 use Rattle.std.proofs.Common.{◌≡◌, ℕ, suc, ◌+◌, ◌≤◌, Bool, true, false, List, [], ◌∷◌, ◌++◌, length, drop, refl, sym, subst, arith, Option, Some, None}
 use Rattle.cmark_grammar.specs.Answers.{Lookup}
 use Rattle.cmark_grammar.specs.Options.{Options}
@@ -26,7 +26,7 @@ use Rattle.cmark_grammar.specs.TaskItems.{behind_box}
 use Rattle.cmark_grammar.proofs.TaskLaws.{task-order}
 use Rattle.std.specs.Prelude.{if◌then◌else◌}
 
--- what lines end at is not in front of the first line's end
+-- the end of some lines is not before the first line's end
 line_end-le : (first : Row) (more : List Row) → Along first.line_end more (last_line_end first more) → first.line_end ≤ last_line_end first more
 line_end-le first more h = Along-le first.line_end more (last_line_end first more) h
 
@@ -84,7 +84,7 @@ title-order : (from : ℕ) (is_title : Bool) (list kind other : BlockKind) (star
 title-order from true list kind other start end inside after behind to s i a b = item-order from true list (node kind start end) inside after to s i a
 title-order from false list kind other start end inside after behind to s i a b = (s, i, b)
 
--- inside a container the lines stand behind its start
+-- inside a container the lines come after its start
 enter-Lies : (k : Container) (from : ℕ) (r : Row) → Lies from r → Lies (begin_of r) (enter k r)
 unfolding enter
 enter-Lies k from r h = Lies-without _ from r h

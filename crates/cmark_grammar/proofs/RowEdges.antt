@@ -1,4 +1,4 @@
--- Where a line begins and ends behind prefixes no character is cut: prefixes are ASCII.
+-- A line begins and ends after prefixes at character boundaries: prefixes are ASCII.
 use Rattle.std.proofs.Common.{◌≡◌, ◌⊎◌, inl, inr, ⊎_elim, ℕ, zero, suc, ◌+◌, ◌-◌, ◌≤◌, ◌<◌, Bool, true, false, ◌==◌, ◌&&◌, ◌||◌, not, List, [], ◌∷◌, ◌++◌, length, drop, refl, sym, ap, ◌∙◌, subst, arith, Option, Some, None, true≢false, drop-drop}
 use Rattle.std.specs.Prelude.{if◌then◌else◌, nat_le, nat_lt}
 use Rattle.cmark_grammar.specs.Options.{Options}
@@ -54,7 +54,7 @@ bullet-ascii b e = ⊎_elim (λ x. is-ascii b 45 (omega arith) x) (λ x. ⊎_eli
 delimiter-ascii : (b : ℕ) → is_delimiter b ≡ true → b < 128
 delimiter-ascii b e = ⊎_elim (λ x. is-ascii b 46 (omega arith) x) (λ x. is-ascii b 41 (omega arith) x) (either (b == 46) (b == 41) e)
 
--- the front of a line's indent
+-- the beginning of a line's indent
 pub indent-front : (cs : List Column) → Front IsAsciiColumn (indent cs) cs
 indent-front cs = prefix-front is_blank IsAsciiColumn (λ c e. blank-ascii c.byte e) cs
 
@@ -139,7 +139,7 @@ module _ (E : ℕ → Type 0) where
   drop-good (suc n) [] g = tt
   drop-good (suc n) (c ∷ cs) g = drop-good n cs g.1
 
-  -- ASCII bytes in front are ASCII columns in front
+  -- ASCII bytes at the beginning are ASCII columns at the beginning
   pub bytes-front : (n : ℕ) (cs : List Column) → AreGood cs → Front IsAsciiByte n (bytes_of cs) → Front IsAsciiColumn n cs
   bytes-front n [] g f = tt
   bytes-front zero (c ∷ cs) g f = tt
@@ -149,7 +149,7 @@ module _ (E : ℕ → Type 0) where
       go true e f ih = (f.0, ih f.1)
       go false e f ih = (g.0.0 e, ih (front-less IsAsciiByte n (suc n) (bytes_of cs) (omega arith) f))
 
-  -- behind ASCII columns no character is cut
+  -- after ASCII columns comes a character boundary
   pub drop-E : (n from : ℕ) (cs : List Column) (to : ℕ) → Runs from cs to → AreGood cs → Front IsAsciiColumn n cs → E from → E to → E (first_place to (drop n cs))
   drop-E zero from cs to h g f ef et = subst E (sym (first_place-Runs from cs to h)) ef
   drop-E (suc n) from [] to h g f ef et = et
@@ -185,14 +185,14 @@ module _ (E : ℕ → Type 0) where
       let t : suc (indent r.columns) + one_blank (drop (suc (indent r.columns)) r.columns) ≡ block_quote_width r = omega arith in
       subst (λ k. Front IsAsciiColumn k r.columns) t (front-add IsAsciiColumn (suc (indent r.columns)) (one_blank (drop (suc (indent r.columns)) r.columns)) r.columns (subst (λ k. Front IsAsciiColumn k r.columns) s front) (one_blank-front (drop (suc (indent r.columns)) r.columns)))
 
-  -- an item's marker with what counts behind it
+  -- an item's marker with the blanks after it that count
   width-front : (size : ℕ) (r : Row) → GoodRow r → Front IsAsciiByte size (words_of r) → Front IsAsciiColumn (width_with size r) r.columns
   width-front size r g f =
       let marked : Front IsAsciiColumn size (without_indent r.columns) = bytes-front size (without_indent r.columns) (drop-good (indent r.columns) r.columns g.good) f in
       let behind : Front IsAsciiColumn (padding (behind_marker size r)) (drop size (without_indent r.columns)) = subst (λ cs. Front IsAsciiColumn (padding (behind_marker size r)) cs) (sym (drop-drop size (indent r.columns) r.columns)) (padding-front (behind_marker size r)) in
       front-add IsAsciiColumn (indent r.columns) (size + padding (behind_marker size r)) r.columns (indent-front r.columns) (front-add IsAsciiColumn size (padding (behind_marker size r)) (without_indent r.columns) marked behind)
 
-  -- behind what a container's first line has in front no character is cut
+  -- after the prefix of a container's first line comes a character boundary
   abbrev MarkerGood : Container → Row → Type 0
   MarkerGood k r = GoodRow (without (marker_width k r) r)
 
@@ -200,7 +200,7 @@ module _ (E : ℕ → Type 0) where
   SomeGood r None = Unit {0}
   SomeGood r (Some k) = MarkerGood k r × GoodRow (without (width_of k r) r)
 
-  -- nor between an item's marker and a task marker, and behind that
+  -- so it does between an item's marker and a task marker, and after that
   box-good : (options : Options) (r : Row) (is_checked : Bool) → task_in options r ≡ Some is_checked → GoodRow r → GoodRow (without 3 r)
   box-good options r is_checked e g = go (options.tasklists) (indent_of r == 0) refl e
     where
@@ -239,7 +239,7 @@ module _ (E : ℕ → Type 0) where
   none-over [] = refl
   none-over (c ∷ cs) = refl
 
-  -- nor is one behind bytes of which the last is ASCII
+  -- so it does after bytes of which the last is ASCII
   over-E : (n from : ℕ) (cs : List Column) (to : ℕ) → Runs from cs to → AreGood cs → IsAsciiAt n (bytes_of cs) → E to → E (first_place to (drop (columns_over (suc n) cs) cs))
   over-E n from [] to h g last et = et
   over-E n from (c ∷ cs) to h g last et = go (c.part == 0) n (λ m l. over-E m (suc c.at) cs to h.1 g.1 l et) last
@@ -375,23 +375,23 @@ module _ (E : ℕ → Type 0) where
   unfolding enter
   enter-good options k r ahead e g = (subst (OpeningFront r) e (front_opens options r ahead g)).1
 
-  -- nor behind an item's task marker
+  -- after an item's task marker comes a character boundary
   pub enter-begin : (options : Options) (delimiter : ℕ) (number : Option ℕ) (width : ℕ) (task : Option Bool) (r : Row) (ahead : List Row) → opens options r ahead ≡ Nests (Item delimiter number width task) → GoodRow r → E (begin_of (without (behind_box task width) r))
   enter-begin options delimiter number width task r ahead e g = (subst (OpeningFront r) e (front_opens options r ahead g)).1.begin
 
-  -- nor behind a container's own marker
+  -- after a container's own marker comes a character boundary
   pub marker-good : (options : Options) (k : Container) (r : Row) (ahead : List Row) → opens options r ahead ≡ Nests k → GoodRow r → GoodRow (without (marker_width k r) r)
   marker-good options k r ahead e g = (subst (OpeningFront r) e (front_opens options r ahead g)).0
 
   pub leaf-front : (options : Options) (r : Row) (ahead : List Row) (leaf : Leaf) (n : ℕ) → opens options r ahead ≡ Takes leaf n → GoodRow r → LeafFront r leaf
   leaf-front options r ahead leaf n e g = subst (OpeningFront r) e (front_opens options r ahead g)
 
-  -- nor behind the marker of a definition
+  -- after the marker of a definition comes a character boundary
   pub definition-good : (width : ℕ) (r : Row) → begins_with 58 (words_of r) ≡ true → width ≡ width_with 1 r → GoodRow r → GoodRow (enter (ListDefinition width) r)
   unfolding enter
   definition-good width r colon is g = subst (λ n. GoodRow (without n r)) (sym is) (without-good (width_with 1 r) r g (width-front 1 r g (begins-front 58 (words_of r) (omega arith) colon)))
 
-  -- nor what its later lines have in front
+  -- after the prefix of a definition's later lines comes a character boundary
   wide-good : (width : ℕ) (r s : Row) → GoodRow r → (if is_blank_line r || nat_le width (indent_of r) then Some (without width r) else None) ≡ Some s → GoodRow s
   wide-good width r s g e = go (is_blank_line r) (nat_le width (indent_of r)) refl refl e
     where

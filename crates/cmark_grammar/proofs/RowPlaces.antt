@@ -1,4 +1,4 @@
--- Where the columns of lines stand in the text.
+-- The places of lines' columns in the text.
 use Rattle.std.proofs.Common.{◌≡◌, ℕ, zero, suc, ◌+◌, ◌≤◌, ◌<◌, Bool, true, false, ◌==◌, ◌||◌, nat_le, if◌then◌else◌, List, [], ◌∷◌, ◌++◌, length, drop, take, refl, sym, ap, ◌∙◌, subst, arith, Option, Some, None, ne_eqb}
 use Rattle.std.specs.Prelude.{if◌then◌else◌}
 use Rattle.cmark_grammar.specs.Lines.{lines, ends_line, onto, content}
@@ -6,7 +6,7 @@ use Rattle.cmark_grammar.specs.Columns.{Column, tab, expand, tab_columns, to_tab
 use Rattle.cmark_grammar.specs.Rows.{Row, rows, rows_from, row_at, without, hold, is_blank_line, indent_of, place, first_place, begin_of, start_of, last_line_end}
 use Rattle.cmark_grammar.specs.Containers.{Container, BlockQuote, Item, Footnote, ListDefinition, keeps, keep_as, strip_as, strip, strips, is_block_quote, block_quote_width}
 
--- these columns stand one behind the other, from one place to another
+-- these columns are consecutive, from one place to another
 abbrev pub Runs : ℕ → List Column → ℕ → Type 0
 Runs from [] to = from ≡ to
 Runs from (c ∷ cs) to = (place c ≡ from) × Runs (suc c.at) cs to
@@ -42,7 +42,7 @@ drop-Runs (suc n) from (c ∷ cs) to h =
     let l : suc c.at ≤ first_place to (drop n cs) = ih.1 in
     (ih.0, omega (arith, p, e, l))
 
--- what is left when more columns are dropped begins further on
+-- if more columns are dropped, the rest begins later
 pub drop-mono : (m n from : ℕ) (cs : List Column) (to : ℕ) → m ≤ n → Runs from cs to → first_place to (drop m cs) ≤ first_place to (drop n cs)
 drop-mono zero n from cs to le h =
     let e : first_place to cs ≡ from = first_place-Runs from cs to h in
@@ -74,7 +74,7 @@ Lies-without n from r h = let d = drop-Runs n (begin_of r) r.columns r.content_e
 pub Lies-lower : (a b : ℕ) (r : Row) → a ≤ b → Lies b r → Lies a r
 Lies-lower a b r le h = let p : b ≤ begin_of r = h.0 in (omega (arith, le, p), h.1, h.2)
 
--- lines one behind the other
+-- lines in order, without gaps
 abbrev pub Along : ℕ → List Row → ℕ → Type 0
 Along from [] to = from ≤ to
 Along from (r ∷ rs) to = Lies from r × Along r.line_end rs to
@@ -92,7 +92,7 @@ Along-le from (r ∷ rs) to h =
     let d : r.line_end ≤ to = Along-le r.line_end rs to h.1 in
     omega (arith, a, b, c, d)
 
--- prefixes taken off leave lines one behind the other
+-- without their prefixes the lines are still in order
 wide-without : (width : ℕ) (r s : Row) → (if is_blank_line r || nat_le width (indent_of r) then Some (without width r) else None) ≡ Some s → without width r ≡ s
 wide-without width r s e = go _ e
   where
@@ -100,7 +100,7 @@ wide-without width r s e = go _ e
     go true q = cc
     go false q = cc
 
--- a line without some columns in front, and held or not
+-- a line without some columns at the beginning, held or not
 abbrev pub behind_prefix : ℕ → (held : Bool) → Row → Row
 behind_prefix n held r = record (without n r) { held = held }
 
@@ -151,7 +151,7 @@ strips-Along k bare from [] to h = h
 strips-Along k bare from (r ∷ rs) to h =
     (strip-Lies k bare from r h.0, subst (λ p. Along p (strips k false rs) to) (sym (strip-line_end k bare r)) (strips-Along k false r.line_end rs to h.1))
 
--- the lines of a text stand one behind the other
+-- the lines of a text are in order, without gaps
 tab-Runs : (at part n : ℕ) (rest : List Column) (to : ℕ) → Runs (suc at) rest to → Runs (suc at) (tab_columns at (suc part) n ++ rest) to
 tab-Runs at part zero rest to h = h
 tab-Runs at part (suc n) rest to h = (ap (λ z. if z then at else suc at) (ne_eqb (suc part) 0 (omega arith)), tab-Runs at (suc part) n rest to h)

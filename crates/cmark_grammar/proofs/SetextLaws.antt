@@ -24,7 +24,7 @@ not-less a b e = grind (arith)
 -- ## Places
 
 module _ (E : ℕ → Type 0) where
-  -- no character is cut where an ASCII byte of these columns stands
+  -- the place of an ASCII byte in these columns is a character boundary
   abbrev pub Reaches : List Column → Type 0
   Reaches [] = Unit {0}
   Reaches (c ∷ cs) = (c.byte < 128 → E (place c)) × Reaches cs

@@ -1,4 +1,4 @@
--- What is read of a text leaves less of it behind: so each find leads on.
+-- Reading a part of a text leaves fewer bytes, so that each search makes progress.
 use Rattle.std.specs.Prelude.{ℕ, cond, zero, suc, ◌<◌, ◌≤◌, Bool, true, false, ◌==◌, ◌||◌, ◌&&◌, not, nat_le, if◌then◌else◌, List, [], ◌∷◌, length, drop, take_while, codes, Option, Some, None, option_map}
 use Rattle.std.specs.Option.{option_or}
 use Rattle.std.specs.List.{prefix_len}
@@ -17,7 +17,7 @@ use Rattle.cmark_grammar.specs.LinkDefinitions.{Parsed, put, is_label, label_if,
 use Rattle.cmark_grammar.specs.LinkTails.{LinkTail, closed_tail, with_title, title_behind, tail_inside, link_tail_in, reference_label_in, behind_collapsed}
 use Rattle.cmark_grammar.specs.Tags.{is_name_byte, is_attribute_start, is_attribute_byte, is_value_byte, is_space_byte, behind_line_feed, behind_ending, behind_tag_name, behind_attribute_name, behind_bare_value, behind_greater, behind_open_end, behind_closing_tag, without_prefix, on_next_line, behind_space, prefix_behind, behind_quotation_mark, behind_value, behind_assigned, behind_attribute, behind_attributes, behind_open_tag, behind_tag_start, behind_tag}
 
--- fewer than so many bytes are left, if the part was there
+-- fewer than `n` bytes are left, if the part was there
 abbrev pub LeavesBelow : ℕ → Option (List ℕ) → Type 0
 LeavesBelow n None = Unit {0}
 LeavesBelow n (Some rest) = length rest < n
@@ -26,7 +26,7 @@ abbrev pub ParsedBelow : ℕ → Option Parsed → Type 0
 ParsedBelow n None = Unit {0}
 ParsedBelow n (Some found) = length found.behind < n
 
--- one of two
+-- either of two
 pub either : {A : Type 0} (P : A → Type 0) (b : Bool) (x y : A) → P x → P y → P (if b then x else y)
 either P true x y h k = h
 either P false x y h k = k
@@ -164,7 +164,7 @@ module _ (prefix : List ℕ → ℕ) where
       and_shorter (length bs) (length bs) (behind_if (λ b. b == 60) bs) (behind_tag_start prefix) (if-shorter (λ b. b == 60) bs)
       (λ rest h. more (length rest) (length bs) (behind_tag_start prefix rest) (omega arith) (start_shorter rest))
 
--- ## Inline HTML behind its first two bytes
+-- ## Inline HTML after its first two bytes
 
 comment_within : (bs : List ℕ) → LeavesBelow (suc (length bs)) (behind_comment bs)
 comment_within bs =
@@ -172,7 +172,7 @@ comment_within bs =
     or_else n (behind_start (codes ">") bs) (option_or (behind_start (codes "->") bs) (behind_first (codes "-->") bs)) (start_within (codes ">") bs)
     (or_else n (behind_start (codes "->") bs) (behind_first (codes "-->") bs) (start_within (codes "->") bs) (first_within (codes "-->") bs))
 
--- the part that opened leaves fewer than so many bytes, if it closed
+-- the part that opened leaves fewer than `n` bytes, if it closed
 abbrev OpenedBelow : ℕ → Option (Option (List ℕ)) → Type 0
 OpenedBelow n o = LeavesBelow n (behind_opened o)
 
@@ -214,7 +214,7 @@ closed-shorter closer size bs =
     either (ParsedBelow (suc (length bs))) (first_is (λ b. b == closer) (drop size bs)) (Some (record { bytes = _; behind = drop (suc size) bs })) None
     (let e = dropped (suc size) bs in omega arith) tt
 
--- ## What stands behind a closing bracket
+-- ## The part of a link after its closing bracket
 
 up_within : (escaped : Bool) (closer refused : ℕ) (over_lines : Bool) (bs : List ℕ) → ParsedBelow (length bs) (up_to escaped closer refused over_lines bs)
 up_within escaped closer refused over_lines [] = tt

@@ -17,7 +17,7 @@ set_here [] (suc n) x v r e = absurd (omega arith)
 set_here (y ∷ a) zero x v r e = absurd (omega arith)
 set_here (y ∷ a) (suc n) x v r e = ap (λ l. y ∷ l) (set_here a n x v r (omega arith))
 
--- entries in the place of as many
+-- entries in place of the same number of others
 write_here : {Entry : Type 0} (xs ys a r : List Entry) (n : ℕ) → length xs ≡ length ys → n ≡ length a → write n xs (a ++ (ys ++ r)) ≡ a ++ (xs ++ r)
 write_here [] [] a r n e f = refl
 write_here [] (y ∷ ys) a r n e f = absurd (omega arith)
@@ -27,7 +27,7 @@ write_here (x ∷ xs) (y ∷ ys) a r n e f =
     ∙ write_here xs ys (a ++ x ∷ []) r (suc n) (omega arith) (omega (arith, length-append a (x ∷ [])))
     ∙ append_assoc a (x ∷ []) (xs ++ r)
 
--- there are as many entries as the span has bytes a side
+-- the number of entries is the number of the span's bytes on each side
 abbrev pub IsWide : {Entry : Type 0} → (SpanKind → List Entry) → Type 0
 IsWide side = (k : SpanKind) → length (side k) ≡ span_width k
 
@@ -173,7 +173,7 @@ module _ (Entry : Type 0) (single : Entry) (opening closing : SpanKind → List 
   row_more p b own more h k =
       ap (λ l. l ++ more) h ∙ ap (λ l. entries_of (row b Nil) ++ l) (k ∙ sym (entries-before p)) ∙ sym (entries-row b (before p Nil))
 
-  -- entries cut where some pieces end
+  -- the entries, divided at the end of some pieces
   record Cut (s : List Entry) (b rest : List Piece) : Type 0 where
     front : List Entry
     own : List Entry

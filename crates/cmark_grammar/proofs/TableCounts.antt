@@ -108,7 +108,7 @@ module _ (options : Options) where
         go true = tt
         go false = tt
 
-    -- a head has as many cells as the row behind it
+    -- the head has the same number of cells as the row after it
     abbrev HasColumns : Option (List Alignment) → Type 0
     HasColumns None = Unit {0}
     HasColumns (Some alignments) = length alignments ≡ count_cells r

@@ -1,4 +1,4 @@
--- Documents with tables, by computation: which lines are heads and rows, and where nodes stand.
+-- Documents with tables, by computation: the lines that are heads and rows, and the places of nodes.
 use Rattle.std.specs.Prelude.{◌≡◌, ◌∷◌, [], true, codes, Some, None}
 use Rattle.std.proofs.Common.{refl}
 use Rattle.cmark_grammar.specs.Alignment.{Unaligned, Left, Center, Right}
@@ -14,7 +14,7 @@ use Rattle.cmark_grammar.specs.Options.{Options, no_options}
 abbrev tables : Options
 tables = record no_options { tables = true }
 
--- a head, and a row of which a cell is filled in at the end: the delimiter row stands in none of them
+-- a head, and a row at whose end a cell is filled in: the delimiter row belongs to neither
 filled : outline (document (codes "a|b \n-|-\nc\n") tables basic_entity) ≡
     node (Table (Unaligned ∷ Unaligned ∷ [])) 0 11 ∷ node TableHead 0 5 ∷ node TableCell 0 1 ∷ node (Text (codes "a")) 0 1 ∷ node TableCell 2 4 ∷ node (Text (codes "b")) 2 3 ∷
     node TableRow 9 11 ∷ node TableCell 9 10 ∷ node (Text (codes "c")) 9 10 ∷ node TableCell 11 11 ∷ []
@@ -26,7 +26,7 @@ off : outline (document (codes "a|b\n-|-\n") no_options basic_entity) ≡ node P
 unfolding blocks begin opens texts lazily enter keeps underlines
 off = refl
 
--- a delimiter row needs a pipe, as many cells as the head, and at most three columns of indent
+-- a delimiter row has a pipe, the same number of cells as the head, and at most three columns of indent
 few : outline (document (codes "a|b\n-|-|-\n") tables basic_entity) ≡ node Paragraph 0 10 ∷ node (Text (codes "a|b\n-|-|-")) 0 9 ∷ []
 unfolding blocks begin opens texts lazily enter keeps underlines
 few = refl
@@ -42,7 +42,7 @@ rows : outline (document (codes "|a|\n|-|\n|\n|-|\n    # b") tables basic_entity
 unfolding blocks begin opens texts lazily enter keeps underlines
 rows = refl
 
--- a table interrupts a paragraph where a pipe stands in front
+-- a table interrupts a paragraph only if it begins with a pipe
 interrupts : outline (document (codes "a\n|b|\n|:-|") tables basic_entity) ≡
     node Paragraph 0 2 ∷ node (Text (codes "a")) 0 1 ∷ node (Table (Left ∷ [])) 2 10 ∷ node TableHead 2 6 ∷ node TableCell 3 4 ∷ node (Text (codes "b")) 3 4 ∷ []
 unfolding blocks begin opens texts lazily enter keeps underlines
@@ -52,7 +52,7 @@ interrupts_not : outline (document (codes "a\nb|\n-|") tables basic_entity) ≡ 
 unfolding blocks begin opens texts lazily enter keeps underlines
 interrupts_not = refl
 
--- outside of a block quote's paragraph too, where the delimiter row shows the prefixes that the head does
+-- outside of a block quote's paragraph too, if the delimiter row has the prefixes that the head has
 lazy : outline (document (codes "> a\n|b|\n|-|") tables basic_entity) ≡
     node (BlockQuote None) 0 4 ∷ node Paragraph 2 4 ∷ node (Text (codes "a")) 2 3 ∷ node (Table (Unaligned ∷ [])) 4 11 ∷ node TableHead 4 8 ∷ node TableCell 5 6 ∷ node (Text (codes "b")) 5 6 ∷ []
 unfolding blocks begin opens texts lazily enter keeps underlines

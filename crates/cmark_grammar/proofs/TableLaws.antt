@@ -1,4 +1,4 @@
--- Each row of a table has as many cells as the table has columns.
+-- The number of cells of each row is the number of the table's columns.
 use Rattle.std.proofs.Common.{ℕ, zero, suc, ◌+◌, Bool, true, false, ◌==◌, List, [], ◌∷◌, length, drop, take_while, refl, sym, subst, Option, Some, None}
 use Rattle.std.specs.Prelude.{if◌then◌else◌, nat_lt}
 use Rattle.cmark_grammar.specs.Answers.{Lookup}
@@ -19,7 +19,7 @@ use Rattle.cmark_grammar.specs.TableRows.{cells_start, cells_of}
 use Rattle.cmark_grammar.specs.TableTokens.{cells_then, row_cells, row_tokens}
 use Rattle.cmark_grammar.specs.TaskItems.{behind_box}
 
--- so many cells, whatever the row has
+-- `columns` cells, whatever the row contains
 cells-counted : (text : List ℕ) (columns at line_end : ℕ) (cells : List (List ℕ)) → AreCells columns (cells_then text columns at line_end cells)
 cells-counted text zero at line_end cells = tt
 cells-counted text (suc columns) at line_end [] = (refl, cells-counted text columns at line_end [])
@@ -32,7 +32,7 @@ rows-counted : (text : List ℕ) (columns : ℕ) (rs : List Row) → AreRows col
 rows-counted text columns [] = tt
 rows-counted text columns (r ∷ rs) = (refl, row-counted text columns r, rows-counted text columns rs)
 
--- what stands in leaves holds no table
+-- leaves contain no table
 texts-rectangular : (ps : List Piece) (after : BlockDocument) → HasRectangularTables after → HasRectangularTables (texts_then ps after)
 texts-rectangular [] after h = h
 texts-rectangular (p ∷ ps) after h = (of_piece p.owned, tt, texts-rectangular ps after h)

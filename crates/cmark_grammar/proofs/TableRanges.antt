@@ -1,4 +1,4 @@
--- Where the cells of tables stand, and how many nodes they are.
+-- The places of table cells, and the number of their nodes.
 use Rattle.std.proofs.Common.{◌≡◌, ℕ, zero, suc, ◌+◌, ◌-◌, ◌*◌, ◌≤◌, ◌<◌, Bool, true, false, ◌==◌, ◌&&◌, not, List, [], ◌∷◌, length, take_while, refl, sym, ap, ◌∙◌, subst, arith}
 use Rattle.std.specs.Prelude.{if◌then◌else◌, cond, nat_lt}
 use Rattle.std.proofs.lemmas.List.Sums.{take_while-cons}
@@ -15,7 +15,7 @@ use Rattle.cmark_grammar.specs.Tokens.{slice, Piece, texts_then}
 use Rattle.cmark_grammar.proofs.RowPlaces.{Runs, drop-Runs, Lies, start-Runs, Along}
 use Rattle.cmark_grammar.proofs.RowEdges.{is-ascii, blank-ascii, AreGood, drop-good, GoodRow, start-E, GoodRows}
 
--- columns that stand one behind the other have a byte for each place
+-- consecutive columns have a byte for each place
 pub bytes-places : (from : ℕ) (cs : List Column) (to : ℕ) → Runs from cs to → from + length (bytes_of cs) ≡ to
 bytes-places from [] to h = let e : from ≡ to = h in omega (arith, e)
 bytes-places from (c ∷ cs) to h = go (c.part == 0) refl (bytes-places (suc c.at) cs to h.1)
@@ -50,7 +50,7 @@ drop_end-less p (b ∷ bs) = go (drop_end p bs) (p b) (drop_end-less p bs)
 
 -- ## Order
 
--- the text of a cell is in it, where there is some
+-- the text of a cell is in the cell, if there is one
 abbrev piece : List ℕ → ℕ → ℕ → Piece
 piece text start end = record { owned = false; bytes = slice text start end; start = start; end = end }
 
@@ -73,7 +73,7 @@ cell-order text at cell = go (nat_lt start end) refl
     go true e = let l : start < end = less start end e in (omega arith, omega (arith, l), low)
     go false e = omega arith
 
--- these cells stand in order before a place
+-- these cells are in order before a place
 abbrev Fit : (from at line_end : ℕ) → List (List ℕ) → Type 0
 Fit from at line_end [] = from ≤ line_end
 Fit from at line_end (cell ∷ cells) = (from ≤ at) × (at + length cell ≤ line_end) × Fit (at + length cell) (suc (at + length cell)) line_end cells
@@ -129,7 +129,7 @@ row_tokens-order text columns from (r ∷ rs) to low a = (low from r a.0, row_ce
 -- ## Edges
 
 module _ (E : ℕ → Type 0) where
-  -- around each ASCII byte of these, which stand from a place on, no character is cut
+  -- both sides of each ASCII byte of these, from a place on, are character boundaries
   abbrev Uncut : ℕ → List ℕ → Type 0
   Uncut at [] = Unit {0}
   Uncut at (b ∷ bs) = (b < 128 → E at × E (suc at)) × Uncut (suc at) bs
@@ -171,12 +171,12 @@ module _ (E : ℕ → Type 0) where
       go true = (past-blanks at cell e u, before-blanks at cell f u, tt, tt)
       go false = tt
 
-  -- these cells stand from a place on
+  -- these cells begin at a place
   abbrev Stand : (at : ℕ) → List (List ℕ) → Type 0
   Stand at [] = Unit {0}
   Stand at (cell ∷ cells) = E at × Uncut at cell × E (at + length cell) × Stand (suc (at + length cell)) cells
 
-  -- the same, whether or not a character is cut where they begin
+  -- these cells begin at a place, which need not be a character boundary
   abbrev StandBehind : (at : ℕ) → List (List ℕ) → Type 0
   StandBehind at [] = Unit {0}
   StandBehind at (cell ∷ cells) = Uncut at cell × E (at + length cell) × Stand (suc (at + length cell)) cells
@@ -234,7 +234,7 @@ module _ (E : ℕ → Type 0) where
   cells-edged text (suc columns) at line_end [] e s = (e, e, tt, cells-edged text columns at line_end [] e tt)
   cells-edged text (suc columns) at line_end (cell ∷ cells) e s = (s.0, s.2, cell-edged text at cell s.0 s.2 s.1, cells-edged text columns (suc (at + length cell)) line_end cells e s.3)
 
-  -- behind a pipe in front
+  -- after a pipe at the beginning
   first-stand : (at : ℕ) (bs : List ℕ) → E at → E (at + length bs) → Uncut at bs → Stand (at + (length bs - length (without_first_pipe bs))) (parts false (without_first_pipe bs))
   first-stand at [] e f u = subst (λ n. Stand n (parts false [])) (let z : at ≡ at + (0 - 0) = omega arith in z) (stand-from at (parts false []) e (parts-stand false at [] f u))
   first-stand at (b ∷ bs) e f u = go (b == pipe) refl

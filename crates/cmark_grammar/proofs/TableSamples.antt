@@ -9,7 +9,7 @@ use Rattle.cmark_grammar.specs.TableRows.{cells_of, cells_start, count_missing, 
 abbrev tables : Options
 tables = record no_options { tables = true }
 
--- one pipe in front and one behind are none of the cells, and what is empty between two is one
+-- a pipe before and a pipe after the cells belong to no cell; an empty part between two pipes is a cell
 outer_pipes : cells_of (codes "| a | b |  ") ≡ codes " a " ∷ codes " b " ∷ []
 outer_pipes = refl
 
@@ -22,18 +22,18 @@ lone_pipe = refl
 two_pipes : cells_of (codes "||") ≡ [] ∷ []
 two_pipes = refl
 
--- a pipe directly behind a backslash parts nothing, also behind two, and at the end; one in code does
+-- a pipe directly after a backslash separates no cells, also after two, and at the end; a pipe in code does
 escaped : cells_of (codes "a\\|b\\\\|c|`d|e`|f\\|") ≡ codes "a\\|b\\\\|c" ∷ codes "`d" ∷ codes "e`" ∷ codes "f\\|" ∷ []
 escaped = refl
 
--- where the first cell begins, and how many cells are filled in at the end of a row of three columns
+-- the place of the first cell, and the number of cells filled in at the end of a row of three columns
 starts : map cells_start (rows (codes " |a\nb|\n")) ≡ 2 ∷ 4 ∷ []
 starts = refl
 
 missing : map (count_missing 3) (rows (codes "a\n|\na|b|\na|b|c|d\n")) ≡ 2 ∷ 3 ∷ 1 ∷ 0 ∷ []
 missing = refl
 
--- rows go on to the first line that ends a table, or that has more cells to fill in than are left
+-- rows end before the first line that ends a table, or that needs more cells than may still be filled in
 abbrev blank : Row → List Row → Bool
 blank r ahead = is_blank_line r
 
@@ -63,7 +63,7 @@ head = refl
 off : head_in no_options (rows (codes "a|b\n-|-\n")) ≡ None
 off = refl
 
--- a delimiter row has as many cells as the head, and at most three columns of indent; a pipe parts the head's cells
+-- a delimiter row has the same number of cells as the head, and at most three columns of indent; a pipe separates the head's cells
 more : head_in tables (rows (codes "a|b\n-|-|-\n")) ≡ None
 more = refl
 
@@ -80,7 +80,7 @@ last = refl
 lazy : head_in tables (map lazy_row (rows (codes "a|\n-|"))) ≡ None
 lazy = refl
 
--- a paragraph is interrupted where a pipe stands in front, behind at most three columns of indent
+-- a paragraph is interrupted if the line begins with a pipe, indented by at most three columns
 in_front : interrupts_in (rows (codes " |b|\n|-|")) ≡ true
 in_front = refl
 

@@ -1,4 +1,4 @@
--- Examples of tags and of other inline HTML (CommonMark 6.5 and 6.6), computed: what stands behind them.
+-- Examples of tags and of other inline HTML (CommonMark 6.5 and 6.6), computed: the bytes after them.
 use Rattle.std.specs.Prelude.{◌≡◌, ℕ, false, List, codes, Option, Some, None}
 use Rattle.std.proofs.Common.{refl}
 use Rattle.cmark_grammar.specs.Tags.{behind_tag, no_prefix}

@@ -1,4 +1,4 @@
--- Documents with task list items, by computation: where the markers stand, and what stands behind them.
+-- Documents with task list items, by computation: the places of the markers, and the blocks after them.
 use Rattle.std.specs.Prelude.{◌≡◌, ◌∷◌, [], true, false, codes, Some, None}
 use Rattle.std.proofs.Common.{refl}
 use Rattle.cmark_grammar.specs.Attributes.{no_attributes}
@@ -19,7 +19,7 @@ use Rattle.cmark_grammar.specs.TagEnd as end
 abbrev tasklists : Options
 tasklists = record no_options { tasklists = true }
 
--- a marker stands before the text of its item, whose box and blank it takes
+-- a marker comes before the text of its item; its range is the box and the blank
 checked : outline (document (codes "- [x] a\n") tasklists basic_entity) ≡
     node (BlockList None true) 0 8 ∷ node ListItem 0 8 ∷ node (TaskMarker true) 2 5 ∷ node TightParagraph 6 8 ∷ node (Text (codes "a")) 6 7 ∷ []
 unfolding blocks begin opens texts lazily enter keeps underlines
@@ -31,7 +31,7 @@ off : outline (document (codes "- [x] a\n") no_options basic_entity) ≡
 unfolding blocks begin opens texts lazily enter keeps underlines
 off = refl
 
--- behind the box the text begins a paragraph, whatever it looks like
+-- after the box the text begins a paragraph, whatever it looks like
 heading_in_text : outline (document (codes "- [ ] # a") tasklists basic_entity) ≡
     node (BlockList None true) 0 9 ∷ node ListItem 0 9 ∷ node (TaskMarker false) 2 5 ∷ node TightParagraph 6 9 ∷ node (Text (codes "# a")) 6 9 ∷ []
 unfolding blocks begin opens texts lazily enter keeps underlines
@@ -43,7 +43,7 @@ underlined : outline (document (codes "- [ ] a\n  ===") tasklists basic_entity) 
 unfolding blocks begin opens texts lazily enter keeps underlines
 underlined = refl
 
--- a box without text behind it is text
+-- a box without text after it is text
 empty : outline (document (codes "- [x]\n") tasklists basic_entity) ≡
     node (BlockList None true) 0 6 ∷ node ListItem 0 6 ∷ node TightParagraph 2 6 ∷ node (Text (codes "[x]")) 2 5 ∷ []
 unfolding blocks begin opens texts lazily enter keeps underlines

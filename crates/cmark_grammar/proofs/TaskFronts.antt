@@ -6,7 +6,7 @@ use Rattle.cmark_grammar.specs.HtmlBlocks.{starts}
 use Rattle.cmark_grammar.specs.TaskMarkers.{box_of, is_parted_text, task_of}
 use Rattle.cmark_grammar.proofs.Fronts.{Front, IsAsciiByte}
 
--- what is ASCII among the first bytes is so in the whole
+-- ASCII bytes among the first bytes are ASCII bytes of the whole
 whole-front : (n : ℕ) (bs : List ℕ) → Front IsAsciiByte n (take n bs) → Front IsAsciiByte n bs
 whole-front n [] f = tt
 whole-front zero (b ∷ bs) f = tt

@@ -1,4 +1,4 @@
--- What holds of the blocks of an item holds with its task marker.
+-- A property of the blocks of an item also holds with its task marker.
 use Rattle.std.proofs.Common.{◌≡◌, ℕ, ◌+◌, ◌≤◌, Bool, List, Option, Some, None, refl, arith}
 use Rattle.cmark_grammar.specs.BlockDocument.{BlockDocument}
 use Rattle.cmark_grammar.specs.Derivation.{task_then}

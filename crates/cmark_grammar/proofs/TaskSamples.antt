@@ -24,19 +24,19 @@ unchecked = refl
 heading : task_in tasklists (line (codes "[ ] # a")) ≡ Some false
 heading = refl
 
--- behind an item's marker
+-- after an item's marker
 behind_bullet : task_in tasklists (without 2 (line (codes "- [x] a"))) ≡ Some true
 behind_bullet = refl
 
--- a tab parts, too
+-- a tab separates, too
 tab : task_in tasklists (line (codes "[ ]\ta")) ≡ Some false
 tab = refl
 
--- with the option off there is none
+-- with the option off there is no task marker
 off : task_in no_options (line (codes "[x] a")) ≡ None
 off = refl
 
--- nor behind a blank
+-- nor is there one after a blank
 indented : task_in tasklists (line (codes " [x] a")) ≡ None
 indented = refl
 

@@ -1,4 +1,4 @@
--- Directly in an item of a tight list stands no paragraph of its own.
+-- A paragraph directly in an item of a tight list is not an element.
 use Rattle.std.proofs.Common.{◌≡◌, ℕ, zero, suc, ◌+◌, Bool, true, false, ◌==◌, List, [], ◌∷◌, length, drop, take_while, refl, sym, ap, ◌∙◌, subst, Option, Some, None, true≢false, arith, ◌&&◌, not}
 use Rattle.std.specs.Prelude.{if◌then◌else◌, nat_lt}
 use Rattle.cmark_grammar.specs.Answers.{Lookup}
@@ -104,7 +104,7 @@ leaf_tight text options lookup tight (MetadataBlockLeaf kind) first more after h
 leaf_tight text options lookup tight (TableLeaf alignments) first more after h = (tt, (tt, row_tight text false (length alignments) first, rows_tight text false (length alignments) (drop 1 more)), h)
 
 module _ (text : List ℕ) (options : Options) (lookup : Lookup) where
-  -- where the list goes on, the next node is its rest
+  -- if the list continues, the next node is its rest
   pub record Rest (tight : Bool) (d : BlockDocument) : Type 0 where
     pub list : BlockNode
     pub items : BlockDocument
@@ -193,7 +193,7 @@ module _ (text : List ℕ) (options : Options) (lookup : Lookup) where
   title_tight false true tight start end inside after behind rest i a b = (refl, i, b)
   title_tight false false tight start end inside after behind rest i a b = (refl, i, b)
 
-  -- a definition follows a title, and goes on with its list
+  -- a definition follows a title, and continues its list
   pub title_goes_on : (b : Blocks) → is_title b ≡ true → goes_on definition_delimiter b ≡ true
   title_goes_on NoBlocks e = e
   title_goes_on (BlankLine line after) e = title_goes_on after e

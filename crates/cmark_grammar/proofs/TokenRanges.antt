@@ -1,4 +1,4 @@
--- The tokens of a leaf stand in order, where its lines stand.
+-- The tokens of a leaf are in order, at the places of its lines.
 use Rattle.std.proofs.Common.{◌≡◌, ℕ, zero, suc, ◌-◌, ◌≤◌, Bool, true, false, ◌==◌, List, [], ◌∷◌, ◌++◌, drop, refl, subst, arith}
 use Rattle.std.specs.Prelude.{if◌then◌else◌, nat_lt}
 use Rattle.cmark_grammar.specs.Attributes.{is_braced, before_braces}
@@ -50,7 +50,7 @@ html_then-order : (from : ℕ) (ps : List Piece) (mid : ℕ) (after : BlockDocum
 html_then-order from [] mid after to h a = InOrder-lower from mid after to h a
 html_then-order from (p ∷ ps) mid after to h a = (h.0, h.1, html_then-order p.end ps mid after to h.2 a)
 
--- columns up to some place not behind that one
+-- columns up to some place that is not after that one
 pub record UpTo (from : ℕ) (cs : List Column) (to : ℕ) : Type 0 where
   pub mid : ℕ
   pub runs : Runs from cs mid
@@ -148,7 +148,7 @@ without_attributes-UpTo true from cs to h =
     let before = before_braces (λ c. c.byte) cs in
     up-more from (without_trailing_blanks before) u.mid to u.low (drop_end-UpTo is_blank from before u.mid u.runs)
 
--- the columns of a heading's text, of those behind its opening sequence
+-- the columns of a heading's text, from those after its opening sequence
 pub heading-UpTo : (attributes : Bool) (from : ℕ) (cs : List Column) (to : ℕ) → Runs from cs to → UpTo from (without_closing (without_attributes attributes (without_trailing_blanks cs))) to
 heading-UpTo attributes from cs to h =
     let u = drop_end-UpTo is_blank from cs to h in
@@ -223,7 +223,7 @@ code_pieces-order text most from (r ∷ rs) to h =
 pub code-order : (text : List ℕ) (most from : ℕ) (rs : List Row) (to : ℕ) → Along from rs to → InOrder from (code_tokens text most rs) to
 code-order text most from rs to h = texts-order from (code_pieces text most rs) to Nil to (code_pieces-order text most from rs to h) (omega arith)
 
--- from the place where the first line begins without its indent
+-- from the place at which the first line begins without its indent
 pub indented-order : (text : List ℕ) (most from : ℕ) (r : Row) (rs : List Row) (to : ℕ) → Lies from r → Along r.line_end rs to → InOrder (first_place r.content_end (code_columns most r)) (code_tokens text most (r ∷ rs)) to
 indented-order text most from r rs to h a =
     let d = code_place most from r h in

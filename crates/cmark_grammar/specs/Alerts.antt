@@ -6,7 +6,7 @@ use Rattle.cmark_grammar.specs.HtmlBlocks.{lower, starts}
 use Rattle.cmark_grammar.specs.BlockQuoteKind.{BlockQuoteKind, Note, Tip, Important, Warning, Caution}
 use Rattle.cmark_grammar.specs.Options.{Options}
 
--- this tag with its letters in any case, and blanks behind it
+-- the tag with its letters in any case, and then only spaces and tabs
 abbrev pub is_tag : (tag bs : List ℕ) → Bool
 is_tag tag bs = starts tag (map lower bs) && are_blank (drop (length tag) bs)
 
@@ -20,7 +20,7 @@ alert_of bs =
     else if is_tag (codes "[!caution]") bs then Some Caution
     else None
 
--- the kind of alert that a block quote is which begins with this line behind its marker, if the option asks for alerts: no
--- blank stands in front of the tag
+-- the kind of the alert that a block quote is, if the option asks for alerts: the block quote's first line, after its marker, is a tag. No
+-- space or tab precedes the tag (this profile's own). Example: `> [!NOTE]`
 abbrev pub alert_in : Options → Row → Option BlockQuoteKind
 alert_in options r = if options.gfm && (indent_of r == 0) then alert_of (words_of r) else None

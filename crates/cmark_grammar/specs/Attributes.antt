@@ -7,6 +7,7 @@ pub record Attribute : Type 0 where
   pub name : List ℕ
   pub value : Option (List ℕ)
 
+-- the attributes of a heading: its id, its classes, and the others, in order
 pub record Attributes : Type 0 where
   pub id : Option (List ℕ)
   pub classes : List (List ℕ)
@@ -15,13 +16,13 @@ pub record Attributes : Type 0 where
 abbrev pub no_attributes : Attributes
 no_attributes = record { id = None; classes = []; others = [] }
 
--- one more byte in front: white space parts, so that the first part is empty; other bytes stand in the first part
+-- another byte before the parts. White space begins an empty part; any other byte becomes the first byte of the first part
 abbrev pub put_byte : (parts_words : Bool) → ℕ → List (List ℕ) → List (List ℕ)
 put_byte true b ws = [] ∷ ws
 put_byte false b [] = (b ∷ []) ∷ []
 put_byte false b (w ∷ ws) = (b ∷ w) ∷ ws
 
--- the words that ASCII white space parts (tab, line feed, form feed, carriage return, space); some of them are empty
+-- the words between ASCII white space (tab, line feed, form feed, carriage return, space); some of them are empty
 abbrev pub words : List ℕ → List (List ℕ)
 words [] = [] ∷ []
 words (b ∷ bs) = put_byte (is_ascii_whitespace b) b (words bs)
@@ -29,16 +30,16 @@ words (b ∷ bs) = put_byte (is_ascii_whitespace b) b (words bs)
 abbrev pub is_no_equals : ℕ → Bool
 is_no_equals b = not (b == 61)
 
--- what stands behind the `=`, where bytes begin with one
+-- the bytes after `=`, if the bytes begin with it
 abbrev pub value_behind : List ℕ → Option (List ℕ)
 value_behind [] = None
 value_behind (b ∷ bs) = Some bs
 
--- a word with a `=` is a name and a value, parted by the first `=`; another one is a name
+-- a word with a `=` is a name and a value: the first `=` separates them. Another word is a name
 abbrev pub attribute_of : List ℕ → Attribute
 attribute_of bs = record { name = take_while is_no_equals bs; value = value_behind (drop (length (take_while is_no_equals bs)) bs) }
 
--- one more word: `#id`, of which the last one counts, `.class`, or an attribute; a word of one byte is passed over
+-- another word: `#id` (the last one counts), `.class`, or an attribute. A word of one byte is ignored
 abbrev pub with_word : Attributes → List ℕ → Attributes
 with_word a [] = a
 with_word a (b ∷ []) = a
@@ -47,7 +48,7 @@ with_word a (b ∷ (c ∷ bs)) =
     else if b == 46 then record a { classes = a.classes ++ (c ∷ bs) ∷ [] }
     else record a { others = a.others ++ attribute_of (b ∷ (c ∷ bs)) ∷ [] }
 
--- what the words between the braces say
+-- the attributes that the words between the braces give. Example: `#top .wide lang=en`
 abbrev pub attributes_of : List ℕ → Attributes
 attributes_of bs = fold with_word no_attributes (words bs)
 
@@ -56,7 +57,7 @@ without_last [] = []
 without_last (x ∷ []) = []
 without_last (x ∷ (y ∷ ys)) = x ∷ without_last (y ∷ ys)
 
--- elements that stand for bytes
+-- elements, each with the byte that it is
 module _ {A : Type 0} (byte : A → ℕ) where
   abbrev pub is_brace : A → Bool
   is_brace x = (byte x == 123) || (byte x == 125)
@@ -67,17 +68,17 @@ module _ {A : Type 0} (byte : A → ℕ) where
   closes (x ∷ []) = byte x == 125
   closes (x ∷ (y ∷ ys)) = not (is_brace x) && closes (y ∷ ys)
 
-  -- a `{` in front, a `}` at the end, and no other brace
+  -- a `{` at the beginning, a `}` at the end, and no other brace
   abbrev pub is_braced : List A → Bool
   is_braced [] = false
   is_braced (x ∷ xs) = (byte x == 123) && closes xs
 
-  -- what stands before braces at the end; all, where there are none
+  -- the elements before the braces at the end; all elements, if there are no braces
   abbrev pub before_braces : List A → List A
   before_braces [] = []
   before_braces (x ∷ xs) = if is_braced (x ∷ xs) then [] else x ∷ before_braces xs
 
-  -- what stands between braces at the end; nothing, where there are none
+  -- the elements between the braces at the end; nothing, if there are no braces
   abbrev pub inside_braces : List A → List A
   inside_braces [] = []
   inside_braces (x ∷ xs) = if is_braced (x ∷ xs) then without_last xs else inside_braces xs

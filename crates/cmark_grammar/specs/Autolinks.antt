@@ -5,14 +5,14 @@ use Rattle.cmark_grammar.specs.Letters.{is_letter, is_alphanumeric, first_is}
 use Rattle.cmark_grammar.specs.LinkDefinitions.{Parsed}
 use Rattle.cmark_grammar.specs.Tags.{is_name_byte}
 
--- the bytes that pass, where the closer stands behind them; what is behind it
+-- the first `size` bytes, if the closer follows them, and the bytes after the closer
 abbrev pub closed_by : (closer size : ℕ) → List ℕ → Option Parsed
 closed_by closer size bs = if first_is (λ b. b == closer) (drop size bs) then Some (record { bytes = take size bs; behind = drop (suc size) bs }) else None
 
 abbrev pub is_scheme_byte : ℕ → Bool
 is_scheme_byte b = is_alphanumeric b || ((b == 43) || ((b == 45) || (b == 46)))
 
--- a scheme of 2 to 32 bytes, which a letter begins, and a colon
+-- a scheme of 2 to 32 bytes that begins with a letter, and a colon (CommonMark 6.5)
 abbrev pub has_scheme : List ℕ → Bool
 has_scheme bs =
     first_is is_letter bs && (nat_le 2 (prefix_len is_scheme_byte bs) && (nat_le (prefix_len is_scheme_byte bs) 32 && first_is (λ b. b == 58) (drop (prefix_len is_scheme_byte bs) bs)))
@@ -23,7 +23,7 @@ is_uri_byte b = not (nat_le b 32 || ((b == 127) || ((b == 60) || (b == 62))))
 
 -- ## Email addresses
 
--- one of ".!#$%&'*+/=?^_`{|}~-"
+-- a byte of ".!#$%&'*+/=?^_`{|}~-"
 abbrev pub is_local_mark : ℕ → Bool
 is_local_mark b =
     (b == 33) || ((nat_le 35 b && nat_le b 39) || ((b == 42) || ((b == 43) || ((nat_le 45 b && nat_le b 47)
@@ -46,12 +46,12 @@ abbrev pub onto_first : ℕ → List (List ℕ) → List (List ℕ)
 onto_first b [] = (b ∷ []) ∷ []
 onto_first b (label ∷ labels) = (b ∷ label) ∷ labels
 
--- the parts between which periods are
+-- the parts between the periods
 abbrev pub between_periods : List ℕ → List (List ℕ)
 between_periods [] = [] ∷ []
 between_periods (b ∷ bs) = if b == 46 then [] ∷ between_periods bs else onto_first b (between_periods bs)
 
--- labels with a period between each two
+-- labels, with a period between each two
 abbrev pub is_domain : List ℕ → Bool
 is_domain bs = are_domain_labels (between_periods bs)
 
@@ -63,14 +63,14 @@ is_email bs =
 
 -- ## Both
 
--- an address begins here: a URI, or with the option for them an email address up to the first byte that no URI has
+-- an address begins here: a URI, or, with the option for them, an email address that ends before the first byte that no URI has
 abbrev pub has_address : (emails : Bool) → List ℕ → Bool
 has_address emails bs = has_scheme bs || (emails && is_email (take (prefix_len is_uri_byte bs) bs))
 
--- the address of an autolink after its `<`, which `>` closes
+-- the address of an autolink after its `<`; a `>` closes it. Example: `https://a.b>`
 abbrev pub autolink_in : (emails : Bool) → List ℕ → Option Parsed
 autolink_in emails bs = if has_address emails bs then closed_by 62 (prefix_len is_uri_byte bs) bs else None
 
--- the name of a wikilink in front of the first `|`
+-- the name of a wikilink before the first `|`
 abbrev pub piped_name_in : List ℕ → Option Parsed
 piped_name_in bs = closed_by 124 (prefix_len (λ b. not (b == 124)) bs) bs

@@ -20,7 +20,7 @@ IsSingle HardBreak = Unit {0}
 IsSingle Rule = Unit {0}
 IsSingle (TaskListMarker is_checked) = Unit {0}
 
--- each start has its end, of the same tag, and what is between is balanced too
+-- each start has its end, of the same tag, and the events between them are balanced too
 pub data Balanced : List Event → Type 0 where
   Nothing : Balanced []
   Single : (event : Event) (after : List Event) → IsSingle event → Balanced after → Balanced (event ∷ after)

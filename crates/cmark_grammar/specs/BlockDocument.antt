@@ -1,11 +1,12 @@
--- Documents of blocks with the lines of their leaves: ordered trees (CommonMark 3).
+-- Documents of blocks with the lines of their leaves: ordered trees (CommonMark 3). Example: of `# a` the node is a heading with one text
+-- in it.
 use Rattle.std.specs.Prelude.{ℕ, Bool, List, [], ◌∷◌, ◌++◌, Option}
 use Rattle.cmark_grammar.specs.Alignment.{Alignment}
 use Rattle.cmark_grammar.specs.Attributes.{Attributes}
 use Rattle.cmark_grammar.specs.BlockQuoteKind.{BlockQuoteKind}
 use Rattle.cmark_grammar.specs.MetadataBlockKind.{MetadataBlockKind}
 
--- a link reference definition: its label's normal form, its destination and title, and where its text begins and ends
+-- a link reference definition: its label's normal form, its destination and title, and the places at which its text begins and ends
 pub record Reference : Type 0 where
   pub label : List ℕ
   pub destination : List ℕ
@@ -13,12 +14,14 @@ pub record Reference : Type 0 where
   pub start : ℕ
   pub end : ℕ
 
--- what a node is. A paragraph that stands directly in an item of a tight list is no element of its own; a heading has
--- its attributes, a block quote its kind, if it is an alert, a list the number of its first item, if it is ordered, a table
--- the alignments of its columns, a footnote definition its label's normal form, a definition list whether it is tight. A text and an HTML line stand as they are in the text; an
--- owned text is the spaces that are left of a tab. The texts of a
--- paragraph or heading are raw, with their line endings: what they say is for the inline pass to read. A task marker stands before the
--- paragraph or heading that it belongs to (GFM 5.3)
+-- The kinds of nodes. A paragraph directly in an item of a tight list is not an element.
+--
+-- A heading has its attributes; a block quote has its kind, if it is an alert. An ordered list has the number of its first item, a table
+-- the alignments of its columns. A footnote definition has its label's normal form; a definition list, whether it is tight.
+--
+-- A text and an HTML line are bytes of the text; an owned text is the spaces that are left of a tab. The texts of a paragraph or heading
+-- are raw, with their line endings: the inline pass reads them. A task marker comes before the paragraph or heading that it belongs to (GFM
+-- 5.3)
 pub data BlockKind : Type 0 where
   Paragraph : BlockKind
   TightParagraph : BlockKind
@@ -45,13 +48,13 @@ pub data BlockKind : Type 0 where
   OwnedText : (bytes : List ℕ) → BlockKind
   Html : (bytes : List ℕ) → BlockKind
 
--- a node: its kind, and its bytes in the text, from start to before end
+-- a node: its kind, and its range in the text, from the start up to the end
 pub record BlockNode : Type 0 where
   pub kind : BlockKind
   pub start : ℕ
   pub end : ℕ
 
--- no node, or a node with what is inside it and what stands after it
+-- no node, or a node with the nodes inside it and those after it
 pub data BlockDocument : Type 0 where
   Nil : BlockDocument
   Node : (node : BlockNode) → (inside after : BlockDocument) → BlockDocument

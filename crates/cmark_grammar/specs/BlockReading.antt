@@ -1,4 +1,4 @@
--- The events of a document of blocks, in preorder: each with the range of its node.
+-- The events of a document of blocks (CommonMark 3 to 5), in preorder: each with the range of its node.
 use Rattle.std.specs.Prelude.{ℕ, zero, suc, Bool, true, false, if◌then◌else◌, List, [], ◌∷◌, ◌++◌, Option, Some, None}
 use Rattle.cmark_grammar.specs.Tag as tag
 use Rattle.cmark_grammar.specs.Tag.{Tag}
@@ -8,8 +8,8 @@ use Rattle.cmark_grammar.specs.Event as event
 use Rattle.cmark_grammar.specs.Event.{Event, Start, End, Rule, TaskListMarker, Ranged}
 use Rattle.cmark_grammar.specs.BlockDocument.{BlockKind, Paragraph, TightParagraph, Heading, ThematicBreak, IndentedCode, FencedCode, HtmlBlock, LinkDefinition, MetadataBlock, BlockQuote, BlockList, ListItem, TaskMarker, FootnoteDefinition, DefinitionList, DefinitionListTitle, DefinitionListDefinition, Text, OwnedText, Html, BlockNode, BlockDocument, Nil, Node, Table, TableHead, TableRow, TableCell}
 
--- how a node is read: as an element around what is inside it, as what is inside it alone, as one event, as one that stands first in what is
--- read behind it, or not at all
+-- the reading of a node: an element around the events inside it; only these events; one event; an event that comes first in the element
+-- that follows; or no event
 pub data Reads : Type 0 where
   Around : Tag → Reads
   Inside : Reads
@@ -17,8 +17,8 @@ pub data Reads : Type 0 where
   First : Event → Reads
   Silent : Reads
 
--- a paragraph of a tight list is read as what is inside it (CommonMark 5.3), a link reference definition not at all
--- (CommonMark 4.7), and a task marker as the first event of its paragraph, heading or title (GFM 5.3)
+-- a paragraph of a tight list is read as the events inside it (CommonMark 5.3). A link reference definition has no event (CommonMark 4.7).
+-- A task marker is the first event of its paragraph, heading or title (GFM 5.3)
 abbrev pub read_as : BlockKind → Reads
 read_as Paragraph = Around tag.Paragraph
 read_as TightParagraph = Inside
@@ -45,9 +45,11 @@ read_as (Text bytes) = Alone (event.Text bytes)
 read_as (OwnedText bytes) = Alone (event.Text bytes)
 read_as (Html bytes) = Alone (event.Html bytes)
 
+-- an event with the range of a node
 abbrev pub over : BlockNode → Event → Ranged
 over node event = record { event = event; start = node.start; end = node.end }
 
+-- the events of a node, by its reading, around the events inside it
 abbrev pub node_events : Reads → BlockNode → List Ranged → List Ranged
 node_events (Around tag) node inside = over node (Start tag) ∷ (inside ++ (over node (End (end_of tag)) ∷ []))
 node_events Inside node inside = inside
@@ -59,8 +61,8 @@ abbrev pub first_event : Reads → Option Event
 first_event (First event) = Some event
 first_event _ = None
 
--- paragraphs, headings, titles of definitions and the cells of tables are leaves that are read; all other text, as that of code and of HTML blocks, stands as
--- it is
+-- the leaves with inlines: paragraphs, headings, titles of definitions and table cells. All other text, for example that of code and HTML
+-- blocks, is read without inlines
 abbrev pub is_leaf : BlockKind → Bool
 is_leaf Paragraph = true
 is_leaf TightParagraph = true
@@ -73,7 +75,7 @@ abbrev pub is_title : BlockKind → Bool
 is_title DefinitionListTitle = true
 is_title _ = false
 
--- the next node that is read is a title
+-- the next node that has events is a title
 abbrev pub title_as : (is_title : Bool) → Reads → (other : Bool) → Bool
 title_as is_title (Around tag) other = is_title
 title_as is_title Inside other = false
@@ -85,13 +87,13 @@ abbrev pub begins_title : BlockDocument → Bool
 begins_title Nil = false
 begins_title (Node node inside after) = title_as (is_title node.kind) (read_as node.kind) (begins_title after)
 
--- how many starts stand before the text with which a node of this kind begins, which is an element: one in a paragraph, a heading or a title, and
--- two in a definition list that begins with a title
+-- the number of starts before the text of a node of this kind: one in a paragraph, heading or title. It is two in a definition list that
+-- begins with a title, and zero otherwise
 abbrev pub starts_of : BlockKind → (titled : Bool) → ℕ
 starts_of (DefinitionList tight) titled = if titled then 2 else 1
 starts_of kind titled = if is_leaf kind then 1 else 0
 
--- the same of the next node that is read
+-- the number of starts before the text of the next node that has events
 abbrev pub starts_as : (starts : ℕ) → Reads → (other : ℕ) → ℕ
 starts_as starts (Around tag) other = starts
 starts_as starts Inside other = 0
@@ -103,8 +105,8 @@ abbrev pub starts_before : BlockDocument → ℕ
 starts_before Nil = 0
 starts_before (Node node inside after) = starts_as (starts_of node.kind (begins_title inside)) (read_as node.kind) (starts_before after)
 
--- an event stands first in the paragraph, heading or title that begins behind it, behind so many starts; where none does, as in a tight list,
--- before what is read there
+-- an event becomes the first one in the paragraph, heading or title that follows it: it is put after `starts` events. In a tight list
+-- `starts` is zero, and the event comes before the others
 abbrev pub first_in : (starts : ℕ) → Ranged → List Ranged → List Ranged
 first_in zero event others = event ∷ others
 first_in (suc starts) event [] = event ∷ []
@@ -114,6 +116,7 @@ abbrev pub with_first : Option Event → (starts : ℕ) → BlockNode → List R
 with_first None starts node others = others
 with_first (Some event) starts node others = first_in starts (over node event) others
 
+-- the events of a document of blocks, in preorder
 abbrev pub block_reading : BlockDocument → List Ranged
 block_reading Nil = []
 block_reading (Node node inside after) =

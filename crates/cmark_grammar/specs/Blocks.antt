@@ -1,4 +1,5 @@
--- The block structure of lines: which blocks they are, each with its lines (CommonMark 3 to 5).
+-- The block structure of lines: the blocks and the lines of each block (CommonMark 3 to 5). Example: the two lines `> a` and `b` are a
+-- block quote around one paragraph.
 use Rattle.std.specs.Prelude.{◌≡◌, ◌⊎◌, ℕ, Bool, true, false, List, [], ◌∷◌, ◌++◌, length, Some, None}
 use Rattle.cmark_grammar.specs.Rows.{Row, shown}
 use Rattle.cmark_grammar.specs.Leaves.{underlines}
@@ -7,8 +8,8 @@ use Rattle.cmark_grammar.specs.Openings.{Leaf, ThematicBreak, AtxHeading, Indent
 use Rattle.cmark_grammar.specs.Options.{Options}
 use Rattle.cmark_grammar.specs.Places.{Place, Apart, BehindLazy, BehindTask, BehindTitle, allows_lazy, over_blank}
 
--- the blocks of some lines, in their order: each with its lines, behind the prefixes of the containers around it, and a
--- container with what is inside it. List items stand side by side
+-- the blocks of some lines, in their order. Each has its lines, without the prefixes of the containers around it; a container has the
+-- blocks inside it. List items are not yet gathered into lists
 pub data Blocks : Type 0 where
   Nil : Blocks
   BlankLine : (line : Row) → (after : Blocks) → Blocks
@@ -26,7 +27,7 @@ join (SetextHeading level first more underline after) other = SetextHeading leve
 join (LeafBlock leaf first more after) other = LeafBlock leaf first more (join after other)
 join (ContainerBlock container first more inside after) other = ContainerBlock container first more inside (join after other)
 
--- where a line stands directly behind such a leaf: a lazy one may begin a paragraph behind a link reference definition
+-- the place of the line directly after this leaf: after a link reference definition a lazy line may begin a paragraph
 abbrev pub behind_leaf : Leaf → Place
 behind_leaf ThematicBreak = Apart
 behind_leaf (AtxHeading level) = Apart
@@ -37,7 +38,7 @@ behind_leaf (LinkDefinition definition) = BehindLazy
 behind_leaf (MetadataBlock kind) = Apart
 behind_leaf (Table alignments) = Apart
 
--- where the first line inside such a container stands, or the one behind an alert's tag
+-- the place of the first line inside this container, or of the line after an alert's tag
 abbrev pub place_in : Container → Place
 place_in (BlockQuote None) = Apart
 place_in (BlockQuote (Some kind)) = BehindLazy
@@ -46,15 +47,15 @@ place_in (Item delimiter number width (Some is_checked)) = BehindTask
 place_in (Footnote label old size) = Apart
 place_in (ListDefinition width) = Apart
 
--- where a line stands behind such a container: behind a definition another one may begin
+-- the place of the line after this container: after a definition of a definition list another one may begin
 abbrev pub behind_container : Container → Place
 behind_container (BlockQuote alert) = Apart
 behind_container (Item delimiter number width task) = Apart
 behind_container (Footnote label old size) = Apart
 behind_container (ListDefinition width) = BehindTitle
 
--- whether a lazy line may stand behind these blocks: whether their last line lies in a paragraph, or in a leaf behind
--- which a lazy line may begin one, or is an alert's tag. So: what holds where there is no block
+-- whether a lazy line may follow these blocks. Their last line is in a paragraph, or is an alert's tag, or is in a leaf after which a lazy
+-- line may begin a paragraph. So: the value if there is no block
 abbrev pub ends_lazily : (so : Bool) → Blocks → Bool
 ends_lazily so Nil = so
 ends_lazily so (BlankLine line after) = ends_lazily false after
@@ -63,25 +64,26 @@ ends_lazily so (SetextHeading level first more underline after) = ends_lazily fa
 ends_lazily so (LeafBlock leaf first more after) = ends_lazily (allows_lazy (behind_leaf leaf)) after
 ends_lazily so (ContainerBlock container first more inside after) = ends_lazily (ends_lazily (allows_lazy (place_in container)) inside) after
 
--- what holds of the next line, if there is one
+-- a property of the next line, if there is one
 abbrev pub Next : (Row → List Row → Type 0) → List Row → Type 0
 Next P [] = Unit {0}
 Next P (r ∷ rest) = P r (shown rest)
 
 module _ (options : Options) where
-  -- the line goes on with a paragraph: it does not interrupt, and is no underline
+  -- the line continues a paragraph: it does not interrupt it, and is no underline (CommonMark 4.8)
   abbrev pub IsText : Row → List Row → Type 0
   IsText r ahead = (texts options r ahead ≡ true) × (underlines r ≡ None)
 
-  -- each of the first lines does, with the others and the second lines behind it
+  -- each of the first lines continues the paragraph; the lines ahead of it are the others and `rest`
   abbrev pub AreText : List Row → List Row → Type 0
   AreText [] rest = Unit {0}
   AreText (r ∷ more) rest = IsText r (shown (more ++ rest)) × AreText more rest
 
+  -- the line ends a paragraph, and is no underline
   abbrev pub IsNoText : Row → List Row → Type 0
   IsNoText r ahead = (texts options r ahead ≡ false) × (underlines r ≡ None)
 
-  -- a container's line that lacks the prefix is lazy: where it lacks it, it interrupts nothing
+  -- a line of a container that lacks the prefix is a lazy continuation line (CommonMark 5.1): it interrupts nothing
   abbrev pub AreLazy : Container → (bare : Bool) → List Row → List Row → Type 0
   AreLazy k bare [] rest = Unit {0}
   AreLazy k bare (r ∷ more) rest = (keeps k bare r ≡ None → lazily options k r (shown (more ++ rest)) ≡ true) × AreLazy k false more rest
@@ -90,17 +92,19 @@ module _ (options : Options) where
   abbrev pub Ends : Container → (bare : Bool) → Blocks → List Row → Type 0
   Ends k bare inside rest = Next (λ r ahead. (keeps k bare r ≡ None) × (ends_lazily (allows_lazy (place_in k)) inside ≡ true → lazily options k r ahead ≡ false)) rest
 
-  -- a paragraph begins on a line with all prefixes, or directly behind a leaf that allows it, or an alert's tag, on a lazy one that is text
+  -- a paragraph begins on a line with all prefixes. A lazy line begins one only directly after a leaf that allows it, or after an alert's
+  -- tag, and only if the line is text
   abbrev pub MayBegin : Place → Row → Type 0
   MayBegin place first = (first.lazy ≡ false) ⊎ ((allows_lazy place ≡ true) × (texts options first [] ≡ true))
 
-  -- all lines: a blank one, and those of the blocks after it
+  -- all lines are a blank one and the lines of the blocks after it
   pub record HasBlankLine (After : List Row → Type 0) (place : Place) (all : List Row) (line : Row) : Type 0 where
     pub rest : List Row
     pub cut : all ≡ line ∷ rest
     pub opened : opens_at options place line (shown rest) ≡ Blank
     pub after : After rest
 
+  -- all lines are a paragraph (CommonMark 4.8) and the lines of the blocks after it: the others continue it, and the next line ends it
   pub record HasParagraph (After : List Row → Type 0) (place : Place) (all : List Row) (first : Row) (more : List Row) : Type 0 where
     pub rest : List Row
     pub cut : all ≡ first ∷ (more ++ rest)
@@ -110,6 +114,7 @@ module _ (options : Options) where
     pub stops : Next IsNoText rest
     pub after : After rest
 
+  -- all lines are a setext heading (CommonMark 4.3), whose content is a paragraph, its underline, and the lines of the blocks after it
   pub record HasSetextHeading (After : List Row → Type 0) (place : Place) (all : List Row) (level : ℕ) (first : Row) (more : List Row) (underline : Row) : Type 0 where
     pub rest : List Row
     pub cut : all ≡ first ∷ (more ++ (underline ∷ rest))
@@ -119,12 +124,15 @@ module _ (options : Options) where
     pub underlined : underlines underline ≡ Some level
     pub after : After rest
 
+  -- all lines are a leaf, with the number of further lines that its opening gives, and the lines of the blocks after it
   pub record HasLeaf (After : List Row → Type 0) (place : Place) (all : List Row) (leaf : Leaf) (first : Row) (more : List Row) : Type 0 where
     pub rest : List Row
     pub cut : all ≡ first ∷ (more ++ rest)
     pub opened : opens_at options place first (shown (more ++ rest)) ≡ Takes leaf (length more)
     pub after : After rest
 
+  -- all lines are a container (CommonMark 5) and the lines of the blocks after it. Its later lines have its prefix or are lazy, and the
+  -- next line ends it
   pub record HasContainer (Inside After : List Row → Type 0) (place : Place) (all : List Row) (k : Container) (first : Row) (more : List Row) (inside : Blocks) : Type 0 where
     pub rest : List Row
     pub cut : all ≡ first ∷ (more ++ rest)
@@ -134,7 +142,7 @@ module _ (options : Options) where
     pub stops : Ends k (bare_after (is_bare_start k first) more) inside rest
     pub after : After rest
 
-  -- these lines, of which the first stands at that place, are these blocks
+  -- these lines, the first of them at that place, have these blocks
   abbrev pub Body : Place → List Row → Blocks → Type 0
   Body place all Nil = all ≡ []
   Body place all (BlankLine line after) = HasBlankLine (λ rest. Body (over_blank place) rest after) place all line

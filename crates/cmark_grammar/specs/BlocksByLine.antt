@@ -1,5 +1,6 @@
--- The blocks of lines, as one line after the other shows them: of the lines ahead a link reference definition and the
--- rows of a table are looked up, and whether metadata is ended. Code, HTML and metadata go on as their lines come, and blank lines wait until it is seen whether they belong to code.
+-- The blocks of lines, found in one pass over the lines. Only three things are looked up in the lines ahead: a link reference definition,
+-- the rows of a table, and the end of metadata. Code, HTML and metadata continue line by line. Blank lines wait until a later line shows
+-- whether they belong to code.
 use Rattle.std.specs.Prelude.{ℕ, zero, suc, Bool, true, false, ◌&&◌, nat_le, List, [], ◌∷◌, ◌++◌, length, Option, Some, None}
 use Rattle.cmark_grammar.specs.Options.{Options}
 use Rattle.cmark_grammar.specs.Places.{Place, Apart, BehindLazy, allows_lazy}
@@ -36,8 +37,8 @@ abbrev pub continuation_if : (is_lazy : Bool) → Verbatim → Row → Continuat
 continuation_if true verbatim r = Stops
 continuation_if false verbatim r = continuation_in verbatim r
 
--- what is open: nothing, a paragraph, a leaf of so many lines more, a leaf whose lines are judged one by one, with blank
--- lines that belong to it only if a later line does, or a container; or the place directly behind an alert's tag
+-- the open block: nothing, a paragraph, a leaf with `left` more lines, a leaf whose lines are judged one by one, or a container. Directly
+-- after an alert's tag no block is open yet. The waiting blank lines belong to a leaf only if a later line does
 pub data OpenLines : Type 0 where
   Between : (closed : Blocks) → OpenLines
   BehindTag : OpenLines
@@ -50,7 +51,7 @@ abbrev pub blank_lines : List Row → Blocks
 blank_lines [] = Nil
 blank_lines (r ∷ rs) = BlankLine r (blank_lines rs)
 
--- all blocks, where the lines end
+-- all blocks, after the last line
 abbrev pub close_lines : OpenLines → Blocks
 close_lines (Between closed) = closed
 close_lines BehindTag = Nil
@@ -71,7 +72,7 @@ abbrev pub html_begun : Bool → Blocks → ℕ → Row → OpenLines
 html_begun true closed kind r = InLeaf closed (HtmlBlock kind) r [] 0
 html_begun false closed kind r = InVerbatim closed (HtmlLines kind) r [] []
 
--- a leaf that begins: how many lines it takes is asked of definitions and tables alone
+-- a leaf that begins: only for definitions and tables is the number of its lines computed from the lines ahead
 abbrev pub leaf_begun : Leaf → ℕ → Blocks → Row → OpenLines
 leaf_begun ThematicBreak n closed r = InLeaf closed ThematicBreak r [] n
 leaf_begun (AtxHeading level) n closed r = InLeaf closed (AtxHeading level) r [] n
@@ -82,7 +83,7 @@ leaf_begun (LinkDefinition definition) n closed r = InLeaf closed (LinkDefinitio
 leaf_begun (MetadataBlock kind) n closed r = InVerbatim closed (Metadata kind) r [] []
 leaf_begun (Table alignments) n closed r = InLeaf closed (Table alignments) r [] n
 
--- directly behind an alert's tag nothing is begun yet
+-- directly after an alert's tag no block is open
 abbrev pub lines_inside_begun : (is_alert : Bool) → OpenLines → OpenLines
 lines_inside_begun true begun = BehindTag
 lines_inside_begun false begun = begun
@@ -106,7 +107,7 @@ lines_kept_or (Some s) is_lazy on off = on
 lines_kept_or None true on off = on
 lines_kept_or None false on off = off
 
--- one more line of a leaf whose lines are judged one by one; off: what the line begins behind it
+-- the next line of a leaf whose lines are judged one by one; off: the open block if the line does not belong to the leaf
 abbrev pub verbatim_line : Continuation → Blocks → Verbatim → Row → (had waiting : List Row) → Row → (off : OpenLines) → OpenLines
 verbatim_line GoesOn closed verbatim first had waiting r off = InVerbatim closed verbatim first ((had ++ waiting) ++ r ∷ []) []
 verbatim_line Closes closed verbatim first had waiting r off = InLeaf closed (leaf_in verbatim) first ((had ++ waiting) ++ r ∷ []) 0
@@ -125,7 +126,7 @@ module _ (options : Options) where
   unfoldable pub lines_begin : Blocks → Row → List Row → OpenLines
   lines_begin closed r ahead = lines_begin_at (place_behind Apart closed) closed r ahead
 
-  -- one more line, with these lines ahead
+  -- the next line, with these lines ahead
   abbrev pub lines_feed : OpenLines → Row → List Row → OpenLines
   lines_feed (Between closed) r ahead = lines_begin closed r ahead
   lines_feed BehindTag r ahead = lines_begin_at BehindLazy Nil r ahead

@@ -1,4 +1,4 @@
--- The blocks of lines, line by line: each line is added to what is open.
+-- The blocks of lines, line by line: each line is added to the open block.
 use Rattle.std.specs.Prelude.{ℕ, zero, suc, Bool, true, false, ◌&&◌, List, [], ◌∷◌, ◌++◌, length, Option, Some, None}
 use Rattle.cmark_grammar.specs.Rows.{Row, rows, shown}
 use Rattle.cmark_grammar.specs.Leaves.{underlines}
@@ -8,8 +8,8 @@ use Rattle.cmark_grammar.specs.Blocks.{Blocks, Nil, BlankLine, Paragraph, Setext
 use Rattle.cmark_grammar.specs.Options.{Options}
 use Rattle.cmark_grammar.specs.Places.{Place, Apart, BehindLazy, BehindTitle, allows_lazy, over_blank}
 
--- blocks that have ended, and behind them what is open: nothing, a paragraph, a leaf with lines to come, or a container;
--- or the place directly behind an alert's tag
+-- the blocks that have ended, and after them the open block: nothing, a paragraph, a leaf with lines to come, or a container. Directly
+-- after an alert's tag no block is open yet
 pub data Open : Type 0 where
   Between : (closed : Blocks) → Open
   BehindTag : Open
@@ -17,7 +17,7 @@ pub data Open : Type 0 where
   InLeaf : (closed : Blocks) → (leaf : Leaf) → (first : Row) → (had : List Row) → (left : ℕ) → Open
   InContainer : (closed : Blocks) → (container : Container) → (first : Row) → (more : List Row) → (inside : Open) → Open
 
--- all blocks, where the lines end
+-- all blocks, after the last line
 abbrev pub close : Open → Blocks
 close (Between closed) = closed
 close BehindTag = Nil
@@ -25,7 +25,7 @@ close (InParagraph closed first more) = join closed (Paragraph first more Nil)
 close (InLeaf closed leaf first had left) = join closed (LeafBlock leaf first had Nil)
 close (InContainer closed k first more inside) = join closed (ContainerBlock k first more (close inside) Nil)
 
--- a lazy line may stand behind what is open
+-- a lazy line may follow the open block
 abbrev pub takes_lazy : Open → Bool
 takes_lazy (Between closed) = false
 takes_lazy BehindTag = true
@@ -33,7 +33,7 @@ takes_lazy (InParagraph closed first more) = true
 takes_lazy (InLeaf closed leaf first had left) = allows_lazy (behind_leaf leaf)
 takes_lazy (InContainer closed k first more inside) = takes_lazy inside
 
--- where a line stands behind these blocks, if it stands at that place where there are none
+-- the place of a line after these blocks, if it is at that place when there are no blocks
 abbrev pub place_behind : Place → Blocks → Place
 place_behind place Nil = place
 place_behind place (BlankLine line after) = place_behind (over_blank place) after
@@ -42,11 +42,11 @@ place_behind place (SetextHeading level first more underline after) = place_behi
 place_behind place (LeafBlock leaf first more after) = place_behind (behind_leaf leaf) after
 place_behind place (ContainerBlock k first more inside after) = place_behind (behind_container k) after
 
--- what is ahead inside a container
+-- the lines ahead, seen from inside a container
 abbrev pub within : Container → Bool → List Row → List Row
 within k bare ahead = shown (strips k bare ahead)
 
--- directly behind an alert's tag nothing is begun yet
+-- directly after an alert's tag no block is open
 abbrev pub inside_begun : (is_alert : Bool) → Open → Open
 inside_begun true begun = BehindTag
 inside_begun false begun = begun
@@ -65,14 +65,14 @@ abbrev pub goes_on_or : Bool → Open → Open → Open
 goes_on_or true on off = on
 goes_on_or false on off = off
 
--- a container goes on with a line that has the prefix, or is lazy
+-- a container continues with a line that has the prefix or is lazy
 abbrev pub kept_or : Option Row → (is_lazy : Bool) → Open → Open → Open
 kept_or (Some s) is_lazy on off = on
 kept_or None true on off = on
 kept_or None false on off = off
 
 module _ (options : Options) where
-  -- what a line at that place begins behind these blocks, with these lines ahead; each container takes at least a column
+  -- the open block after a line at that place, after these blocks and with these lines ahead; each container takes at least one column
   abbrev pub begin_in : (columns : ℕ) → Place → Blocks → Row → List Row → Open
   begin_in zero place closed r ahead = Between closed
   begin_in (suc columns) place closed r ahead =
@@ -84,7 +84,7 @@ module _ (options : Options) where
   unfoldable pub begin : Blocks → Row → List Row → Open
   begin closed r ahead = begin_at (place_behind Apart closed) closed r ahead
 
-  -- one more line, with these lines ahead
+  -- the next line, with these lines ahead
   abbrev pub feed : Open → Row → List Row → Open
   feed (Between closed) r ahead = begin closed r ahead
   feed BehindTag r ahead = begin_at BehindLazy Nil r ahead

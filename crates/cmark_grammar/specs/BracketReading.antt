@@ -1,4 +1,4 @@
--- Which text is read as which parts (CommonMark 6.3), for any tokens and any decision about closing brackets.
+-- How a text is read as parts (CommonMark 6.3), for any tokens and any decision about closing brackets.
 use Rattle.std.specs.Prelude.{◌≡◌, ℕ, List, Option}
 use Rattle.cmark_grammar.specs.Answers.{Destination}
 use Rattle.cmark_grammar.specs.BracketStates.{State, moved, opened, StaysText, Forms, Outcome, Decision, Settled, Asks}
@@ -6,15 +6,15 @@ use Rattle.cmark_grammar.specs.Items.{Bracket, Token, Stands, Opens, Closes, End
 use Rattle.cmark_grammar.specs.Parts.{Formed, Parts, Nil, Single, Form, Closing, Opening, openings}
 use Rattle.cmark_grammar.specs.Questions.{Exchange, Saying}
 
--- a decision comes to this where these answers may be given
+-- a decision has this outcome if these answers may be given
 abbrev pub Comes : Saying → List Exchange → Decision → Outcome → Type 0
 Comes Says asked (Settled settled) outcome = outcome ≡ settled
 Comes Says asked (Asks question answered) outcome = (answer : Option Destination) × Says asked question answer × (outcome ≡ answered answer)
 
--- token says what begins at a place, decide what a closing bracket comes to that is reached
+-- `token` is the token at a place; `decide` is the decision about a closing bracket
 module _ (token : ℕ → Token) (decide : State → (closer : Bracket) → Decision) (Says : Saying) where
-  -- an opening bracket, what is read behind it up to a closing one, and what this one forms with it: as many nearer opening
-  -- brackets as are texts between the two are passed over
+  -- an opening bracket, the parts after it up to a closing bracket, and the part that both form. The nearer opening brackets that are texts
+  -- between the two are passed over
   pub record IsForm (Inside : State → State → Type 0) (After : State → Type 0) (s : State) (opener closer : Bracket) (nearer : ℕ) (formed : Formed) : Type 0 where
     pub until : State
     pub next : State
@@ -39,7 +39,7 @@ module _ (token : ℕ → Token) (decide : State → (closer : Bracket) → Deci
   Reads s (Closing closer after) t = IsAlone (λ b. Reads b after t) s closer
   Reads s (Opening opener after) t = (token s.at ≡ Opens opener) × Reads (opened opener s) after t
 
-  -- the whole text
+  -- reading the whole text
   pub record ReadsWhole (s : State) (parts : Parts) (t : State) : Type 0 where
     pub reads : Reads s parts t
     pub ends : token t.at ≡ Ends

@@ -9,11 +9,12 @@ use Rattle.cmark_grammar.specs.Tokens.{slice}
 abbrev pub is_backtick : ℕ → Bool
 is_backtick b = b == 96
 
--- how many backticks stand in front
+-- the number of backticks at the beginning
 abbrev pub backticks : List ℕ → ℕ
 backticks bs = prefix_len is_backtick bs
 
--- up to the first run of exactly so many backticks, with which what is behind begins; no run begins where one goes on
+-- the bytes up to the first run of exactly `size` backticks, and the bytes from that run on. Goes_on: the byte before is a backtick, so
+-- that no run begins here
 abbrev pub up_to_run : (size : ℕ) → (goes_on : Bool) → List ℕ → Option Parsed
 up_to_run size goes_on [] = None
 up_to_run size goes_on (b ∷ bs) =
@@ -23,11 +24,12 @@ up_to_run size goes_on (b ∷ bs) =
 abbrev pub behind_run : (size : ℕ) → Parsed → Parsed
 behind_run size found = record { bytes = found.bytes; behind = drop size found.behind }
 
--- what a code span holds whose opening run stands in front, and what is behind its closing run, which has the same length
+-- the content of a code span whose opening run is at the beginning, and the bytes after its closing run, which has the same length.
+-- Example: "``a`b`` c" has the content "a`b"
 abbrev pub code_in : List ℕ → Option Parsed
 code_in bs = if backticks bs == 0 then None else option_map (behind_run (backticks bs)) (up_to_run (backticks bs) false (behind_all is_backtick bs))
 
--- with these bytes in the place of each line ending: of a line feed, of a carriage return, and of both in this order
+-- the bytes with `mark` in place of each line ending: a line feed, a carriage return, or both in this order
 abbrev pub with_line_ends : (mark : List ℕ) → List ℕ → List ℕ
 with_line_ends mark [] = []
 with_line_ends mark (b ∷ bs) =
@@ -38,7 +40,7 @@ with_line_ends mark (b ∷ bs) =
 abbrev pub is_space : ℕ → Bool
 is_space b = b == 32
 
--- a space stands at both ends, and not all bytes are spaces
+-- a space is at both ends, and not all bytes are spaces
 abbrev pub is_padded : List ℕ → Bool
 is_padded bs = is_space (get_or bs 0 0) && (is_space (get_or bs (length bs - 1) 0) && nat_lt 0 (count_by (λ b. not (is_space b)) bs))
 
@@ -46,7 +48,7 @@ is_padded bs = is_space (get_or bs 0 0) && (is_space (get_or bs (length bs - 1) 
 abbrev pub without_padding : List ℕ → List ℕ
 without_padding bs = if is_padded bs then slice bs 1 (length bs - 1) else bs
 
--- the text of what a code span holds: each line ending is a space, and then one space is taken from each end if both ends are
--- spaces and not all is
+-- the text of a code span: each line ending becomes a space; then, if both ends are spaces and not all bytes are, one space is removed from
+-- each end
 abbrev pub code_text : List ℕ → List ℕ
 code_text bs = without_padding (with_line_ends (codes " ") bs)

@@ -1,4 +1,5 @@
--- The columns of a line (CommonMark 2.2: a tab stands for spaces up to the next tab stop, four columns apart).
+-- The columns of a line (CommonMark 2.2: a tab is as wide as the spaces up to the next tab stop; tab stops are four columns apart).
+-- Example: after two columns a tab is two columns wide.
 use Rattle.std.specs.Prelude.{ℕ, zero, suc, ◌+◌, ◌-◌, ◌%◌, Bool, true, ◌==◌, ◌||◌, if◌then◌else◌, List, [], ◌∷◌, ◌++◌, length, drop, take_while}
 
 abbrev pub tab : ℕ
@@ -7,23 +8,23 @@ tab = 9
 abbrev pub space : ℕ
 space = 32
 
--- a column of a line: the byte that it belongs to, the place of that byte in the text, and how many columns of the
--- same byte stand before it (none, but in a tab)
+-- a column of a line: its byte, and the place of that byte in the text. Part: the number of columns of the same byte before it, which is
+-- zero except in a tab
 pub record Column : Type 0 where
   pub byte : ℕ
   pub at : ℕ
   pub part : ℕ
 
--- the columns of a tab from its part-th on, n of them
+-- `n` columns of a tab, from column `part` of the tab on
 abbrev pub tab_columns : ℕ → ℕ → ℕ → List Column
 tab_columns at part zero = []
 tab_columns at part (suc n) = record { byte = tab; at = at; part = part } ∷ tab_columns at (suc part) n
 
--- how many columns lead from this one to the next tab stop
+-- the number of columns from this one to the next tab stop
 abbrev pub to_tab_stop : ℕ → ℕ
 to_tab_stop column = 4 - column % 4
 
--- the columns of these bytes, where the first stands in this column and at this place of the text
+-- the columns of these bytes, if the first byte is in this column and at this place of the text
 abbrev pub expand : ℕ → ℕ → List ℕ → List Column
 expand column at [] = []
 expand column at (b ∷ bs) =
@@ -37,14 +38,14 @@ is_blank_byte b = (b == space) || (b == tab)
 abbrev pub is_blank : Column → Bool
 is_blank c = is_blank_byte c.byte
 
--- how many blank columns stand in front
+-- the number of blank columns at the beginning
 abbrev pub indent : List Column → ℕ
 indent cs = length (take_while is_blank cs)
 
 abbrev pub without_indent : List Column → List Column
 without_indent cs = drop (indent cs) cs
 
--- the element before a list; where the list is empty, only if it is kept
+-- the element before a list; if the list is empty, only if it is kept
 abbrev pub put_before : {A : Type 0} → (dropped : Bool) → A → List A → List A
 put_before dropped x [] = if dropped then [] else x ∷ []
 put_before dropped x (y ∷ ys) = x ∷ (y ∷ ys)

@@ -1,13 +1,13 @@
--- Dashes in the place of hyphens, where smart punctuation is read (this profile's own).
+-- Dashes in place of hyphens, if smart punctuation is on (this profile's own). Example: `--` becomes an en dash, and `---` an em dash.
 use Rattle.std.specs.Prelude.{ℕ, zero, suc, ◌==◌, ◌-◌, ◌/◌, ◌%◌, if◌then◌else◌, encode_utf8, List, [], ◌++◌}
 
--- so many em dashes, U+2014, and then so many en dashes, U+2013
+-- the number of em dashes (U+2014) and of the en dashes (U+2013) after them
 pub record Dashes : Type 0 where
   pub em : ℕ
   pub en : ℕ
 
--- an em dash stands for three hyphens and an en dash for two: em dashes alone where 3 divides their number, else en dashes
--- alone where it is even, else em dashes and then the fewest en dashes
+-- an em dash replaces three hyphens and an en dash two. Only em dashes appear if 3 divides the number, else only en dashes if it is even.
+-- Else there are em dashes, and then as few en dashes as possible
 abbrev pub dashes_of : (hyphens : ℕ) → Dashes
 dashes_of n =
     if (n % 3) == 0 then record { em = n / 3; en = 0 }
@@ -15,7 +15,7 @@ dashes_of n =
     else if (n % 3) == 2 then record { em = (n - 2) / 3; en = 1 }
     else record { em = (n - 4) / 3; en = 2 }
 
--- the bytes of a character so many times
+-- the bytes of a character, repeated `times` times
 abbrev pub repeated : (character : ℕ) → (times : ℕ) → List ℕ
 repeated character zero = []
 repeated character (suc times) = encode_utf8 character ++ repeated character times

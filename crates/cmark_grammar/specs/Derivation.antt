@@ -1,5 +1,5 @@
--- Which documents a text derives, by the block grammar: its lines are blocks, their lists are found and the text of their
--- leaves is read.
+-- The documents that a text derives, by the block grammar (CommonMark 3 to 5): its lines have blocks, the items are gathered into lists,
+-- and the text of the leaves is read.
 use Rattle.std.specs.Prelude.{◌≡◌, ℕ, Bool, true, false, ◌==◌, if◌then◌else◌, List, [], ◌∷◌, length, Option, Some, None}
 use Rattle.cmark_grammar.specs.Answers.{Lookup}
 use Rattle.cmark_grammar.specs.Options.{Options}
@@ -19,7 +19,7 @@ use Rattle.cmark_grammar.specs.SetextAttributes.{content_of, setext_attributes, 
 use Rattle.cmark_grammar.specs.TableTokens.{table_tokens}
 use Rattle.cmark_grammar.specs.TaskItems.{behind_box}
 
--- where the last of these lines ends, without its line ending
+-- the end of the last of these lines, without its line ending
 abbrev pub last_content_end : Row → List Row → ℕ
 last_content_end first [] = first.content_end
 last_content_end first (r ∷ more) = last_content_end r more
@@ -28,6 +28,7 @@ abbrev pub title_of : Lookup → Option (List ℕ) → Option (List ℕ)
 title_of lookup None = None
 title_of lookup (Some title) = Some (resolved lookup (title_lines false title))
 
+-- a link reference definition (CommonMark 4.7): its label's normal form, and its destination and title with escapes and entities resolved
 abbrev pub reference_of : Lookup → Definition → ℕ → ℕ → Reference
 reference_of lookup definition start end = record {
   label = normal_form definition.label;
@@ -37,7 +38,7 @@ reference_of lookup definition start end = record {
   end = end;
 }
 
--- a leaf runs from its first byte behind the indent, which is four columns for indented code and none for HTML, to behind
+-- the range of a leaf begins at its first byte after the indent, which is four columns for indented code and zero for HTML. It ends after
 -- its last line ending (this profile's own)
 abbrev pub leaf_then : List ℕ → Options → Lookup → Leaf → Row → List Row → BlockDocument → BlockDocument
 leaf_then text options lookup ThematicBreakLeaf first more after = Node (node ThematicBreak (start_of first) (last_line_end first more)) Nil after
@@ -55,30 +56,33 @@ leaf_then text options lookup (MetadataBlockLeaf kind) first more after =
 leaf_then text options lookup (TableLeaf alignments) first more after =
     Node (node (Table alignments) (start_of first) (last_line_end first more)) (table_tokens text (length alignments) first more) after
 
--- a list of the items with this character; where it is that of definitions, a definition list
+-- the list of the items with this character; a definition list, if the character is `:`
 abbrev pub list_kind : (delimiter : ℕ) → Option ℕ → (tight : Bool) → BlockKind
 list_kind delimiter number tight = if delimiter == definition_delimiter then DefinitionList tight else BlockList number tight
 
--- an item, a title or a definition before others of its list, or alone in its list
+-- an item, a title or a definition before others of its list, or as the only one in its list
 abbrev pub new_list : (list : BlockKind) → BlockNode → (inside after : BlockDocument) → BlockDocument
 new_list list item inside after = Node (node list item.start item.end) (Node item inside Nil) after
 
+-- an item before the rest of a document: it joins the list at the beginning of that, or begins a list of its own
 abbrev pub item_then : (joins : Bool) → (list : BlockKind) → BlockNode → (inside after : BlockDocument) → BlockDocument
 item_then false list item inside after = new_list list item inside after
 item_then true list item inside Nil = new_list list item inside Nil
 item_then true list item inside (Node others items after) = Node (node list item.start others.end) (Node item inside items) after
 
--- a task marker, if an item has one, whose box stands between these places, before what else is inside the item
+-- a task marker, if an item has one, before the other nodes of the item; its box is between these places
 abbrev pub task_then : Option Bool → (start end : ℕ) → BlockDocument → BlockDocument
 task_then None start end inside = inside
 task_then (Some is_checked) start end inside = Node (node (TaskMarker is_checked) start end) Nil inside
 
+-- a paragraph directly in an item of a tight list is not an element (CommonMark 5.3)
 abbrev pub paragraph_kind : (direct : Bool) → BlockKind
 paragraph_kind direct = if direct then TightParagraph else Paragraph
 
--- the document of blocks. Direct: they stand directly in an item or a definition of a tight list; list: that of the item, title or definition
--- before. A block quote and a footnote definition run from their marker, an item and a definition from the indent before it, to behind its last
--- line. A paragraph before a definition is a title, and the first in its list where none stands before (this profile's own)
+-- the document of blocks. Direct: they are directly in an item or a definition of a tight list. List: the list of the item, title or
+-- definition before. A block quote and a footnote definition begin at their marker; an item and a definition begin at the indent before the
+-- marker. Each ends after its last line. A paragraph before a definition is a title; it begins a list if no title or definition precedes it
+-- (this profile's own)
 abbrev pub document_of : List ℕ → Options → Lookup → (direct : Bool) → (list : Option ListBefore) → Blocks → BlockDocument
 document_of text options lookup direct list NoBlocks = Nil
 document_of text options lookup direct list (BlankLine line after) = document_of text options lookup direct list after

@@ -3,6 +3,6 @@ use Rattle.std.specs.Prelude.{ℕ, ◌==◌, false, if◌then◌else◌, List, d
 use Rattle.cmark_grammar.specs.Letters.{first_is}
 use Rattle.cmark_grammar.specs.LinkDefinitions.{Parsed, up_to, bare_in}
 
--- in pointed brackets on one line, or bare; either may be empty
+-- in angle brackets on one line, or bare; either may be empty. Examples: `<a b>`, `/url`
 abbrev pub link_destination_in : List ℕ → Option Parsed
 link_destination_in bs = if first_is (λ b. b == 60) bs then up_to false 62 60 false (drop 1 bs) else bare_in false 0 bs

@@ -1,5 +1,5 @@
--- A document as a tree keeps it, and how much of it is read: link reference definitions stand in a table of their own, and whether
--- a paragraph stands directly in an item of a tight list is seen from the list around it.
+-- A document as the tree keeps it, and the part that is read. Link reference definitions are in a table of their own. Whether a paragraph
+-- is directly in an item of a tight list is determined by the list around it.
 use Rattle.std.specs.Prelude.{Bool, true, false, if◌then◌else◌}
 use Rattle.cmark_grammar.specs.BlockDocument.{BlockKind, Paragraph, TightParagraph, Heading, ThematicBreak, IndentedCode, FencedCode, HtmlBlock, LinkDefinition, MetadataBlock, BlockQuote, BlockList, ListItem, TaskMarker, FootnoteDefinition, DefinitionList, DefinitionListTitle, DefinitionListDefinition, Text, OwnedText, Html, BlockNode, BlockDocument, Nil, Node, Table, TableHead, TableRow, TableCell}
 use Rattle.cmark_grammar.specs.Tightness.{tight_within}
@@ -34,13 +34,13 @@ abbrev pub node_unless : Bool → BlockNode → (inside after : BlockDocument) �
 node_unless true node inside after = after
 node_unless false node inside after = Node node inside after
 
--- the document without its link reference definitions, which are not read (CommonMark 4.7)
+-- the document without its link reference definitions, which have no events (CommonMark 4.7)
 abbrev pub without_definitions : BlockDocument → BlockDocument
 without_definitions Nil = Nil
 without_definitions (Node node inside after) =
     node_unless (is_definition node.kind) node (without_definitions inside) (without_definitions after)
 
--- a paragraph, where it stands directly in an item or a definition of a tight list or does not
+-- the kind of a paragraph, by whether it is directly in an item or a definition of a tight list
 abbrev pub kind_within : (tight : Bool) → BlockKind → BlockKind
 kind_within tight Paragraph = if tight then TightParagraph else Paragraph
 kind_within tight TightParagraph = TightParagraph
@@ -67,7 +67,7 @@ kind_within tight (Text bytes) = Text bytes
 kind_within tight (OwnedText bytes) = OwnedText bytes
 kind_within tight (Html bytes) = Html bytes
 
--- the paragraphs that stand directly in items or definitions of tight lists are no elements of their own (CommonMark 5.3)
+-- the paragraphs directly in items or definitions of tight lists are not elements (CommonMark 5.3)
 abbrev pub settled : (tight : Bool) → BlockDocument → BlockDocument
 settled tight Nil = Nil
 settled tight (Node node inside after) =

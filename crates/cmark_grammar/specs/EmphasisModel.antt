@@ -9,7 +9,7 @@ pub record Closed : Type 0 where
   pub pieces : List Piece
   pub pairs : List Pair
 
--- the run went on behind a pair, or found none there
+-- the result after a pair: that of closing more, with this pair before its pairs, or `stops` if no further opener was found
 abbrev pub paired : Pair → Closed → Option Closed → Closed
 paired pair stops None = stops
 paired pair stops (Some closed) = record closed { pairs = pair ∷ closed.pairs }
@@ -18,7 +18,7 @@ abbrev pub chosen : Bool → Closed → Option Closed → Option Closed
 chosen true here behind = Some here
 chosen false here behind = behind
 
--- a run closes what it can over the pieces, the nearest first, with these spans passed; none where no open run agrees
+-- a run closes as much as it can over the pieces, the nearest first, with the spans after them; `None` if no open run agrees
 abbrev pub close : Run → List Piece → Spans → Option Closed
 close closer [] inside = None
 close closer (Whole spans ∷ pieces) inside = close closer pieces (before (Whole spans) inside)
@@ -40,7 +40,7 @@ or_none closer pieces (Some closed) = closed
 unfoldable pub closed : Run → List Piece → Closed
 closed closer pieces = or_none closer pieces (close closer pieces Nil)
 
--- the pieces at the end, and the pairs on the way
+-- the pieces at the end, and the pairs found on the way
 pub record Resolved : Type 0 where
   pub pieces : List Piece
   pub pairs : List Pair

@@ -1,4 +1,4 @@
--- Escapes: maps of each byte of a text, joined.
+-- Escapes in HTML, as the original writes them: each byte of a text is mapped, and the results are joined. Example: `a<b` becomes `a&lt;b`.
 use Rattle.std.specs.Prelude.{ℕ, ◌+◌, ◌/◌, ◌%◌, Bool, ◌||◌, ◌==◌, nat_lt, if◌then◌else◌, List, [], ◌∷◌, flat_map, codes}
 use Rattle.std.specs.Char.{is_ascii_alphanumeric}
 use Rattle.std.specs.List.{list_any}
@@ -24,7 +24,7 @@ html_byte b =
 abbrev pub escaped_html : List ℕ → List ℕ
 escaped_html text = flat_map html_byte text
 
--- the bytes that a URL keeps: ASCII letters and digits, and these signs
+-- the bytes that a URL keeps: ASCII letters and digits, and the listed signs
 abbrev pub is_url_byte : ℕ → Bool
 is_url_byte b = is_ascii_alphanumeric b || list_any (λ sign. sign == b) (codes "!#$%()*+,-./:;=?@_~")
 
@@ -36,7 +36,7 @@ hexadecimal_digit n = if nat_lt n 10 then 48 + n else 55 + n
 abbrev pub percent_encoded : ℕ → List ℕ
 percent_encoded b = 37 ∷ hexadecimal_digit (b / 16) ∷ hexadecimal_digit (b % 16) ∷ []
 
--- in the URL of a link `&` and `'` are written as entities, and each other byte that a URL does not keep is percent-encoded
+-- in the URL of a link `&` and `'` are written as entities. Each other byte that a URL does not keep is percent-encoded
 abbrev pub href_byte : ℕ → List ℕ
 href_byte b =
     if is_url_byte b then b ∷ []

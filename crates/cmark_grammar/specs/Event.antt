@@ -1,4 +1,5 @@
--- The events that a document is read as.
+-- The events of a document (this profile's own, as in the original). Example: the events of `a` are the start of a paragraph, a text and
+-- the end of the paragraph.
 use Rattle.std.specs.Prelude.{ℕ, Bool, List}
 use Rattle.cmark_grammar.specs.Tag.{Tag}
 use Rattle.cmark_grammar.specs.TagEnd.{TagEnd}
@@ -18,7 +19,7 @@ pub data Event : Type 0 where
   Rule : Event
   TaskListMarker : (is_checked : Bool) → Event
 
--- an event with the bytes of the text that it comes from
+-- an event with the range of the text that it comes from
 pub record Ranged : Type 0 where
   pub event : Event
   pub start : ℕ

@@ -1,4 +1,5 @@
--- What a delimiter run stands beside, and whether it can open or close (CommonMark 2.1 and 6.2).
+-- The characters beside a delimiter run, and whether the run can open or close (CommonMark 2.1 and 6.2). Example: in `a *b*` the first run
+-- can only open, and the second can only close.
 use Rattle.std.specs.Prelude.{ℕ, Bool, true, false, not, ◌==◌, ◌&&◌, ◌||◌, nat_lt, Option, Some, None}
 use Rattle.ucd_category.specs.GeneralCategory.{general_category, general_category_eq}
 use Rattle.ucd_category.specs.GeneralCategoryGroup.{in_group}
@@ -15,7 +16,7 @@ is_unicode_white_space c =
 unfoldable pub is_unicode_punctuation : ℕ → Bool
 is_unicode_punctuation c = in_group Punctuation (general_category c) || in_group Symbol (general_category c)
 
--- beside a run stands a character, or none: the edge of its line, leaf or cell, which counts as white space
+-- the character beside a run. At the edge of the run's line, leaf or cell there is no character, which counts as white space
 abbrev pub is_white_space_there : Option ℕ → Bool
 is_white_space_there None = true
 is_white_space_there (Some c) = is_unicode_white_space c
@@ -24,25 +25,24 @@ abbrev pub is_punctuation_there : Option ℕ → Bool
 is_punctuation_there None = false
 is_punctuation_there (Some c) = is_unicode_punctuation c
 
--- left-flanking (CommonMark 6.2): no white space follows, and either no punctuation follows, or white space or
--- punctuation stands before
+-- left-flanking (CommonMark 6.2): no white space follows; and if punctuation follows, white space or punctuation precedes
 abbrev pub is_left_flanking : (before after : Option ℕ) → Bool
 is_left_flanking before after =
     not (is_white_space_there after)
     && (not (is_punctuation_there after) || (is_white_space_there before || is_punctuation_there before))
 
--- right-flanking (CommonMark 6.2): the mirror
+-- right-flanking (CommonMark 6.2): the same with the two sides exchanged
 abbrev pub is_right_flanking : (before after : Option ℕ) → Bool
 is_right_flanking before after =
     not (is_white_space_there before)
     && (not (is_punctuation_there before) || (is_white_space_there after || is_punctuation_there after))
 
--- a byte that delimiter runs are made of
+-- a byte of delimiter runs
 abbrev pub is_run_delimiter : ℕ → Bool
 is_run_delimiter b = (b == 42) || ((b == 95) || ((b == 126) || ((b == 94) || (b == 61))))
 
--- so many of a delimiter are a delimiter run: `*` and `_` in any number, one or two `~` where strikethrough or subscript is
--- read, one `^` where superscript is, and two `=` where highlight is (GFM 6.5, and this profile's own)
+-- `run_length` bytes of a delimiter are a delimiter run. There may be any number of `*` or `_`, one or two `~` with strikethrough or
+-- subscript, one `^` with superscript, and two `=` with highlight (GFM 6.5, and this profile's own)
 abbrev pub is_delimiter_run : Options → (delimiter run_length : ℕ) → Bool
 is_delimiter_run options delimiter run_length =
     (((delimiter == 42) || (delimiter == 95)) && nat_lt 0 run_length)
@@ -50,8 +50,8 @@ is_delimiter_run options delimiter run_length =
     || (((delimiter == 94) && (options.superscript && (run_length == 1)))
     || ((delimiter == 61) && (options.highlight && (run_length == 2)))))
 
--- it can open and close inside a word too (CommonMark 6.2, rules 1 to 8): all but `_`, and one `~` where no subscript is
--- read (this profile's own)
+-- a run of it can open and close inside a word too (CommonMark 6.2, rules 1 to 8). This holds of every delimiter except `_`, and except a
+-- single `~` if subscript is off (this profile's own)
 abbrev pub is_intraword : Options → (delimiter run_length : ℕ) → Bool
 is_intraword options delimiter run_length = not (delimiter == 95) && (not (delimiter == 126) || ((run_length == 2) || options.subscript))
 
@@ -60,10 +60,12 @@ pub record Flanking : Type 0 where
   pub opens : Bool
   pub closes : Bool
 
+-- whether a run can open (CommonMark 6.2, rules 1, 2, 5 and 6)
 abbrev pub opens_beside : (intraword : Bool) → (before after : Option ℕ) → Bool
 opens_beside intraword before after =
     is_left_flanking before after && (intraword || (not (is_right_flanking before after) || is_punctuation_there before))
 
+-- whether a run can close (CommonMark 6.2, rules 3, 4, 7 and 8)
 abbrev pub closes_beside : (intraword : Bool) → (before after : Option ℕ) → Bool
 closes_beside intraword before after =
     is_right_flanking before after && (intraword || (not (is_left_flanking before after) || is_punctuation_there after))

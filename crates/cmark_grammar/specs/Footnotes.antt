@@ -1,15 +1,17 @@
--- The markers of footnote definitions: `[^`, a label on one line, and `]:` (this profile's own, as GitHub and the original read them).
+-- The markers of footnote definitions: `[^`, a label on one line, and `]:` (this profile's own, by the rules of GitHub and of the
+-- original).
 use Rattle.std.specs.Prelude.{ℕ, zero, suc, Bool, true, false, ◌==◌, ◌&&◌, not, if◌then◌else◌, List, [], ◌∷◌, length, Option, Some, None}
 use Rattle.cmark_grammar.specs.Columns.{Column, without_indent}
 use Rattle.cmark_grammar.specs.LinkDefinitions.{Parsed, up_to, label_if}
 use Rattle.cmark_grammar.specs.Options.{Options}
 
--- whether footnotes are read, and if so as GitHub reads them or as they were read before
+-- whether footnotes are read, and if so in GitHub's style or in the old style
 pub data Footnotes : Type 0 where
   Off : Footnotes
   Gfm : Footnotes
   Old : Footnotes
 
+-- the style of footnotes that the options ask for
 abbrev pub footnotes_in : Options → Footnotes
 footnotes_in options = if options.footnotes then (if options.old_footnotes then Old else Gfm) else Off
 
@@ -18,13 +20,13 @@ are_read Off = false
 are_read Gfm = true
 are_read Old = true
 
--- a footnote definition interrupts a paragraph as GitHub reads it, and did not before
+-- a footnote definition in GitHub's style interrupts a paragraph; one in the old style does not
 abbrev pub do_interrupt : Footnotes → Bool
 do_interrupt Off = false
 do_interrupt Gfm = true
 do_interrupt Old = false
 
--- behind the label stands a colon
+-- a colon follows the label
 abbrev pub colon_behind : (label : List ℕ) → List ℕ → Option Parsed
 colon_behind label [] = None
 colon_behind label (b ∷ bs) = if b == 58 then Some (record { bytes = label; behind = bs }) else None
@@ -37,18 +39,18 @@ abbrev pub behind_caret : List ℕ → Option Parsed
 behind_caret [] = None
 behind_caret (b ∷ bs) = if b == 94 then label_then_colon (label_if (up_to false 93 91 false bs)) else None
 
--- the label of the marker that these bytes begin with, and the bytes behind the marker
+-- the label of the marker at the beginning of these bytes, and the bytes after the marker. Example: the label of `[^a]: b` is `a`
 abbrev pub footnote_in : List ℕ → Option Parsed
 footnote_in [] = None
 footnote_in (b ∷ bs) = if b == 91 then behind_caret bs else None
 
--- how many of these columns the first n bytes have
+-- the number of columns that the first `n` bytes have
 abbrev pub columns_over : ℕ → List Column → ℕ
 columns_over n [] = 0
 columns_over zero (c ∷ cs) = 0
 columns_over (suc n) (c ∷ cs) = suc (columns_over (if c.part == 0 then n else suc n) cs)
 
--- the columns of the marker with this label: its bytes are the label's and those of `[^` and `]:`
+-- the number of columns of the marker with this label: of the bytes of the label, of `[^` and of `]:`
 abbrev pub marker_columns : (label : List ℕ) → List Column → ℕ
 marker_columns label cs = columns_over (suc (suc (suc (suc (length label))))) (without_indent cs)
 
@@ -56,7 +58,7 @@ abbrev pub is_label_found : Option Parsed → Bool
 is_label_found None = false
 is_label_found (Some found) = true
 
--- a label that begins with `^` and goes on is none of a link
+-- a label that begins with `^` and has more bytes is not the label of a link
 abbrev pub goes_on_behind_caret : List ℕ → Bool
 goes_on_behind_caret [] = true
 goes_on_behind_caret (b ∷ bs) = not (b == 93)

@@ -7,12 +7,12 @@ use Rattle.cmark_grammar.specs.LinkDefinitions.{Parsed, put, escapes_next}
 abbrev pub is_dollar : ℕ → Bool
 is_dollar b = b == 36
 
--- no white space
+-- a byte that is not white space
 abbrev pub is_ink : ℕ → Bool
 is_ink b = not (is_ascii_whitespace b)
 
--- The braces of a leaf part it into contexts, which have numbers modulo 256. Those that are entered, the inner ones first; the number
--- of the outermost, which is 255 at first; and the number of the next
+-- the contexts between the braces of a leaf, numbered modulo 256. Entered: the contexts that are entered, the inner ones first. Outermost:
+-- the number of the outermost context, which is 255 at first. Next: the number of the next context
 pub record Braces : Type 0 where
   pub entered : List ℕ
   pub outermost : ℕ
@@ -24,7 +24,7 @@ no_braces = record { entered = []; outermost = 255; next = 0 }
 abbrev pub context_of : Braces → ℕ
 context_of braces = elim braces.entered [ [] ↦ braces.outermost | c ∷ cs ↦ c ]
 
--- `{` enters the next context; `}` leaves one, and in the outermost context it gives that the next number
+-- `{` enters the next context. `}` leaves a context; in the outermost one it gives this the next number
 abbrev pub entered : Braces → Braces
 entered braces = record { entered = braces.next % 256 ∷ braces.entered; outermost = braces.outermost; next = suc braces.next }
 
@@ -32,7 +32,7 @@ abbrev pub left_to : List ℕ → Braces → Braces
 left_to [] braces = record { entered = []; outermost = braces.next % 256; next = suc braces.next }
 left_to (c ∷ cs) braces = record { entered = cs; outermost = braces.outermost; next = braces.next }
 
--- the braces behind one more byte, which a backslash may escape
+-- the braces after another byte, unless a backslash escapes it
 abbrev pub behind_byte : (escaped : Bool) → ℕ → Braces → Braces
 behind_byte true b braces = braces
 behind_byte false b braces = if b == 123 then entered braces else if b == 125 then left_to braces.entered braces else braces
@@ -41,8 +41,8 @@ abbrev pub braces_behind : (escaped : Bool) → List ℕ → Braces → Braces
 braces_behind escaped [] braces = braces
 braces_behind escaped (b ∷ bs) braces = braces_behind (escapes_next escaped b) bs (behind_byte escaped b braces)
 
--- The first dollar sign of the same context, which no backslash escapes, decides: one closes behind a byte that is no white space, and
--- two of them in a row close a display; else there is no formula. The last byte before, and the braces, are those in front of the bytes
+-- The next unescaped dollar sign of the same context decides. For an inline formula it closes if the byte before it is not white space. For
+-- a display formula it closes if a second dollar sign follows. Else there is no formula. `last` and the braces are those before these bytes
 abbrev pub closes_formula : (is_display : Bool) → (last : ℕ) → (bs : List ℕ) → Bool
 closes_formula true last bs = first_is is_dollar bs
 closes_formula false last bs = is_ink last
@@ -54,11 +54,11 @@ formula_to is_display context escaped last braces (b ∷ bs) =
     then (if closes_formula is_display last bs then Some (record { bytes = []; behind = drop (if is_display then 1 else 0) bs }) else None)
     else put b (formula_to is_display context (escapes_next escaped b) b (behind_byte escaped b braces) bs)
 
--- what stands behind one dollar sign and these braces, up to the one that closes it: a byte that is no white space follows, so it is not
--- empty
+-- the formula after one dollar sign and these braces, up to the dollar sign that closes it. It begins with a byte that is not white space,
+-- so it is not empty. Example: `$a + b$`
 abbrev pub inline_in : Braces → List ℕ → Option Parsed
 inline_in braces bs = if first_is is_ink bs then formula_to false (context_of braces) false 36 braces bs else None
 
--- and behind two of them, which may close at once
+-- the formula after two dollar signs, which may be empty. Example: `$$a$$`
 abbrev pub display_in : Braces → List ℕ → Option Parsed
 display_in braces bs = formula_to true (context_of braces) false 36 braces bs

@@ -1,4 +1,4 @@
--- The HTML of a list of events: the joined list of their pieces.
+-- The HTML of a list of events: the HTML of each event, joined. It is written as the original writes it.
 use Rattle.std.specs.Prelude.{ℕ, ◌+◌, ◌-◌, Bool, true, false, not, ◌==◌, if◌then◌else◌, List, [], ◌∷◌, ◌++◌, codes, nat_eq, take_while, Option, Some, None}
 use Rattle.std.specs.Cmp.Lexicographic.{pointwise}
 use Rattle.std.specs.Fmt.{decimal}
@@ -15,22 +15,25 @@ use Rattle.cmark_grammar.specs.TagEnd.{TagEnd}
 use Rattle.cmark_grammar.specs.Event.{Event, Start, End, Text, Code, InlineMath, DisplayMath, Html, InlineHtml, FootnoteReference, SoftBreak, HardBreak, Rule, TaskListMarker}
 use Rattle.cmark_grammar.specs.Escapes.{escaped_body_text, escaped_html, escaped_href}
 
--- an image whose alternative text is being written: how many elements are open inside of it, and its title
+-- an image whose alternative text is being written: the number of elements open inside it, and its title
 pub record OpenImage : Type 0 where
   pub depth : ℕ
   pub title : List ℕ
 
--- the table that is being written: whether its cells are those of a head, which they are until a head has ended; the
--- alignments of its columns, which stay until the next table; and how many cells of the row have ended
+-- the table that is being written. Its cells are those of the head, until the head has ended. It has the alignments of its columns, until
+-- the next table begins, and the number of cells of the row that have ended
 pub record TableState : Type 0 where
   pub in_head : Bool
   pub alignments : List Alignment
   pub column : ℕ
 
--- what is kept from one event to the next: whether the writer is at a line start, which it is before the first piece
--- and behind a piece that ended in a line feed; the image whose alternative text is being written, if there is one;
--- whether a metadata block is open, whose text is not written; the table; and the names of the footnotes that were
--- numbered, in order
+-- the state between two events:
+--
+-- - whether the writer is at a line start: before the first event, and after HTML that ended in a line feed;
+-- - the image whose alternative text is being written, if there is one;
+-- - whether a metadata block is open, whose text is not written;
+-- - the table;
+-- - the names of the footnotes that have numbers, in order
 pub record Writing : Type 0 where
   pub line_start : Bool
   pub image : Option OpenImage
@@ -38,7 +41,7 @@ pub record Writing : Type 0 where
   pub table : TableState
   pub names : List (List ℕ)
 
--- nothing was written before the first event
+-- before the first event there is no table
 abbrev pub no_table : TableState
 no_table = record { in_head = true; alignments = []; column = 0 }
 
@@ -57,7 +60,7 @@ ends_in_line_feed bs = ends_with nat_eq bs (10 ∷ [])
 abbrev pub digit : ℕ → ℕ
 digit level = 48 + level
 
--- a text in the value of an attribute, and behind the attribute's name
+-- a text in the value of an attribute, after the attribute's name
 abbrev pub quoted : List ℕ → List ℕ → List ℕ
 quoted name text = name ++ (codes "=\"" ++ (escaped_html text ++ codes "\""))
 
@@ -99,7 +102,7 @@ abbrev pub block_quote_start : Option BlockQuoteKind → List ℕ
 block_quote_start None = codes "<blockquote>\n"
 block_quote_start (Some kind) = codes "<blockquote class=\"markdown-alert-" ++ (alert_name kind ++ codes "\">\n")
 
--- the first word of an info string, up to its first space, names the language (CommonMark 4.5)
+-- the first word of an info string, up to its first space, is the language (CommonMark 4.5)
 abbrev pub is_within_word : ℕ → Bool
 is_within_word b = not (b == 32)
 
@@ -111,7 +114,7 @@ abbrev pub code_block_start : CodeBlockKind → List ℕ
 code_block_start Indented = codes "<pre><code>"
 code_block_start (Fenced info) = language_start (take_while is_within_word info)
 
--- an ordered list says its first number where that is not 1 (CommonMark 5.3)
+-- an ordered list has its first number as an attribute, unless it is 1 (CommonMark 5.3)
 abbrev pub list_start : Option ℕ → List ℕ
 list_start None = codes "<ul>\n"
 list_start (Some first) = if first == 1 then codes "<ol>\n" else codes "<ol start=\"" ++ (decimal first ++ codes "\">\n")
@@ -131,14 +134,14 @@ title_attribute (b ∷ bs) = quoted (codes " title") (b ∷ bs)
 abbrev pub link_start : Linked → List ℕ
 link_start l = codes "<a href=\"" ++ (scheme l.link_type ++ (escaped_href l.destination ++ (codes "\"" ++ (title_attribute l.title ++ codes ">"))))
 
--- an image up to its alternative text, and behind it
+-- an image before its alternative text, and after it
 abbrev pub image_start : List ℕ → List ℕ
 image_start destination = codes "<img src=\"" ++ (escaped_href destination ++ codes "\" alt=\"")
 
 abbrev pub image_end : List ℕ → List ℕ
 image_end title = codes "\"" ++ (title_attribute title ++ codes " />")
 
--- a cell of a table up to its text, with the alignment of its column, and behind it; none past the last column is aligned
+-- a table cell before its text, with the alignment of its column, and after it. Cells after the last column have no alignment
 abbrev pub cell_tag : Bool → List ℕ
 cell_tag true = codes "<th"
 cell_tag false = codes "<td"
@@ -157,8 +160,8 @@ abbrev pub cell_end : Bool → List ℕ
 cell_end true = codes "</th>"
 cell_end false = codes "</td>"
 
--- a footnote has the number of its name, in digits: names are numbered from 1 on as they come, references and definitions
--- alike, and are told apart by their exact texts
+-- a footnote is written with the number of its name, in digits. Names are numbered from 1 in order of appearance, references and
+-- definitions alike. Two names are the same if their bytes are
 abbrev pub footnote_number : List (List ℕ) → List ℕ → ℕ
 footnote_number names name = position_or_len (pointwise nat_eq name) names + 1
 
@@ -175,7 +178,7 @@ footnote_reference name digits = codes "<sup class=\"footnote-reference\"><a hre
 abbrev pub alt_footnote_reference : List ℕ → List ℕ
 alt_footnote_reference digits = codes "[" ++ (digits ++ codes "]")
 
--- nothing is written for the start and the end of an HTML block or a metadata block
+-- the start and the end of an HTML block or a metadata block write nothing
 abbrev pub start_piece : Writing → Tag → List ℕ
 start_piece w tag.Paragraph = fresh_line w.line_start ++ codes "<p>"
 start_piece w (tag.Heading level attributes) = fresh_line w.line_start ++ (codes "<h" ++ (digit level ∷ (heading_attributes attributes ++ codes ">")))
@@ -239,7 +242,7 @@ abbrev pub text_piece : Bool → List ℕ → List ℕ
 text_piece true text = []
 text_piece false text = escaped_body_text text
 
--- what is written for an event outside of images
+-- the HTML of an event outside of images
 abbrev pub piece_outside : Writing → Event → List ℕ
 piece_outside w (Start tag) = start_piece w tag
 piece_outside w (End tag) = end_piece w.table.in_head tag
@@ -259,8 +262,7 @@ abbrev pub alt_task_list_marker : Bool → List ℕ
 alt_task_list_marker true = codes "[x]"
 alt_task_list_marker false = codes "[ ]"
 
--- what an event adds to the alternative text of an image around it, which is the text of what is inside without the
--- elements (CommonMark 6.4)
+-- the alternative text that an event adds to an image around it: the text without the elements (CommonMark 6.4)
 abbrev pub alt_text : List (List ℕ) → Event → List ℕ
 alt_text names (Start tag) = []
 alt_text names (End tag) = []
@@ -276,7 +278,7 @@ alt_text names HardBreak = codes " "
 alt_text names Rule = codes " "
 alt_text names (TaskListMarker is_checked) = alt_task_list_marker is_checked
 
--- what is written for an event inside of an image: the end that matches the image's start closes it, whatever its element
+-- the HTML of an event inside an image: the end that matches the image's start closes it, of whatever element that end is
 abbrev pub piece_inside : List (List ℕ) → OpenImage → Event → List ℕ
 piece_inside names image (End tag) = if image.depth == 0 then image_end image.title else []
 piece_inside names image e = alt_text names e
@@ -285,11 +287,11 @@ abbrev pub piece_in : Option OpenImage → Writing → Event → List ℕ
 piece_in None w e = piece_outside w e
 piece_in (Some image) w e = piece_inside w.names image e
 
--- what is written for an event
+-- the HTML of an event
 abbrev pub piece : Writing → Event → List ℕ
 piece w e = piece_in w.image w e
 
--- whether the writer is then at a line start, behind a start
+-- whether the writer is at a line start after the start of an element
 abbrev pub line_start_after_start : Bool → Tag → Bool
 line_start_after_start at_start tag.Paragraph = false
 line_start_after_start at_start (tag.Heading level attributes) = false
@@ -342,7 +344,7 @@ line_start_after_end at_start end.Link = false
 line_start_after_end at_start end.Image = at_start
 line_start_after_end at_start (end.MetadataBlock kind) = at_start
 
--- an empty piece moves nothing; an empty text alone counts as no line start
+-- an empty HTML event leaves the line start as it is; after an empty text the writer is at no line start
 abbrev pub line_start_after_html : Bool → List ℕ → Bool
 line_start_after_html at_start [] = at_start
 line_start_after_html at_start (b ∷ bs) = ends_in_line_feed (b ∷ bs)
@@ -371,13 +373,13 @@ abbrev pub opened_image : Event → Option OpenImage
 opened_image (Start tag) = opened_by tag
 opened_image _ = None
 
--- whether a metadata block is open behind an event
+-- whether a metadata block is open after an event
 abbrev pub metadata_after : Bool → Event → Bool
 metadata_after in_metadata (Start (tag.MetadataBlock kind)) = true
 metadata_after in_metadata (End (end.MetadataBlock kind)) = false
 metadata_after in_metadata _ = in_metadata
 
--- the table behind an event
+-- the table after an event
 abbrev pub table_after_start : TableState → Tag → TableState
 table_after_start t (tag.Table alignments) = record { in_head = t.in_head; alignments = alignments; column = t.column }
 table_after_start t tag.TableHead = record { in_head = true; alignments = t.alignments; column = 0 }
@@ -394,7 +396,7 @@ table_after t (Start tag) = table_after_start t tag
 table_after t (End tag) = table_after_end t tag
 table_after t _ = t
 
--- the image around an event that is still open behind it: starts and ends count how deep the text is
+-- the image around an event that is still open after it: starts and ends count the depth
 abbrev pub deeper : OpenImage → OpenImage
 deeper image = record { depth = image.depth + 1; title = image.title }
 
@@ -406,7 +408,7 @@ still_open image (Start tag) = Some (deeper image)
 still_open image (End tag) = if image.depth == 0 then None else Some (less_deep image)
 still_open image _ = Some image
 
--- the names of footnotes behind an event outside of images, and behind one inside, where a definition has no piece
+-- the names of footnotes after an event outside of images, and after one inside, where a definition writes nothing
 abbrev pub names_after_start : List (List ℕ) → Tag → List (List ℕ)
 names_after_start names (tag.FootnoteDefinition label) = named names label
 names_after_start names _ = names
@@ -420,7 +422,7 @@ abbrev pub names_after_inside : List (List ℕ) → Event → List (List ℕ)
 names_after_inside names (FootnoteReference label) = named names label
 names_after_inside names _ = names
 
--- what is kept behind an event; behind an image the writer is at no line start
+-- the state after an event; after an image the writer is at no line start
 abbrev pub moved_outside : Writing → Event → Writing
 moved_outside w e = record {
   line_start = line_start_after w e;
@@ -450,7 +452,7 @@ abbrev pub moved_all : Writing → List Event → Writing
 moved_all w [] = w
 moved_all w (e ∷ es) = moved_all (moved w e) es
 
--- the pieces of events, one behind the other
+-- the HTML of events, in order
 abbrev pub pieces_from : Writing → List Event → List ℕ
 pieces_from w [] = []
 pieces_from w (e ∷ es) = piece w e ++ pieces_from (moved w e) es
@@ -458,10 +460,11 @@ pieces_from w (e ∷ es) = piece w e ++ pieces_from (moved w e) es
 abbrev pub pieces : List Event → List ℕ
 pieces events = pieces_from at_line_start events
 
--- what closes an image that is open behind the last event
+-- the HTML that closes an image which is still open after the last event
 abbrev pub last_piece : Option OpenImage → List ℕ
 last_piece None = []
 last_piece (Some image) = image_end image.title
 
+-- the HTML of a list of events, from the first to the last
 abbrev pub html : List Event → List ℕ
 html events = pieces events ++ last_piece (moved_all at_line_start events).image

@@ -1,4 +1,4 @@
--- HTML blocks: their seven kinds of start and end (CommonMark 4.6).
+-- HTML blocks: their seven kinds of start and end (CommonMark 4.6). Examples: `<div>` begins a block of kind 6, and `<!-- a` one of kind 2.
 use Rattle.std.specs.Prelude.{ℕ, Bool, false, ◌==◌, ◌&&◌, ◌||◌, not, nat_le, if◌then◌else◌, List, [], ◌∷◌, length, drop, take_while, map, codes, bytes_eq, Option, Some, None}
 use Rattle.cmark_grammar.specs.Columns.{bytes_of}
 use Rattle.cmark_grammar.specs.Rows.{Row, is_blank_line, words_of}
@@ -14,9 +14,11 @@ abbrev pub is_among : List ℕ → List (List ℕ) → Bool
 is_among word [] = false
 is_among word (w ∷ words) = bytes_eq word w || is_among word words
 
+-- the names of kind 1 (CommonMark 4.6)
 abbrev pub raw_names : List (List ℕ)
 raw_names = codes "pre" ∷ codes "script" ∷ codes "style" ∷ codes "textarea" ∷ []
 
+-- the names of kind 6 (CommonMark 4.6)
 abbrev pub block_names : List (List ℕ)
 block_names =
     codes "address" ∷ codes "article" ∷ codes "aside" ∷ codes "base" ∷ codes "basefont" ∷ codes "blockquote" ∷ codes "body" ∷ codes "caption" ∷ codes "center"
@@ -27,7 +29,7 @@ block_names =
     ∷ codes "search" ∷ codes "section" ∷ codes "summary" ∷ codes "table" ∷ codes "tbody" ∷ codes "td" ∷ codes "tfoot" ∷ codes "th" ∷ codes "thead"
     ∷ codes "title" ∷ codes "tr" ∷ codes "track" ∷ codes "ul" ∷ []
 
--- a tag's bytes behind `<` or `</`
+-- the bytes of a tag after `<` or `</`
 abbrev pub behind_slash : List ℕ → List ℕ
 behind_slash [] = []
 behind_slash (b ∷ bs) = if b == 47 then bs else b ∷ bs
@@ -38,24 +40,24 @@ name_in bs = take_while is_alphanumeric bs
 abbrev pub behind_name : List ℕ → List ℕ
 behind_name bs = drop (length (name_in bs)) bs
 
--- kind 1: an opening tag whose content is taken as it is, begun
+-- kind 1: the beginning of an opening tag whose content is taken literally, such as `<script`
 abbrev pub begins_raw : List ℕ → Bool
 begins_raw bs = is_among (name_in bs) raw_names && (is_parted (behind_name bs) || first_is (λ b. b == 62) (behind_name bs))
 
--- kind 6: a tag of a block's name, begun
+-- kind 6: the beginning of a tag with a block's name, such as `<div`
 abbrev pub begins_block : List ℕ → Bool
 begins_block bs = is_among (name_in bs) block_names && (is_parted (behind_name bs) || (first_is (λ b. b == 62) (behind_name bs) || starts (codes "/>") (behind_name bs)))
 
--- nothing but blanks, behind a part that was read
+-- only spaces and tabs after a part that was read
 abbrev pub ends_in_blanks : Option (List ℕ) → Bool
 ends_in_blanks None = false
 ends_in_blanks (Some rest) = are_blank rest
 
--- kind 7: one whole open or closing tag and blanks, of a name that is not taken as it is
+-- kind 7: one complete opening or closing tag and then only blanks; its name is not a name of kind 1
 abbrev pub is_lone_tag : List ℕ → Bool
 is_lone_tag bs = ends_in_blanks (behind_tag_start no_prefix bs) && not (is_among (map lower (take_while is_name_byte (behind_slash bs))) raw_names)
 
--- the kind of an HTML block that begins with these bytes behind `<`
+-- the kind of an HTML block that begins with `<` and these bytes
 abbrev pub kind_behind : List ℕ → Option ℕ
 kind_behind bs =
     if begins_raw (map lower bs) then Some 1
@@ -67,11 +69,12 @@ kind_behind bs =
     else if is_lone_tag bs then Some 7
     else None
 
+-- the kind of the HTML block that a line begins, if it begins one (CommonMark 4.6)
 abbrev pub html_kind : List ℕ → Option ℕ
 html_kind [] = None
 html_kind (b ∷ bs) = if b == 60 then kind_behind bs else None
 
--- kinds 1 to 5 end with a line that holds their end
+-- kinds 1 to 5 end with a line that contains their end
 abbrev pub holds_end : ℕ → List ℕ → Bool
 holds_end kind bs =
     if kind == 1 then holds (codes "</pre>") (map lower bs) || (holds (codes "</script>") (map lower bs) || (holds (codes "</style>") (map lower bs) || holds (codes "</textarea>") (map lower bs)))
@@ -86,6 +89,6 @@ html_continuation kind r =
     if nat_le 6 kind then (if is_blank_line r then Stops else GoesOn)
     else if holds_end kind (bytes_of r.columns) then Closes else GoesOn
 
--- how many of the lines ahead belong to an HTML block that begins on this line
+-- the number of lines ahead that belong to an HTML block which begins on this line
 abbrev pub html_lines : ℕ → Row → List Row → ℕ
 html_lines kind r ahead = if nat_le kind 5 && holds_end kind (words_of r) then 0 else counted (html_continuation kind) ahead

@@ -1,4 +1,4 @@
--- The events that the spans of a leaf are read as: each with its bytes of the source.
+-- The events of a leaf's spans (CommonMark 6), each with its range in the source.
 use Rattle.std.specs.Prelude.{ℕ, List, [], ◌∷◌, ◌++◌}
 use Rattle.cmark_grammar.specs.Event as event
 use Rattle.cmark_grammar.specs.Event.{Event, Start, End, Ranged}
@@ -8,7 +8,7 @@ use Rattle.cmark_grammar.specs.TagEnd.{end_of}
 use Rattle.cmark_grammar.specs.Tokens.{slice}
 
 module _ (source : List ℕ) where
-  -- the bytes of an item as they stand in the source
+  -- the source bytes of an item
   abbrev pub as_written : Item → List ℕ
   as_written x = slice source x.start x.end
 

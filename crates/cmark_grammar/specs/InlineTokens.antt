@@ -1,4 +1,4 @@
--- What begins at a place of a leaf's text (CommonMark 6): the first that fits. All places are places of the source.
+-- The token at a place of a leaf's text (CommonMark 6): the first construct that matches. All places are places of the source.
 use Rattle.std.specs.Prelude.{ℕ, zero, suc, ◌+◌, ◌-◌, Bool, true, false, not, ◌==◌, ◌&&◌, ◌||◌, nat_lt, if◌then◌else◌, List, [], ◌∷◌, codes, chars, length, drop, take, reverse, Option, Some, None}
 use Rattle.std.specs.List.{prefix_len}
 use Rattle.cmark_grammar.specs.Autolinks.{autolink_in}
@@ -20,7 +20,7 @@ use Rattle.cmark_grammar.specs.Readers.{Reader}
 use Rattle.cmark_grammar.specs.Tags.{behind_tag, no_prefix}
 use Rattle.cmark_grammar.specs.Tokens.{Entity, entity_in, is_punctuation, slice}
 
--- an item behind which the text is read on where it ends
+-- an item after which reading resumes at its end
 abbrev pub item_at : ItemKind → (start end : ℕ) → Token
 item_at kind start end = Stands (record { kind = kind; start = start; end = end }) end
 
@@ -35,7 +35,7 @@ abbrev pub first_of : List ℕ → Option ℕ
 first_of [] = None
 first_of (c ∷ cs) = Some c
 
--- in the cell of a table the backslash directly before a `|` is left out of code and formulas (GFM 4.10)
+-- in a table cell the backslash directly before a `|` is removed from code and formulas (GFM 4.10)
 abbrev pub without_pipe_escapes : List ℕ → List ℕ
 without_pipe_escapes [] = []
 without_pipe_escapes (b ∷ bs) = if starts piped (b ∷ bs) then without_pipe_escapes bs else b ∷ without_pipe_escapes bs
@@ -51,11 +51,11 @@ module _ (reader : Reader) (leaf : Leaf) where
   abbrev pub before : ℕ → List ℕ
   before at = bytes_before reader.source leaf.stretches at
 
-  -- the place where these last bytes of the leaf begin
+  -- the place at which these last bytes of the leaf begin
   abbrev pub place_of : List ℕ → ℕ
   place_of rest = place_with (length rest) leaf.stretches
 
-  -- how many bytes there are from a place to these last ones
+  -- the number of bytes from a place to these last ones
   abbrev pub size_to : ℕ → (rest : List ℕ) → ℕ
   size_to at rest = length (from at) - length rest
 
@@ -65,7 +65,7 @@ module _ (reader : Reader) (leaf : Leaf) where
   abbrev pub character_at : ℕ → Option ℕ
   character_at at = first_of (chars (from at))
 
-  -- where the text is read on behind a place: at the next byte of the leaf, and where a line begins, behind the blanks in front
+  -- the place at which reading resumes: the next byte of the leaf, and at the beginning of a line the first byte after the blanks
   abbrev pub line_begins : ℕ → Bool
   line_begins at = first_is (λ b. not (is_content b)) (reverse (before at))
 
@@ -85,13 +85,12 @@ module _ (reader : Reader) (leaf : Leaf) where
   code_or at run_length (Some found) = item_at (Code (code_text (as_in leaf.is_cell found.bytes))) at (place_of found.behind)
   code_or at run_length None = item_at Own at (at + run_length)
 
-  -- the first backtick of a run is escaped: it stands for itself where the rest of the run opens a code span, and else the whole run
-  -- is a text
+  -- the first backtick of a run is escaped: it is a text if the rest of the run opens a code span; else the whole run is a text
   abbrev pub escaped_backtick : (at run_length : ℕ) → Option Parsed → Token
   escaped_backtick at run_length (Some found) = item_at Plain at (suc at)
   escaped_backtick at run_length None = item_at Own at (at + run_length)
 
-  -- a backslash, with what stands behind it (CommonMark 2.4); in the cell of a table `\\|` is a literal pipe (this profile's own)
+  -- a backslash and the bytes after it (CommonMark 2.4). In a table cell `\\|` is a literal pipe (this profile's own)
   abbrev pub escape_at : (at : ℕ) → List ℕ → Token
   escape_at at bs =
       if first_is is_backtick bs then escaped_backtick (suc at) (backticks bs) (code_in (drop 1 bs))
@@ -109,7 +108,7 @@ module _ (reader : Reader) (leaf : Leaf) where
   autolink_or at (Some found) other = item_at (Autolink found.bytes) at (place_of found.behind)
   autolink_or at None other = other
 
-  -- a tag (CommonMark 6.6), whose text is without the prefixes of its lines; or a text
+  -- a tag (CommonMark 6.6), whose text is without the prefixes of its lines, or a text
   abbrev pub tag_kind : (bytes : List ℕ) → ItemKind
   tag_kind bytes = if takes_lines bytes then OwnedHtml bytes else Html
 
@@ -117,7 +116,7 @@ module _ (reader : Reader) (leaf : Leaf) where
   tag_or_text at (Some rest) = item_at (tag_kind (take (size_to at rest) (from at))) at (place_of rest)
   tag_or_text at None = item_at Own at (suc at)
 
-  -- comments, declarations, CDATA sections and processing instructions are sought in the source up to the end of the leaf, with the
+  -- comments, declarations, CDATA sections and processing instructions are searched for in the source up to the leaf's end, including the
   -- prefixes of its lines (this profile's own)
   abbrev pub source_from : ℕ → List ℕ
   source_from at = slice reader.source at (end_of leaf.stretches)
@@ -129,18 +128,20 @@ module _ (reader : Reader) (leaf : Leaf) where
   markup_or at (Some rest) other = markup_to at (at + (length (source_from at) - length rest))
   markup_or at None other = other
 
+  -- a `<`: an autolink, else a comment or other markup, else a tag, else a text (CommonMark 6.5 and 6.6)
   abbrev pub less_than : (at : ℕ) → List ℕ → Token
   less_than at bs =
       if first_is (λ c. c == 92) bs then item_at Plain at (suc at)
       else autolink_or at (autolink_in reader.options.email_autolinks bs) (markup_or at (behind_markup (source_from at)) (tag_or_text at (behind_tag no_prefix (from at))))
 
-  -- a delimiter run (CommonMark 6.2), or bytes that stand for themselves
+  -- a delimiter run (CommonMark 6.2), or literal bytes
   abbrev pub run_or : (at delimiter run_length : ℕ) → Flanking → Token
   run_or at delimiter run_length beside =
       if beside.opens || beside.closes
       then item_at (Delimiters (record { delimiter = delimiter; run_length = run_length; at = 0; left = run_length; opens = beside.opens; closes = beside.closes })) at (at + run_length)
       else item_at Plain at (at + run_length)
 
+  -- a run of delimiters with the characters beside it (CommonMark 6.2)
   abbrev pub run_at : (at delimiter run_length : ℕ) → Token
   run_at at delimiter run_length = run_or at delimiter run_length (flanking reader.options delimiter run_length (character_before at) (character_at (at + run_length)))
 
@@ -163,6 +164,7 @@ module _ (reader : Reader) (leaf : Leaf) where
   abbrev pub quote_at : (at b : ℕ) → Token
   quote_at at b = item_at (Quoted (quote_beside (b == 34) (character_before at) (character_at (suc at)))) at (suc at)
 
+  -- typographic texts, if smart punctuation is on (this profile's own)
   abbrev pub smart_or : (at b : ℕ) → Token
   smart_or at b =
       if b == 46 then dots at
@@ -170,6 +172,7 @@ module _ (reader : Reader) (leaf : Leaf) where
       else if (b == 34) || (b == 39) then quote_at at b
       else item_at Plain at (suc at)
 
+  -- the token that begins with this byte, of which these bytes are the rest: the first byte decides which constructs are tried
   abbrev pub begins : (at : ℕ) → List ℕ → Token
   begins at [] = Ends
   begins at (b ∷ bs) =
@@ -186,11 +189,11 @@ module _ (reader : Reader) (leaf : Leaf) where
       else if reader.options.smart_punctuation then smart_or at b
       else item_at Plain at (suc at)
 
-  -- what begins there, where each byte that stands for itself is an item
+  -- the token at this place, if each literal byte is an item of its own
   abbrev pub begins_at : ℕ → Token
   begins_at at = begins at (from at)
 
-  -- such bytes without a gap are one text
+  -- adjacent literal bytes are one text
   abbrev pub goes_on : Token → (end : ℕ) → (more : ℕ → ℕ) → ℕ
   goes_on (Stands item resume) end more = if is_plain item.kind && (item.start == end) then more resume else end
   goes_on (Opens opener) end more = end
@@ -207,5 +210,6 @@ module _ (reader : Reader) (leaf : Leaf) where
   longest (Closes closer) = Closes closer
   longest Ends = Ends
 
+  -- the token at this place, with adjacent literal bytes as one text
   unfoldable pub token : ℕ → Token
   token at = longest (begins_at at)

@@ -1,14 +1,21 @@
--- What begins at a place of a leaf's text (CommonMark 6): an item that is read by itself, a bracket, or nothing more.
+-- The token at a place of a leaf's text (CommonMark 6): an item that is read by itself, a bracket, or the end.
 use Rattle.std.specs.Prelude.{ℕ, Bool, List}
 use Rattle.cmark_grammar.specs.Emphasis.{Run}
 use Rattle.cmark_grammar.specs.Quotes.{Quote}
 
--- Plain: bytes that stand for themselves and are one text with those that they touch. Own: bytes that are a text of their own.
--- Written: a text that stands for the bytes (CommonMark 2.4 and 2.5, and typographic ones, this profile's own). Quoted: a quote
--- (this profile's own). Delimiters: a run of `*` or `_` (6.2), of `~` (GFM 6.5) or of `^` (this profile's own). Code: a code span
--- (6.1). InlineMath and DisplayMath: formulas (this profile's own). Autolink: 6.5. Html: inline HTML as it stands in the source
--- (6.6); OwnedHtml: a tag over lines, whose bytes the prefixes of its lines part. FootnoteReference: this profile's own. SoftBreak,
--- HardBreak: line breaks (6.7 and 6.8)
+-- the kinds of items:
+--
+-- - Plain: literal bytes, which are one text with the literal bytes beside them;
+-- - Own: bytes that are a text of their own;
+-- - Written: a text in place of the bytes (CommonMark 2.4 and 2.5; typographic texts are this profile's own);
+-- - Quoted: a quotation mark (this profile's own);
+-- - Delimiters: a run of `*` or `_` (6.2), of `~` (GFM 6.5), or of `^` or `=` (this profile's own);
+-- - Code: a code span (6.1);
+-- - InlineMath and DisplayMath: formulas (this profile's own);
+-- - Autolink: an autolink (6.5);
+-- - Html: inline HTML as in the source (6.6); OwnedHtml: a tag over several lines, without the prefixes of these lines;
+-- - FootnoteReference: a footnote reference (this profile's own);
+-- - SoftBreak, HardBreak: line breaks (6.7 and 6.8)
 pub data ItemKind : Type 0 where
   Plain : ItemKind
   Own : ItemKind
@@ -25,19 +32,19 @@ pub data ItemKind : Type 0 where
   SoftBreak : ItemKind
   HardBreak : ItemKind
 
--- an item, and the bytes that it comes from
+-- an item with its range
 pub record Item : Type 0 where
   pub kind : ItemKind
   pub start : ℕ
   pub end : ℕ
 
--- a bracket that opens a link, or with a `!` before it an image, or one that closes (CommonMark 6.3 and 6.4)
+-- an opening bracket of a link, or, with a `!` before it, of an image; or a closing bracket (CommonMark 6.3 and 6.4)
 pub record Bracket : Type 0 where
   pub is_image : Bool
   pub start : ℕ
   pub end : ℕ
 
--- an item, with the place from which on the text is read behind it; a bracket that opens or one that closes; or the text's end
+-- an item, with the place at which reading resumes after it; an opening or closing bracket; or the end of the text
 pub data Token : Type 0 where
   Stands : (item : Item) → (resume : ℕ) → Token
   Opens : (bracket : Bracket) → Token

@@ -1,4 +1,4 @@
--- The labels of links and footnotes, and when two of them are the same (CommonMark 4.7).
+-- The labels of links and footnotes, and when two labels are equal (CommonMark 4.7). Example: ` Foo  BAR ` and `foo bar` are equal.
 use Rattle.std.specs.Prelude.{ℕ, Bool, nat_lt, List, length, filter, chars, encode_utf8_all}
 use Rattle.std.specs.Char.{is_ascii_whitespace}
 use Rattle.std.specs.List.{slice_split, join_with_byte}
@@ -20,6 +20,6 @@ normal_form label = join_with_byte 32 (words label)
 abbrev pub case_folded : List ℕ → List ℕ
 case_folded text = encode_utf8_all (default_case_fold (chars text))
 
--- two labels are the same where these are
+-- two labels are equal if their folded forms are
 abbrev pub fold : List ℕ → List ℕ
 fold label = case_folded (normal_form label)

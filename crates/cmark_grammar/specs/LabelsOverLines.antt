@@ -5,7 +5,7 @@ use Rattle.cmark_grammar.specs.Lines.{ends_line}
 use Rattle.cmark_grammar.specs.Unescaped.{escaped_pipe}
 use Rattle.cmark_grammar.specs.LinkDefinitions.{Parsed, up_to_byte, escapes_next, label_if}
 
--- a backslash and a pipe, which are a literal pipe in a table (GFM 4.10)
+-- a backslash and a pipe, which are a literal pipe in a table cell (GFM 4.10)
 abbrev pub piped : List ℕ
 piped = 92 ∷ 124 ∷ []
 
@@ -13,8 +13,8 @@ piped = 92 ∷ 124 ∷ []
 abbrev pub backslash_pair : List ℕ
 backslash_pair = 92 ∷ 92 ∷ []
 
--- Backslashes are read from the left, in pairs: that of each `\|` is left out, both of each `\\|` are, and both of any other pair
--- stay. A byte is the second of such a pair, or not.
+-- Backslashes are read from the left, in pairs. The backslash of each `\|` is removed, both backslashes of each `\\|` are, and any other
+-- pair is kept. Is_second: the first byte is the second one of a kept pair
 abbrev pub literal_pipes_from : (is_second : Bool) → List ℕ → List ℕ
 literal_pipes_from is_second [] = []
 literal_pipes_from true (b ∷ bs) = b ∷ literal_pipes_from false bs
@@ -29,17 +29,17 @@ abbrev pub as_in_cell : (is_in_table : Bool) → Parsed → Parsed
 as_in_cell is_in_table found = if is_in_table then record { bytes = with_literal_pipes found.bytes; behind = found.behind } else found
 
 module _ (prefix : List ℕ → Option ℕ) where
-  -- how many bytes of prefixes stand behind this byte; none where the label ends there
+  -- the number of prefix bytes after this byte; `None` if the label ends there
   abbrev pub label_prefix : ℕ → List ℕ → Option ℕ
   label_prefix b bs = if ends_line b bs then prefix bs else Some 0
 
-  -- up to the closing bracket: the bytes that stand in no prefix
+  -- the bytes up to the closing bracket, without those of prefixes
   abbrev pub up_to_bracket : (escaped : Bool) → (skip : ℕ) → List ℕ → Option Parsed
   up_to_bracket escaped skip [] = None
   up_to_bracket escaped (suc skip) (b ∷ bs) = up_to_bracket escaped skip bs
   up_to_bracket escaped zero (b ∷ bs) = up_to_byte escaped 93 91 true b bs (and_then (label_prefix b bs) (λ n. up_to_bracket (escapes_next escaped b) n bs))
 
-  -- a label behind its opening bracket, without prefixes, and the bytes behind its closing one; what counts as a label's
-  -- characters are those written, also in a table
+  -- a label after its opening bracket, without prefixes, and the bytes after its closing one. The limit on a label's characters counts the
+  -- written characters, also in a table
   abbrev pub label_over_lines : (is_in_table : Bool) → List ℕ → Option Parsed
   label_over_lines is_in_table bs = option_map (as_in_cell is_in_table) (label_if (up_to_bracket false 0 bs))

@@ -1,4 +1,4 @@
--- Which events a leaf is read as (CommonMark 6).
+-- The events of a leaf (CommonMark 6).
 use Rattle.std.specs.Prelude.{◌≡◌, ℕ, List, [], None}
 use Rattle.cmark_grammar.specs.BracketDecisions.{decide}
 use Rattle.cmark_grammar.specs.BracketReading.{ReadsWhole}
@@ -12,8 +12,7 @@ use Rattle.cmark_grammar.specs.Questions.{Exchange, Saying}
 use Rattle.cmark_grammar.specs.Readers.{Reader}
 use Rattle.cmark_grammar.specs.Siblings.{Inline, AreSpans}
 
--- what goes over from one leaf to the next: what is left of the reference expansion limit, and the questions that were put, with their
--- answers
+-- the state between two leaves: the rest of the reference expansion limit, and the questions asked so far, with their answers
 pub record Between : Type 0 where
   pub expansion_left : ℕ
   pub asked : List Exchange
@@ -24,7 +23,7 @@ entering leaf before = record { at = begin_of leaf.stretches; expansion_left = b
 abbrev pub leaving : State → Between
 leaving s = record { expansion_left = s.expansion_left; asked = s.asked }
 
--- the leaf is read as these events, where the questions may get these answers
+-- the leaf has these events, if the questions may get these answers
 pub record ReadsLeaf (reader : Reader) (Says : Saying) (leaf : Leaf) (before : Between) (events : List Ranged) (after : Between) : Type 0 where
   pub parts : Parts
   pub last : State

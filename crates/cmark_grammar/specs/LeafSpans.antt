@@ -1,4 +1,4 @@
--- How the spans of a leaf nest (CommonMark 6), and the events of a document whose leaves stand with such spans.
+-- How the spans of a leaf nest (CommonMark 6), and the events of a document whose leaves have such spans.
 use Rattle.std.specs.Prelude.{◌≡◌, ℕ, ◌≤◌, List, [], ◌∷◌, ◌++◌, length}
 use Rattle.std.specs.Str.{IsCharBoundary}
 use Rattle.cmark_grammar.specs.Tag.{Tag, Emphasis, Strong, Strikethrough, Superscript, Subscript, Highlight, Link, Image}
@@ -7,7 +7,7 @@ use Rattle.cmark_grammar.specs.Event.{Event, Start, End, Text, Code, InlineMath,
 use Rattle.cmark_grammar.specs.LeafText.{Leaf}
 use Rattle.cmark_grammar.specs.SpanDocuments.{Segment, Given, Content}
 
--- the elements that spans are, and their other events
+-- the elements that are spans, and their other events
 abbrev pub IsSpan : Tag → Type 0
 IsSpan Emphasis = Unit {0}
 IsSpan Strong = Unit {0}
@@ -30,7 +30,7 @@ IsInline SoftBreak = Unit {0}
 IsInline HardBreak = Unit {0}
 IsInline _ = ⊥
 
--- bytes of the text, which begin and end where characters do; an event may stand over none, at a place
+-- a range of the text whose ends are character boundaries; the range of an event may be empty
 pub record IsRange (text : List ℕ) (start end : ℕ) : Type 0 where
   pub ordered : start ≤ end
   pub within : end ≤ length text
@@ -40,19 +40,18 @@ pub record IsRange (text : List ℕ) (start end : ℕ) : Type 0 where
 abbrev pub ranged : Event → (start end : ℕ) → Ranged
 ranged event start end = record { event = event; start = start; end = end }
 
--- events by themselves, and elements around others: each start has its end behind it, of the same tag and with the same range
+-- events by themselves, and elements around others: each start has its end after it, of the same tag and with the same range
 pub data Nested (text : List ℕ) : List Ranged → Type 0 where
   Nothing : Nested text []
   Single : (r : Ranged) (after : List Ranged) → IsInline r.event → IsRange text r.start r.end → Nested text after → Nested text (r ∷ after)
   Element : (tag : Tag) (start end : ℕ) (inside after : List Ranged) → IsSpan tag → IsRange text start end → Nested text inside → Nested text after
       → Nested text (ranged (Start tag) start end ∷ (inside ++ (ranged (End (end_of tag)) start end ∷ after)))
 
--- The spans of a leaf, of which this says how they nest, and no more: whatever the leaf's text is. Which spans it has is said by
--- `ReadsLeaf`
+-- the nesting of a leaf's spans, and nothing more, whatever the leaf's text is. `ReadsLeaf` determines which spans a leaf has
 pub record AreSpans (text : List ℕ) (leaf : Leaf) (spans : List Ranged) : Type 0 where
   pub nested : Nested text spans
 
--- these events are what a document gives in turn: its own events as they stand, and in the place of each leaf its spans
+-- the events of a document in order: its own events, and in place of each leaf its spans
 abbrev pub AreGiven : (text : List ℕ) → List Segment → List Ranged → Type 0
 AreGiven text [] events = events ≡ []
 AreGiven text (Given r ∷ others) events = (later : List Ranged) × (events ≡ r ∷ later) × AreGiven text others later

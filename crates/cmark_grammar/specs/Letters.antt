@@ -1,4 +1,4 @@
--- ASCII letters and digits, and what bytes begin with.
+-- ASCII letters and digits (named in CommonMark 2.5, 6.5 and 6.6), and the beginnings of byte strings.
 use Rattle.std.specs.Prelude.{ℕ, ◌+◌, Bool, false, ◌&&◌, ◌||◌, nat_le, if◌then◌else◌, List, [], ◌∷◌, length, drop, take, bytes_eq, Option, Some, None}
 use Rattle.std.specs.List.{prefix_len}
 
@@ -22,25 +22,25 @@ abbrev pub first_is : (ℕ → Bool) → List ℕ → Bool
 first_is p [] = false
 first_is p (b ∷ bs) = p b
 
--- behind the bytes in front that pass
+-- the bytes after the first ones that all pass the test
 abbrev pub behind_all : (ℕ → Bool) → List ℕ → List ℕ
 behind_all p bs = drop (prefix_len p bs) bs
 
--- behind these bytes, if they stand in front
+-- the bytes after this prefix, if they begin with it
 abbrev pub behind_start : (prefix bs : List ℕ) → Option (List ℕ)
 behind_start prefix bs = if starts prefix bs then Some (drop (length prefix) bs) else None
 
--- behind the first place where these bytes stand
+-- the bytes after the first occurrence of the closer
 abbrev pub behind_first : (closer : List ℕ) → List ℕ → Option (List ℕ)
 behind_first closer [] = None
 behind_first closer (b ∷ bs) = if starts closer (b ∷ bs) then Some (drop (length closer) (b ∷ bs)) else behind_first closer bs
 
--- behind a byte that passes, if such a one stands in front
+-- the bytes after the first one, if it passes the test
 abbrev pub behind_if : (ℕ → Bool) → List ℕ → Option (List ℕ)
 behind_if p [] = None
 behind_if p (b ∷ bs) = if p b then Some bs else None
 
--- what is read behind a part, if that part was there
+-- a further part is read after a part that was there
 abbrev pub and_then : {A B : Type 0} → Option A → (A → Option B) → Option B
 and_then None next = None
 and_then (Some x) next = next x

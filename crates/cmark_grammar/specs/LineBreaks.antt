@@ -1,4 +1,4 @@
--- The breaks between the lines of a leaf (CommonMark 6.7 and 6.8).
+-- The breaks between the lines of a leaf (CommonMark 6.7 and 6.8). Example: two spaces before a line ending make a hard break.
 use Rattle.std.specs.Prelude.{ℕ, ◌-◌, Bool, true, false, ◌==◌, if◌then◌else◌, List, length, drop, take_while, codes, bytes_eq, Option, option_map}
 use Rattle.std.specs.Option.{option_or}
 use Rattle.cmark_grammar.specs.Columns.{is_blank_byte}
@@ -6,7 +6,7 @@ use Rattle.cmark_grammar.specs.Letters.{behind_if, and_then}
 use Rattle.cmark_grammar.specs.LinkDefinitions.{behind_blanks}
 use Rattle.cmark_grammar.specs.Tags.{behind_ending}
 
--- a break: how many bytes in front lie before it, and what is behind its line ending
+-- a break: the number of bytes before it, and the bytes after its line ending
 pub record LineBreak : Type 0 where
   pub is_hard : Bool
   pub before : ℕ
@@ -18,19 +18,19 @@ hard_break behind = record { is_hard = true; before = 0; behind = behind }
 abbrev pub ends_with_two_spaces : List ℕ → Bool
 ends_with_two_spaces bs = bytes_eq (drop (length bs - 2) bs) (codes "  ")
 
--- behind these blanks a break is hard if two spaces stand directly before the line ending, and begins with the blanks; else
--- it is the line ending
+-- the break after these blanks. It is hard if two spaces come directly before the line ending, and then it begins with the blanks. Else it
+-- is soft, and is the line ending only
 abbrev pub blank_break : (blanks behind : List ℕ) → LineBreak
 blank_break blanks behind = if ends_with_two_spaces blanks then hard_break behind else record { is_hard = false; before = length blanks; behind = behind }
 
--- the break that begins with a backslash
+-- a break that begins with a backslash
 abbrev pub backslash_break_in : List ℕ → Option LineBreak
 backslash_break_in bs = option_map hard_break (and_then (behind_if (λ b. b == 92) bs) behind_ending)
 
--- and the one behind blanks or none
+-- a break after blanks, if there are any
 abbrev pub blank_break_in : List ℕ → Option LineBreak
 blank_break_in bs = option_map (blank_break (take_while is_blank_byte bs)) (behind_ending (behind_blanks bs))
 
--- the break in front, if a line ends there
+-- the break at the beginning, if a line ends there
 abbrev pub line_break_in : List ℕ → Option LineBreak
 line_break_in bs = option_or (backslash_break_in bs) (blank_break_in bs)

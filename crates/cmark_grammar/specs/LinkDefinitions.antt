@@ -6,7 +6,7 @@ use Rattle.cmark_grammar.specs.Rows.{Row, words_of}
 use Rattle.cmark_grammar.specs.Leaves.{is_empty}
 use Rattle.cmark_grammar.specs.Tags.{behind_ending}
 
--- what was read, and the bytes behind it
+-- the part that was read, and the bytes after it
 pub record Parsed : Type 0 where
   pub bytes : List ℕ
   pub behind : List ℕ
@@ -15,11 +15,12 @@ abbrev pub put : ℕ → Option Parsed → Option Parsed
 put b None = None
 put b (Some found) = Some (record { bytes = b ∷ found.bytes; behind = found.behind })
 
--- the byte before is a backslash that escapes, or this one is none
+-- this byte escapes the next one: it is a backslash that is not escaped itself
 abbrev pub escapes_next : (escaped : Bool) → ℕ → Bool
 escapes_next escaped b = not escaped && (b == 92)
 
--- up to the closer, which no backslash escapes: neither the refused byte, nor a line end where lines may not end
+-- the bytes up to the closer, which no backslash escapes. The refused byte does not occur in them unless it is escaped, nor does a line end
+-- unless it is allowed
 abbrev pub up_to_byte : (escaped : Bool) → (closer refused : ℕ) → (over_lines : Bool) → (b : ℕ) → List ℕ → Option Parsed → Option Parsed
 up_to_byte escaped closer refused over_lines b bs found =
     if not escaped && (b == closer) then Some (record { bytes = []; behind = bs })
@@ -30,24 +31,25 @@ abbrev pub up_to : (escaped : Bool) → (closer refused : ℕ) → (over_lines :
 up_to escaped closer refused over_lines [] = None
 up_to escaped closer refused over_lines (b ∷ bs) = up_to_byte escaped closer refused over_lines b bs (up_to (escapes_next escaped b) closer refused over_lines bs)
 
--- characters of UTF-8: all bytes but those that go on with one
+-- the number of UTF-8 characters: all bytes except those that continue a character
 abbrev pub characters : List ℕ → ℕ
 characters bs = count_by (λ b. nat_lt b 128 || nat_le 192 b) bs
 
--- 1 to 999 characters, at least one of them no ASCII white space (tab, line feed, form feed, carriage return, space)
+-- 1 to 999 characters, not only ASCII white space (tab, line feed, form feed, carriage return, space)
 abbrev pub is_label : List ℕ → Bool
 is_label bs = nat_le (characters bs) 999 && nat_lt 0 (count_by (λ b. not (is_ascii_whitespace b)) bs)
 
--- a label behind its opening bracket, up to the next bracket, which no backslash escapes and which closes it
+-- a label after its opening bracket, up to the next unescaped bracket, which closes it
 abbrev pub label_if : Option Parsed → Option Parsed
 label_if None = None
 label_if (Some found) = if is_label found.bytes then Some found else None
 
+-- a label after its opening bracket (CommonMark 4.7)
 abbrev pub label_in : List ℕ → Option Parsed
 label_in bs = label_if (up_to false 93 91 true bs)
 
--- a bare destination: up to an ASCII control, a space, or a closing parenthesis without its opening one; parentheses are
--- balanced, 32 deep at most, or escaped (CommonMark 6.3)
+-- a bare destination ends before an ASCII control, a space, or a closing parenthesis without its opening one. Parentheses are balanced, 32
+-- deep at most, or escaped (CommonMark 6.3)
 abbrev pub ends_bare : ℕ → Bool
 ends_bare b = nat_le b 32 || (b == 127)
 
@@ -60,6 +62,7 @@ bare_byte escaped depth b bs found =
     else if not escaped && ((b == 40) && nat_le 32 depth) then None
     else put b found
 
+-- a bare destination (CommonMark 6.3). Depth: the number of open parentheses
 abbrev pub bare_in : (escaped : Bool) → (depth : ℕ) → List ℕ → Option Parsed
 bare_in escaped depth [] = if depth == 0 then Some (record { bytes = []; behind = [] }) else None
 bare_in escaped depth (b ∷ bs) = bare_byte escaped depth b bs (bare_in (escapes_next escaped b) (depth_after escaped depth b) bs)
@@ -68,12 +71,12 @@ abbrev pub nonempty : Option Parsed → Option Parsed
 nonempty None = None
 nonempty (Some found) = if is_empty found.bytes then None else Some found
 
--- a destination: in pointed brackets on one line, or bare and not empty
+-- a destination: in angle brackets on one line, or bare and not empty
 abbrev pub destination_in : List ℕ → Option Parsed
 destination_in [] = None
 destination_in (b ∷ bs) = if b == 60 then up_to false 62 60 false bs else nonempty (bare_in false 0 (b ∷ bs))
 
--- a title: in double or single quotes, or in parentheses; none of its opening bytes stands in it but an escaped one
+-- a title in double quotes, single quotes or parentheses, without an unescaped opening byte inside
 abbrev pub title_in : List ℕ → Option Parsed
 title_in [] = None
 title_in (b ∷ bs) =
@@ -84,16 +87,16 @@ title_in (b ∷ bs) =
 abbrev pub behind_blanks : List ℕ → List ℕ
 behind_blanks bs = drop (length (take_while is_blank_byte bs)) bs
 
--- behind the blanks of the next line, where a line ends here
+-- the bytes after the blanks of the next line, if a line ends here
 abbrev pub behind_next_line : (here : List ℕ) → Option (List ℕ) → List ℕ
 behind_next_line here None = here
 behind_next_line here (Some line) = behind_blanks line
 
--- behind blanks with at most one line ending: a line feed, a carriage return, or both in this order
+-- the bytes after blanks with at most one line ending: a line feed, a carriage return, or both in this order
 abbrev pub behind_separator : List ℕ → List ℕ
 behind_separator bs = behind_next_line (behind_blanks bs) (behind_ending (behind_blanks bs))
 
--- nothing on the line any more
+-- the rest of the line is blank
 abbrev pub at_end : List ℕ → Bool
 at_end [] = true
 at_end (b ∷ bs) = (b == 10) || (b == 13)
@@ -101,13 +104,13 @@ at_end (b ∷ bs) = (b == 10) || (b == 13)
 abbrev pub is_line_done : List ℕ → Bool
 is_line_done bs = at_end (behind_blanks bs)
 
--- a definition as it is written: the bytes of its label, its destination and its title, if it has one
+-- a definition as written: the bytes of its label, of its destination, and of its title, if it has one
 pub record Definition : Type 0 where
   pub label : List ℕ
   pub destination : List ℕ
   pub title : Option (List ℕ)
 
--- a definition, and the bytes behind it
+-- a definition, and the bytes after it
 pub record Defined : Type 0 where
   pub definition : Definition
   pub behind : List ℕ
@@ -115,12 +118,12 @@ pub record Defined : Type 0 where
 abbrev pub defined : (label destination : List ℕ) → Option (List ℕ) → List ℕ → Defined
 defined label destination title behind = record { definition = record { label = label; destination = destination; title = title }; behind = behind }
 
--- without a title the line must be done behind the destination
+-- without a title the rest of the line after the destination must be blank
 abbrev pub untitled : (label : List ℕ) → Parsed → Option Defined
 untitled label destination = if is_line_done destination.behind then Some (defined label destination.bytes None destination.behind) else None
 
--- a title counts only if it is parted from the destination, and the line is done behind it; else the definition ends
--- before it
+-- a title counts only if white space separates it from the destination and the rest of its line is blank; else the definition ends before
+-- the title
 abbrev pub titled : (label : List ℕ) → Parsed → Option Parsed → Option Defined
 titled label destination None = untitled label destination
 titled label destination (Some title) =
@@ -140,16 +143,16 @@ abbrev pub with_label : Option Parsed → Option Defined
 with_label None = None
 with_label (Some label) = behind_colon label label.behind
 
--- the definition that these bytes begin with
+-- the definition at the beginning of these bytes. Example: `[label]: /url "title"`
 abbrev pub definition_in : List ℕ → Option Defined
 definition_in [] = None
 definition_in (b ∷ bs) = if b == 91 then with_label (label_in bs) else None
 
--- a line end as the text has it: CR LF where it has two bytes
+-- the line end in the text: CR LF if it has two bytes
 abbrev pub line_end_of : Row → List ℕ
 line_end_of r = if nat_le 2 (r.line_end - r.content_end) then 13 ∷ 10 ∷ [] else 10 ∷ []
 
--- a line behind its indent, and further lines, with the line ends between them
+-- a line after its indent, and further lines, with the line ends between them
 abbrev pub further_bytes : Row → List Row → List ℕ
 further_bytes r [] = []
 further_bytes r (s ∷ more) = line_end_of r ++ (bytes_of s.columns ++ further_bytes s more)

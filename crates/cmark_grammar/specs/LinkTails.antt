@@ -1,19 +1,20 @@
--- What stands behind the closing bracket of a link (CommonMark 6.3): a destination and a title in parentheses, or a label.
+-- The part of a link after its closing bracket (CommonMark 6.3): a destination and a title in parentheses, or a label.
 use Rattle.std.specs.Prelude.{ℕ, Bool, false, ◌==◌, ◌&&◌, ◌||◌, not, List, [], ◌∷◌, codes, Option, Some, None, option_map}
 use Rattle.cmark_grammar.specs.Destinations.{link_destination_in}
 use Rattle.cmark_grammar.specs.Letters.{behind_if, behind_start, and_then}
 use Rattle.cmark_grammar.specs.LinkDefinitions.{Parsed, escapes_next, is_label, label_in, title_in, behind_separator}
 
--- the destination and the title of an inline link, as they are written, and what is behind its closing parenthesis
+-- the destination and the title of an inline link, as written, and the bytes after its closing parenthesis
 pub record LinkTail : Type 0 where
   pub destination : List ℕ
   pub title : Option (List ℕ)
   pub behind : List ℕ
 
+-- a closing parenthesis follows the destination and the title
 abbrev pub closed_tail : (destination : List ℕ) → (title : Option (List ℕ)) → List ℕ → Option LinkTail
 closed_tail destination title bs = option_map (λ behind. record { destination = destination; title = title; behind = behind }) (behind_if (λ b. b == 41) (behind_separator bs))
 
--- a title may follow its destination at once (this profile's own)
+-- a title may follow its destination without a space (this profile's own)
 abbrev pub with_title : (destination title : Option Parsed) → Option LinkTail
 with_title None title = None
 with_title (Some destination) None = closed_tail destination.bytes None destination.behind
@@ -23,28 +24,28 @@ abbrev pub title_behind : Option Parsed → Option Parsed
 title_behind None = None
 title_behind (Some destination) = title_in (behind_separator destination.behind)
 
--- the inside of the parentheses behind their opening one
+-- the content of the parentheses, after the opening one
 abbrev pub tail_inside : List ℕ → Option LinkTail
 tail_inside bs = with_title (link_destination_in (behind_separator bs)) (title_behind (link_destination_in (behind_separator bs)))
 
--- what stands in parentheses behind the bracket: a destination, which may be empty, and a title, if it has one
+-- the parentheses after the bracket (CommonMark 6.3): a destination, which may be empty, and a title, if there is one. Example: `(/url
+-- "title")`
 abbrev pub link_tail_in : List ℕ → Option LinkTail
 link_tail_in bs = and_then (behind_if (λ b. b == 40) bs) tail_inside
 
--- the label of a full reference behind the bracket
+-- the label of a full reference, after the bracket (CommonMark 6.3). Example: `[label]`
 abbrev pub reference_label_in : List ℕ → Option Parsed
 reference_label_in bs = and_then (behind_if (λ b. b == 91) bs) label_in
 
--- behind the brackets of a collapsed reference
+-- the bytes after the brackets of a collapsed reference
 abbrev pub behind_collapsed : List ℕ → Option (List ℕ)
 behind_collapsed bs = behind_start (codes "[]") bs
 
--- a bracket stands there that no backslash escapes
+-- the bytes contain an unescaped bracket
 abbrev pub has_bracket : (escaped : Bool) → List ℕ → Bool
 has_bracket escaped [] = false
 has_bracket escaped (b ∷ bs) = (not escaped && ((b == 91) || (b == 93))) || has_bracket (escapes_next escaped b) bs
 
--- the text between two brackets is a label: 1 to 999 characters, at least one of them no white space, and no bracket but
--- escaped ones
+-- the text between two brackets is a label: 1 to 999 characters, not only white space, and no unescaped bracket
 abbrev pub is_bracketed_label : List ℕ → Bool
 is_bracketed_label bs = not (has_bracket false bs) && is_label bs

@@ -1,8 +1,9 @@
--- How a link or an image is written (CommonMark 6.3 to 6.5; wikilinks are this profile's own).
+-- The written forms of links and images (CommonMark 6.3 to 6.5; wikilinks are this profile's own). Examples: `[a](b)` is inline, `[a][b]` a
+-- full reference, `[a][]` a collapsed one and `[a]` a shortcut.
 use Rattle.std.specs.Prelude.{Bool}
 
--- a reference is unknown where no definition has its label, and the caller's code said where it leads; a wikilink has a
--- pothole where a text of its own is shown
+-- a reference is unknown if no definition has its label and the caller's code gave its destination. A wikilink has a pothole if it shows a
+-- text of its own
 pub data LinkType : Type 0 where
   Inline : LinkType
   Reference : LinkType

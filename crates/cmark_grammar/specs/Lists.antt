@@ -1,13 +1,14 @@
--- Lists: neighbouring items, and whether a list is loose (CommonMark 5.3); definition lists: titles and definitions in a row (this profile's own).
+-- Lists: neighbouring items, and whether a list is loose (CommonMark 5.3). Definition lists: titles and definitions in a row (this
+-- profile's own). Example: the two lines `- a` and `+ b` are two lists.
 use Rattle.std.specs.Prelude.{ℕ, Bool, true, false, ◌==◌, ◌&&◌, ◌||◌, not, if◌then◌else◌, Option, Some, None}
 use Rattle.cmark_grammar.specs.Containers.{BlockQuote, Item, Footnote, ListDefinition}
 use Rattle.cmark_grammar.specs.Blocks.{Blocks, Nil, BlankLine, Paragraph, SetextHeading, LeafBlock, ContainerBlock}
 
--- a list is known by the character of its markers: that of a definition list is `:`
+-- a list is identified by the character of its markers; that of a definition list is `:`
 abbrev pub definition_delimiter : ℕ
 definition_delimiter = 58
 
--- whether the next block is a definition: the paragraph before it is its title then
+-- whether the next block is a definition: the paragraph before it is then its title
 abbrev pub is_title : (after : Blocks) → Bool
 is_title Nil = false
 is_title (BlankLine line after) = is_title after
@@ -19,8 +20,9 @@ is_title (ContainerBlock (Footnote label old size) first more inside after) = fa
 is_title (ContainerBlock (Item delimiter number width task) first more inside after) = false
 is_title (ContainerBlock (ListDefinition width) first more inside after) = true
 
--- whether a blank line ends these blocks, where a nested item or definition, of a list or of a footnote, ends with the blank lines that it ends
--- with. Front: the marker of their container stands directly before, and its line's blank rest is no blank line; so: a blank line stands before
+-- whether a blank line ends these blocks. Blank lines that end a nested item, definition or footnote definition count too. Front: the
+-- marker of the container comes directly before, so that the blank rest of its line does not count as a blank line. So: a blank line comes
+-- before
 abbrev pub ends_blank : (front so : Bool) → Blocks → Bool
 ends_blank front so Nil = so
 ends_blank front so (BlankLine line after) = ends_blank false (not front) after
@@ -32,8 +34,8 @@ ends_blank front so (ContainerBlock (Footnote label old size) first more inside 
 ends_blank front so (ContainerBlock (Item delimiter number width task) first more inside after) = ends_blank false (ends_blank true false inside) after
 ends_blank front so (ContainerBlock (ListDefinition width) first more inside after) = ends_blank false (ends_blank true false inside) after
 
--- what stands before a line in its container: the container's marker alone; an item of a list, or a title or definition, which are items of a list
--- of their own character; or any other line
+-- the line before, in its container: only the container's marker; a line of an item of a list; or any other line. Titles and definitions
+-- are items of a list whose character is `:`
 pub data Before : Type 0 where
   Marker : Before
   Other : Before
@@ -44,21 +46,21 @@ is_list_of delimiter Marker = false
 is_list_of delimiter Other = false
 is_list_of delimiter (ItemWith m) = m == delimiter
 
--- whether a blank line behind that is one: the blank rest of the marker's line is none
+-- whether a blank line after it counts as one: the blank rest of the marker's line does not
 abbrev pub is_line : Before → Bool
 is_line Marker = false
 is_line Other = true
 is_line (ItemWith m) = true
 
--- what stands before the next line, behind a blank one
+-- the line before the next one, after a blank line
 abbrev pub behind_blank : Before → Before
 behind_blank Marker = Other
 behind_blank Other = Other
 behind_blank (ItemWith m) = ItemWith m
 
--- whether a blank line stands between two of these blocks, where the items of one list are one block, and so are titles with their definitions.
--- Blank: a blank line stands directly before. One in front of the first block would count too, and there is none: an item begins with at most
--- one blank line, the rest of its marker's line (CommonMark 5.2), and so does a definition
+-- whether a blank line separates two of these blocks. The items of one list are one block, and so are titles with their definitions. Blank:
+-- a blank line comes directly before. No blank line before the first block counts: an item begins with at most one blank line, the rest of
+-- its marker's line (CommonMark 5.2), and so does a definition
 abbrev pub parted : Before → (blank : Bool) → Blocks → Bool
 parted before blank Nil = false
 parted before blank (BlankLine line after) = parted (behind_blank before) (is_line before) after
@@ -77,8 +79,8 @@ parted before blank (ContainerBlock (ListDefinition width) first more inside aft
 abbrev pub is_parted_item : Blocks → Bool
 is_parted_item inside = parted Marker false inside
 
--- whether a list of this character, of which an item, a title or a definition stands before, is loose from there on. A blank line before a title
--- makes no list loose
+-- whether a list of this character is loose from here on, after an item, a title or a definition of it. A blank line before a title makes
+-- no list loose
 abbrev pub loose_from : (delimiter : ℕ) → (blank : Bool) → Blocks → Bool
 loose_from delimiter blank Nil = false
 loose_from delimiter blank (BlankLine line after) = loose_from delimiter true after
@@ -92,12 +94,12 @@ loose_from delimiter blank (ContainerBlock (Item m number width task) first more
 loose_from delimiter blank (ContainerBlock (ListDefinition width) first more inside after) =
     (definition_delimiter == delimiter) && (blank || (is_parted_item inside || loose_from delimiter (ends_blank true false inside) after))
 
--- whether the list that begins with this item, or definition, is tight: no blank line between two of its items, and none between two
--- blocks that an item contains directly
+-- whether the list that begins with this item, or definition, is tight (CommonMark 5.3). Then no blank line separates two of its items, or
+-- two blocks that an item contains directly
 abbrev pub is_tight : (delimiter : ℕ) → (inside after : Blocks) → Bool
 is_tight delimiter inside after = not (is_parted_item inside || loose_from delimiter (ends_blank true false inside) after)
 
--- whether the next block is an item of a list with this character; in a definition list a title or a definition
+-- whether the next block is an item of a list with this character, or, in a definition list, a title or a definition
 abbrev pub goes_on : (delimiter : ℕ) → Blocks → Bool
 goes_on delimiter Nil = false
 goes_on delimiter (BlankLine line after) = goes_on delimiter after
@@ -114,12 +116,12 @@ pub record ListBefore : Type 0 where
   pub delimiter : ℕ
   pub tight : Bool
 
--- an item is as tight as the list that it goes on with, or else as the one that it begins
+-- an item is as tight as the list that it continues, or else as the list that it begins
 abbrev pub tight_behind : Option ListBefore → (delimiter : ℕ) → (inside after : Blocks) → Bool
 tight_behind None delimiter inside after = is_tight delimiter inside after
 tight_behind (Some before) delimiter inside after = if before.delimiter == delimiter then before.tight else is_tight delimiter inside after
 
--- a title is as tight as the list that it goes on with, or else as the one that it begins
+-- a title is as tight as the list that it continues, or else as the list that it begins
 abbrev pub title_tight_behind : Option ListBefore → (after : Blocks) → Bool
 title_tight_behind None after = not (loose_from definition_delimiter false after)
 title_tight_behind (Some before) after = if before.delimiter == definition_delimiter then before.tight else not (loose_from definition_delimiter false after)

@@ -1,4 +1,4 @@
--- Texts that stand side by side, merged: each longest run of two texts or more becomes one.
+-- Adjacent texts, merged: each longest run of two or more texts becomes one text.
 use Rattle.std.specs.Prelude.{ℕ, List, [], ◌∷◌, ◌++◌, Option, Some, None, Result, Ok, Err}
 use Rattle.cmark_grammar.specs.Event.{Event, Text, Ranged}
 
@@ -16,7 +16,7 @@ abbrev pub last_end : TextAt → List TextAt → ℕ
 last_end t [] = t.end
 last_end t (u ∷ us) = last_end u us
 
--- a text and those behind it as one: their bytes, from the start of the first to the end of the last
+-- a text and the texts after it as one: their bytes, from the start of the first to the end of the last
 abbrev pub joined : TextAt → List TextAt → TextAt
 joined t ts = record { text = t.text ++ texts ts; start = t.start; end = last_end t ts }
 
@@ -24,22 +24,22 @@ abbrev pub unless_empty : {A : Type 0} → List ℕ → A → List A
 unless_empty [] x = []
 unless_empty (b ∷ bs) x = x ∷ []
 
--- of items among which texts are merged, item_of says which item a text is
+-- the items among which texts are merged; `item_of` is the item of a text
 module _ {A : Type 0} (item_of : TextAt → A) where
-  -- what a longest run becomes: one text alone stays as it is, and of more than one nothing is left where all are empty
+  -- the items of a longest run: a single text is kept as it is, and of several texts nothing is left if all are empty
   abbrev pub merged_run : List TextAt → List A
   merged_run [] = []
   merged_run (t ∷ []) = item_of t ∷ []
   merged_run (t ∷ u ∷ us) = unless_empty (joined t (u ∷ us)).text (item_of (joined t (u ∷ us)))
 
-  -- a run and an item behind it, which is one text more, or no text: then the run ends
+  -- a run and the item after it: if the item is a text it belongs to the run, else the run ends
   abbrev pub run_with : List TextAt → Option TextAt → A → (List TextAt → List A) → List A
   run_with run (Some t) x Behind = Behind (run ++ t ∷ [])
   run_with run None x Behind = merged_run run ++ x ∷ Behind []
 
--- and text_of which items are texts
+-- `text_of` is the text of an item, if the item is one
 module _ {A : Type 0} (text_of : A → Option TextAt) (item_of : TextAt → A) where
-  -- a run and all items behind it
+  -- a run and all items after it
   abbrev pub merge_behind : List TextAt → List A → List A
   merge_behind run [] = merged_run item_of run
   merge_behind run (x ∷ xs) = run_with item_of run (text_of x) x (λ longer. merge_behind longer xs)
@@ -47,7 +47,7 @@ module _ {A : Type 0} (text_of : A → Option TextAt) (item_of : TextAt → A) w
   abbrev pub merge : List A → List A
   merge xs = merge_behind [] xs
 
--- only the event Text is a text; code, HTML and formulas are none
+-- only the event `Text` is a text; code, HTML and formulas are not
 abbrev pub text_between : Event → (start end : ℕ) → Option TextAt
 text_between (Text text) start end = Some (record { text = text; start = start; end = end })
 text_between _ start end = None
@@ -72,12 +72,12 @@ ranged_of t = record { event = Text t.text; start = t.start; end = t.end }
 abbrev pub merge_ranged : List Ranged → List Ranged
 merge_ranged events = merge text_of_ranged ranged_of events
 
--- an error item is no text, so it parts two runs
+-- an error item is not a text, so it separates two runs
 abbrev pub text_of_ok : {A E : Type 0} → (A → Option TextAt) → Result A E → Option TextAt
 text_of_ok text_of (Ok x) = text_of x
 text_of_ok text_of (Err e) = None
 
--- not the event of an empty text
+-- every event except an empty text
 abbrev pub IsNoEmptyText : Event → Type 0
 IsNoEmptyText (Text []) = ⊥
 IsNoEmptyText _ = Unit {0}

@@ -1,4 +1,4 @@
--- Where metadata blocks stand: outside of all containers (this profile's own).
+-- The places of metadata blocks: outside of all containers (this profile's own).
 use Rattle.std.specs.Prelude.{◌≡◌, Bool, true, false}
 use Rattle.cmark_grammar.specs.Openings.{Leaf, ThematicBreak, AtxHeading, IndentedCode, FencedCode, HtmlBlock, LinkDefinition, MetadataBlock, Table}
 use Rattle.cmark_grammar.specs.Blocks.{Blocks, Nil, BlankLine, Paragraph, SetextHeading, LeafBlock, ContainerBlock}
@@ -13,7 +13,7 @@ is_metadata (LinkDefinition definition) = false
 is_metadata (MetadataBlock kind) = true
 is_metadata (Table alignments) = false
 
--- none of these blocks is one, nor any inside them
+-- there is no metadata block among these blocks or inside them
 abbrev pub HasNoMetadata : Blocks → Type 0
 HasNoMetadata Nil = Unit {0}
 HasNoMetadata (BlankLine line after) = HasNoMetadata after
@@ -22,7 +22,7 @@ HasNoMetadata (SetextHeading level first more underline after) = HasNoMetadata a
 HasNoMetadata (LeafBlock leaf first more after) = (is_metadata leaf ≡ false) × HasNoMetadata after
 HasNoMetadata (ContainerBlock k first more inside after) = HasNoMetadata inside × HasNoMetadata after
 
--- inside none of these blocks stands one
+-- there is no metadata block inside these blocks
 abbrev pub HasMetadataOutside : Blocks → Type 0
 HasMetadataOutside Nil = Unit {0}
 HasMetadataOutside (BlankLine line after) = HasMetadataOutside after

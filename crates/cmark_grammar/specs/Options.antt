@@ -1,4 +1,5 @@
--- The options of a parser: which extensions of CommonMark are read.
+-- The options of a parser: the extensions that are read. Tables, task lists and strikethrough are GFM's (4.10, 5.3 and 6.5), links to email
+-- addresses CommonMark's (6.5); the others are this profile's own.
 use Rattle.std.specs.Prelude.{Bool, false}
 
 pub record Options : Type 0 where

@@ -1,21 +1,22 @@
--- The text of a leaf as its brackets divide it: items, what pairs of brackets form, and brackets that are texts (CommonMark 6.3).
+-- The text of a leaf, divided by its brackets: items, the elements that pairs of brackets form, and brackets that are texts (CommonMark
+-- 6.3).
 use Rattle.std.specs.Prelude.{ℕ, suc, List, Option}
 use Rattle.cmark_grammar.specs.Items.{Item, Bracket}
 use Rattle.cmark_grammar.specs.Tag.{Linked}
 
--- where a link or an image leads, and where it ends
+-- the destination of a link or an image, and its end
 pub record Target : Type 0 where
   pub linked : Linked
   pub end : ℕ
 
--- what a closing bracket forms with an opening one: a link or an image (CommonMark 6.3 and 6.4); a footnote reference; or a
--- wikilink, which shows its name or what stands from a place on (both this profile's own)
+-- the element that a closing and an opening bracket form: a link or an image (CommonMark 6.3 and 6.4), a footnote reference, or a wikilink.
+-- A wikilink shows its name, or the text from a place on (the last two are this profile's own)
 pub data Formed : Type 0 where
   Linking : (target : Target) → Formed
   Footnote : (label : List ℕ) → (end : ℕ) → Formed
   Wiki : (name : List ℕ) → (display : Option ℕ) → (end : ℕ) → Formed
 
--- an item; what two brackets form, with what stands between them; a closing bracket and an opening bracket that are texts
+-- an item; the element of two brackets, with the parts between them; or a closing or opening bracket that is a text
 pub data Parts : Type 0 where
   Nil : Parts
   Single : (item : Item) → (after : Parts) → Parts
@@ -23,7 +24,7 @@ pub data Parts : Type 0 where
   Closing : (closer : Bracket) → (after : Parts) → Parts
   Opening : (opener : Bracket) → (after : Parts) → Parts
 
--- how many opening brackets are texts in this list
+-- the number of opening brackets in this list that are texts
 abbrev pub openings : Parts → ℕ
 openings Nil = 0
 openings (Single item after) = openings after

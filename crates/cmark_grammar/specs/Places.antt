@@ -1,9 +1,13 @@
--- Where a line stands among the blocks of its container, as far as what it begins depends on it.
+-- The place of a line among the blocks of its container, as far as the block that it begins depends on it (for GFM 5.3 and for rules of
+-- this profile's own).
 use Rattle.std.specs.Prelude.{Bool, true, false}
 
--- Apart: none of what follows stands before. BehindLazy: directly behind a leaf, or an alert's tag, behind which a lazy line may
--- begin a paragraph. BehindTask: on the line of an item's task marker, directly behind it. BehindTitle: behind a paragraph, which may be a
--- title, or behind a definition; blank lines may stand between
+-- the places:
+--
+-- - BehindLazy: directly after an alert's tag, or after a leaf, where a lazy line may begin a paragraph;
+-- - BehindTask: on the line of an item's task marker, directly after it;
+-- - BehindTitle: after a paragraph, which may be a title, or after a definition; blank lines may come between;
+-- - Apart: any other place
 pub data Place : Type 0 where
   Apart : Place
   BehindLazy : Place
@@ -29,7 +33,7 @@ is_behind_task BehindLazy = false
 is_behind_task BehindTask = true
 is_behind_task BehindTitle = false
 
--- behind a blank line there
+-- the place after a blank line
 abbrev pub over_blank : Place → Place
 over_blank Apart = Apart
 over_blank BehindLazy = Apart

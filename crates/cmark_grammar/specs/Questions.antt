@@ -1,25 +1,26 @@
--- The questions that are put about references whose label no definition has, and their answers (this profile's own).
+-- The questions about references whose label no definition has, and their answers (this profile's own). Example: if no definition has the
+-- label `b`, the callback is asked about `[a][b]`.
 use Rattle.std.specs.Prelude.{◌≡◌, ℕ, List, ◌∷◌, ◌++◌, Option}
 use Rattle.cmark_grammar.specs.Answers.{Destination}
 use Rattle.cmark_grammar.specs.LinkType.{LinkType}
 
--- the bytes of the source that the reference takes, how it is written, and its label's normal form
+-- the range of the reference in the source, its written form, and its label's normal form
 pub record Question : Type 0 where
   pub start : ℕ
   pub end : ℕ
   pub link_type : LinkType
   pub reference : List ℕ
 
--- a question with the answer that it got
+-- a question with its answer
 pub record Exchange : Type 0 where
   pub question : Question
   pub answer : Option Destination
 
--- which answers a question may get behind those that were put before it
+-- the answers that a question may get after the questions before it
 abbrev pub Saying : Type 1
 Saying = List Exchange → Question → Option Destination → Type 0
 
--- an answer for each question, behind those that were put before it
+-- an answer for each question, after the questions before it
 abbrev pub Plan : Type 0
 Plan = List Exchange → Question → Option Destination
 
@@ -27,7 +28,7 @@ Plan = List Exchange → Question → Option Destination
 abbrev pub ByPlan : Plan → Saying
 ByPlan plan asked question answer = answer ≡ plan asked question
 
--- the answers are those of a list, in turn
+-- the answers are those of a list, in order
 pub record IsNext (all : List Exchange) (asked : List Exchange) (question : Question) (answer : Option Destination) : Type 0 where
   pub rest : List Exchange
   pub cut : all ≡ asked ++ (record { question = question; answer = answer } ∷ rest)

@@ -3,13 +3,12 @@ use Rattle.std.specs.Prelude.{◌≡◌, ℕ, suc, ◌+◌, ◌≤◌, List}
 use Rattle.cmark_grammar.specs.Tokens.{slice}
 use Rattle.cmark_grammar.specs.BlockDocument.{BlockKind, Paragraph, TightParagraph, Heading, ThematicBreak, IndentedCode, FencedCode, HtmlBlock, LinkDefinition, MetadataBlock, BlockQuote, BlockList, ListItem, TaskMarker, FootnoteDefinition, DefinitionList, DefinitionListTitle, DefinitionListDefinition, Text, OwnedText, Html, BlockDocument, Nil, Node, Table, TableHead, TableRow, TableCell}
 
--- between these two places the nodes stand in order: none begins before the one before it has ended, and each holds what
--- is inside it
+-- between these two places the nodes are in order: each begins after the one before it has ended, and contains the nodes inside it
 abbrev pub InOrder : ℕ → BlockDocument → ℕ → Type 0
 InOrder from Nil to = from ≤ to
 InOrder from (Node node inside after) to = (from ≤ node.start) × InOrder node.start inside node.end × InOrder node.end after to
 
--- both ends of each range are such places
+-- both ends of each range have this property
 abbrev pub AllAt : (Place : ℕ → Type 0) → BlockDocument → Type 0
 AllAt Place Nil = Unit {0}
 AllAt Place (Node node inside after) = Place node.start × Place node.end × AllAt Place inside × AllAt Place after

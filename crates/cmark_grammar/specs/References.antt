@@ -1,4 +1,5 @@
--- The link reference definitions of a document: the first of each label counts (CommonMark 4.7).
+-- The link reference definitions of a document: the first of each label counts (CommonMark 4.7). Example: of `[a]: /b` and a later
+-- `[A]: /c` only the first counts.
 use Rattle.std.specs.Prelude.{ℕ, Bool, true, false, List, [], ◌∷◌, ◌++◌, bytes_eq, Option, Some, None, ◌≡◌}
 use Rattle.cmark_grammar.specs.BlockDocument.{Reference, BlockKind, Paragraph, TightParagraph, Heading, ThematicBreak, IndentedCode, FencedCode, HtmlBlock, LinkDefinition, MetadataBlock, BlockQuote, BlockList, ListItem, TaskMarker, FootnoteDefinition, DefinitionList, DefinitionListTitle, DefinitionListDefinition, Text, OwnedText, Html, BlockDocument, Nil, Node, Table, TableHead, TableRow, TableCell}
 
@@ -28,16 +29,17 @@ reference_of_kind (Text bytes) = []
 reference_of_kind (OwnedText bytes) = []
 reference_of_kind (Html bytes) = []
 
--- all definitions of a document, in its order
+-- all definitions of a document, in order
 abbrev pub references : BlockDocument → List Reference
 references Nil = []
 references (Node node inside after) = reference_of_kind node.kind ++ (references inside ++ references after)
 
--- the first of these that has the folded label
+-- the first of these definitions that has the folded label
 abbrev pub found_or : Bool → Reference → Option Reference → Option Reference
 found_or true reference other = Some reference
 found_or false reference other = other
 
+-- the first definition of a folded label (CommonMark 4.7)
 abbrev pub first_with : (fold : List ℕ → List ℕ) → (folded : List ℕ) → List Reference → Option Reference
 first_with fold folded [] = None
 first_with fold folded (reference ∷ rs) = found_or (bytes_eq (fold reference.label) folded) reference (first_with fold folded rs)
@@ -56,7 +58,7 @@ abbrev pub table : (fold : List ℕ → List ℕ) → List Reference → List Re
 table fold [] = []
 table fold (reference ∷ rs) = reference ∷ without_label fold (fold reference.label) (table fold rs)
 
--- each folded label stands once
+-- each folded label occurs once
 abbrev pub EachOnce : (fold : List ℕ → List ℕ) → List Reference → Type 0
 EachOnce fold [] = Unit {0}
 EachOnce fold (reference ∷ rs) = (first_with fold (fold reference.label) rs ≡ None) × EachOnce fold rs

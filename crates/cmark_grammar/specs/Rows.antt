@@ -1,11 +1,11 @@
--- What is left of a line inside containers.
+-- The rest of a line inside containers (CommonMark 2.2 and 5.1). Example: in the block quote `> a` it is `a`.
 use Rattle.std.specs.Prelude.{ℕ, suc, ◌+◌, Bool, true, false, ◌==◌, ◌&&◌, not, if◌then◌else◌, List, [], ◌∷◌, length, drop}
 use Rattle.cmark_grammar.specs.Lines.{lines, content}
 use Rattle.cmark_grammar.specs.Columns.{Column, expand, indent, without_indent, bytes_of}
 
--- the columns of a line behind the prefixes of the containers around it, the places of the text where the whole line begins, where its
--- line ending begins and where the next line begins; whether it lacks a prefix: such a line is lazy (CommonMark 5.1); and whether a
--- container that has no prefix keeps it: such a line is held (this profile's own)
+-- the columns of a line after the prefixes of the containers around it. The places in the text at which the whole line begins, its line
+-- ending begins, and the next line begins. Lazy: the line lacks a prefix (CommonMark 5.1). Held: a container without a prefix contains it
+-- (this profile's own)
 pub record Row : Type 0 where
   pub columns : List Column
   pub at : ℕ
@@ -26,13 +26,15 @@ rows_from at (line ∷ more) = row_at at line ∷ rows_from (at + length line) m
 abbrev pub rows : List ℕ → List Row
 rows text = rows_from 0 (lines text)
 
--- the line without its first n columns: what is left of a tab stays as spaces (CommonMark 2.2)
+-- the line without its first `n` columns: the columns that are left of a tab are spaces (CommonMark 2.2)
 abbrev pub without : ℕ → Row → Row
 without n r = record r { columns = drop n r.columns }
 
+-- the line, marked as lazy
 abbrev pub lazy_row : Row → Row
 lazy_row r = record r { lazy = true }
 
+-- the line, marked as held
 abbrev pub hold : Row → Row
 hold r = record r { held = true }
 
@@ -40,19 +42,19 @@ abbrev pub is_bare : List Column → Bool
 is_bare [] = true
 is_bare (c ∷ cs) = false
 
--- nothing but spaces and tabs (CommonMark 2.1)
+-- only spaces and tabs (CommonMark 2.1)
 abbrev pub is_blank_line : Row → Bool
 is_blank_line r = is_bare (without_indent r.columns)
 
--- how many columns of spaces and tabs stand in front (CommonMark 2.2)
+-- the number of columns of spaces and tabs at the beginning (CommonMark 2.2)
 abbrev pub indent_of : Row → ℕ
 indent_of r = indent r.columns
 
--- the bytes behind the indent
+-- the bytes after the indent
 abbrev pub words_of : Row → List ℕ
 words_of r = bytes_of (without_indent r.columns)
 
--- where a column begins; one that is left of a tab begins behind the tab (this profile's own)
+-- the place of a column; a column that is left of a tab is at the end of the tab (this profile's own)
 abbrev pub place : Column → ℕ
 place c = if c.part == 0 then c.at else suc c.at
 
@@ -60,23 +62,23 @@ abbrev pub first_place : ℕ → List Column → ℕ
 first_place none [] = none
 first_place none (c ∷ cs) = place c
 
--- where the line begins, and where its first byte behind the indent stands
+-- the places at which the line begins and at which its first byte after the indent is
 abbrev pub begin_of : Row → ℕ
 begin_of r = first_place r.content_end r.columns
 
 abbrev pub start_of : Row → ℕ
 start_of r = first_place r.content_end (without_indent r.columns)
 
--- no column was taken from the front of the line, and it is not held, so that it stands in no container
+-- no column was removed from the beginning of the line, and it is not held, so that it is in no container
 abbrev pub is_whole_line : Row → Bool
 is_whole_line r = (begin_of r == r.at) && not r.held
 
--- where the last of these lines ends
+-- the end of the last of these lines
 abbrev pub last_line_end : Row → List Row → ℕ
 last_line_end first [] = first.line_end
 last_line_end first (r ∷ more) = last_line_end r more
 
--- a line in front of those ahead, and the lines up to the first that lacks a prefix: what a line may look at
+-- a line before those ahead, and the lines up to the first that lacks a prefix: the lines that a line may look at
 abbrev pub show_as : Bool → Row → List Row → List Row
 show_as true r ahead = []
 show_as false r ahead = r ∷ ahead

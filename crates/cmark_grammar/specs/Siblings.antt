@@ -1,5 +1,4 @@
--- The spans of a leaf: what the parts of its text become, list of siblings by list of siblings (CommonMark 6.2, "process
--- emphasis").
+-- The spans of a leaf, made from the parts of its text, one list of siblings after the other (CommonMark 6.2, "process emphasis").
 use Rattle.std.specs.Prelude.{◌≡◌, ℕ, zero, suc, ◌+◌, ◌-◌, Bool, true, false, ◌==◌, nat_le, if◌then◌else◌, max, List, [], ◌∷◌, drop, get_or, encode_utf8, Option, Some, None}
 use Rattle.cmark_grammar.specs.Autolinks.{has_scheme}
 use Rattle.cmark_grammar.specs.BracketDecisions.{linked}
@@ -27,7 +26,7 @@ append (Around tag start end inside after) other = Around tag start end inside (
 abbrev pub item : ItemKind → (start end : ℕ) → Item
 item kind start end = record { kind = kind; start = start; end = end }
 
--- ## Quotes (this profile's own): they become the characters that they are among their siblings
+-- ## Quotes (this profile's own): each becomes a character, which depends on its siblings
 
 abbrev pub quote_then : ItemKind → List Quote → List Quote
 quote_then (Quoted quote) qs = quote ∷ qs
@@ -48,12 +47,13 @@ with_characters (Around tag start end inside after) cs = Around tag start end in
 with_characters (Single x after) cs =
     quote_as (λ cs. Single (item (Written (encode_utf8 (get_or cs 0 0))) x.start x.end) (with_characters after (drop 1 cs))) (λ cs. Single x (with_characters after cs)) x.kind cs
 
+-- the siblings with a character for each quote
 abbrev pub with_quotes : Inline → Inline
 with_quotes siblings = with_characters siblings (quote_characters [] (quotes_of siblings))
 
 -- ## Emphasis (CommonMark 6.2, GFM 6.5)
 
--- the delimiter runs among siblings, their bytes counted from 0
+-- the delimiter runs among siblings; their bytes are counted from 0
 abbrev pub run_then : ℕ → ItemKind → (ℕ → List Sibling) → List Sibling
 run_then n (Delimiters run) after = Delimiter (record { delimiter = run.delimiter; run_length = run.run_length; at = n; left = run.run_length; opens = run.opens; closes = run.closes }) ∷ after (n + run.run_length)
 run_then n _ after = after n
@@ -63,7 +63,7 @@ runs_from Nil n = []
 runs_from (Single x after) n = run_then n x.kind (runs_from after)
 runs_from (Around tag start end inside after) n = runs_from after n
 
--- the bytes of the runs, one after the other
+-- the bytes of the runs, in order
 abbrev pub bytes_then : (start run_length : ℕ) → List Item → List Item
 bytes_then start zero after = after
 bytes_then start (suc run_length) after = item Own start (suc start) ∷ bytes_then (suc start) run_length after
@@ -77,7 +77,7 @@ run_bytes Nil = []
 run_bytes (Single x after) = run_bytes_then x.kind x.start (run_bytes after)
 run_bytes (Around tag start end inside after) = run_bytes after
 
--- what stands before each of these bytes, behind the one before it; and last what stands behind all of them
+-- the siblings between these bytes: those before each byte, after the byte before it; and then those after all bytes
 abbrev pub put_gap : (Inline → Inline) → List Inline → List Inline
 put_gap put [] = put Nil ∷ []
 put_gap put (gap ∷ gaps) = put gap ∷ gaps
@@ -104,7 +104,7 @@ element (Some tag) start end inside after = Around tag start end inside after
 element None start end inside after = Single (item Own start end) after
 
 module _ (options : Options) where
-  -- spans around the bytes of the runs, with what stands between these
+  -- spans around the bytes of the runs, with the siblings between these
   abbrev pub dressed : List Inline → List Item → Spans → Inline
   dressed gaps bytes spans.Nil = Nil
   dressed gaps bytes (spans.Single at after) = Single (get_or bytes at no_item) (append (get_or gaps (suc at) Nil) (dressed gaps bytes after))
@@ -123,9 +123,9 @@ module _ (options : Options) where
     pub emphasis : IsEmphasis (runs_from (with_quotes siblings) 0) pairs spans_are
     pub result_is : result ≡ dressed_all (with_quotes siblings) spans_are
 
--- ## Elements and texts that parts become
+-- ## The elements and texts of the parts
 
--- an address is a URI if a scheme begins it, and else an email address (CommonMark 6.5)
+-- an address is a URI if it begins with a scheme, and else an email address (CommonMark 6.5)
 abbrev pub address_type : List ℕ → link_type.LinkType
 address_type address = if has_scheme address then link_type.Autolink else link_type.Email
 
@@ -149,14 +149,15 @@ abbrev pub footnote_then : (is_image : Bool) → (start : ℕ) → (label : List
 footnote_then true start label end after = Single (item Own start (suc start)) (Single (item (FootnoteReference label) (suc start) end) after)
 footnote_then false start label end after = Single (item (FootnoteReference label) start end) after
 
--- a wikilink shows its name, or what stands behind the pipe (this profile's own): siblings from a place on, of which the one that holds
--- the byte there begins there; and a text of no bytes where nothing stands there
+-- a wikilink shows its name, or the siblings after the pipe (this profile's own). These begin at a place: the sibling that contains the
+-- byte there is cut to begin there. If there is none, an empty text is shown
 abbrev pub wiki_tag : (is_image : Bool) → (name : List ℕ) → (has_pothole : Bool) → Tag
 wiki_tag is_image name has_pothole = tag_by is_image (linked (link_type.WikiLink has_pothole) (record { url = name; title = [] }) [])
 
 abbrev pub name_text : (opener closer : Bracket) → Inline
 name_text opener closer = Single (item Own (suc opener.end) closer.start) Nil
 
+-- the siblings from a place on
 abbrev pub from_place : ℕ → Inline → Inline
 from_place place Nil = Nil
 from_place place (Single x after) = if nat_le x.end place then from_place place after else Single (item x.kind (max x.start place) x.end) after
@@ -167,8 +168,7 @@ abbrev pub display_from : (place end : ℕ) → Inline → Inline
 display_from place end inner = if place == end then Single (item Own place place) Nil else from_place place inner
 
 module _ (options : Options) where
-  -- a link, an image and a wikilink with a display hold a list of siblings of their own; all other brackets are texts among those
-  -- around them
+  -- a link, an image and a wikilink with a text of its own contain a list of siblings. All other brackets are texts among those around them
   abbrev pub AreSiblings : Parts → Inline → Type 0
   AreSiblings NoParts siblings = siblings ≡ Nil
   AreSiblings (SinglePart x after) siblings = (others : Inline) × AreSiblings after others × (siblings ≡ item_then x.kind x others)
@@ -185,7 +185,7 @@ module _ (options : Options) where
   AreSiblings (Closing closer after) siblings = (others : Inline) × AreSiblings after others × (siblings ≡ text_then closer others)
   AreSiblings (Opening opener after) siblings = (others : Inline) × AreSiblings after others × (siblings ≡ text_then opener others)
 
-  -- and with the quotes and the emphasis of the outermost list they are the spans
+  -- with the quotes and the emphasis of the outermost list they are the spans
   pub record AreSpans (parts : Parts) (spans : Inline) : Type 0 where
     pub siblings : Inline
     pub are : AreSiblings parts siblings

@@ -1,15 +1,16 @@
--- A row of entries, one for each of some siblings, and what their pairs write into it: first each sibling stays as it is, and then each
--- pair makes of its bytes those that open and close its spans, from the inside on (CommonMark 6.2, rules 13 and 14).
+-- A row of entries, one for each of some siblings, and the entries that their pairs write into it. At first each sibling has its own entry.
+-- Then each pair replaces its bytes' entries with those that open and close its spans, from the inside outwards (CommonMark 6.2, rules 13
+-- and 14).
 use Rattle.std.specs.Prelude.{ℕ, zero, suc, ◌+◌, ◌-◌, ◌≤◌, List, [], ◌∷◌, ◌++◌, slice_set}
 use Rattle.cmark_grammar.specs.Emphasis.{Pair, kinds_of}
 use Rattle.cmark_grammar.specs.Spans.{SpanKind, span_width, Spans, Nil, Single, Around}
 
--- these entries in the place of those from a place on
+-- these entries in place of the ones from a place on
 abbrev pub write : {Entry : Type 0} → (at : ℕ) → List Entry → List Entry → List Entry
 write at [] entries = entries
 write at (x ∷ xs) entries = write (suc at) xs (slice_set entries at x)
 
--- the bytes of the pair are among so many siblings
+-- the bytes of the pair are among the first `count` siblings
 pub record IsWithin (count : ℕ) (pair : Pair) : Type 0 where
   pub opens : pair.count ≤ pair.from
   pub ordered : pair.from ≤ pair.to
@@ -19,9 +20,9 @@ abbrev pub AllWithin : ℕ → List Pair → Type 0
 AllWithin count [] = Unit {0}
 AllWithin count (pair ∷ pairs) = IsWithin count pair × AllWithin count pairs
 
--- the entry of a sibling that stays as it is, and those of the bytes that open a span, and of those that close it
+-- the entry of an unchanged sibling, and those of the bytes that open and close a span
 module _ (Entry : Type 0) (single : Entry) (opening closing : SpanKind → List Entry) where
-  -- so many siblings, each as it is
+  -- `n` siblings, each unchanged
   abbrev pub stays : ℕ → List Entry
   stays zero = []
   stays (suc n) = single ∷ stays n
@@ -32,7 +33,7 @@ module _ (Entry : Type 0) (single : Entry) (opening closing : SpanKind → List 
   entries_of (Single at after) = single ∷ entries_of after
   entries_of (Around span inside after) = (opening span.kind ++ (entries_of inside ++ closing span.kind)) ++ entries_of after
 
-  -- spans around what stands between the places from and to, the innermost first
+  -- spans around the entries between two places, the innermost first
   abbrev pub mark_spans : List SpanKind → (from to : ℕ) → List Entry → List Entry
   mark_spans [] from to entries = entries
   mark_spans (kind ∷ kinds) from to entries =

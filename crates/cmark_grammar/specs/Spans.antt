@@ -1,10 +1,11 @@
--- Spans around siblings: emphasis, and what stands between tildes and carets (CommonMark 6.2, GFM 6.5).
+-- Spans around siblings: emphasis, and the spans of tildes, carets and equals signs (CommonMark 6.2, GFM 6.5). Example: in `*a*` the span
+-- reaches from place 0 to place 3.
 use Rattle.std.specs.Prelude.{◌≡◌, ◌+◌, ℕ, suc, zero, if◌then◌else◌, Option, Some, None}
 use Rattle.cmark_grammar.specs.Options.{Options}
 use Rattle.cmark_grammar.specs.Tag.{Tag}
 use Rattle.cmark_grammar.specs.Tag as tag
 
--- what stands around a span: one byte each of `*` or `_`, two of them, one tilde, two of them, a caret, or two equals signs
+-- the bytes around a span: one or two `*` or `_` on each side, one or two tildes, a caret, or two equals signs
 pub data SpanKind : Type 0 where
   Emphasis : SpanKind
   Strong : SpanKind
@@ -13,7 +14,7 @@ pub data SpanKind : Type 0 where
   Caret : SpanKind
   DoubleEquals : SpanKind
 
--- how many bytes open it, and as many close it
+-- the number of bytes that open it, and of those that close it
 abbrev pub span_width : SpanKind → ℕ
 span_width Emphasis = 1
 span_width Strong = 2
@@ -22,8 +23,7 @@ span_width DoubleTilde = 2
 span_width Caret = 1
 span_width DoubleEquals = 2
 
--- the element that it is; none for two tildes where no strikethrough is read, which are one text over all of it (this
--- profile's own)
+-- the element of a span. Two tildes without strikethrough have none: with their content they are one text (this profile's own)
 abbrev pub span_tag : Options → SpanKind → Option Tag
 span_tag options Emphasis = Some tag.Emphasis
 span_tag options Strong = Some tag.Strong
@@ -32,31 +32,31 @@ span_tag options DoubleTilde = if options.strikethrough then Some tag.Strikethro
 span_tag options Caret = Some tag.Superscript
 span_tag options DoubleEquals = Some tag.Highlight
 
--- a span: from the place of the first byte that opens it to the place behind the last that closes it
+-- a span: from the place of the first byte that opens it to the place after the last that closes it
 pub record Span : Type 0 where
   pub kind : SpanKind
   pub start : ℕ
   pub end : ℕ
 
--- siblings with spans around them, in order. Places count the siblings; each byte of a delimiter run is one of them, and
--- stays one where it opens and closes nothing
+-- siblings with spans around them, in order. Places count the siblings. Each byte of a delimiter run is a sibling, and remains one if it
+-- opens and closes nothing
 pub data Spans : Type 0 where
   Nil : Spans
   Single : (at : ℕ) → (after : Spans) → Spans
   Around : (span : Span) → (inside after : Spans) → Spans
 
--- the second behind the first
+-- the second after the first
 abbrev pub join : Spans → Spans → Spans
 join Nil other = other
 join (Single at after) other = Single at (join after other)
 join (Around span inside after) other = Around span inside (join after other)
 
--- so many siblings from a place on, each by itself, and others behind them
+-- `count` siblings from a place on, each by itself, and others after them
 abbrev pub singles : (at count : ℕ) → Spans → Spans
 singles at zero after = after
 singles at (suc count) after = Single at (singles (suc at) count after)
 
--- a span around what is inside it, from a place on: first the bytes that open it, last those that close it
+-- a span around siblings, from a place on: first the bytes that open it, then the siblings, then the bytes that close it
 pub record Surrounds (Inside : ℕ → ℕ → Type 0) (After : ℕ → Type 0) (n : ℕ) (span : Span) : Type 0 where
   pub mid : ℕ
   pub start : span.start ≡ n
@@ -64,7 +64,7 @@ pub record Surrounds (Inside : ℕ → ℕ → Type 0) (After : ℕ → Type 0) 
   pub end : span.end ≡ mid + span_width span.kind
   pub after : After span.end
 
--- the siblings, with the bytes that open and close spans, stand side by side at the places from n up to m
+-- the siblings, with the bytes that open and close spans, fill the places from `n` up to `m`
 abbrev pub TakePlaces : ℕ → Spans → ℕ → Type 0
 TakePlaces n Nil m = n ≡ m
 TakePlaces n (Single at after) m = (at ≡ n) × TakePlaces (suc n) after m

@@ -1,4 +1,4 @@
--- The bytes of a text that inline parsing looks at (CommonMark 6); all others stand for themselves.
+-- The bytes of a text that inline parsing examines (CommonMark 6); all others are literal.
 use Rattle.std.specs.Prelude.{ℕ, Bool, ◌==◌, ◌&&◌, ◌||◌, List, codes}
 use Rattle.std.specs.List.{list_any}
 use Rattle.cmark_grammar.specs.Options.{Options}
@@ -10,7 +10,7 @@ is_one_of signs b = list_any (λ sign. sign == b) signs
 abbrev pub is_always_special : ℕ → Bool
 is_always_special b = is_one_of (codes "\n\r*_&\\[]<!`") b
 
--- and those of the extensions
+-- the special bytes, with those of the extensions
 abbrev pub is_special : Options → ℕ → Bool
 is_special options b =
     is_always_special b

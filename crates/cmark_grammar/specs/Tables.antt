@@ -14,23 +14,23 @@ colon = 58
 abbrev pub hyphen : ℕ
 hyphen = 45
 
--- what a colon before the hyphens and one behind them say
+-- the alignment by a colon before the hyphens and one after them
 abbrev pub aligned : (before behind : Bool) → Alignment
 aligned true true = Center
 aligned true false = Left
 aligned false true = Right
 aligned false false = Unaligned
 
--- nothing, or a colon alone
+-- no byte, or a colon only
 abbrev pub ended : (before : Bool) → List ℕ → Option Alignment
 ended before [] = Some (aligned before false)
 ended before (b ∷ bs) = if (b == colon) && is_empty bs then Some (aligned before true) else None
 
--- one or more hyphens in front
+-- one or more hyphens at the beginning
 abbrev pub hyphens : (before : Bool) → List ℕ → Option Alignment
 hyphens before bs = if nat_lt 0 (run hyphen bs) then ended before (drop (run hyphen bs) bs) else None
 
--- a delimiter cell without blanks at its ends: hyphens, with or without a colon before and one behind
+-- a delimiter cell without blanks at its ends: hyphens, with or without a colon before and after them. Example: `:-:`
 abbrev pub alignment_of : List ℕ → Option Alignment
 alignment_of [] = None
 alignment_of (b ∷ bs) = if b == colon then hyphens true bs else hyphens false (b ∷ bs)
@@ -40,7 +40,7 @@ put_first None more = None
 put_first (Some a) None = None
 put_first (Some a) (Some more) = Some (a ∷ more)
 
--- what the cells say, where each is a delimiter cell
+-- the alignments of the cells, if each is a delimiter cell
 abbrev pub alignments : List (List ℕ) → Option (List Alignment)
 alignments [] = Some []
 alignments (cell ∷ cells) = put_first (alignment_of (trimmed cell)) (alignments cells)
@@ -59,7 +59,7 @@ without_last_pipe [] = []
 without_last_pipe (b ∷ []) = if b == pipe then [] else b ∷ []
 without_last_pipe (b ∷ c ∷ bs) = b ∷ without_last_pipe (c ∷ bs)
 
--- how a table's columns are aligned, where this line is a delimiter row: cells with at least one pipe, which may stand in
--- front and at the end of them, too (that one pipe must stand there is this profile's own)
+-- the alignments of a table's columns, if this line is a delimiter row: cells with at least one pipe. A pipe may also precede and follow
+-- the cells (that there must be a pipe is this profile's own). Example: `|:--|--:|`
 abbrev pub delimiter_row : List ℕ → Option (List Alignment)
 delimiter_row bs = if holds (codes "|") bs then alignments (cells (without_last_pipe (without_first_pipe (trimmed bs)))) else None

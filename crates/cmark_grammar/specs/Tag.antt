@@ -1,4 +1,4 @@
--- The tags of the elements that have a start and an end.
+-- The tags of the elements that have a start and an end: blocks (CommonMark 4 and 5), spans (CommonMark 6), and those of the extensions.
 use Rattle.std.specs.Prelude.{ℕ, List, Option}
 use Rattle.cmark_grammar.specs.Alignment.{Alignment}
 use Rattle.cmark_grammar.specs.Attributes.{Attributes}
@@ -7,15 +7,15 @@ use Rattle.cmark_grammar.specs.CodeBlockKind.{CodeBlockKind}
 use Rattle.cmark_grammar.specs.LinkType.{LinkType}
 use Rattle.cmark_grammar.specs.MetadataBlockKind.{MetadataBlockKind}
 
--- where a link or an image leads, its title, and the label that it names
+-- the destination of a link or an image, its title, and its label
 pub record Linked : Type 0 where
   pub link_type : LinkType
   pub destination : List ℕ
   pub title : List ℕ
   pub id : List ℕ
 
--- a heading has its level, 1 to 6; a block quote its kind, if it is an alert; a list its first number, if it is ordered;
--- a table the alignments of its columns
+-- the tags of elements. A heading has its level, 1 to 6; a block quote has its kind, if it is an alert. An ordered list has its first
+-- number, a table the alignments of its columns
 pub data Tag : Type 0 where
   Paragraph : Tag
   Heading : (level : ℕ) → (attributes : Attributes) → Tag

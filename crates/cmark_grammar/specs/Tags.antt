@@ -1,5 +1,5 @@
--- Open and closing tags (CommonMark 6.6). A part is read from the front: what it answers are the bytes behind it, if it is
--- there.
+-- Open and closing tags (CommonMark 6.6). Each part is read from the beginning of the bytes: the result is the bytes after it, if it is
+-- there. Examples: `<a href="b">`, `</a >`.
 use Rattle.std.specs.Prelude.{ℕ, zero, suc, Bool, ◌==◌, ◌||◌, not, if◌then◌else◌, List, [], ◌∷◌, length, drop, Option, Some, None}
 use Rattle.cmark_grammar.specs.Columns.{is_blank_byte}
 use Rattle.cmark_grammar.specs.Lines.{is_content, ends_line}
@@ -14,7 +14,7 @@ is_attribute_start b = is_letter b || ((b == 95) || (b == 58))
 abbrev pub is_attribute_byte : ℕ → Bool
 is_attribute_byte b = is_alphanumeric b || ((b == 95) || ((b == 58) || ((b == 46) || (b == 45))))
 
--- a blank or a part of a line ending
+-- a space, a tab or a byte of a line ending
 abbrev pub is_space_byte : ℕ → Bool
 is_space_byte b = is_blank_byte b || not (is_content b)
 
@@ -25,7 +25,7 @@ ends_value b = is_space_byte b || ((b == 34) || ((b == 39) || ((b == 60) || ((b 
 abbrev pub is_value_byte : ℕ → Bool
 is_value_byte b = not (ends_value b)
 
--- behind a line ending: a line feed, a carriage return, or both in this order
+-- the bytes after a line ending: a line feed, a carriage return, or both in this order
 abbrev pub behind_line_feed : List ℕ → List ℕ
 behind_line_feed [] = []
 behind_line_feed (b ∷ bs) = if b == 10 then bs else b ∷ bs
@@ -46,26 +46,26 @@ behind_attribute_name bs = and_then (behind_if is_attribute_start bs) (λ rest. 
 abbrev pub behind_bare_value : List ℕ → Option (List ℕ)
 behind_bare_value bs = and_then (behind_if is_value_byte bs) (λ rest. Some (behind_all is_value_byte rest))
 
--- how a tag ends: `>`
+-- the end of a tag: `>`
 abbrev pub behind_greater : List ℕ → Option (List ℕ)
 behind_greater bs = behind_if (λ b. b == 62) bs
 
--- and how an open tag does, with a `/` or without
+-- the end of an open tag, with a `/` or without
 abbrev pub behind_open_end : List ℕ → Option (List ℕ)
 behind_open_end [] = None
 behind_open_end (b ∷ bs) = if b == 47 then behind_greater bs else behind_greater (b ∷ bs)
 
--- a closing tag behind `</`: a name, then blanks and `>`
+-- a closing tag after its `</`: a name, then blanks and `>`
 abbrev pub behind_closing_tag : List ℕ → Option (List ℕ)
 behind_closing_tag bs = and_then (behind_tag_name bs) (λ rest. behind_greater (behind_all is_blank_byte rest))
 
--- how many bytes in front of a line's rest are prefixes of the containers around it, for each such rest
+-- the number of prefix bytes at the beginning of a line's rest, for each such rest
 module _ (prefix : List ℕ → ℕ) where
-  -- a rest of a line without its prefixes
+  -- the rest of a line without its prefixes
   abbrev pub without_prefix : List ℕ → List ℕ
   without_prefix bs = drop (prefix bs) bs
 
-  -- behind the blanks of the next line, where a line ends here
+  -- the bytes after the blanks of the next line, if a line ends here
   abbrev pub on_next_line : List ℕ → Option (List ℕ) → List ℕ
   on_next_line bs None = bs
   on_next_line bs (Some rest) = behind_all is_blank_byte (without_prefix rest)
@@ -74,11 +74,11 @@ module _ (prefix : List ℕ → ℕ) where
   abbrev pub behind_space : List ℕ → List ℕ
   behind_space bs = on_next_line (behind_all is_blank_byte bs) (behind_ending (behind_all is_blank_byte bs))
 
-  -- how many bytes of prefixes stand behind this byte
+  -- the number of prefix bytes after this byte
   abbrev pub prefix_behind : ℕ → List ℕ → ℕ
   prefix_behind b bs = if ends_line b bs then prefix bs else 0
 
-  -- the first closing quotation mark that stands in no prefix
+  -- the bytes after the first closing quotation mark that is in no prefix
   abbrev pub behind_quotation_mark : (quote skip : ℕ) → List ℕ → Option (List ℕ)
   behind_quotation_mark quote skip [] = None
   behind_quotation_mark quote (suc skip) (b ∷ bs) = behind_quotation_mark quote skip bs
@@ -89,32 +89,32 @@ module _ (prefix : List ℕ → ℕ) where
   behind_value [] = None
   behind_value (b ∷ bs) = if (b == 34) || (b == 39) then behind_quotation_mark b 0 bs else behind_bare_value (b ∷ bs)
 
-  -- a value behind an attribute's name, where `=` follows the name
+  -- a value after an attribute's name, if `=` follows the name
   abbrev pub behind_assigned : (name : List ℕ) → List ℕ → Option (List ℕ)
   behind_assigned name [] = Some name
   behind_assigned name (b ∷ bs) = if b == 61 then behind_value (behind_space bs) else Some name
 
-  -- an attribute, which stands behind white space
+  -- an attribute, which comes after white space
   abbrev pub behind_attribute : List ℕ → Option (List ℕ)
   behind_attribute bs =
       if first_is is_space_byte bs then and_then (behind_attribute_name (behind_space bs)) (λ name. behind_assigned name (behind_space name)) else None
 
-  -- all attributes, of which there are at most so many
+  -- all attributes, at most `most` of them
   abbrev pub behind_attributes : (most : ℕ) → List ℕ → List ℕ
   behind_attributes zero bs = bs
   behind_attributes (suc most) bs = elim (behind_attribute bs) [ None ↦ bs | Some rest ↦ behind_attributes most rest ]
 
-  -- an open tag behind `<`: a name, attributes, white space, and its end
+  -- an open tag after its `<`: a name, attributes, white space, and its end
   abbrev pub behind_open_tag : List ℕ → Option (List ℕ)
   behind_open_tag bs = and_then (behind_tag_name bs) (λ rest. behind_open_end (behind_space (behind_attributes (length rest) rest)))
 
-  -- a tag behind `<`
+  -- a tag after its `<`
   abbrev pub behind_tag_start : List ℕ → Option (List ℕ)
   behind_tag_start bs = if first_is (λ b. b == 47) bs then behind_closing_tag (drop 1 bs) else behind_open_tag bs
 
   abbrev pub behind_tag : List ℕ → Option (List ℕ)
   behind_tag bs = and_then (behind_if (λ b. b == 60) bs) behind_tag_start
 
--- where no line has prefixes
+-- no line has a prefix
 abbrev pub no_prefix : List ℕ → ℕ
 no_prefix bs = 0

@@ -1,10 +1,10 @@
--- Where a task marker stands: directly behind an item's own marker (GFM 5.3).
+-- The place of a task marker: directly after an item's own marker (GFM 5.3).
 use Rattle.std.specs.Prelude.{ℕ, ◌+◌, Bool, ◌==◌, ◌&&◌, if◌then◌else◌, Option, Some, None}
 use Rattle.cmark_grammar.specs.Options.{Options}
 use Rattle.cmark_grammar.specs.Rows.{Row, indent_of, words_of}
 use Rattle.cmark_grammar.specs.TaskMarkers.{task_of}
 
--- whether the box is checked with which a line begins, where task markers are asked for; no blank stands in front of it
+-- whether the box at the beginning of a line is checked, if there is one and the options ask for task markers; no blank precedes it
 abbrev pub task_in : Options → Row → Option Bool
 task_in options r = if options.tasklists && (indent_of r == 0) then task_of (words_of r) else None
 

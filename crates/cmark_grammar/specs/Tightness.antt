@@ -2,7 +2,7 @@
 use Rattle.std.specs.Prelude.{◌≡◌, Bool, true, false}
 use Rattle.cmark_grammar.specs.BlockDocument.{BlockKind, Paragraph, TightParagraph, Heading, ThematicBreak, IndentedCode, FencedCode, HtmlBlock, LinkDefinition, MetadataBlock, BlockQuote, BlockList, ListItem, TaskMarker, FootnoteDefinition, DefinitionList, DefinitionListTitle, DefinitionListDefinition, Text, OwnedText, Html, BlockDocument, Nil, Node, Table, TableHead, TableRow, TableCell}
 
--- whether what is inside such a node stands in items or definitions of a tight list, or directly in one
+-- whether the content of a node of this kind is in the items or definitions of a tight list, or directly in an item or definition of one
 abbrev pub tight_within : Bool → BlockKind → Bool
 tight_within tight (BlockList number t) = t
 tight_within tight ListItem = tight
@@ -29,7 +29,7 @@ tight_within tight (Text bytes) = false
 tight_within tight (OwnedText bytes) = false
 tight_within tight (Html bytes) = false
 
--- a paragraph is an element of its own exactly where it does not stand directly in an item or a definition of a tight list
+-- a paragraph is an element unless it is directly in an item or a definition of a tight list
 abbrev pub IsElement : (tight : Bool) → BlockKind → Type 0
 IsElement tight Paragraph = tight ≡ false
 IsElement tight TightParagraph = tight ≡ true

@@ -1,5 +1,4 @@
--- What stands in a leaf: texts and HTML (CommonMark 4.2 to 4.8), and bytes with escapes and entities resolved (CommonMark 2.4
--- and 2.5).
+-- The content of a leaf: texts and HTML (CommonMark 4.2 to 4.8), and bytes with escapes and entities resolved (CommonMark 2.4 and 2.5).
 use Rattle.std.specs.Char.{encode_utf8}
 use Rattle.std.specs.Prelude.{ℕ, zero, suc, ◌+◌, ◌-◌, ◌*◌, Bool, true, false, ◌==◌, ◌&&◌, ◌||◌, not, nat_lt, nat_le, if◌then◌else◌, List, [], ◌∷◌, ◌++◌, length, drop, take, take_while, replicate, fold, Option, Some, None}
 use Rattle.cmark_grammar.specs.Answers.{Lookup}
@@ -15,7 +14,7 @@ use Rattle.cmark_grammar.specs.BlockDocument.{BlockKind, BlockDocument, Nil, Nod
 abbrev pub is_punctuation : ℕ → Bool
 is_punctuation b = (nat_le 33 b && nat_le b 47) || ((nat_le 58 b && nat_le b 64) || ((nat_le 91 b && nat_le b 96) || (nat_le 123 b && nat_le b 126)))
 
--- the text of an entity, and how many bytes it takes from `&` to `;`
+-- the text of an entity, and the number of its bytes from `&` to `;`
 pub record Entity : Type 0 where
   pub bytes : List ℕ
   pub size : ℕ
@@ -24,10 +23,11 @@ abbrev pub entity_if : Option (List ℕ) → ℕ → Option Entity
 entity_if None size = None
 entity_if (Some bytes) size = Some (record { bytes = bytes; size = size })
 
--- 0, surrogates and numbers past the last character stand for U+FFFD (CommonMark 2.5)
+-- 0, surrogates and numbers after the last character give U+FFFD (CommonMark 2.5)
 abbrev pub is_character : ℕ → Bool
 is_character n = nat_lt 0 n && (nat_le n 1114111 && not (nat_le 55296 n && nat_le n 57343))
 
+-- the UTF-8 of a character; for any other number, of U+FFFD
 abbrev pub character : ℕ → List ℕ
 character n = if is_character n then encode_utf8 n else 239 ∷ 191 ∷ 189 ∷ []
 
@@ -40,15 +40,17 @@ digit_of b = if is_number b then b - 48 else lower b - 87
 abbrev pub value_of : (base : ℕ) → List ℕ → ℕ
 value_of base ds = fold (λ n d. n * base + digit_of d) 0 ds
 
--- 1 to so many digits and a semicolon
+-- 1 to `most` digits and a semicolon
 abbrev pub numeric : (base most size : ℕ) → (digits behind : List ℕ) → Option Entity
 numeric base most size digits behind =
     if nat_lt 0 (length digits) && (nat_le (length digits) most && first_is (λ b. b == 59) behind)
     then Some (record { bytes = character (value_of base digits); size = length digits + size }) else None
 
+-- 1 to 6 hexadecimal digits and a semicolon (CommonMark 2.5)
 abbrev pub hexadecimal_in : List ℕ → Option Entity
 hexadecimal_in bs = numeric 16 6 4 (take_while is_hexadecimal bs) (drop (length (take_while is_hexadecimal bs)) bs)
 
+-- 1 to 7 decimal digits and a semicolon (CommonMark 2.5)
 abbrev pub decimal_in : List ℕ → Option Entity
 decimal_in bs = numeric 10 7 3 (take_while is_number bs) (drop (length (take_while is_number bs)) bs)
 
@@ -59,14 +61,15 @@ numeric_in bs = if first_is (λ b. (b == 120) || (b == 88)) bs then hexadecimal_
 abbrev pub named : Lookup → (name behind : List ℕ) → Option Entity
 named lookup name behind = if not (is_empty name) && first_is (λ b. b == 59) behind then entity_if (lookup name) (length name + 2) else None
 
+-- a name of letters and digits, and a semicolon (CommonMark 2.5)
 abbrev pub named_in : Lookup → List ℕ → Option Entity
 named_in lookup bs = named lookup (take_while is_alphanumeric bs) (drop (length (take_while is_alphanumeric bs)) bs)
 
--- the entity or numeric character reference behind `&` (CommonMark 2.5)
+-- the entity or numeric character reference after `&` (CommonMark 2.5). Examples: `amp;`, `#65;`, `#x41;`
 abbrev pub entity_in : Lookup → List ℕ → Option Entity
 entity_in lookup bs = if first_is (λ b. b == 35) bs then numeric_in (drop 1 bs) else named_in lookup bs
 
--- what a byte does: it stands for itself, escapes the next one, or begins an entity
+-- the effect of a byte: it is literal, escapes the next one, or begins an entity
 pub data Does : Type 0 where
   Stands : Does
   EscapesNext : Does
@@ -81,7 +84,7 @@ does_at lookup true backslash bs = begins_if (entity_in lookup bs)
 does_at lookup false true bs = if first_is is_punctuation bs then EscapesNext else Stands
 does_at lookup false false bs = Stands
 
--- a byte behind an escaping backslash stands for itself
+-- a byte after an escaping backslash is literal
 abbrev pub does : Lookup → (escaped : Bool) → ℕ → List ℕ → Does
 does lookup true b bs = Stands
 does lookup false b bs = does_at lookup (b == 38) (b == 92) bs
@@ -91,13 +94,13 @@ is_escape Stands = false
 is_escape EscapesNext = true
 is_escape (Begins entity) = false
 
--- how many bytes more it takes
+-- the number of further bytes that it takes
 abbrev pub size_behind : Does → ℕ
 size_behind Stands = 0
 size_behind EscapesNext = 0
 size_behind (Begins entity) = entity.size - 1
 
--- the bytes that it stands for, in front of others
+-- the bytes that it gives, before others
 abbrev pub add_bytes : Does → ℕ → List ℕ → List ℕ
 add_bytes Stands b bs = b ∷ bs
 add_bytes EscapesNext b bs = bs
@@ -109,13 +112,13 @@ resolved_from lookup escaped (suc skip) (b ∷ bs) = resolved_from lookup false 
 resolved_from lookup escaped zero (b ∷ bs) =
     let what = does lookup escaped b bs in add_bytes what b (resolved_from lookup (is_escape what) (size_behind what) bs)
 
--- bytes with escapes and entities resolved (info strings, destinations and titles): a backslash before punctuation is dropped, and an
--- entity stands for its text
+-- bytes with escapes and entities resolved (info strings, destinations and titles): a backslash before punctuation is removed, and an
+-- entity becomes its text
 abbrev pub resolved : Lookup → List ℕ → List ℕ
 resolved lookup bs = resolved_from lookup false 0 bs
 
--- the lines of a title: each line ending and the blanks behind it are one line feed (this profile's own); in front says that nothing
--- but these was read since the last one
+-- the lines of a title: each line ending becomes a line feed, and the blanks after it are removed (this profile's own). In_front: only
+-- blanks were read since the last line ending
 abbrev pub title_lines : (in_front : Bool) → List ℕ → List ℕ
 title_lines in_front [] = []
 title_lines in_front (b ∷ bs) =
@@ -124,7 +127,7 @@ title_lines in_front (b ∷ bs) =
     else if b == carriage_return then title_lines false bs
     else b ∷ title_lines false bs
 
--- a piece of a leaf: its bytes, and those that it takes in the text; owned if they differ
+-- a piece of a leaf: its bytes, and its range in the text; it is owned if they differ
 pub record Piece : Type 0 where
   pub owned : Bool
   pub bytes : List ℕ
@@ -134,7 +137,7 @@ pub record Piece : Type 0 where
 abbrev pub text_kind_of : Piece → BlockKind
 text_kind_of p = if p.owned then OwnedText p.bytes else Text p.bytes
 
--- pieces as nodes, in front of others
+-- pieces as nodes, before others
 abbrev pub texts_then : List Piece → BlockDocument → BlockDocument
 texts_then [] after = after
 texts_then (p ∷ ps) after = Node (node (text_kind_of p) p.start p.end) Nil (texts_then ps after)
@@ -143,71 +146,72 @@ texts_then (p ∷ ps) after = Node (node (text_kind_of p) p.start p.end) Nil (te
 abbrev pub line_columns : Row → List Column
 line_columns r = without_trailing_blanks (without_indent r.columns)
 
--- the place behind the last of these columns
+-- the place after the last of these columns
 abbrev pub end_place : ℕ → List Column → ℕ
 end_place none [] = none
 end_place none (c ∷ cs) = end_place (suc c.at) cs
 
--- the bytes of the text from start to before end
+-- the bytes of the text from the start up to the end
 abbrev pub slice : List ℕ → ℕ → ℕ → List ℕ
 slice text start end = take (end - start) (drop start text)
 
 abbrev pub piece_if : List ℕ → ℕ → ℕ → List Piece → List Piece
 piece_if text start end ps = if nat_lt start end then record { owned = false; bytes = slice text start end; start = start; end = end } ∷ ps else ps
 
--- where a line ends without the blanks at its end
+-- the end of a line without the blanks at its end
 abbrev pub words_end : Row → ℕ
 words_end r = end_place (start_of r) (line_columns r)
 
--- a stretch of the text as it is, in front of others: one text, and nothing where it is empty
+-- a stretch of the text before other nodes: one text, or nothing if it is empty
 abbrev pub stretch_then : List ℕ → (start end : ℕ) → BlockDocument → BlockDocument
 stretch_then text start end after = texts_then (piece_if text start end []) after
 
--- lines behind their prefixes, the first from that place on, and the last without the blanks at its end: a line that begins where
--- the one before it has ended stands in one stretch with it, and another one begins a stretch of its own
+-- lines without their prefixes: the first one from that place on, and the last one without the blanks at its end. A line that begins at the
+-- end of the one before it is in the same stretch; any other line begins a new stretch
 abbrev pub stretches : List ℕ → (begin : ℕ) → Row → List Row → BlockDocument
 stretches text begin r [] = stretch_then text begin (words_end r) Nil
 stretches text begin r (s ∷ more) =
     if begin_of s == r.line_end then stretches text begin s more else stretch_then text begin r.line_end (stretches text (begin_of s) s more)
 
--- The raw content of a paragraph or setext heading is "formed by concatenating the paragraph's lines and removing initial and
--- final spaces or tabs" (CommonMark 4.8): stretches of the text, with the line endings in them, and without the prefixes of the
--- containers. The spaces and tabs in front of a later line are in them too: a line break takes them away, and code spans and
--- inline HTML keep them. What the content says is for the inline pass to read
+-- The raw content of a paragraph or setext heading is "formed by concatenating the paragraph's lines and removing initial and final spaces
+-- or tabs" (CommonMark 4.8). It is stretches of the text, with their line endings, without the prefixes of the containers. The stretches
+-- contain the spaces and tabs at the beginning of a later line: a line break removes them, and code spans and inline HTML keep them. The
+-- inline pass reads the content
 abbrev pub paragraph_tokens : List ℕ → Row → List Row → BlockDocument
 paragraph_tokens text first more = stretches text (start_of first) first more
 
 abbrev pub is_hash : Column → Bool
 is_hash c = c.byte == 35
 
--- without a closing sequence: `#` at the end, alone or behind a blank (CommonMark 4.2)
+-- without a closing sequence: `#` at the end, alone or after a blank (CommonMark 4.2)
 abbrev pub without_closing : List Column → List Column
 without_closing cs =
     if is_bare (drop_end is_hash cs) || nat_lt (length (without_trailing_blanks (drop_end is_hash cs))) (length (drop_end is_hash cs))
     then without_trailing_blanks (drop_end is_hash cs) else cs
 
--- what stands behind a heading's opening sequence and the blanks there
+-- the columns after a heading's opening sequence and the blanks there
 abbrev pub behind_hashes : (level : ℕ) → Row → List Column
 behind_hashes level r = without_indent (drop level (without_indent r.columns))
 
--- the columns of a heading behind its opening sequence, without spaces and tabs at both ends
+-- the columns of a heading after its opening sequence, without the spaces and tabs at both ends
 abbrev pub content_columns : (level : ℕ) → Row → List Column
 content_columns level r = without_trailing_blanks (behind_hashes level r)
 
--- attributes are taken off first, where they are read (this profile's own)
+-- attributes are removed first, if they are read (this profile's own)
 abbrev pub without_attributes : (attributes : Bool) → List Column → List Column
 without_attributes false cs = cs
 without_attributes true cs = without_trailing_blanks (before_braces (λ c. c.byte) cs)
 
--- what stands between the braces of attributes, where these are read
+-- the columns between the braces of attributes, if attributes are read
 abbrev pub attribute_columns : (attributes : Bool) → List Column → List Column
 attribute_columns false cs = []
 attribute_columns true cs = inside_braces (λ c. c.byte) cs
 
--- the raw content of a heading: no opening or closing sequence, and no spaces or tabs at both ends (CommonMark 4.2)
+-- the raw content of a heading: without the opening and closing sequences, and without spaces and tabs at both ends (CommonMark 4.2)
 abbrev pub heading_columns : (attributes : Bool) → (level : ℕ) → Row → List Column
 heading_columns attributes level r = without_closing (without_attributes attributes (content_columns level r))
 
+-- the text of a heading as one node, or none if it is empty
 abbrev pub heading_tokens : List ℕ → (attributes : Bool) → (level : ℕ) → Row → BlockDocument
 heading_tokens text attributes level r =
     let start = first_place r.content_end (behind_hashes level r) in stretch_then text start (end_place start (heading_columns attributes level r)) Nil
@@ -216,19 +220,19 @@ heading_tokens text attributes level r =
 abbrev pub heading_attributes : (attributes : Bool) → (level : ℕ) → Row → Attributes
 heading_attributes attributes level r = attributes_of (bytes_of (attribute_columns attributes (content_columns level r)))
 
--- a line as it is, from there on: of CR LF, the line feed is a piece of its own and the CR is left out
+-- a line from that place on. If it ends in CR LF, the line feed is a piece of its own and the CR is left out
 abbrev pub plain_line : List ℕ → ℕ → Row → List Piece
 plain_line text from r =
     if r.line_end - r.content_end == 2 then piece_if text from r.content_end (piece_if text (suc r.content_end) r.line_end []) else piece_if text from r.line_end []
 
--- how many columns in front are left of a tab of which a prefix took a part
+-- a column that is left of a tab of which a prefix took a part
 abbrev pub is_left : Column → Bool
 is_left c = not (c.part == 0)
 
 abbrev pub left_columns : List Column → ℕ
 left_columns cs = length (take_while is_left cs)
 
--- these columns are as many spaces, which stand behind the tab (this profile's own)
+-- each of these columns becomes a space, whose place is the end of the tab (this profile's own)
 abbrev pub spaces_if : ℕ → ℕ → List Piece → List Piece
 spaces_if zero at ps = ps
 spaces_if (suc n) at ps = record { owned = true; bytes = replicate (suc n) 32; start = at; end = at } ∷ ps
@@ -237,7 +241,7 @@ spaces_if (suc n) at ps = record { owned = true; bytes = replicate (suc n) 32; s
 abbrev pub verbatim_line : List ℕ → List Column → Row → List Piece
 verbatim_line text cs r = spaces_if (left_columns cs) (first_place r.content_end cs) (plain_line text (first_place r.content_end cs) r)
 
--- pieces of the text that touch are one
+-- touching pieces of the text are one
 abbrev pub touches : Piece → Piece → Bool
 touches p q = not p.owned && (not q.owned && (p.end == q.start))
 
@@ -249,7 +253,7 @@ abbrev pub merge_all : List Piece → List Piece → List Piece
 merge_all [] behind = behind
 merge_all (p ∷ ps) behind = merge p (merge_all ps behind)
 
--- a line of code without so many columns of indent at most
+-- a line of code without at most `most` columns of indent
 abbrev pub code_columns : (most : ℕ) → Row → List Column
 code_columns most r = drop (if nat_le most (indent_of r) then most else indent_of r) r.columns
 
@@ -257,10 +261,11 @@ abbrev pub code_pieces : List ℕ → (most : ℕ) → List Row → List Piece
 code_pieces text most [] = []
 code_pieces text most (r ∷ rs) = merge_all (verbatim_line text (code_columns most r) r) (code_pieces text most rs)
 
+-- the texts of lines of code (CommonMark 4.4 and 4.5)
 abbrev pub code_tokens : List ℕ → (most : ℕ) → List Row → BlockDocument
 code_tokens text most rs = texts_then (code_pieces text most rs) Nil
 
--- the lines in front of the first that closes a block, as of those behind a fence without the closing fence
+-- the lines before the first that closes a block, for example those of a fence without its closing fence
 abbrev pub stop_at : Bool → Row → List Row → List Row
 stop_at true r rs = []
 stop_at false r rs = r ∷ rs
@@ -272,7 +277,7 @@ lines_before closes (r ∷ rs) = stop_at (closes r) r (lines_before closes rs)
 abbrev pub fenced_lines : Fence → List Row → List Row
 fenced_lines fence rs = lines_before (closes_fence fence) rs
 
--- HTML lines: a node a line, but for CR LF and the spaces left of a tab
+-- HTML lines: one node for each line, except for CR LF and the spaces left of a tab
 abbrev pub html_kind_of : Piece → BlockKind
 html_kind_of p = if p.owned then OwnedText p.bytes else Html p.bytes
 
@@ -280,6 +285,7 @@ abbrev pub html_then : List Piece → BlockDocument → BlockDocument
 html_then [] after = after
 html_then (p ∷ ps) after = Node (node (html_kind_of p) p.start p.end) Nil (html_then ps after)
 
+-- the nodes of the lines of an HTML block (CommonMark 4.6)
 abbrev pub html_tokens : List ℕ → List Row → BlockDocument
 html_tokens text [] = Nil
 html_tokens text (r ∷ rs) = html_then (verbatim_line text r.columns r) (html_tokens text rs)

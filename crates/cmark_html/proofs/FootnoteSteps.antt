@@ -1,4 +1,4 @@
--- The names of footnotes, read off a map from names to numbers.
+-- The names of footnotes, read from a map from names to numbers.
 use Rattle.std.proofs.Common.{arith, ◌≡◌, ℕ, zero, suc, ◌+◌, ◌<◌, Bool, true, false, not, ◌||◌, List, [], ◌∷◌, ◌++◌, Option, Some, None, Result, Ok, Err, IfOk, OnOk, OnErr, length, nat_eq, nat_lt, cond, unwrap_or, is_some, is_ok, true≢false, All, bytes_eq, ⊎_elim, ◌≤◌, eqb, length-append, if◌then◌else◌, refl, sym, ap, subst, ◌∙◌}
 use Rattle.std.specs.Cmp.Lexicographic.{pointwise, slice_cmp, bytes_decides, nat_list_cmp_total, nat_list_eq_equiv}
 use Rattle.std.specs.List.{list_any, position, position_or_len}
@@ -17,7 +17,7 @@ use Rattle.std.proofs.lemmas.Map.Views.{All-values-insert_entry}
 use Rattle.cmark_grammar.specs.Html.{footnote_number, named}
 use Rattle.cmark_html.specs.Names.{IsNumbered, name_at, names_below, names_of}
 
--- where an element is found, and where it is not
+-- an element is found, or it is not
 module _ {A : Type 0} (p : A → Bool) where
   pub place_found : (xs : List A) (i : ℕ) → position p xs ≡ Some i → position_or_len p xs ≡ i
   place_found xs i e = go (nat_lt (position_or_len p xs) (length xs)) e
@@ -33,7 +33,7 @@ module _ {A : Type 0} (p : A → Bool) where
       go true lt e = absurd (true≢false (ap is_some e))
       go false lt e = let le = prefix_len-le-length (λ x. not (p x)) xs in let ge = ltb-false (position_or_len p xs) (length xs) lt in omega (arith, le, ge)
 
-  -- whether there is one
+  -- whether an element is in the list
   pub any_is_place : (xs : List A) → list_any p xs ≡ is_some (position p xs)
   any_is_place [] = refl
   any_is_place (x ∷ xs) = go (p x) (any_is_place xs)
@@ -53,14 +53,14 @@ module _ {A : Type 0} (p : A → Bool) where
           ∙ rest (nat_lt (position_or_len p xs) (length xs))
           ∙ ap (λ b. is_some (cond b (Some (1 + position_or_len p xs)) None)) (sym (next (position_or_len p xs) (length xs) (nat_lt (position_or_len p xs) (length xs)) refl))
 
--- a place within the others, and one behind them
+-- an index within the others, and an index after them
 placed : (n m i : ℕ) → n ≡ i → i < m → cond (nat_lt n m) (Some n) None ≡ Some i
 placed n m i e lt = cond-true (nat_lt n m) (Some n) None (subst (λ k. nat_lt k m ≡ true) (sym e) (lt-ltb i m lt)) ∙ ap Some e
 
 unplaced : (n m : ℕ) → m ≤ n → cond (nat_lt n m) (Some n) None ≡ None
 unplaced n m le = cond-false (nat_lt n m) (Some n) None (le-ltb n m le)
 
--- one element more behind the others
+-- one more element after the others
 module _ {A : Type 0} (p : A → Bool) (xs : List A) (y : A) where
   within : (i : ℕ) → position p xs ≡ Some i → i < length xs
   within i e = go (nat_lt (position_or_len p xs) (length xs)) refl e
@@ -103,7 +103,7 @@ finds_none : {A : Type 0} (found : Option A) → is_some found ≡ false → fou
 finds_none None e = refl
 finds_none (Some a) e = absurd (true≢false e)
 
--- bytes: the name that a key is
+-- bytes gives the name of a key
 module _ {K : Type 0} (bytes : K → List ℕ) where
   pub length-names_below : (es : List (K × ℕ)) (n : ℕ) → length (names_below bytes es n) ≡ n
   length-names_below es zero = refl
@@ -122,7 +122,7 @@ module _ {K : Type 0} (bytes : K → List ℕ) where
   abbrev pub key_cmp : K → K → Ordering
   key_cmp a b = slice_cmp nat_cmp (bytes a) (bytes b)
 
-  -- a key more, with the number v
+  -- one more key, with the number v
   module _ (k : K) (v : ℕ) where
     other_number : (i : ℕ) → nat_eq v i ≡ false → (es : List (K × ℕ)) → lookup (is_at (key_cmp k)) es ≡ None → name_at bytes (insert_entry key_cmp es k v) i ≡ name_at bytes es i
     other_number i n [] none = ap (λ b. cond b (bytes k) []) n
@@ -149,7 +149,7 @@ module _ {K : Type 0} (bytes : K → List ℕ) where
             ap (λ b. cond b (bytes e.0) (name_at bytes (insert_entry key_cmp es k v) v)) (ne_eqb e.1 v (λ same. omega (arith, less, same)))
             ∙ more none
 
-  -- the names with a new one behind them
+  -- the names with a new one at the end
   pub names_more : (es : List (K × ℕ)) (k : K) → All (λ n. n < length es) (values_of es) → lookup (is_at (key_cmp k)) es ≡ None
       → length (insert_entry key_cmp es k (length es)) ≡ suc (length es)
       → names_of bytes (insert_entry key_cmp es k (length es)) ≡ names_of bytes es ++ bytes k ∷ []
@@ -159,7 +159,7 @@ module _ {K : Type 0} (bytes : K → List ℕ) where
       ∙ ap (λ l. l ++ name_at bytes fs (length es) ∷ []) (same_below es fs (length es) (λ i lt. other_number k (length es) i (ne_eqb (length es) i (λ same. omega (arith, lt, same))) es none))
       ∙ ap (λ name. names_of bytes es ++ name ∷ []) (new_number k (length es) es below none)
 
-  -- the numbers stay below how many there are
+  -- the numbers stay below the number of names
   pub below_more : (es : List (K × ℕ)) (k : K) → All (λ n. n < length es) (values_of es) → All (λ n. n < suc (length es)) (values_of (insert_entry key_cmp es k (length es)))
   below_more es k below =
       All-values-insert_entry key_cmp k (length es) (λ n. n < suc (length es)) es (All-weaker (λ n. n < length es) (λ n. n < suc (length es)) (λ n lt. omega (arith, lt)) (values_of es) below) (omega arith)
@@ -172,7 +172,7 @@ module _ {K : Type 0} (bytes : K → List ℕ) where
   apart : (bs cs ks : List ℕ) → bytes_eq bs cs ≡ false → is_eq (slice_cmp nat_cmp bs ks) ≡ true → is_eq (slice_cmp nat_cmp cs ks) ≡ false
   apart bs cs ks n y = is_eq-slice_cmp cs ks ∙ (nat_list_eq_equiv.symm cs ks ∙ sym (nat_list_eq_equiv.congr bs ks cs (sym (is_eq-slice_cmp bs ks) ∙ y)) ∙ n)
 
-  -- each name's number is its place among the names
+  -- each name's number is its index in the list of names
   pub numbered_more : (m n : BTreeMap K ℕ) (k : K) → IsNumbered bytes m → get_by (key_cmp k) m ≡ None
       → UpdatesBy key_cmp (key_cmp k) m n (Some (length m.entries)) → names_of bytes n.entries ≡ names_of bytes m.entries ++ bytes k ∷ []
       → IsNumbered bytes n
@@ -218,13 +218,13 @@ module _ {K : Type 0} (bytes : K → List ℕ) where
   number_next m name is lacks =
       ap (λ n. n + 1) (sym (length-names_below m.entries (length m.entries)) ∙ sym (place_missing (pointwise nat_eq name) (names_of bytes m.entries) (sym (is name) ∙ lacks)))
 
-  -- a key is not there where its name is not
+  -- a key is absent if its name is absent
   pub absent : (m : BTreeMap K ℕ) (k : K) (name : List ℕ) (found : Bool) → found ≡ is_some (get_by (λ key. slice_cmp nat_cmp name (bytes key)) m) → found ≡ false
       → name ≡ bytes k → get_by (key_cmp k) m ≡ None
   absent m k name found is lacks same =
       subst (λ l. get_by (λ key. slice_cmp nat_cmp l (bytes key)) m ≡ None) same (finds_none (get_by (λ key. slice_cmp nat_cmp name (bytes key)) m) (sym is ∙ lacks))
 
-  -- what is known of a call that puts k into m with the number v, and leaves n
+  -- the facts known of a call that puts k into m with the number v, and leaves n
   pub record Inserted {E : Type 0} (r : Result (Option ℕ) E) (m n : BTreeMap K ℕ) (k : K) (v : ℕ) : Type 0 where
     pub numbered : IsNumbered bytes m
     pub below : All (λ i. i < length m.entries) (values_of m.entries)

@@ -1,4 +1,4 @@
--- Appends that may be cut short, one behind the other.
+-- Appends that may be cut short, one after the other.
 use Rattle.std.proofs.Common.{◌≡◌, arith, eqb-true, Bool, true, false, true≢false, ◌==◌, codes, ℕ, ◌+◌, ◌<◌, ◌≤◌, List, [], ◌∷◌, ◌++◌, flat_map, map, length, take, drop, get_or, refl, sym, ap, ◌∙◌, subst, append_assoc, append-nil, Result, Ok, Err, OnErr, Option}
 use Rattle.std.proofs.lemmas.List.{take_more, take_all, take-append-drop}
 use Rattle.std.proofs.lemmas.Grind.{flat_map-append}
@@ -32,11 +32,11 @@ front_all old new bs e = (bs, [], sym (append-nil bs), e)
 pub front_third : (old mid mid' new a b d : List ℕ) → mid ≡ old ++ a → mid' ≡ mid ++ b → AppendsFront mid' new d → AppendsFront old new (a ++ (b ++ d))
 front_third old mid mid' new a b d e e' h = front_after old mid new a (b ++ d) e (front_after mid mid' new b d e' h)
 
--- a part, then a beginning of a second before a third
+-- a part, then a beginning of the second of two further parts
 pub front_second : (old mid new a b d : List ℕ) → mid ≡ old ++ a → AppendsFront mid new b → AppendsFront old new (a ++ (b ++ d))
 front_second old mid new a b d e h = front_after old mid new a (b ++ d) e (front_within mid new b d h)
 
--- what is appended for each element of a list
+-- the bytes that are appended for each element of a list
 module _ {A : Type 0} (f : A → List ℕ) (xs : List A) (i : ℕ) (d : A) (lt : i < length xs) (old mid new : List ℕ) (before : mid ≡ old ++ flat_map f (take i xs)) where
   one_more : flat_map f (take (i + 1) xs) ≡ flat_map f (take i xs) ++ f (get_or xs i d)
   one_more = ap (flat_map f) (take_more xs i d lt) ∙ flat_map-append f (take i xs) (get_or xs i d ∷ []) ∙ ap (λ l. flat_map f (take i xs) ++ l) (append-nil (f (get_or xs i d)))

@@ -1,4 +1,4 @@
--- The HTML of one event more.
+-- The HTML of one more event.
 use Rattle.std.proofs.Common.{◌≡◌, ℕ, List, [], ◌∷◌, ◌++◌, refl, sym, ap, ◌∙◌, append_assoc, append-nil, subst, map, Result, Ok}
 use Rattle.std.proofs.lemmas.List.{map_push}
 use Rattle.cmark_grammar.specs.Event.{Event as GrammarEvent}
@@ -16,7 +16,7 @@ moved_all-more : (w : Writing) (es : List GrammarEvent) (e : GrammarEvent) → m
 moved_all-more w [] e = refl
 moved_all-more w (x ∷ es) e = moved_all-more (moved w x) es e
 
--- events, and others behind them
+-- events, and others after them
 pub pieces_from-joined : (w : Writing) (xs ys : List GrammarEvent) → pieces_from w (xs ++ ys) ≡ pieces_from w xs ++ pieces_from (moved_all w xs) ys
 pieces_from-joined w [] ys = refl
 pieces_from-joined w (x ∷ xs) ys = ap (λ l. piece w x ++ l) (pieces_from-joined (moved w x) xs ys) ∙ sym (append_assoc (piece w x) (pieces_from (moved w x) xs) (pieces_from (moved_all (moved w x) xs) ys))
@@ -30,19 +30,19 @@ module _ (w : Writing) (es : List GrammarEvent) (e : GrammarEvent) (state : w �
   piece-on : pieces es ++ piece w e ≡ pieces (es ++ e ∷ [])
   piece-on = ap (λ v. pieces es ++ piece v e) state ∙ sym (pieces_from-more at_line_start es e)
 
-  -- what is kept behind one event more
+  -- the state after one more event
   pub kept_on : (next : Writing) → next ≡ moved w e → next ≡ moved_all at_line_start (es ++ e ∷ [])
   kept_on next is = is ∙ ap (λ v. moved v e) state ∙ sym (moved_all-more at_line_start es e)
 
-  -- the bytes then
+  -- the bytes after one more event
   pub written_on : (old mid new : List ℕ) → mid ≡ old ++ pieces es → new ≡ mid ++ piece w e → new ≡ old ++ pieces (es ++ e ∷ [])
   written_on old mid new before more = more ∙ ap (λ l. l ++ piece w e) before ∙ append_assoc old (pieces es) (piece w e) ∙ ap (λ l. old ++ l) piece-on
 
-  -- the same, where only a beginning of its piece was appended
+  -- the bytes if only a beginning of the event's HTML was appended
   pub front_on : (old mid new : List ℕ) → mid ≡ old ++ pieces es → AppendsFront mid new (piece w e) → AppendsFront old new (pieces (es ++ e ∷ []))
   front_on old mid new before front = subst (AppendsFront old new) piece-on (front_after old mid new (pieces es) (piece w e) before front)
 
--- behind the last event
+-- after the last event
 module _ (w : Writing) (es : List GrammarEvent) (old mid new : List ℕ) (before : mid ≡ old ++ pieces es) (state : w ≡ moved_all at_line_start es) where
   pub written_end : new ≡ mid ++ last_piece w.image → new ≡ old ++ html es
   written_end more = more ∙ ap (λ l. l ++ last_piece w.image) before ∙ append_assoc old (pieces es) (last_piece w.image) ∙ ap (λ v. old ++ (pieces es ++ last_piece (Writing.image v))) state
@@ -50,7 +50,7 @@ module _ (w : Writing) (es : List GrammarEvent) (old mid new : List ℕ) (before
   pub front_end : AppendsFront mid new (last_piece w.image) → AppendsFront old new (html es)
   front_end front = subst (λ v. AppendsFront old new (pieces es ++ last_piece (Writing.image v))) state (front_after old mid new (pieces es) (last_piece w.image) before front)
 
--- the same of events as the code has them
+-- these lemmas for events as the code has them
 module _ (w : Writing) (es : List Event) (e : Event) where
   shown-more : map shown (es ++ e ∷ []) ≡ map shown es ++ shown e ∷ []
   shown-more = map_push shown es e
@@ -64,6 +64,6 @@ module _ (w : Writing) (es : List Event) (e : Event) where
   pub front_more : (old mid new : List ℕ) → mid ≡ old ++ pieces (map shown es) → w ≡ moved_all at_line_start (map shown es) → AppendsFront mid new (piece w (shown e)) → AppendsFront old new (pieces (map shown (es ++ e ∷ [])))
   front_more old mid new before state front = subst (λ l. AppendsFront old new (pieces l)) (sym shown-more) (front_on w (map shown es) (shown e) state old mid new before front)
 
--- the items given, with one event more
+-- the items given, with one more event
 pub given_more : {E : Type 0} (items : List (Result Event E)) (item : Result Event E) (es : List Event) (e : Event) → items ≡ map Ok es → item ≡ Ok e → items ++ item ∷ [] ≡ map Ok (es ++ e ∷ [])
 given_more items item es e p q = ap (λ l. l ++ item ∷ []) p ∙ ap (λ z. map Ok es ++ z ∷ []) q ∙ sym (map_push Ok es e)

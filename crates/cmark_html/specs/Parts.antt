@@ -1,4 +1,4 @@
--- Pieces put together from parts.
+-- The HTML of events, composed of parts.
 use Rattle.std.specs.Prelude.{ℕ, Bool, List, [], ◌∷◌, ◌++◌, codes}
 use Rattle.cmark_grammar.specs.Escapes.{escaped_body_text, escaped_html, escaped_href}
 use Rattle.cmark_grammar.specs.Html.{fresh_line, digit}
@@ -18,7 +18,7 @@ joined [] = []
 joined (p ∷ []) = part_bytes p
 joined (p ∷ q ∷ ps) = part_bytes p ++ joined (q ∷ ps)
 
--- the attribute of some classes up to the second
+-- the attribute of some classes, from its start to the end of the first class
 abbrev pub class_start : List ℕ → List ℕ
 class_start first = codes " class=\"" ++ escaped_html first
 

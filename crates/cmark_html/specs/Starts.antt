@@ -1,4 +1,4 @@
--- What the starts of elements that have no text of their own are written as.
+-- The HTML of the starts of elements without a text of their own.
 use Rattle.std.specs.Prelude.{ℕ, List, ◌++◌}
 use Rattle.cmark_grammar.specs.Html.{Writing, cell_start, fresh_line, list_start}
 use Rattle.cmark_html.specs.declared.start.Start.{Start}

@@ -1,4 +1,4 @@
--- What the writer keeps, as the definition of HTML has it.
+-- The state of the writer as a state of the definition of HTML.
 use Rattle.std.specs.Prelude.{ℕ, Bool, List, map, option_map}
 use Rattle.std.specs.Cow.{cow_str_bytes}
 use Rattle.cmark_grammar.specs.Html as html
@@ -27,10 +27,10 @@ writing writer = record {
   names = shown_names writer.names;
 }
 
--- the same at a line start, or not
+-- this state, but at a line start or not
 abbrev pub at_start : Bool → html.Writing → html.Writing
 at_start line_start w = record { line_start = line_start; image = w.image; in_metadata = w.in_metadata; table = w.table; names = w.names }
 
--- the same with these names of footnotes
+-- this state, but with these names of footnotes
 abbrev pub with_names : List (List ℕ) → html.Writing → html.Writing
 with_names names w = record { line_start = w.line_start; image = w.image; in_metadata = w.in_metadata; table = w.table; names = names }

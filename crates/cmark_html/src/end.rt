@@ -11,7 +11,7 @@ use crate::table::cell_end_text;
 use cmark_text::{HeadingLevel, TagEnd};
 use std::alloc::AllocError;
 
-/// What is written for an end; in the head of a table or not.
+/// The HTML of an end, in the head of a table or elsewhere.
 fn end_text(in_head: bool, tag: TagEnd) -> &'static str
     ensures { result.now ≡ end_piece in_head (shown_end tag) }
 {
@@ -42,7 +42,7 @@ fn end_text(in_head: bool, tag: TagEnd) -> &'static str
     }
 }
 
-/// What is written for the end of a heading.
+/// The HTML of the end of a heading.
 fn heading_end_text(level: HeadingLevel) -> &'static str
     ensures { result.now ≡ heading_end (level_number level) }
 {
@@ -56,7 +56,7 @@ fn heading_end_text(level: HeadingLevel) -> &'static str
     }
 }
 
-/// Appends the piece of an end; in the head of a table or not.
+/// Appends the HTML of an end, in the head of a table or elsewhere.
 #[inline(always)]
 pub fn append_end(out: &mut String, in_head: bool, tag: TagEnd) -> Result<(), AllocError>
     ensures ok { OnOk result (string_bytes out.new ≡ string_bytes out.old ++ end_piece in_head (shown_end tag)) }
@@ -69,7 +69,7 @@ pub fn append_end(out: &mut String, in_head: bool, tag: TagEnd) -> Result<(), Al
     append(out, end_text(in_head, tag))
 }
 
-/// Whether the writer is at a line start behind an end.
+/// Whether the writer is at a line start after an end.
 #[inline(always)]
 pub fn line_start_after_end(line_start: bool, tag: TagEnd) -> bool
     ensures { result ≡ line_start_after_end line_start (shown_end tag) }

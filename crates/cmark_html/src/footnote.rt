@@ -13,7 +13,7 @@ use cmark_text::CowStr;
 use itoa::Buffer;
 use std::alloc::AllocError;
 
-/// Appends the start of a footnote's definition; the number is in digits.
+/// Appends the start of a footnote's definition. `digits` is the footnote's number.
 fn append_footnote_start<'x>(
     out: &mut String,
     line_start: bool,
@@ -36,7 +36,7 @@ fn append_footnote_start<'x>(
     )
 }
 
-/// Appends a reference to a footnote; the number is in digits.
+/// Appends a reference to a footnote. `digits` is the footnote's number.
 fn append_footnote_reference<'x>(
     out: &mut String,
     name: &'x str,
@@ -57,7 +57,7 @@ fn append_footnote_reference<'x>(
     )
 }
 
-/// Appends a reference to a footnote in an alternative text; the number is in digits.
+/// Appends a reference to a footnote in an alternative text. `digits` is the footnote's number.
 pub fn append_alt_reference(out: &mut String, digits: &str) -> Result<(), AllocError>
     ensures ok { OnOk result (string_bytes out.new ≡ string_bytes out.old ++ alt_footnote_reference digits.now) }
     ensures err { OnErr result (AppendsFront (string_bytes out.old) (string_bytes out.new) (alt_footnote_reference digits.now)) }

@@ -128,7 +128,7 @@ fn append_others(
     Ok(())
 }
 
-/// Appends an attribute; one without a value gets an empty one.
+/// Appends an attribute; an attribute without a value gets an empty one.
 fn append_other(
     out: &mut String,
     attribute: &(CowStr<'_>, Option<CowStr<'_>>),

@@ -30,7 +30,7 @@ pub fn append_image_start(out: &mut String, dest_url: &str) -> Result<(), AllocE
     )
 }
 
-/// Appends an image from behind its alternative text on.
+/// Appends the part of an image that follows its alternative text.
 pub fn append_image_end(out: &mut String, title: &str) -> Result<(), AllocError>
     ensures ok { OnOk result (string_bytes out.new ≡ string_bytes out.old ++ image_end title.now) }
     ensures err { OnErr result (AppendsFront (string_bytes out.old) (string_bytes out.new) (image_end title.now)) }
@@ -50,9 +50,9 @@ pub fn append_image_end(out: &mut String, title: &str) -> Result<(), AllocError>
     )
 }
 
-/// Appends what an event inside of an image adds to it, and answers the image if it is still open.
+/// Appends the HTML of an event inside an image, and returns the image if it is still open.
 ///
-/// Where more than `u64::MAX` elements are open in the image, that is out of memory.
+/// If more than `u64::MAX` elements are open in the image, the error is the one for refused memory.
 pub fn write_inside<'a>(
     out: &mut String,
     image: OpenImage<'a>,
@@ -73,7 +73,7 @@ pub fn write_inside<'a>(
     }
 }
 
-/// An image in which one element more is open.
+/// The image with one more open element.
 fn deepen(image: OpenImage<'_>) -> Result<OpenImage<'_>, AllocError>
     ensures { IfOk result (λ next. shown_image next ≡ deeper (shown_image image.entry)) }
 {
@@ -105,7 +105,7 @@ fn write_end_inside<'a>(
     }))
 }
 
-/// Appends what an event adds to an alternative text.
+/// Appends the alternative text of an event.
 fn append_alt_text<'a>(
     out: &mut String,
     names: &FootnoteNames<'a>,
@@ -129,7 +129,7 @@ fn append_alt_text<'a>(
     }
 }
 
-/// A task in an alternative text.
+/// The alternative text of a task.
 fn alt_task_list_marker_text(is_checked: bool) -> &'static str
     ensures { result.now ≡ alt_task_list_marker is_checked }
 {

@@ -1,4 +1,4 @@
-//! From events to HTML.
+//! Writes events as HTML.
 #![tactic(auto)]
 
 ghost use Rattle.std.specs.Prelude.{◌≡◌, List, ◌++◌, OnOk, OnErr, string_bytes, map, Ok, None};
@@ -27,12 +27,13 @@ pub use crate::writer::{finish, write_event};
 use cmark_text::Event;
 use std::alloc::AllocError;
 
-/// Appends the HTML of the events that the iterator gives, any iterator that ends. An image that they leave open is closed.
+/// Appends the HTML of all events that the iterator gives. The iterator has to end. An image that the events leave open is closed.
 ///
-/// An error item, or out of memory, ends it with that error; the string then holds its old text and a beginning of the
-/// HTML of the events that were given. The iterator is asked no more after its `None` and after an error item. A line feed
-/// that a block wants before it is judged by what this call wrote, not by the string's old text. More than `u64::MAX`
-/// elements open in an image, or cells in a row, count as out of memory.
+/// An error item, or refused memory, ends the call with that error; the string then holds its old text and a beginning of the HTML of the
+/// events given so far. The iterator is not called again after its `None` or after an error item.
+///
+/// A block gets a line feed before it unless this call last wrote one; the string's old text does not count. The error for refused memory
+/// is also returned if more than `u64::MAX` elements are open in an image, or more than `usize::MAX` cells are in a row.
 ///
 /// ```text
 /// let mut html = String::new(alloc);
@@ -52,8 +53,8 @@ pub fn push_html<'a, I: Iterator<Item = Result<Event<'a>, AllocError>>>(
     push_lent(out, &mut iter)
 }
 
-/// The same of a lent iterator, which is left right behind its `None`, its error item, or the event at which memory was
-/// refused: it is asked no further.
+/// Like `push_html`, for an iterator by reference. The iterator is left right after its `None`, its error item, or the event at which
+/// memory was refused.
 fn push_lent<'a, I: Iterator<Item = Result<Event<'a>, AllocError>>>(
     out: &mut String,
     iter: &mut I,
@@ -68,7 +69,7 @@ fn push_lent<'a, I: Iterator<Item = Result<Event<'a>, AllocError>>>(
     push_from(out, &mut writer, iter)
 }
 
-/// The same with a writer that has written nothing yet. It is lent, so that no way out of the loop lets it go.
+/// Like `push_lent`, with a writer that has written nothing yet. The writer is passed by reference, so that no exit of the loop drops it.
 #[inline(always)]
 fn push_from<'a, I: Iterator<Item = Result<Event<'a>, AllocError>>>(
     out: &mut String,

@@ -13,8 +13,8 @@ use std::collections::BTreeMap;
 
 /// The names of the footnotes that were numbered, each with its number, counted from 0.
 ///
-/// The names are kept in the order of their bytes. Nobody can choose names that make the search for one longer than the
-/// logarithm of their number, as one could in a hash table.
+/// The names are kept in the order of their bytes. So no choice of names makes a look-up longer than the logarithm of their number, as it
+/// could in a hash table.
 #[derive(Drop)]
 pub struct FootnoteNames<'a> {
     numbers: BTreeMap<borrow::CowStr<'a>, usize>,
@@ -29,7 +29,7 @@ impl<'a> FootnoteNames<'a> {
     ghost use Rattle.cmark_text_parts.specs.Shown.{text_bytes};
     ghost use Rattle.cmark_html.specs.Writer.{shown_names};
 
-    /// No names yet.
+    /// A list without names.
     pub fn new(alloc: Global) -> FootnoteNames<'a>
         ensures { shown_names result ≡ [] }
     {
@@ -39,7 +39,7 @@ impl<'a> FootnoteNames<'a> {
         }
     }
 
-    /// The number of a footnote, counted from 1: that of its name, or else the next.
+    /// The number of a footnote, counted from 1. A name without a number gets the next one.
     pub fn number(&self, name: &CowStr<'a>) -> usize
         ensures { result ≡ footnote_number (shown_names self.now) (text_bytes name.now) }
     {
@@ -50,7 +50,7 @@ impl<'a> FootnoteNames<'a> {
         }
     }
 
-    /// Numbers a name, if it has no number.
+    /// Gives the name the next number, if it has none.
     pub fn add(&mut self, name: CowStr<'a>) -> Result<(), AllocError>
         ensures { OnOk result (shown_names self.new ≡ named (shown_names self.old) (text_bytes name.entry)) }
     {

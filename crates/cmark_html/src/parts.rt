@@ -1,4 +1,4 @@
-//! The parts that pieces are put together from.
+//! The parts of which the HTML of an event is composed.
 
 ghost use Rattle.std.specs.Prelude.{◌≡◌, ◌++◌, OnOk, OnErr, string_bytes};
 ghost use Rattle.cmark_grammar.specs.Html.{fresh_line};
@@ -8,7 +8,7 @@ ghost use Rattle.cmark_html.specs.Parts.{part_bytes, joined};
 use cmark_text::escape::{escape_href, escape_html, escape_html_body_text};
 use std::alloc::AllocError;
 
-/// A part of a piece.
+/// A part of the HTML of an event.
 #[derive(Clone, Copy)]
 pub enum Part<'a> {
     /// A text as it is.
@@ -50,7 +50,7 @@ pub fn append(out: &mut String, text: &str) -> Result<(), AllocError>
     out.push_str(text)
 }
 
-/// Appends a text on a line of its own: behind a line feed, unless the writer is at a line start.
+/// Appends a text on a line of its own: after a line feed, unless the writer is at a line start.
 #[inline(never)]
 pub fn append_on_line(out: &mut String, line_start: bool, text: &str) -> Result<(), AllocError>
     ensures ok { OnOk result (string_bytes out.new ≡ string_bytes out.old ++ (fresh_line line_start ++ text.now)) }
@@ -63,7 +63,7 @@ pub fn append_on_line(out: &mut String, line_start: bool, text: &str) -> Result<
     append(out, text)
 }
 
-/// Appends parts, one behind the other.
+/// Appends parts, one after the other.
 pub fn append_parts(out: &mut String, parts: &[Part<'_>]) -> Result<(), AllocError>
     ensures ok { OnOk result (string_bytes out.new ≡ string_bytes out.old ++ joined parts.now) }
     ensures err { OnErr result (AppendsFront (string_bytes out.old) (string_bytes out.new) (joined parts.now)) }

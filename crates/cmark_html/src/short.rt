@@ -1,4 +1,4 @@
-//! The pieces of events of which none is made: of those that own nothing, and of the start of a link.
+//! The HTML of what is written without an `Event`: events that own nothing, and the start of a link.
 
 ghost use Rattle.std.specs.Prelude.{◌≡◌, ◌++◌, true, OnOk, OnErr, None, codes, string_bytes};
 ghost use Rattle.cmark_grammar.specs.Event.{Code, End, Html, Start, Text};
@@ -21,7 +21,8 @@ use cmark_text::escape::{escape_excerpt, escape_html_body_text};
 use cmark_text::{Excerpt, LinkType, PlainTag, Short, TagEnd};
 use std::alloc::AllocError;
 
-/// Appends the piece of an event that owns nothing, outside of images: inside of one, [`write_event`](crate::write_event) writes it.
+/// Appends the HTML of an event that owns nothing. The event has to be outside images: [`write_event`](crate::write_event) writes those
+/// inside an image.
 #[inline(always)]
 pub fn write_short<'a>(
     out: &mut String,
@@ -50,9 +51,10 @@ pub fn write_short<'a>(
     }
 }
 
-/// Appends the piece of the start of a link of this type, with this destination and this title, outside of images: inside of one,
-/// [`write_event`](crate::write_event) writes it. What is written does not depend on the link's label. Where memory is refused, a beginning
-/// of the piece was appended.
+/// Appends the HTML of the start of a link with this type, destination and title; it does not depend on the link's label. The link has to
+/// be outside images: [`write_event`](crate::write_event) writes those inside an image.
+///
+/// If memory is refused, a beginning of the HTML was appended.
 #[inline(always)]
 pub fn write_link(
     out: &mut String,
@@ -71,7 +73,7 @@ pub fn write_link(
     Ok(())
 }
 
-/// Appends the piece of a text.
+/// Appends the HTML of a text.
 #[inline(always)]
 fn write_text(
     out: &mut String,
@@ -91,7 +93,7 @@ fn write_text(
     Ok(())
 }
 
-/// Appends the piece of a code span.
+/// Appends the HTML of a code span.
 #[inline(always)]
 fn write_code(out: &mut String, writer: &mut Writer<'_>, text: &str) -> Result<(), AllocError>
     requires { writer.old.image ≡ None }
@@ -106,7 +108,7 @@ fn write_code(out: &mut String, writer: &mut Writer<'_>, text: &str) -> Result<(
     Ok(())
 }
 
-/// Appends the piece of HTML, in a line or in a block.
+/// Appends the HTML of inline HTML or of an HTML block.
 #[inline(always)]
 fn write_html(out: &mut String, writer: &mut Writer<'_>, text: &str) -> Result<(), AllocError>
     requires { writer.old.image ≡ None }
@@ -131,7 +133,7 @@ fn write_line(out: &mut String, writer: &mut Writer<'_>, text: &str) -> Result<(
     Ok(())
 }
 
-/// Appends the piece of the start of an element that has no text of its own.
+/// Appends the HTML of the start of an element that has no text of its own.
 #[inline(always)]
 fn write_start(out: &mut String, writer: &mut Writer<'_>, tag: PlainTag) -> Result<(), AllocError>
     requires { writer.old.image ≡ None }
@@ -153,7 +155,7 @@ fn write_start(out: &mut String, writer: &mut Writer<'_>, tag: PlainTag) -> Resu
     Ok(())
 }
 
-/// Appends the piece of an end.
+/// Appends the HTML of an end.
 #[inline(always)]
 fn write_end(out: &mut String, writer: &mut Writer<'_>, tag: TagEnd) -> Result<(), AllocError>
     requires { writer.old.image ≡ None }

@@ -1,4 +1,4 @@
-//! The pieces of starts.
+//! The HTML of starts.
 
 ghost use Rattle.std.specs.Prelude.{◌≡◌, ◌++◌, ◌∷◌, [], OnOk, OnErr, codes, option_map, string_bytes, take_while};
 ghost use Rattle.cmark_grammar.specs.Html.{Writing, digit, start_piece, line_start_after_start, block_quote_start, code_block_start, fresh_line, is_within_word, language_start, list_start, link_start, scheme, title_attribute};
@@ -21,7 +21,7 @@ use itoa::Buffer;
 use memchr::memchr;
 use std::alloc::AllocError;
 
-/// Appends the piece of a start.
+/// Appends the HTML of a start.
 pub fn append_start<'a>(
     out: &mut String,
     writer: &Writer<'a>,
@@ -60,11 +60,11 @@ pub fn append_start<'a>(
     }
 }
 
-/// What the start of an element that has no text of its own is written as.
+/// The form of the HTML that starts an element without a text of its own.
 enum Start {
     /// A text on a line of its own.
     OnLine(&'static str),
-    /// A text where the writer is.
+    /// A text at the writer's position.
     Here(&'static str),
     /// A list, with its first number if it is ordered.
     Listing(Option<u64>),
@@ -72,7 +72,7 @@ enum Start {
     Cell,
 }
 
-/// What such a start is written as.
+/// The form of the start of this element.
 #[inline(always)]
 fn start_of(tag: PlainTag) -> Start
     ensures { (w : Writing) → started w result ≡ start_piece w (shown_plain tag) }
@@ -125,7 +125,7 @@ pub fn append_plain_start(
     }
 }
 
-/// Whether the writer is at a line start behind such a start.
+/// Whether the writer is at a line start after the start of this element.
 #[inline(always)]
 pub fn line_start_after_plain(line_start: bool, tag: PlainTag) -> bool
     ensures { result ≡ line_start_after_start line_start (shown_plain tag) }
@@ -151,7 +151,7 @@ pub fn line_start_after_plain(line_start: bool, tag: PlainTag) -> bool
     }
 }
 
-/// Whether the writer is at a line start behind a start.
+/// Whether the writer is at a line start after a start.
 pub fn line_start_after_start(line_start: bool, tag: &Tag<'_>) -> bool
     ensures { result ≡ line_start_after_start line_start (shown_tag tag.now) }
 {
@@ -189,7 +189,7 @@ fn block_quote_text(kind: Option<BlockQuoteKind>) -> &'static str
     }
 }
 
-/// Appends the start of a code block; the first word of the info names the language (CommonMark 4.5).
+/// Appends the start of a code block. The first word of the info string names the language (CommonMark 4.5).
 #[inline(never)]
 fn append_code_block(
     out: &mut String,
@@ -250,7 +250,7 @@ fn append_list(out: &mut String, line_start: bool, first: Option<u64>) -> Result
     append_numbered(out, line_start, buffer.format(number))
 }
 
-/// Appends the start of a list whose first number, in digits, is not 1.
+/// Appends the start of a list whose first number is not 1. `digits` is that number.
 fn append_numbered(out: &mut String, line_start: bool, digits: &str) -> Result<(), AllocError>
     ensures ok { OnOk result (string_bytes out.new ≡ string_bytes out.old ++ (fresh_line line_start ++ (codes "<ol start=\"" ++ (digits.now ++ codes "\">\n")))) }
     ensures err { OnErr result (AppendsFront (string_bytes out.old) (string_bytes out.new) (fresh_line line_start ++ (codes "<ol start=\"" ++ (digits.now ++ codes "\">\n")))) }
@@ -282,7 +282,7 @@ pub fn append_link(
     append_link_title(out, title)
 }
 
-/// Appends the start of a link from behind its destination on.
+/// Appends the part of a link's start that follows its destination.
 fn append_link_title(out: &mut String, title: &str) -> Result<(), AllocError>
     ensures ok { OnOk result (string_bytes out.new ≡ string_bytes out.old ++ (codes "\"" ++ (title_attribute title.now ++ codes ">"))) }
     ensures err { OnErr result (AppendsFront (string_bytes out.old) (string_bytes out.new) (codes "\"" ++ (title_attribute title.now ++ codes ">"))) }

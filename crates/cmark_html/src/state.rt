@@ -1,4 +1,4 @@
-//! What the writer keeps from one event to the next.
+//! The state of the writer between two events.
 
 ghost use Rattle.std.specs.Prelude.{◌≡◌};
 ghost use Rattle.cmark_grammar.specs.Html.{at_line_start};
@@ -12,13 +12,13 @@ use std::alloc::Global;
 /// An image whose alternative text is being written.
 #[derive(Drop)]
 pub struct OpenImage<'a> {
-    /// How many elements are open inside of it.
+    /// How many elements are open inside it.
     pub depth: u64,
     /// Its title, which may be empty.
     pub title: CowStr<'a>,
 }
 
-/// What the writer keeps from one event to the next.
+/// The state of the writer between two events.
 #[derive(Drop)]
 pub struct Writer<'a> {
     /// Whether it is at a line start.

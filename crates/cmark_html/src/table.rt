@@ -12,10 +12,10 @@ use crate::parts::append;
 use cmark_text::{Alignment, TagEnd};
 use std::alloc::{AllocError, Global};
 
-/// What the pieces of cells depend on.
+/// The state on which the HTML of cells depends.
 #[derive(Drop)]
 pub struct TableState {
-    /// Whether the cells are those of a head, which they are until a head has ended.
+    /// Whether the cells are cells of a head: from the start of a head to its end.
     pub in_head: bool,
     /// The alignments of the last table's columns.
     pub alignments: Vec<Alignment>,
@@ -24,7 +24,7 @@ pub struct TableState {
 }
 
 impl TableState {
-    /// Before the first table.
+    /// The state before the first table.
     pub fn new(alloc: Global) -> TableState
         ensures { shown_table result ≡ no_table }
     {
@@ -35,7 +35,7 @@ impl TableState {
         }
     }
 
-    /// The alignment of the next cell; there is none past the last column.
+    /// The alignment of the next cell; `None` past the last column.
     fn alignment(&self) -> Option<Alignment>
         ensures { option_map shown_alignment result ≡ slice_get (shown_table self.now).alignments (shown_table self.now).column }
     {
@@ -50,9 +50,9 @@ impl TableState {
         append(out, cell_start_text(self.in_head, self.alignment()))
     }
 
-    /// Moves on behind an end.
+    /// Takes account of an end: a cell moves on by one column, and a head ends.
     ///
-    /// Where more than `usize::MAX` cells of a row have ended, that is out of memory.
+    /// If more than `usize::MAX` cells of a row have ended, the error is the one for refused memory.
     pub fn end(&mut self, tag: TagEnd) -> Result<(), AllocError>
         ensures { OnOk result (shown_table self.new ≡ table_after_end (shown_table self.old) (shown_end tag)) }
     {

@@ -1,4 +1,4 @@
-//! The pieces of events.
+//! The HTML of events.
 
 ghost use Rattle.std.specs.Prelude.{◌≡◌, ◌++◌, true, IfOk, OnOk, OnErr, None, codes, is_err, is_some, option_map, string_bytes};
 ghost use Rattle.cmark_grammar.specs.Escapes.{escaped_body_text, escaped_html};
@@ -22,7 +22,7 @@ use cmark_text::escape::escape_html_body_text;
 use cmark_text::{CowStr, Event, Tag, TagEnd};
 use std::alloc::AllocError;
 
-/// Appends the piece of an event.
+/// Appends the HTML of an event.
 #[inline(always)]
 pub fn write_event<'a>(
     out: &mut String,
@@ -40,8 +40,8 @@ pub fn write_event<'a>(
     }
 }
 
-/// Appends the piece of an event inside of an image. The event that it hands on stands in a function of its own, so that its room is cleared for
-/// events inside of images alone.
+/// Appends the HTML of an event inside an image. The event is passed on in a function of its own, so that its room in the frame is cleared
+/// only for events inside images.
 #[inline(always)]
 fn write_event_inside<'a>(
     out: &mut String,
@@ -56,7 +56,7 @@ fn write_event_inside<'a>(
     write_in_image(out, writer, event)
 }
 
-/// Appends the piece of an event outside of images.
+/// Appends the HTML of an event outside images.
 #[inline(always)]
 fn write_outside<'a>(
     out: &mut String,
@@ -79,7 +79,7 @@ fn write_outside<'a>(
     }
 }
 
-/// Lets an event go that was not written whole. It stands in a function of its own, so that the event's room is cleared there alone.
+/// Drops an event that was not written whole. This is a function of its own, so that only here the room of the event is cleared.
 #[inline(always)]
 fn refuse(event: Event<'_>, error: AllocError) -> Result<(), AllocError>
     ensures { is_err result ≡ true }
@@ -88,7 +88,7 @@ fn refuse(event: Event<'_>, error: AllocError) -> Result<(), AllocError>
     Err(error)
 }
 
-/// Appends this piece, and keeps what the event says but of tables, footnotes and images.
+/// Appends the HTML of this event, and updates the state except for tables, footnotes and images.
 #[inline(always)]
 fn append_outside<'a>(
     out: &mut String,
@@ -122,7 +122,7 @@ fn append_outside<'a>(
     Ok(())
 }
 
-/// Appends the piece of an event inside of an image.
+/// Appends the HTML of an event inside an image.
 pub fn write_in_image<'a>(
     out: &mut String,
     writer: &mut Writer<'a>,
@@ -142,7 +142,7 @@ pub fn write_in_image<'a>(
     }
 }
 
-/// Appends this piece, and keeps what the event says but of footnotes.
+/// Appends the HTML of this event, and updates the state except for footnotes.
 fn append_inside<'a>(
     out: &mut String,
     writer: &mut Writer<'a>,
@@ -162,7 +162,7 @@ fn append_inside<'a>(
     Ok(())
 }
 
-/// Keeps what an event inside of an image says.
+/// Updates the names of footnotes after an event inside an image.
 fn keep_inside<'a>(names: &mut FootnoteNames<'a>, event: Event<'a>) -> Result<(), AllocError>
     ensures { OnOk result (shown_names names.new ≡ names_after_inside (shown_names names.old) (shown event.entry)) }
 {
@@ -175,7 +175,7 @@ fn keep_inside<'a>(names: &mut FootnoteNames<'a>, event: Event<'a>) -> Result<()
     }
 }
 
-/// Keeps what an event says of the table and of footnotes, and answers the image that it opens.
+/// Updates the table and the names of footnotes after an event, and returns the image that it opens, if it does.
 #[inline(always)]
 fn keep_event<'a>(
     table: &mut TableState,
@@ -209,7 +209,7 @@ fn keep_event<'a>(
             names.add(name)?;
             Ok(None)
         }
-        // Most events are texts, and a text is let go sooner than an event of any kind.
+        // Most events are texts, and a text is dropped faster than an event of any kind.
         Event::Text(text) => {
             drop(text);
             Ok(None)
@@ -221,7 +221,7 @@ fn keep_event<'a>(
     }
 }
 
-/// The same for a start.
+/// Updates the table and the names of footnotes after a start, and returns the image that it opens, if it does.
 fn keep_start<'a>(
     table: &mut TableState,
     names: &mut FootnoteNames<'a>,
@@ -266,7 +266,7 @@ fn keep_start<'a>(
     }
 }
 
-/// Whether a metadata block is open behind an event.
+/// Whether a metadata block is open after an event.
 fn metadata_after(in_metadata: bool, event: &Event<'_>) -> bool
     ensures { result ≡ metadata_after in_metadata (shown event.now) }
 {
@@ -283,7 +283,7 @@ fn metadata_after(in_metadata: bool, event: &Event<'_>) -> bool
     }
 }
 
-/// Appends what closes an image that is open behind the last event.
+/// Appends the HTML that closes an image which is open after the last event.
 pub fn finish(out: &mut String, writer: &Writer<'_>) -> Result<(), AllocError>
     ensures ok { OnOk result (string_bytes out.new ≡ string_bytes out.old ++ last_piece (writing writer.now).image) }
     ensures err { OnErr result (AppendsFront (string_bytes out.old) (string_bytes out.new) (last_piece (writing writer.now).image)) }
@@ -294,7 +294,7 @@ pub fn finish(out: &mut String, writer: &Writer<'_>) -> Result<(), AllocError>
     }
 }
 
-/// Appends this piece, which an event has outside of images.
+/// Appends the HTML of this event, which is outside images.
 fn append_piece<'a>(
     out: &mut String,
     writer: &Writer<'a>,
@@ -330,7 +330,7 @@ fn append_piece<'a>(
     }
 }
 
-/// Whether the writer is at a line start behind an event outside of images.
+/// Whether the writer is at a line start after an event outside images.
 fn line_start_after(writer: &Writer<'_>, event: &Event<'_>) -> bool
     ensures { result ≡ line_start_after (writing writer.now) (shown event.now) }
 {
@@ -357,7 +357,7 @@ pub fn ends_in_line_feed(text: &str) -> bool
     text.as_bytes().ends_with(b"\n")
 }
 
-/// Whether the writer is at a line start behind HTML that is written as it is.
+/// Whether the writer is at a line start after HTML that is written as it is.
 pub fn line_start_after_html(line_start: bool, text: &str) -> bool
     ensures { result ≡ line_start_after_html line_start text.now }
 {

@@ -29,9 +29,9 @@ use Rattle.cmark_leaf_text.specs.Reads.{text_of, source_of, is_cell_of}
 use Rattle.cmark_leaf_text.specs.declared.leaf_text.LeafText.{LeafText}
 use Rattle.cmark_text_parts.specs.declared.text.CowStr.{CowStr}
 use Rattle.cmark_inline.specs.BracketViews.{IsFresh, IsPlaced, IsTaken, StandFor, TakenAs, standing_of}
-use Rattle.cmark_inline.specs.Closers.{ClosesAs, ReadsOn, Formed, FormsTarget, LeavesElement, LeavesFootnote, LeavesWikilink, LinksTaken, NoneStand, ShowsState, TriesDoubled}
+use Rattle.cmark_inline.specs.Closers.{AsksOfLink, ClosesAs, ReadsOn, Formed, FormsTarget, LeavesElement, LeavesFootnote, LeavesWikilink, LinksTaken, NoneStand, ShowsState, TriesDoubled}
 use Rattle.cmark_inline_model.specs.TextPlaces.{ArePlaces}
-use Rattle.cmark_inline.specs.Decided.{ComesTo, EndsWithin, IsCloser, ReadsSame, Remembers, TargetDecides, target_outcome, with_left}
+use Rattle.cmark_inline.specs.Decided.{AsksOf, ComesTo, EndsWithin, IsCloser, ReadsSame, Remembers, TargetDecides, target_outcome, with_left}
 use Rattle.cmark_slots.specs.Doubled as stacks
 use Rattle.cmark_inline.specs.Footnoted.{CountsOf, KeepsLabel, footnote_of, forms_footnote}
 use Rattle.cmark_inline.specs.Hiding.{WritesReference, WritesWikilink}
@@ -51,6 +51,7 @@ use Rattle.cmark_slots.specs.declared.slot.SlotKind.TheVariants as kind
 use Rattle.cmark_inline.specs.declared.state.InlineState.{InlineState}
 use Rattle.cmark_inline.specs.declared.step.Cursor.{Cursor}
 use Rattle.cmark_inline.proofs.AfterSteps.{IsTried, TriedAs, footnote-formed, image-formed, link-formed, tried-as, tried-one, tried_by, wikilink-formed}
+use Rattle.cmark_inline.proofs.AsksSteps.{asks-none}
 use Rattle.cmark_inline.proofs.BracketSteps.{Takes, takes, and-right, fresh-past, placed-lower, tried-rest, tried-standing}
 use Rattle.cmark_inline.proofs.ClosingReads.{IsFlushed, SameRows, comes-any, link-reads, rows-on}
 use Rattle.cmark_inline.proofs.HidingReads.{footnote-reads, wikilink-reads}
@@ -232,6 +233,14 @@ module _ (options : Options) (lookup : Lookup) (references : RefDefs) (footnotes
                 none = λ t q. tried-rest (suc t.nearer) first.nearer os (drop (suc t.nearer) bs) ∙ none_stand t q ∙ sym (tried-standing first.nearer os bs);
               }
 
+  -- the taken bracket is there, and forms what it can
+  taken_is : (t : Taken) (taken : Option Bracket) (b : Bracket) → IsTaken place bs t taken → taken ≡ Some b → (t.opener.is_inactive ≡ false) × (drop t.nearer bs ≡ b ∷ drop (suc t.nearer) bs) × IsPlaced place t.opener b
+  taken_is t taken b i e = go t.opener.is_inactive refl (sym e ∙ i.is)
+    where
+      go : (z : Bool) → t.opener.is_inactive ≡ z → Some b ≡ (if z then None else Some i.bracket) → (t.opener.is_inactive ≡ false) × (drop t.nearer bs ≡ b ∷ drop (suc t.nearer) bs) × IsPlaced place t.opener b
+      go true f q = absurd (let z : ⊥ = cc in z)
+      go false f q = let o : i.bracket ≡ b = cc in (f, i.there ∙ ap (λ x. x ∷ drop (suc t.nearer) bs) o, subst (IsPlaced place t.opener) o i.placed)
+
   -- ## The four ways out
 
   module _ {F : Type 0} (R : F → BrokenLink → Option (CowStr × CowStr) → F → Type 0) (next : Cursor) (others : FootnoteDefs) (new : InlineState) (before after : F) (from : ℕ) where
@@ -322,14 +331,6 @@ module _ (options : Options) (lookup : Lookup) (references : RefDefs) (footnotes
                   (ap (λ n. behind_pipe n shown_text) (start_same first (stacks.nearest mid.doubled) i) ∙ ap (behind_pipe (wiki_start leaf (record i.bracket { inside = i.inner + 1 }))) (text_same first (stacks.nearest mid.doubled) i))
                   (wikilink reader read first closer used).after (comes-any R (decide reader read s closer) (wikilink reader read first closer used) s.asked before after comes) ended;
             }
-
-    -- the taken bracket is there, and forms what it can
-    taken_is : (t : Taken) (taken : Option Bracket) (b : Bracket) → IsTaken place bs t taken → taken ≡ Some b → (t.opener.is_inactive ≡ false) × (drop t.nearer bs ≡ b ∷ drop (suc t.nearer) bs) × IsPlaced place t.opener b
-    taken_is t taken b i e = go t.opener.is_inactive refl (sym e ∙ i.is)
-      where
-        go : (z : Bool) → t.opener.is_inactive ≡ z → Some b ≡ (if z then None else Some i.bracket) → (t.opener.is_inactive ≡ false) × (drop t.nearer bs ≡ b ∷ drop (suc t.nearer) bs) × IsPlaced place t.opener b
-        go true f q = absurd (let z : ⊥ = cc in z)
-        go false f q = let o : i.bracket ≡ b = cc in (f, i.there ∙ ap (λ x. x ∷ drop (suc t.nearer) bs) o, subst (IsPlaced place t.opener) o i.placed)
 
     -- nothing can be formed
     none_taken : (d : Option Taken) (taken : Option Bracket) (s2 : State) → TakenAs place bs d taken → taken ≡ None → with_taken reader read d closer s2 ≡ Settled (stays reader read closer s2)
@@ -590,6 +591,31 @@ module _ (options : Options) (lookup : Lookup) (references : RefDefs) (footnotes
     taken_as = i.taken_as;
     remembers = remembers-on took st i.remembers (ap (λ (x : InlineState). x.expansion_left) a) (ap (λ (x : InlineState). x.label_close) a);
   }
+
+  -- ## If memory is refused
+
+  -- what was asked with the bracket that was taken is what the grammar asks
+  pub linked-asks : {F : Type 0} (R : F → BrokenLink → Option (CowStr × CowStr) → F → Type 0) (before after : F) (st : InlineState) (taken : Option Bracket) → IsTriedStage st taken
+      → false ≡ forms_footnote options footnotes (footnote_of options (is_cell_of leaf) (is_there close st.label_close) text close taken)
+      → AsksOfLink R options lookup references leaf text taken close st before after → AsksOf R (decide reader read s closer) before after
+  linked-asks R before after st taken i no_note asks = go taken refl asks
+    where
+      s2 : State
+      s2 = with_openers i.ready.openers s
+
+      go : (b : Option Bracket) → taken ≡ b → AsksOfLink R options lookup references leaf text b close st before after → AsksOf R (decide reader read s closer) before after
+      go None e same = asks-none R (decide reader read s closer) before after same
+      go (Some b) e target = by tk refl
+        where
+          by : (d : Option Taken) → tk ≡ d → AsksOf R (decide reader read s closer) before after
+          by None f = absurd (let q : taken ≡ None = subst (λ d. TakenAs place bs d taken) f i.taken_as in let z : ⊥ = cc in z)
+          by (Some t) f =
+              let k = taken_is t taken b (subst (λ d. TakenAs place bs d taken) f i.taken_as) e in
+              let m = i.remembers in
+              subst (λ (d : Decision). AsksOf R d before after)
+              (sym (decide-is reader read s closer ∙ i.ready.decision ∙ ap (λ d. with_taken reader read d closer s2) f
+              ∙ ap (λ z. if z then Settled (stays reader read closer s2) else link_or reader read (link_tail_in (decisions.behind reader read closer.end)) t closer s2) k.0))
+              (target footnotes reader read place t closer s2 r c k.2 (record { expansion_left = m.expansion_left; label = m.label; within = m.within }) (sym (no_note ∙ ap (λ o. forms_footnote options footnotes (footnote_of options (is_cell_of leaf) (is_there close st.label_close) text close o)) e)))
 
 pub inside-up : (text : List ℕ) (close : ℕ) (taken : Option Bracket) → IfSome taken (IsBracket text close) → IfSome taken (λ b. b.inside ≤ close)
 inside-up text close None h = h

@@ -15,8 +15,8 @@ use Rattle.cmark_search.specs.Sets.{in_rows}
 use Rattle.cmark_text_parts.specs.declared.text.CowStr.{CowStr}
 use Rattle.cmark_grammar.specs.LeafText.{Leaf}
 use Rattle.cmark_grammar.specs.Readers.{Reader}
-use Rattle.cmark_inline.specs.Closers.{Closes}
-use Rattle.cmark_inline.specs.CursorProgress.{ComesOn, HasCome}
+use Rattle.cmark_inline.specs.Closers.{AsksOfCloser, Closes}
+use Rattle.cmark_inline.specs.CursorProgress.{ComesOn, HasCome, StopsOn}
 use Rattle.cmark_inline.specs.Decided.{ReadsSame}
 use Rattle.cmark_inline.specs.LeastSteps.{PassesAt, VisitsAt}
 use Rattle.cmark_inline.specs.PlainStretches.{IsSetOf, StandUpTo}
@@ -27,7 +27,7 @@ use Rattle.cmark_inline.specs.declared.callback.BrokenLink.{BrokenLink}
 use Rattle.cmark_inline.specs.declared.state.InlineState.{InlineState}
 use Rattle.cmark_inline.specs.declared.step.Cursor.{Cursor}
 use Rattle.cmark_inline.specs.declared.step.Sought.{Sought}
-use Rattle.cmark_inline.proofs.ComeSteps.{come-closing, come-rest, come-special}
+use Rattle.cmark_inline.proofs.ComeSteps.{come-closing, come-rest, come-special, stops-closing, stops-there}
 
 pub both-ok : {X E : Type 0} (r : Answer X E) (P Q S : X → Type 0) → ((x : X) → P x → Q x → S x) → IfOk r P → IfOk r Q → IfOk r S
 both-ok (Ok x) P Q S f p q = f x p q
@@ -71,6 +71,19 @@ module _ {F : Type 0} (R : F → BrokenLink → Option (CowStr × CowStr) → F 
       (come-rest leaf reader read place places reads.source R before (record { sought = sought; begun = begun; notes = notes }) initial now cursor old come (let m = ap length same_text in omega (arith, lt, m))
       (subst (λ n. StandUpTo reader.options reader.lookup cell (text_of leaf) cursor.at n) to (stands reader read place reads)))
 
+  -- ## If memory is refused
+  pub span-stops : (sought : Sought) (now : F) → StopsOn R options lookup references notes leaf sought cursor old now now
+  span-stops sought now = λ reader read place before begun initial reads places come.
+      stops-there leaf reader read place places reads.source R before (record { sought = sought; begun = begun; notes = notes }) initial now cursor old come
+
+  pub close-stops : (sought : Sought) (now later : F) → at < length text → get_or text at 0 ≡ 93 → AsksOfCloser R options lookup references notes leaf text at old now later → StopsOn R options lookup references notes leaf sought cursor old now later
+  close-stops sought now later lt byte asks = λ reader read place before begun initial reads places come.
+      stops-closing leaf reader read place places reads.source R before (record { sought = sought; begun = begun; notes = notes }) initial now cursor old come at h.order (let m = ap length same_text in omega (arith, lt, m)) (stands reader read place reads)
+      (ap (λ t. get_or t at 0) (sym same_text) ∙ byte) later references (reads-own reader read place reads)
+      (subst (λ t. AsksOfCloser R reader.options reader.lookup references notes leaf t at old now later) same_text
+      (subst (λ o. AsksOfCloser R o reader.lookup references notes leaf text at old now later) (sym reads.options_are) (subst (λ l. AsksOfCloser R options l references notes leaf text at old now later) (sym reads.lookup_is) asks)))
+
+  -- ## If it is not
   module _ (now : F) (new : InlineState) (next : Cursor) (lt : at < length text) (sound : IsSound old) (moves : Moves text at new next) where
     own_lt : at < length (text_of leaf)
     own_lt = let m = ap length same_text in omega (arith, lt, m)

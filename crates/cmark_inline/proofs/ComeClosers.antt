@@ -51,7 +51,7 @@ use Rattle.cmark_inline.proofs.SpecialSteps.{bracket-closes}
 -- ## What was asked
 module _ {F : Type 0} (R : F → BrokenLink → Option (CowStr × CowStr) → F → Type 0) where
   -- one question more
-  answered-more : (xs : List Exchange) (first mid last : F) (question : Question) (answer : Option Destination) → Answered R xs first mid → AsksThis R question answer mid last
+  pub answered-more : (xs : List Exchange) (first mid last : F) (question : Question) (answer : Option Destination) → Answered R xs first mid → AsksThis R question answer mid last
       → Answered R (xs ++ (record { question = question; answer = answer } ∷ [])) first last
   answered-more [] first mid last question answer h k = (last, subst (λ z. AsksThis R question answer z last) h k, refl)
   answered-more (x ∷ xs) first mid last question answer h k = (h.0, h.1, answered-more xs h.0 mid last question answer h.2 k)
@@ -73,7 +73,7 @@ placed-count place at [] (b ∷ bs) h = absurd h
 placed-count place at (o ∷ os) [] h = absurd h
 placed-count place at (o ∷ os) (b ∷ bs) h = ap suc (placed-count place b.start os bs h.2)
 
-closed-state : (p : Pass) (closer : items.Bracket) (result : Result) (next : State) (size : ℕ) → ((nearer : ℕ) → nearer < size → (cut : Cut) × (cut_at nearer p.here ≡ Some cut)) → Fits size (record { result = result; after = next }) → (resulting p closer result next).state ≡ next
+pub closed-state : (p : Pass) (closer : items.Bracket) (result : Result) (next : State) (size : ℕ) → ((nearer : ℕ) → nearer < size → (cut : Cut) × (cut_at nearer p.here ≡ Some cut)) → Fits size (record { result = result; after = next }) → (resulting p closer result next).state ≡ next
 closed-state p closer StaysText next size cuts fits = refl
 closed-state p closer (Forms nearer formed) next size cuts fits = let c = cuts nearer (omega (arith, fits)) in ap (λ (x : Option Cut). (formed_by p closer formed next x).state) c.1
 
@@ -84,7 +84,7 @@ module _ (leaf : LeafText) (reader : Reader) (read : Leaf) (place : ℕ → ℕ)
   abbrev cell : Bool
   cell = is_cell_of leaf
 
-  closing-token : (at : ℕ) → at < length text → get_or text at 0 ≡ 93 → token reader read (place at) ≡ Closes (record { is_image = false; start = place at; end = suc (place at) })
+  pub closing-token : (at : ℕ) → at < length text → get_or text at 0 ≡ 93 → token reader read (place at) ≡ Closes (record { is_image = false; start = place at; end = suc (place at) })
   unfolding token
   closing-token at lt byte =
       let t = bracket-closes reader.options reader.lookup cell text at lt byte in

@@ -25,7 +25,7 @@ use Rattle.cmark_text_parts.specs.declared.text.CowStr.{CowStr}
 use Rattle.cmark_inline_model.specs.PlacedTokens.{may_open_markup}
 use Rattle.cmark_inline.specs.Closers as closers
 use Rattle.cmark_inline.specs.Decided.{ReadsSame}
-use Rattle.cmark_inline.specs.CursorProgress.{HasCome, HasEscaped, HasReached, IsPending}
+use Rattle.cmark_inline.specs.CursorProgress.{HasCome, HasEscaped, HasReached, IsPending, IsUnderWay}
 use Rattle.cmark_inline.specs.LeastSteps.{PassesAt, Tally, VisitsAt, closers_of, visited_in}
 use Rattle.cmark_inline.specs.MarkupInSource.{AppendsMarkup, AppendsUnclosed, ReadsLess}
 use Rattle.cmark_inline.specs.PlainStretches.{StandUpTo}
@@ -59,6 +59,7 @@ use Rattle.cmark_inline.proofs.PlainChains.{IsHeld, Reaches, before-or-behind, b
 use Rattle.cmark_inline.proofs.PlainUpTo.{reaches-to}
 use Rattle.cmark_inline.proofs.ReachedItems.{item-reached}
 use Rattle.cmark_inline.proofs.SpecialSteps.{Kinds, sign-passes, special-kinds}
+use Rattle.cmark_inline.proofs.StopSteps.{closing-under-way, reached-under-way}
 use Rattle.cmark_inline.proofs.TokenSteps.{code-begins}
 use Rattle.cmark_inline.proofs.VisitedTokens.{blank-visited, there-visited}
 
@@ -412,3 +413,24 @@ module _ (leaf : LeafText) (reader : Reader) (read : Leaf) (place : ℕ → ℕ)
             go : (l : List ℕ) → length l ≡ length text - length text → l ≡ []
             go [] e = refl
             go (x ∷ l) e = absurd (omega (arith, e))
+
+    -- ## If memory is refused
+    pub stops-there : IsUnderWay R reader read before initial now
+    stops-there = reached-under-way leaf reader read place r R before tally initial now m old come.reached
+
+    -- at a closing bracket
+    pub stops-closing : (at : ℕ) → cursor.at ≤ at → at < length text → StandUpTo reader.options reader.lookup cell text cursor.at at → get_or text at 0 ≡ 93 → (later : F) (references : RefDefs)
+        → ReadsSame reader.options reader.lookup references tally.notes leaf reader read place → closers.AsksOfCloser R reader.options reader.lookup references tally.notes leaf text at old now later → IsUnderWay R reader read before initial later
+    stops-closing at order lt stands byte later references same asks =
+        closing-under-way leaf reader read place r R before tally initial now references m start at old later same come.reached (goes-on at reach (λ h. absurd (never h))) lt byte asks
+      where
+        reach : Reaches reader.options reader.lookup cell text cursor.at at
+        reach =
+            reaches-to reader.options reader.lookup cell text cursor.at at at (omega (arith, lt)) stands order (omega arith) (λ j a b. absurd (omega (arith, a, b)))
+            (λ some blank. ending-there text at lt (ap is_content byte) (ap is_blank_byte byte))
+
+        never : HasEscaped reader.options reader.lookup cell text m start cursor.at → ⊥
+        never h =
+            let same = escaped-next reader.options reader.lookup cell text m start cursor.at h at order (omega (arith, lt)) stands in
+            let q : 93 ≡ 96 = sym byte ∙ ap (λ n. get_or text n 0) same ∙ (tick-there reader.options reader.lookup cell text m start cursor.at h).1 in
+            omega (arith, q)

@@ -1,6 +1,6 @@
 -- What a reference comes to, in the code and in the grammar.
 use Rattle.std.specs.Prelude.{if◌then◌else◌, Option, Some, None, option_map}
-use Rattle.std.proofs.Common.{◌≡◌, ℕ, ◌-◌, ◌==◌, true, false, List, [], ◌∷◌, ◌++◌, length, refl, sym, ap, subst, ◌∙◌}
+use Rattle.std.proofs.Common.{◌≡◌, ◌⊎◌, inl, inr, ℕ, ◌-◌, ◌==◌, true, false, List, [], ◌∷◌, ◌++◌, length, refl, sym, ap, subst, ◌∙◌}
 use Rattle.cmark_grammar.specs.Answers as given
 use Rattle.cmark_grammar.specs.BlockDocument as block
 use Rattle.cmark_grammar.specs.BracketDecisions.{Named, links, stays, refers, defined_or_asked, answered, with_answer, question, linked, or_empty}
@@ -16,8 +16,8 @@ use Rattle.cmark_references.specs.declared.definitions.LinkDef.{LinkDef}
 use Rattle.cmark_text_parts.specs.Shown.{shown_link_type, text_bytes}
 use Rattle.cmark_text_parts.specs.declared.kind.LinkType.{LinkType}
 use Rattle.cmark_text_parts.specs.declared.text.CowStr.{CowStr}
-use Rattle.cmark_inline.specs.Decided.{said, shown_question, target_outcome, with_left, LeadsTo}
-use Rattle.cmark_inline.specs.Linked.{Said, said_by, said_in, Refers, Answers, IsAnswered, IsQuestion, parted, left_behind, target_link}
+use Rattle.cmark_inline.specs.Decided.{AsksOf, said, shown_answer, shown_question, target_outcome, with_left, LeadsTo}
+use Rattle.cmark_inline.specs.Linked.{AsksOfReference, Said, said_by, said_in, Refers, Answers, IsAnswered, IsQuestion, parted, left_behind, target_link}
 use Rattle.cmark_inline.specs.declared.callback.BrokenLink.{BrokenLink}
 use Rattle.cmark_inline.specs.declared.reference.Destination.{Destination}
 use Rattle.cmark_inline.specs.declared.link.Target.{Target}
@@ -49,6 +49,16 @@ module _ {F : Type 0} (R : F → BrokenLink → Option (CowStr × CowStr) → F 
       ∙ ap (λ z. links reader leaf taken (record { link_type = form; destination = destination; title = title; id = id }) end z (with_left left label_close asked s)) g
       ∙ ap (λ z. links reader leaf taken (record { link_type = form; destination = destination; title = title; id = id }) end resume (with_left z label_close asked s)) e
       ∙ ap (λ z. links reader leaf taken (record { link_type = form; destination = destination; title = title; id = id }) end resume (with_left ((s.expansion_left - length destination) - length title) z asked s)) h
+
+  -- the same question
+  same-question : (named : Named) (form : LinkType) → named.link_type ≡ shown_link_type form → (link : BrokenLink) → IsQuestion form (normal_form named.label) taken.opener.bracket.start named.end link
+      → shown_question link ≡ question reader leaf named taken.opener.bracket
+  same-question named form shown link q =
+      ap (λ (z : LinkType). record { start = link.span.start; end = link.span.end; link_type = shown_link_type z; reference = text_bytes link.reference }) q.form
+      ∙ ap (λ z. record { start = link.span.start; end = link.span.end; link_type = z; reference = text_bytes link.reference }) (sym shown)
+      ∙ ap (λ z. record { start = link.span.start; end = link.span.end; link_type = named.link_type; reference = z }) q.label
+      ∙ ap (λ z. record { start = z; end = link.span.end; link_type = named.link_type; reference = normal_form named.label }) q.start
+      ∙ ap (λ z. record { start = taken.opener.bracket.start; end = z; link_type = named.link_type; reference = normal_form named.label }) q.end
 
   -- a reference with something left of the reference expansion limit
   led : (named : Named) (s : State) (form : LinkType) (defined : Option block.Reference) (def : Option LinkDef) (expansion_left : ℕ) (label_close : Option ℕ) (found : Option Target) (before after : F)
@@ -88,21 +98,13 @@ module _ {F : Type 0} (R : F → BrokenLink → Option (CowStr × CowStr) → F 
       asked : Option given.Destination → List Exchange
       asked answer = s.asked ++ (record { question = asks; answer = answer } ∷ [])
 
-      this : (link : BrokenLink) → IsQuestion form (normal_form named.label) taken.opener.bracket.start named.end link → shown_question link ≡ asks
-      this link q =
-          ap (λ (z : LinkType). record { start = link.span.start; end = link.span.end; link_type = shown_link_type z; reference = text_bytes link.reference }) q.form
-          ∙ ap (λ z. record { start = link.span.start; end = link.span.end; link_type = z; reference = text_bytes link.reference }) (sym shown)
-          ∙ ap (λ z. record { start = link.span.start; end = link.span.end; link_type = named.link_type; reference = z }) q.label
-          ∙ ap (λ z. record { start = z; end = link.span.end; link_type = named.link_type; reference = normal_form named.label }) q.start
-          ∙ ap (λ z. record { start = taken.opener.bracket.start; end = z; link_type = named.link_type; reference = normal_form named.label }) q.end
-
       go : (d : Option Destination) (t : Option Target) → Answers R form (normal_form named.label) taken.opener.bracket.start named.end before after d × IsAnswered form (normal_form named.label) d (option_map target_link t)
           → expansion_left ≡ left_behind s.expansion_left t → ((x : Target) → t ≡ Some x → (place x.end ≡ named.end) × (place x.resume ≡ named.resume)) → Leads (Asks asks replied) s expansion_left label_close t before after
       go None None h l e = record {
         asked = asked None;
         comes = (
           None,
-          record { link = h.0.0; told = None; question_is = this h.0.0 h.0.1; answer_is = refl; run = h.0.2 },
+          record { link = h.0.0; told = None; question_is = same-question named form shown h.0.0 h.0.1; answer_is = refl; run = h.0.2 },
           ap (λ n. stays reader leaf closer (with_left n label_close (asked None) s)) l ∙ ap (λ z. stays reader leaf closer (with_left s.expansion_left z (asked None) s)) label,
         );
       }
@@ -117,7 +119,7 @@ module _ {F : Type 0} (R : F → BrokenLink → Option (CowStr × CowStr) → F 
             asked = asked (Some answer);
             comes = (
               Some answer,
-              record { link = h.0.0; told = Some (parted d); question_is = this h.0.0 h.0.1; answer_is = refl; run = h.0.2 },
+              record { link = h.0.0; told = Some (parted d); question_is = same-question named form shown h.0.0 h.0.1; answer_is = refl; run = h.0.2 },
               same s label_close (asked (Some answer)) t (link.to_unknown named.link_type) answer.url answer.title (normal_form named.label) expansion_left named.end named.resume
                   (h.1.0 ∙ ap link.to_unknown (sym shown)) url title h.1.1
                   (l ∙ ap (λ z. (s.expansion_left - length z) - length (text_bytes t.link.title)) url ∙ ap (λ z. (s.expansion_left - length answer.url) - length z) title) p.0 p.1 label,
@@ -140,3 +142,31 @@ module _ {F : Type 0} (R : F → BrokenLink → Option (CowStr × CowStr) → F 
       subst (λ d. Leads d s expansion_left label_close found before after)
       (sym (ap (λ z. if z then Settled (stays reader leaf closer s) else defined_or_asked reader leaf (reader.definition (fold named.label)) named taken closer s) some))
       (led named s form (reader.definition (fold named.label)) def expansion_left label_close found before after callback defs shown refers left label ends)
+
+  -- what was asked for such a reference, if memory was refused
+  asks-led : (named : Named) (s : State) (form : LinkType) (defined : Option block.Reference) (def : Option LinkDef) (before after : F) → reader.has_callback ≡ true → option_map said defined ≡ option_map said_by def → named.link_type ≡ shown_link_type form
+      → AsksOfReference R def form (normal_form named.label) taken.opener.bracket.start named.end before after → AsksOf R (defined_or_asked reader leaf defined named taken closer s) before after
+  asks-led named s form None (Some def) before after callback defs shown asks = absurd (let z : ⊥ = cc in z)
+  asks-led named s form (Some reference) None before after callback defs shown asks = absurd (let z : ⊥ = cc in z)
+  asks-led named s form (Some reference) (Some def) before after callback defs shown asks = asks
+  asks-led named s form None None before after callback defs shown asks =
+      subst (λ d. AsksOf R d before after) (sym (ap (λ z. if z then Asks its replied else Settled (stays reader leaf closer s)) callback)) (go asks)
+    where
+      its : Question
+      its = question reader leaf named taken.opener.bracket
+
+      replied : Option given.Destination → Outcome
+      replied answer = answered reader leaf named taken closer (with_answer reader leaf its answer s) answer
+
+      go : (after ≡ before) ⊎ ((destination : Option Destination) × Answers R form (normal_form named.label) taken.opener.bracket.start named.end before after destination) → AsksOf R (Asks its replied) before after
+      go (inl same) = inl same
+      go (inr h) =
+          let told = option_map parted h.0 in
+          inr (option_map shown_answer told, record { link = h.1.0; told = told; question_is = same-question named form shown h.1.0 h.1.1; answer_is = refl; run = h.1.2 })
+
+  pub refers-asks : (named : Named) (s : State) (form : LinkType) (def : Option LinkDef) (before after : F) → reader.has_callback ≡ true → option_map said (reader.definition (fold named.label)) ≡ option_map said_by def → (s.expansion_left == 0) ≡ false
+      → named.link_type ≡ shown_link_type form → AsksOfReference R def form (normal_form named.label) taken.opener.bracket.start named.end before after → AsksOf R (refers reader leaf named taken closer s) before after
+  refers-asks named s form def before after callback defs some shown asks =
+      subst (λ d. AsksOf R d before after)
+      (sym (ap (λ z. if z then Settled (stays reader leaf closer s) else defined_or_asked reader leaf (reader.definition (fold named.label)) named taken closer s) some))
+      (asks-led named s form (reader.definition (fold named.label)) def before after callback defs shown asks)

@@ -2,6 +2,7 @@ pub mod AfterSteps
 pub mod AngleMakes
 pub mod AngleSteps
 pub mod Appended
+pub mod AsksSteps
 pub mod AutolinkSteps
 pub mod BoxedCallbacks
 pub mod BracketSteps
@@ -56,6 +57,7 @@ pub mod PlainUpTo
 pub mod Questions
 pub mod ReachedItems
 pub mod ReachedSteps
+pub mod ReadingFrom
 pub mod ReadingOn
 pub mod References
 pub mod SourceOrder
@@ -63,6 +65,7 @@ pub mod SourcePlaces
 pub mod SpanReads
 pub mod SpecialSteps
 pub mod StillUnclosed
+pub mod StopSteps
 pub mod TailEnds
 pub mod TargetMakes
 pub mod TargetSteps

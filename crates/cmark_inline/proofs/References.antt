@@ -1,11 +1,11 @@
 -- What a reference leads to.
-use Rattle.std.proofs.Common.{◌≡◌, ℕ, List, ap, ◌∙◌, Some, None}
+use Rattle.std.proofs.Common.{◌≡◌, inl, inr, ℕ, List, ap, ◌∙◌, Some, None}
 use Rattle.std.specs.Prelude.{Option, option_map}
 use Rattle.cmark_references.specs.declared.definitions.LinkDef.{LinkDef}
 use Rattle.cmark_text_parts.specs.Shown.{text_bytes}
 use Rattle.cmark_text_parts.specs.declared.kind.LinkType.{LinkType}
 use Rattle.cmark_text_parts.specs.declared.text.CowStr.{CowStr}
-use Rattle.cmark_inline.specs.Linked.{Answers, IsAnswered, IsLed, Refers, said_by, said_in, shown_destination}
+use Rattle.cmark_inline.specs.Linked.{Answers, AsksOfReference, IsAnswered, IsLed, Refers, said_by, said_in, shown_destination}
 use Rattle.cmark_inline.specs.declared.callback.BrokenLink.{BrokenLink}
 use Rattle.cmark_inline.specs.declared.reference.Destination.{Destination}
 use Rattle.cmark_references.specs.declared.link.Link.{Link}
@@ -32,6 +32,20 @@ module _ {F : Type 0} (R : F → BrokenLink → Option (CowStr × CowStr) → F 
       → Refers R def form label start end before after found
   by-answer None form label start end before after destination found e answers is = (destination, answers, is)
   by-answer (Some def) form label start end before after destination found e answers is = absurd (none e)
+    where
+      none : None ≡ Some (said_by def) → ⊥
+      none q = let z : ⊥ = cc in z
+
+  -- ## What was asked, if memory was refused
+
+  pub asks-nothing : (def : Option LinkDef) (form : LinkType) (label : List ℕ) (start end : ℕ) (before after : F) → after ≡ before → AsksOfReference R def form label start end before after
+  asks-nothing None form label start end before after same = inl same
+  asks-nothing (Some def) form label start end before after same = same
+
+  pub asks-answered : (def : Option LinkDef) (form : LinkType) (label : List ℕ) (start end : ℕ) (before after : F) (destination : Option Destination)
+      → option_map shown_destination None ≡ option_map said_by def → Answers R form label start end before after destination → AsksOfReference R def form label start end before after
+  asks-answered None form label start end before after destination e answers = inr (destination, answers)
+  asks-answered (Some def) form label start end before after destination e answers = absurd (none e)
     where
       none : None ≡ Some (said_by def) → ⊥
       none q = let z : ⊥ = cc in z

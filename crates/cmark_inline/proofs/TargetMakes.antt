@@ -25,16 +25,16 @@ use Rattle.cmark_text_parts.specs.Shown.{shown_link_type}
 use Rattle.cmark_text_parts.specs.declared.text.CowStr.{CowStr}
 use Rattle.cmark_inline.specs.BracketViews.{IsPlaced, behind_opening}
 use Rattle.cmark_inline_model.specs.TextPlaces.{ArePlaces}
-use Rattle.cmark_inline.specs.Decided.{EndsTogether, ReadsSame, IsCloser, EndsWithin, Remembers, ComesTo, is_full, target_outcome, with_left, LeadsTo, TargetDecides}
+use Rattle.cmark_inline.specs.Decided.{AsksOf, AsksOfTarget, EndsTogether, ReadsSame, IsCloser, EndsWithin, Remembers, ComesTo, is_full, target_outcome, with_left, LeadsTo, TargetDecides}
 use Rattle.cmark_inline.specs.Footnoted.{as_label}
 use Rattle.cmark_inline.specs.Linked as linked
-use Rattle.cmark_inline.specs.Linked.{InlineLink, Refers, left_behind, reference_behind, shown_link_reference, shown_target, target_link}
+use Rattle.cmark_inline.specs.Linked.{AsksOfReference, InlineLink, Refers, left_behind, reference_behind, shown_link_reference, shown_target, target_link}
 use Rattle.cmark_slots.specs.declared.bracket.Bracket.{Bracket}
 use Rattle.cmark_inline.specs.declared.callback.BrokenLink.{BrokenLink}
 use Rattle.cmark_inline.specs.declared.reference.LinkReference.{LinkReference}
 use Rattle.cmark_inline.specs.declared.link.Target.{Target}
 use Rattle.cmark_inline.specs.declared.state.InlineState.{InlineState}
-use Rattle.cmark_inline.proofs.DecisionSteps.{refers-spent, refers-led, stays-settled}
+use Rattle.cmark_inline.proofs.DecisionSteps.{refers-asks, refers-spent, refers-led, stays-settled}
 use Rattle.cmark_inline.proofs.TailEnds.{tail-ends}
 use Rattle.cmark_inline.proofs.TargetSteps.{reference-named, reference-none, behind-is, inline-named, label_behind, named, next-of, there-same, with_label}
 
@@ -168,6 +168,19 @@ module _ {F : Type 0} (R : F → BrokenLink → Option (CowStr × CowStr) → F 
           opening : (z : Bool) (start : ℕ) → start < behind_opening z start
           opening true start = omega arith
           opening false start = omega arith
+
+      -- what was asked, if memory was refused
+      pub led-asks : (at after : F) → (old.expansion_left == 0) ≡ false
+          → AsksOfReference R (definition references (fold (as_label cell a.label.now))) a.link_type (normal_form (as_label cell a.label.now)) (place_of leaf bracket.start) (place_of leaf (a.end - 1) + 1) at after
+          → AsksOfTarget R options lookup references leaf text bracket close old at after
+      led-asks at after some asks = λ footnotes reader read place taken closer s r c p mem none.
+          let i = is footnotes reader read place taken closer s r c p mem in
+          let this : List ℕ = as_label cell a.label.now in
+          let def = definition references (fold this) in
+          subst (λ d. AsksOf R d at after) (sym i.0)
+          (refers-asks R reader read place taken closer (named place cell a) (with_label (label_behind place a s.label_close) s) a.link_type def at after
+          r.callback (r.definitions (fold this)) (ap (λ n. n == 0) mem.expansion_left ∙ some) refl
+          (subst (λ n. AsksOfReference R def a.link_type (normal_form this) n (place a.end) at after) i.1 (subst (λ n. AsksOfReference R def a.link_type (normal_form this) (place_of leaf bracket.start) n at after) i.2 asks)))
 
       module _ (new : InlineState) (closes : new.label_close ≡ (if is_full (shown_link_type a.link_type) then Some (a.end - 1) else old.label_close)) where
         moved_on : (reader : Reader) (read : Leaf) (place : ℕ → ℕ) (taken : Taken) (closer : items.Bracket) (s : State) (found : Option Target) (at after : F) (to : Decision) (m : Option ℕ)

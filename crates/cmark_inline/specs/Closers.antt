@@ -20,7 +20,7 @@ use Rattle.cmark_text_parts.specs.declared.text.CowStr.{CowStr}
 use Rattle.cmark_inline_model.specs.BracketPass.{Pass, closed_by}
 use Rattle.cmark_inline.specs.BracketViews.{StandFor, IsFresh, behind_opening, standing_of}
 use Rattle.cmark_references.specs.Links.{shown_link}
-use Rattle.cmark_inline.specs.Decided.{ReadsSame, IsCloser, Remembers, ComesTo, EndsWithin, TargetDecides}
+use Rattle.cmark_inline.specs.Decided.{AsksOf, AsksOfTarget, ReadsSame, IsCloser, Remembers, ComesTo, EndsWithin, TargetDecides}
 use Rattle.cmark_slots.specs.Doubled.{DropsBehind}
 use Rattle.cmark_inline.specs.Reached.{HasRead, ReadsPlaces}
 use Rattle.cmark_slots.specs.MarkedSlots.{siblings_from}
@@ -133,6 +133,11 @@ abbrev pub LinksTaken : {F : Type 0} → (F → BrokenLink → Option (CowStr ×
 LinksTaken R options lookup references leaf text None close old new next before after = (next ≡ None) × (new ≡ old) × (after ≡ before)
 LinksTaken R options lookup references leaf text (Some bracket) close old new next before after = LinksBracket R options lookup references leaf text bracket close old new next before after
 
+-- what was asked with the bracket that was taken, if memory was refused: nothing, or the question of its target
+abbrev pub AsksOfLink : {F : Type 0} → (F → BrokenLink → Option (CowStr × CowStr) → F → Type 0) → Options → Lookup → RefDefs → LeafText → (text : List ℕ) → Option Bracket → (close : ℕ) → (old : InlineState) → (before after : F) → Type 0
+AsksOfLink R options lookup references leaf text None close old before after = after ≡ before
+AsksOfLink R options lookup references leaf text (Some bracket) close old before after = AsksOfTarget R options lookup references leaf text bracket close old before after
+
 -- ## What a closing bracket comes to
 
 -- the grammar's state is this one, which has read the text up to a place: these are its opening brackets
@@ -197,3 +202,10 @@ Closes R options lookup references footnotes others leaf text pending at old new
     (reader : Reader) (read : Leaf) (place : ℕ → ℕ) (closer : items.Bracket) (s : State) (bs : List Bracket)
     → ReadsSame options lookup references footnotes leaf reader read place → IsCloser text place at closer → ShowsState options.wikilinks text place at s bs old
     → ClosesAs R options.wikilinks leaf text reader read place pending at closer s bs next footnotes others old new before after
+
+-- what was asked for the closing bracket, if memory was refused: nothing, or the question that the grammar puts
+abbrev pub AsksOfCloser : {F : Type 0} → (F → BrokenLink → Option (CowStr × CowStr) → F → Type 0) → Options → Lookup → RefDefs → FootnoteDefs → LeafText → (text : List ℕ) → (at : ℕ) → (old : InlineState) → (before after : F) → Type 0
+AsksOfCloser R options lookup references footnotes leaf text at old before after =
+    (reader : Reader) (read : Leaf) (place : ℕ → ℕ) (closer : items.Bracket) (s : State) (bs : List Bracket)
+    → ReadsSame options lookup references footnotes leaf reader read place → IsCloser text place at closer → ShowsState options.wikilinks text place at s bs old
+    → AsksOf R (decide reader read s closer) before after

@@ -1,13 +1,16 @@
 -- How far the text of a leaf is read at a cursor, in the states of the code and of the grammar.
 use Rattle.std.specs.Prelude.{◌≡◌, ◌⊎◌, ℕ, ◌+◌, ◌-◌, ◌<◌, Bool, false, List, [], ◌∷◌, length, drop, slice_index, Option, None}
 use Rattle.cmark_grammar.specs.Answers.{Lookup}
+use Rattle.cmark_grammar.specs.BracketDecisions.{decide}
+use Rattle.cmark_grammar.specs.BracketReading.{Reads}
 use Rattle.cmark_grammar.specs.CodeSpans.{backticks, code_in}
 use Rattle.cmark_grammar.specs.Columns.{is_blank_byte}
-use Rattle.cmark_grammar.specs.InlineTokens.{escaped_backtick, item_at}
+use Rattle.cmark_grammar.specs.InlineTokens.{escaped_backtick, item_at, token}
 use Rattle.cmark_grammar.specs.Items.{Plain}
-use Rattle.cmark_grammar.specs.LeafReading.{Between}
+use Rattle.cmark_grammar.specs.LeafReading.{Between, entering}
 use Rattle.cmark_grammar.specs.LeafText.{Leaf}
 use Rattle.cmark_grammar.specs.Options.{Options}
+use Rattle.cmark_grammar.specs.Questions.{AnyAnswer}
 use Rattle.cmark_grammar.specs.Readers.{Reader}
 use Rattle.cmark_references.specs.declared.definitions.RefDefs.{RefDefs}
 use Rattle.cmark_references.specs.declared.footnotes.FootnoteDefs.{FootnoteDefs}
@@ -93,6 +96,21 @@ abbrev pub ComesTo : {F : Type 0} → (F → BrokenLink → Option (CowStr × Co
 ComesTo R options lookup references begun leaf expansion_left initial sought notes cursor state now =
     (reader : Reader) (read : Leaf) (place : ℕ → ℕ) → ReadsSame options lookup references begun leaf reader read place → ReadsPlaces leaf reader read place
     → HasCome R leaf reader read place (record { expansion_left = expansion_left; asked = [] }) (record { sought = sought; begun = begun; notes = notes }) initial cursor state now
+
+-- ## If memory is refused
+
+-- the grammar has read a part of the leaf. In it, it puts the questions that were put, and no others
+pub record IsUnderWay {F : Type 0} (R : F → BrokenLink → Option (CowStr × CowStr) → F → Type 0) (reader : Reader) (read : Leaf) (before : Between) (initial now : F) : Type 0 where
+  pub p : Pass
+  pub reads : Reads (token reader read) (decide reader read) AnyAnswer (entering read before) p.here p.state
+  pub answered : Answered R p.state.asked initial now
+
+-- if the leaf is read up to a cursor as the grammar reads it, the grammar also puts the questions that were put after the cursor
+abbrev pub StopsOn : {F : Type 0} → (F → BrokenLink → Option (CowStr × CowStr) → F → Type 0) → Options → Lookup → RefDefs → (notes : FootnoteDefs) → LeafText → (sought : Sought) → Cursor → (old : InlineState) → (now later : F) → Type 0
+StopsOn {F} R options lookup references notes leaf sought cursor old now later =
+    (reader : Reader) (read : Leaf) (place : ℕ → ℕ) (before : Between) (begun : FootnoteDefs) (initial : F) → ReadsSame options lookup references notes leaf reader read place → ReadsPlaces leaf reader read place
+    → HasCome R leaf reader read place before (record { sought = sought; begun = begun; notes = notes }) initial cursor old now
+    → IsUnderWay R reader read before initial later
 
 -- ## The begin of a leaf
 

@@ -1,5 +1,5 @@
 -- What a decision about a closing bracket comes to, where a callback answers its question.
-use Rattle.std.specs.Prelude.{◌≡◌, ◌≤◌, ◌<◌, ℕ, suc, ◌+◌, ◌-◌, Bool, true, false, List, length, get_or, Option, Some, None, is_some, option_map}
+use Rattle.std.specs.Prelude.{◌≡◌, ◌⊎◌, ◌≤◌, ◌<◌, ℕ, suc, ◌+◌, ◌-◌, Bool, true, false, List, length, get_or, Option, Some, None, is_some, option_map}
 use Rattle.cmark_grammar.specs.Answers as answers
 use Rattle.cmark_grammar.specs.Answers.{Lookup}
 use Rattle.cmark_grammar.specs.BlockDocument as block
@@ -92,6 +92,11 @@ abbrev pub ComesTo : {F : Type 0} → (F → BrokenLink → Option (CowStr × Co
 ComesTo R (Settled settled) outcome before after = (outcome ≡ settled) × (after ≡ before)
 ComesTo R (Asks question answered) outcome before after = (answer : Option answers.Destination) × AsksThis R question answer before after × (outcome ≡ answered answer)
 
+-- what was asked for a decision, if memory was refused: nothing, or its question
+abbrev pub AsksOf : {F : Type 0} → (F → BrokenLink → Option (CowStr × CowStr) → F → Type 0) → Decision → (before after : F) → Type 0
+AsksOf R (Settled settled) before after = after ≡ before
+AsksOf R (Asks question answered) before after = (after ≡ before) ⊎ ((answer : Option answers.Destination) × AsksThis R question answer before after)
+
 -- ## What is formed
 
 -- a link or an image with this target; where there is none, the closing bracket is a text
@@ -124,3 +129,11 @@ TargetDecides R options lookup references leaf text bracket close old new found 
     → forms_footnote options footnotes (footnote_of options (is_cell_of leaf) (is_there close old.label_close) text close (Some bracket)) ≡ false
     → LeadsTo R reader read place taken closer (link_or reader read (link_tail_in (behind reader read closer.end)) taken closer s) s new.expansion_left (option_map place new.label_close) found before after
     × EndsTogether leaf place found
+
+-- what was asked for this target, if memory was refused
+abbrev pub AsksOfTarget : {F : Type 0} → (F → BrokenLink → Option (CowStr × CowStr) → F → Type 0) → Options → Lookup → RefDefs → LeafText → (text : List ℕ) → Bracket → (close : ℕ) → (old : InlineState) → (before after : F) → Type 0
+AsksOfTarget R options lookup references leaf text bracket close old before after =
+    (footnotes : FootnoteDefs) (reader : Reader) (read : Leaf) (place : ℕ → ℕ) (taken : Taken) (closer : items.Bracket) (s : State)
+    → ReadsSame options lookup references footnotes leaf reader read place → IsCloser text place close closer → IsPlaced place taken.opener bracket → Remembers text place s old
+    → forms_footnote options footnotes (footnote_of options (is_cell_of leaf) (is_there close old.label_close) text close (Some bracket)) ≡ false
+    → AsksOf R (link_or reader read (link_tail_in (behind reader read closer.end)) taken closer s) before after

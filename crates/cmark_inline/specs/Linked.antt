@@ -1,5 +1,5 @@
 -- What a reference leads to: what its definition says, or what the callback answers.
-use Rattle.std.specs.Prelude.{◌≡◌, ◌+◌, ◌-◌, ℕ, length, List, [], drop, Option, Some, None, IfSome, Bool, false, if◌then◌else◌, option_map}
+use Rattle.std.specs.Prelude.{◌≡◌, ◌⊎◌, ◌+◌, ◌-◌, ℕ, length, List, [], drop, Option, Some, None, IfSome, Bool, false, if◌then◌else◌, option_map}
 use Rattle.cmark_grammar.specs.LinkDefinitions.{Parsed}
 use Rattle.cmark_grammar.specs.LinkTails.{LinkTail, behind_collapsed, is_bracketed_label, link_tail_in, reference_label_in}
 use Rattle.cmark_grammar.specs.LinkType as link
@@ -112,6 +112,11 @@ IsAnswered form label (Some found) (Some parts) = (shown_link_type parts.link_ty
 abbrev pub Refers : {F : Type 0} → (F → BrokenLink → Option (CowStr × CowStr) → F → Type 0) → Option LinkDef → LinkType → (label : List ℕ) → (start end : ℕ) → (before after : F) → Option Link → Type 0
 Refers R (Some def) form label start end before after found = (after ≡ before) × IsDefined form label def found
 Refers R None form label start end before after found = (destination : Option Destination) × Answers R form label start end before after destination × IsAnswered form label destination found
+
+-- what was asked for a reference, if memory was refused: nothing, or its question, which is put only if no definition has its label
+abbrev pub AsksOfReference : {F : Type 0} → (F → BrokenLink → Option (CowStr × CowStr) → F → Type 0) → Option LinkDef → LinkType → (label : List ℕ) → (start end : ℕ) → (before after : F) → Type 0
+AsksOfReference R (Some def) form label start end before after = after ≡ before
+AsksOfReference R None form label start end before after = (after ≡ before) ⊎ ((destination : Option Destination) × Answers R form label start end before after destination)
 
 -- how much of the reference expansion limit is left behind a reference: its destination and its title are taken off, if it forms a link
 abbrev pub left_behind : (left : ℕ) → Option Target → ℕ

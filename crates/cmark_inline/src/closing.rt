@@ -1,11 +1,11 @@
 //! Closing brackets, and the links and images that they form (CommonMark 6.3 and 6.4).
 
-ghost use Rattle.std.specs.Prelude.{◌≡◌, ◌<◌, length, IfOk, OnOk, false, ◌+◌, ◌*◌, ◌^◌, IfSome, None, Bool, ℕ, List, ◌++◌, ◌∷◌, [], ◌≤◌, drop, take};
+ghost use Rattle.std.specs.Prelude.{◌≡◌, ◌<◌, length, IfOk, OnErr, OnOk, false, ◌+◌, ◌*◌, ◌^◌, IfSome, None, Bool, ℕ, List, ◌++◌, ◌∷◌, [], ◌≤◌, drop, take};
 ghost use Rattle.cmark_leaf_text.specs.Reads.{IsRead, text_of, IsPart};
 ghost use Rattle.cmark_text_parts.specs.Shown.{shown_options};
 ghost use Rattle.cmark_emphasis.specs.Least.{least_examined};
 ghost use Rattle.cmark_inline.specs.Asking.{AsksOnce};
-ghost use Rattle.cmark_inline.specs.Closers.{Closes, DeactivatesBehind, LinksTaken, LeavesElement};
+ghost use Rattle.cmark_inline.specs.Closers.{AsksOfCloser, AsksOfLink, Closes, DeactivatesBehind, LinksTaken, LeavesElement};
 ghost use Rattle.cmark_inline.specs.Footnoted.{SameFootnotes};
 ghost use Rattle.cmark_inline.specs.Uses.{RiseUpTo};
 ghost use Rattle.cmark_slots.specs.Standing.{AreEnded, CanSettle, IsSettled};
@@ -17,7 +17,7 @@ ghost use Rattle.cmark_grammar.specs.BracketStates.{Opener};
 ghost use Rattle.cmark_grammar.specs.OpenBrackets.{nearest, used_up};
 ghost use Rattle.cmark_inline.specs.BracketViews.{StandFor, TakenAs};
 ghost use Rattle.cmark_slots.specs.declared.bracket.Bracket.{Bracket as Opening};
-ghost use Rattle.cmark_inline.specs.Decided.{EndsWithin, TargetDecides};
+ghost use Rattle.cmark_inline.specs.Decided.{AsksOfTarget, EndsWithin, TargetDecides};
 ghost use Rattle.cmark_inline.specs.FormedSlots.{WritesElement, dressed_behind, end_slot};
 ghost use Rattle.cmark_grammar.specs.Spans.{Spans};
 ghost use Rattle.cmark_text_parts.specs.declared.text.CowStr.{CowStr as Texts};
@@ -68,6 +68,7 @@ impl<'a> InlineState<'a> {
         ensures rise { RiseUpTo 1 footnotes.old footnotes.new }
         ensures flushes { OnOk result (Flushes here.pending here.at self.old) }
         ensures closes { IfOk result (λ next. Closes F.answers (shown_options reader.now.options) (E.replacement reader.now.entities.now) reader.now.references.now footnotes.old footnotes.new leaf.now text.now here.pending here.at self.old self.new next callback.old callback.new) }
+        ensures stops { OnErr result (AsksOfCloser F.answers (shown_options reader.now.options) (E.replacement reader.now.entities.now) reader.now.references.now footnotes.old leaf.now text.now here.at self.old callback.old callback.new) }
     {
         self.flush(text, here, here.at)?;
         let behind_it = behind(text, here.at);
@@ -121,6 +122,7 @@ impl<'a> InlineState<'a> {
         ensures stands { IfOk result (λ next. next ≡ None → Stands text.now close self.new) }
         ensures moves { IfOk result (λ next. IfSome next (Moves text.now close self.new)) }
         ensures links { IfOk result (λ next. LinksTaken F.answers (shown_options reader.now.options) (E.replacement reader.now.entities.now) reader.now.references.now leaf.now text.now taken close self.old self.new next callback.old callback.new) }
+        ensures stops { OnErr result (AsksOfLink F.answers (shown_options reader.now.options) (E.replacement reader.now.entities.now) reader.now.references.now leaf.now text.now taken close self.old callback.old callback.new) }
     {
         let Some(bracket) = taken else {
             return Ok(None);
@@ -173,6 +175,7 @@ impl<'a> InlineState<'a> {
         ensures others { self.new ≡ record self.old { expansion_left = self.new.expansion_left; label_close = self.new.label_close } }
         ensures target { IfOk result (λ found. IfSome found (IsTarget text.now close)) }
         ensures decides { IfOk result (λ found. TargetDecides F.answers (shown_options reader.now.options) (E.replacement reader.now.entities.now) reader.now.references.now leaf.now text.now bracket close self.old self.new found callback.old callback.new) }
+        ensures stops { OnErr result (AsksOfTarget F.answers (shown_options reader.now.options) (E.replacement reader.now.entities.now) reader.now.references.now leaf.now text.now bracket close self.old callback.old callback.new) }
         ensures label { OnOk result (EndsWithin text.now self.old.label_close → EndsWithin text.now self.new.label_close) }
     {
         if let Some(target) = inline_target(self.alloc, leaf, text, close + 1, reader.entities)? {

@@ -1,11 +1,11 @@
 //! Reference links and images: their label, and where it leads (CommonMark 6.3 and 6.4).
 
-ghost use Rattle.std.specs.Prelude.{◌≡◌, if◌then◌else◌, ◌<◌, ◌+◌, ◌-◌, IfOk, IfSome, Some, drop, option_map};
+ghost use Rattle.std.specs.Prelude.{◌≡◌, if◌then◌else◌, ◌<◌, ◌+◌, ◌-◌, IfOk, IfSome, OnErr, Some, drop, option_map};
 ghost use Rattle.cmark_leaf_text.specs.Reads.{IsRead, IsPart, is_cell_of, place_of, text_of};
 ghost use Rattle.cmark_grammar.specs.Labels.{fold, normal_form};
 ghost use Rattle.cmark_references.specs.Definitions.{definition};
 ghost use Rattle.cmark_text_parts.specs.Labelled.{link_text, link_key};
-ghost use Rattle.cmark_inline.specs.Linked.{Answers, IsLed, Refers, left_behind, reference_behind, shown_link_reference, by_own_label, said_by, shown_destination, target_link};
+ghost use Rattle.cmark_inline.specs.Linked.{Answers, AsksOfReference, IsLed, Refers, left_behind, reference_behind, shown_link_reference, by_own_label, said_by, shown_destination, target_link};
 ghost use Rattle.cmark_text_parts.specs.Shown.{shown_link_type, shown_options, text_bytes};
 ghost use Rattle.cmark_inline.specs.Asking.{AsksOnce};
 ghost use Rattle.cmark_inline.specs.Decided.{is_full};
@@ -170,6 +170,8 @@ impl<'a> InlineState<'a> {
         ensures asks { AsksOnce F.answers callback.old callback.new }
         ensures refers { IfOk result (λ found. Refers F.answers (definition reader.now.references.now (fold (as_label (is_cell_of leaf.now) link_reference.entry.label.now))) link_reference.entry.link_type (normal_form (as_label (is_cell_of leaf.now) link_reference.entry.label.now))
             (place_of leaf.now start) (place_of leaf.now (link_reference.entry.end - 1) + 1) callback.old callback.new (option_map target_link found)) }
+        ensures stops { OnErr result (AsksOfReference F.answers (definition reader.now.references.now (fold (as_label (is_cell_of leaf.now) link_reference.entry.label.now))) link_reference.entry.link_type (normal_form (as_label (is_cell_of leaf.now) link_reference.entry.label.now))
+            (place_of leaf.now start) (place_of leaf.now (link_reference.entry.end - 1) + 1) callback.old callback.new) }
         ensures expansion_left { IfOk result (λ found. self.new.expansion_left ≡ left_behind self.old.expansion_left found) }
         ensures others { self.new ≡ record self.old { expansion_left = self.new.expansion_left } }
         ensures target { IfOk result (λ found. IfSome found (λ target. (target.end ≡ link_reference.entry.end) × (target.resume ≡ link_reference.entry.resume))) }
@@ -225,6 +227,8 @@ fn referred<'a, F: BrokenLinkCallback<'a>>(
     ensures ready { F.ready callback.new }
     ensures asks { AsksOnce F.answers callback.old callback.new }
     ensures refers { IfOk result (Refers F.answers (definition references.now (fold (as_label (is_cell_of leaf.now) link_reference.entry.label.now))) link_reference.entry.link_type (normal_form (as_label (is_cell_of leaf.now) link_reference.entry.label.now))
+        (place_of leaf.now start) (place_of leaf.now (link_reference.entry.end - 1) + 1) callback.old callback.new) }
+    ensures stops { OnErr result (AsksOfReference F.answers (definition references.now (fold (as_label (is_cell_of leaf.now) link_reference.entry.label.now))) link_reference.entry.link_type (normal_form (as_label (is_cell_of leaf.now) link_reference.entry.label.now))
         (place_of leaf.now start) (place_of leaf.now (link_reference.entry.end - 1) + 1) callback.old callback.new) }
 {
     let label = label_of(alloc, leaf.is_cell(), link_reference.label)?;
@@ -282,6 +286,7 @@ fn ask<'a, F: BrokenLinkCallback<'a>>(
     ensures ready { F.ready callback.new }
     ensures asks { AsksOnce F.answers callback.old callback.new }
     ensures answers { IfOk result (λ found. Answers F.answers link_reference.entry.link_type (link_text label.now) (place_of leaf.now start) (place_of leaf.now (link_reference.entry.end - 1) + 1) callback.old callback.new found) }
+    ensures unasked { OnErr result (callback.new ≡ callback.old) }
 {
     let reference = CowStr::Borrowed(label.as_str()).into_static(alloc)?;
     let link = BrokenLink {

@@ -42,7 +42,8 @@ pub struct InlineState<'a> {
 }
 
 impl<'a> InlineState<'a> {
-    /// A state for the leaves of a source of so many bytes.
+    /// A state for the leaves of a source of `source_len` bytes. Its reference expansion limit is this length, or
+    /// `LEAST_REFERENCE_EXPANSION_LIMIT` for a shorter source.
     pub fn new(alloc: Global, source_len: usize) -> InlineState<'a>
         ensures expansion_left { result.expansion_left ≡ max source_len 100000 }
         ensures slots { result.slots.items ≡ [] }
@@ -52,7 +53,7 @@ impl<'a> InlineState<'a> {
         InlineState::with_limit(alloc, source_len.max(LEAST_REFERENCE_EXPANSION_LIMIT))
     }
 
-    /// A state for leaves whose references may take so many bytes of destinations and titles.
+    /// A state with a reference expansion limit of `limit` bytes of destinations and titles.
     pub fn with_limit(alloc: Global, limit: usize) -> InlineState<'a>
         ensures expansion_left { result.expansion_left ≡ limit }
         ensures slots { result.slots.items ≡ [] }

@@ -7,9 +7,9 @@ ghost use Rattle.cmark_finds.specs.Dollars.{AreDollarsOf};
 ghost use Rattle.cmark_leaf_text.specs.Reads.{IsRead, source_of, text_of};
 ghost use Rattle.cmark_inline.specs.Asking.{AsksBetween, AsksUpTo, closing_brackets};
 ghost use Rattle.cmark_inline.specs.Counted.{Counts, total};
-ghost use Rattle.cmark_inline.specs.CursorProgress.{ComesOn};
+ghost use Rattle.cmark_inline.specs.CursorProgress.{ComesOn, StopsOn};
 ghost use Rattle.cmark_inline.specs.PlainStretches.{IsSetOf};
-ghost use Rattle.cmark_inline.specs.Resolved.{Resolves};
+ghost use Rattle.cmark_inline.specs.Resolved.{Resolves, Stops};
 ghost use Rattle.cmark_inline.specs.Stands.{IsAtByte, IsCursor, Moves, Stands};
 ghost use Rattle.cmark_slots.specs.Slots.{AreSlots, IsSlot, PushesText, begins_link};
 ghost use Rattle.cmark_inline.specs.Footnoted.{SameFootnotes};
@@ -59,8 +59,10 @@ pub struct Sought {
 
 impl<'a> InlineState<'a> {
     /// Reads the text of a leaf: its slots are then those of the leaf, and the texts and links those that they name.
-    /// Each footnote reference that is formed adds one to the use count of its footnote in `footnotes`. No other count changes. If memory is refused, the references before stay counted.
-    /// A leaf without a byte, as an empty cell, takes no memory. Once memory was refused, it is refused ever after.
+    /// Each footnote reference that is formed adds one to the use count of its footnote in `footnotes`. No other count changes.
+    ///
+    /// If memory is refused, the references before stay counted, and `callback` was asked the first questions of a reading of the leaf, no
+    /// others. Each later call is refused too. A leaf without a byte, as an empty cell, takes no memory.
     #[inline(always)]
     pub fn resolve<E: EntityLookup, F: BrokenLinkCallback<'a>>(
         &mut self,
@@ -89,6 +91,7 @@ impl<'a> InlineState<'a> {
         ensures failed { OnErr result (self.new.failed ≡ true) }
         ensures refused { self.old.failed ≡ true → (result ≡ Err alloc_error) × (self.new ≡ self.old) × (footnotes.new ≡ footnotes.old) × (callback.new ≡ callback.old) }
         ensures reads { IsSetOf (shown_options reader.now.options) reader.now.special.now → OnOk result (Resolves F.answers (shown_options reader.now.options) (E.replacement reader.now.entities.now) reader.now.references.now footnotes.old leaf.now self.old.expansion_left self.new callback.old callback.new) }
+        ensures stops { IsSetOf (shown_options reader.now.options) reader.now.special.now → OnErr result (Stops F.answers (shown_options reader.now.options) (E.replacement reader.now.entities.now) reader.now.references.now footnotes.old leaf.now self.old.expansion_left callback.old callback.new) }
     {
         if self.failed {
             return Err(AllocError);
@@ -125,6 +128,7 @@ impl<'a> InlineState<'a> {
         ensures uses { IsSetOf (shown_options reader.now.options) reader.now.special.now → OnOk result (CountsUses F.answers (shown_options reader.now.options) (E.replacement reader.now.entities.now) reader.now.references.now leaf.now self.old.expansion_left footnotes.old footnotes.new callback.old callback.new) }
         ensures succeeds { text_of leaf.now ≡ [] → IsOk result }
         ensures reads { IsSetOf (shown_options reader.now.options) reader.now.special.now → OnOk result (Resolves F.answers (shown_options reader.now.options) (E.replacement reader.now.entities.now) reader.now.references.now footnotes.old leaf.now self.old.expansion_left self.new callback.old callback.new) }
+        ensures stops { IsSetOf (shown_options reader.now.options) reader.now.special.now → OnErr result (Stops F.answers (shown_options reader.now.options) (E.replacement reader.now.entities.now) reader.now.references.now footnotes.old leaf.now self.old.expansion_left callback.old callback.new) }
     {
         self.clear();
         let text = leaf.as_str();
@@ -196,6 +200,7 @@ impl<'a> InlineState<'a> {
         ensures rise { RiseBetween text.now cursor.at (length text.now) footnotes.old footnotes.new }
         ensures rise_here { IfOk result (λ next. RiseBetween text.now cursor.at next.at footnotes.old footnotes.new) }
         ensures come { IsSetOf (shown_options reader.now.options) reader.now.special.now → IfOk result (λ next. ComesOn F.answers (shown_options reader.now.options) (E.replacement reader.now.entities.now) reader.now.references.now footnotes.old footnotes.new leaf.now sought.old sought.new cursor next self.old self.new callback.old callback.new) }
+        ensures stops { IsSetOf (shown_options reader.now.options) reader.now.special.now → OnErr result (StopsOn F.answers (shown_options reader.now.options) (E.replacement reader.now.entities.now) reader.now.references.now footnotes.old leaf.now sought.old cursor self.old callback.old callback.new) }
         ensures rest { cursor.at + position_or_len (in_rows reader.now.special.now) (drop cursor.at text.now) ≡ length text.now → IfOk result (λ next. (next.pending ≡ cursor.pending) × (next.at ≡ length text.now) × (self.new ≡ self.old)) }
         ensures token { (at : ℕ) → at ≡ cursor.at + position_or_len (in_rows reader.now.special.now) (drop cursor.at text.now) → at < length text.now → is_special (shown_options reader.now.options) (slice_index text.now at) ≡ true → (slice_index text.now at == 93) ≡ false → IfOk result (ReadsSpecial (shown_options reader.now.options) (E.replacement reader.now.entities.now) leaf.now (record { pending = cursor.pending; at = at }) self.old self.new) }
     {

@@ -65,7 +65,7 @@ scheme_byte b e = go (or_cases (is_alphanumeric b) ((b == 43) || ((b == 45) || (
     go (inl h) = word (or_cases (is_letter b) (is_number b) h)
     go (inr h) = mark (or_cases (b == 43) ((b == 45) || (b == 46)) h)
 
--- ## A scheme is one of the bytes that a URI takes
+-- ## The bytes of a scheme are bytes of a URI
 
 abbrev is_colon : ℕ → Bool
 is_colon b = b == 58

@@ -1,4 +1,4 @@
--- What is left behind a leaf, with the leaf in front.
+-- The rest after a leaf, and the rest that begins with the leaf.
 use Rattle.std.proofs.Common.{◌≡◌, ℕ, List, [], ◌∷◌, ◌++◌, refl, sym, ap, ◌∙◌, subst, append-nil}
 use Rattle.cmark_grammar.specs.BracketDecisions.{decide}
 use Rattle.cmark_grammar.specs.Event.{Ranged}

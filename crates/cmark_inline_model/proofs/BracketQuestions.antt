@@ -1,4 +1,5 @@
--- The questions that a reading puts: they only grow, and a reading with any answers is one with the list that it got.
+-- The questions that a reading puts: they are only added, and a reading with any answers is a reading with the list of the answers that it
+-- got.
 use Rattle.std.proofs.Common.{◌≡◌, ℕ, List, [], ◌∷◌, ◌++◌, Option, None, refl, sym, ap, ◌∙◌, append_assoc, append-nil}
 use Rattle.cmark_grammar.specs.Answers.{Destination}
 use Rattle.cmark_grammar.specs.Items.{Bracket, Token}
@@ -71,7 +72,7 @@ module _ (token : ℕ → Token) (decide : State → (closer : Bracket) → Deci
       }
   reads-next all rest s (Opening opener after) t e h = (h.0, reads-next all rest (opened opener s) after t e h.1)
 
--- the plan that answers as a list does, in turn
+-- the plan that gives the answers of a list, in order
 abbrev pub answer_at : (all asked : List Exchange) → Option Destination
 answer_at [] asked = None
 answer_at (x ∷ xs) [] = x.answer

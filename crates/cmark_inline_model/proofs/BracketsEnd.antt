@@ -10,7 +10,7 @@ use Rattle.cmark_inline_model.specs.BracketPass.{Pass, pass, outcome_by, formed_
 use Rattle.cmark_inline_model.specs.Progress.{Always, FitsBy, Fits, IsForward}
 use Rattle.cmark_inline_model.proofs.PartCuts.{openings-join, Cuts, cuts}
 
--- a list with more such brackets than are to be nearer has a cut
+-- a list with more than `nearer` such brackets has a cut
 abbrev IsThere : ℕ → ℕ → Option Cut → Type 0
 IsThere nearer size None = size ≤ nearer
 IsThere nearer size (Some cut) = ℕ
@@ -39,7 +39,7 @@ is_there nearer (Opening opener after) = go (openings after == nearer) refl (cut
     go false e None k = below (openings after) nearer e k
 
 module _ (token : ℕ → Token) (decide : State → (closer : Bracket) → Decision) (plan : Plan) where
-  -- the state knows as many opening brackets as are texts in the list
+  -- the state has one opening bracket for each that is a text in the list
   abbrev IsKnown : Pass → Type 0
   IsKnown p = openings p.here ≡ length p.state.openers
 
@@ -47,7 +47,7 @@ module _ (token : ℕ → Token) (decide : State → (closer : Bracket) → Deci
   always_by Holds asked (Settled outcome) h = h
   always_by Holds asked (Asks question answered) h = h (plan asked question)
 
-  -- where a decision fits, the pass does not stay, and its state is the decision's
+  -- if a decision fits, the pass moves on, and its state is the state of the decision
   pub record Moves (p : Pass) (q : Pass) (next : State) : Type 0 where
     pub state_is : q.state ≡ next
     pub known : IsKnown q

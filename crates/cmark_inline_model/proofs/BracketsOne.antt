@@ -23,14 +23,14 @@ module _ (token : ℕ → Token) (decide : State → (closer : Bracket) → Deci
   step_ended zero p e = refl
   step_ended (suc n) p e = ap (go_on n) (ap (λ t. stepped token decide plan t p) e) ∙ step_ended n p e
 
-  -- so many steps lead from one to the other
+  -- some steps lead from one pass to the other
   abbrev pub Reaches : Pass → Pass → Type 0
   Reaches p q = (n : ℕ) × (go_on n p ≡ q)
 
   then : (p q s : Pass) → Reaches p q → Reaches q s → Reaches p s
   then p q s h k = (h.0 + k.0, sym (run_add h.0 k.0 p) ∙ ap (go_on k.0) h.1 ∙ k.1)
 
-  -- one step, by what begins there
+  -- one step, by the token there
   stepping : (p q : Pass) (t : Token) → token p.state.at ≡ t → stepped token decide plan t p ≡ q → Reaches p q
   stepping p q t e f = (1, ap (λ x. stepped token decide plan x p) e ∙ f)
 
@@ -42,7 +42,7 @@ module _ (token : ℕ → Token) (decide : State → (closer : Bracket) → Deci
   closing p q closer o e comes f =
       stepping p q (Closes closer) e (ap (λ (x : Outcome). resulting p closer x.result x.after) (comes_is p.state.asked (decide p.state closer) o comes) ∙ f)
 
-  -- the pass comes to the parts behind those before
+  -- the pass reaches the parts that were read before, followed by these
   pub reads-reach : (s : State) (here parts : Parts) (t : State) → Reads token decide Says s parts t → Reaches (pass s here) (pass t (join here parts))
   reads-reach s here Nil t h = (0, ap (λ x. pass x here) (sym h) ∙ ap (λ x. pass t x) (sym (join-nil here)))
   reads-reach s here (Single item after) t h =
@@ -77,7 +77,7 @@ module _ (token : ℕ → Token) (decide : State → (closer : Bracket) → Deci
       (subst (λ x. Reaches (pass (opened opener s) (join here piece)) (pass t x)) (join_assoc here piece after)
       (reads-reach (opened opener s) (join here piece) after t h.1))
 
-  -- what is reached at the end stays
+  -- a pass at the end does not change
   reached_end : (n m : ℕ) (p : Pass) → token (go_on n p).state.at ≡ Ends → token (go_on m p).state.at ≡ Ends → go_on n p ≡ go_on m p
   reached_end zero m p e f = sym (step_ended m p e)
   reached_end (suc n) zero p e f = step_ended (suc n) p f

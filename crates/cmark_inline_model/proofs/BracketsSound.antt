@@ -1,4 +1,4 @@
--- The parts of the pass are those of the definition.
+-- The parts of the pass satisfy the definition.
 use Rattle.std.proofs.Common.{◌≡◌, ℕ, zero, suc, List, Option, Some, None, refl, sym, subst}
 use Rattle.cmark_grammar.specs.Items.{Bracket, Token, Stands, Opens, Closes, Ends}
 use Rattle.cmark_grammar.specs.Questions.{Question, Exchange, Saying, Plan}
@@ -10,7 +10,7 @@ use Rattle.cmark_inline_model.specs.BracketPass.{Pass, pass, outcome_by, formed_
 use Rattle.cmark_inline_model.proofs.PartCuts.{IsCut, Cuts, cuts}
 
 module _ (token : ℕ → Token) (decide : State → (closer : Bracket) → Decision) (Says : Saying) where
-  -- one behind the other
+  -- two readings, one after the other
   pub joined : (s : State) (a : Parts) (m : State) (b : Parts) (t : State) → Reads token decide Says s a m → Reads token decide Says m b t → Reads token decide Says s (join a b) t
   joined s Nil m b t h k = subst (λ x. Reads token decide Says x b t) h k
   joined s (Single item after) m b t h k = (h.0, h.1, joined (moved h.0 s) after m b t h.2 k)
@@ -41,7 +41,7 @@ module _ (token : ℕ → Token) (decide : State → (closer : Bracket) → Deci
       (k.0, record { next = h.next; closes = h.closes; comes = h.comes; after = k.1 }, k.2)
   split s (Opening opener after) b t h = let k = split (opened opener s) after b t h.1 in (k.0, (h.0, k.1), k.2)
 
-  -- what stands behind an opening bracket becomes what it forms with a closing one
+  -- the parts after an opening bracket become the construct that it forms with a closing one
   pub formed-reads : (start : State) (whole : Parts) (now next : State) (closer : Bracket) (formed : Formed) (cut : Cut) (nearer : ℕ) → IsCut nearer whole cut → Reads token decide Says start whole now
       → token now.at ≡ Closes closer → Comes Says now.asked (decide now closer) (record { result = Forms nearer formed; after = next })
       → Reads token decide Says start (join cut.before (Form cut.opener cut.inside closer formed Nil)) next

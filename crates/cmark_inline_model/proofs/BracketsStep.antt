@@ -1,4 +1,4 @@
--- Steps keep what holds of a pass, whatever the answers.
+-- Steps preserve the reading of a pass, whatever the answers are.
 use Rattle.std.proofs.Common.{◌≡◌, ℕ, sym, subst, refl}
 use Rattle.cmark_grammar.specs.BracketReading.{Reads}
 use Rattle.cmark_grammar.specs.BracketStates.{State, moved, opened, Decision}

@@ -1,4 +1,4 @@
--- A line break takes ASCII bytes that end no line, and behind them a line ending: one byte, or a carriage return and a line feed.
+-- A line break covers ASCII bytes that do not end a line, followed by a line ending: one byte, or a carriage return and a line feed.
 use Rattle.std.specs.Prelude.{option_map}
 use Rattle.std.proofs.Common.{◌≡◌, ◌⊎◌, inl, inr, ⊎_elim, ℕ, suc, ◌+◌, ◌<◌, ◌≤◌, Bool, true, false, ◌==◌, if◌then◌else◌, List, [], ◌∷◌, length, drop, take_while, get_or, Option, None, Some, refl, sym, ap, subst, ◌∙◌, arith, eqb-true, length-drop, drop-drop}
 use Rattle.std.proofs.lemmas.List.{get_or-drop}
@@ -10,7 +10,7 @@ use Rattle.cmark_grammar.specs.Tags.{behind_line_feed, behind_ending}
 use Rattle.cmark_grammar.proofs.RowEdges.{Front}
 use Rattle.cmark_inline_model.proofs.WordBytes.{or-either, IsWord, Leads, while-leads, word-is}
 
--- one more byte than `more` of a line ending
+-- `more` further bytes belong to the line ending at `at`: 0, or 1 after a carriage return
 abbrev IsEnding : List ℕ → (at more : ℕ) → Type 0
 IsEnding l at more = (more ≡ 0) ⊎ ((more ≡ 1) × (get_or l at 0 ≡ 13) × (get_or l (suc at) 0 ≡ 10))
 
@@ -56,7 +56,7 @@ ending_taken (b ∷ bs) =
     (λ e. (let z = eqb-true b 10 e in record { more = 0; behind = refl; fits = omega arith; ending = inl refl; ascii = (let q : b < 128 = omega arith in q) }))
     (λ e. when (EndingTaken (b ∷ bs)) (b == 13) (Some (behind_line_feed bs)) None (λ f. return_taken b bs (eqb-true b 13 f)) (λ f. tt))
 
--- a line ending behind some bytes
+-- a line ending after some bytes
 behind_bytes : (found : LineBreak) (n : ℕ) (l r : List ℕ) → Leads IsWord n l → found.before ≤ n → found.behind ≡ r → TakesEnding (drop n l) r → TakesBreak l found
 behind_bytes found n l r h b e k =
     let d = length-drop n l in

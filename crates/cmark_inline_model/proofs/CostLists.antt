@@ -1,4 +1,4 @@
--- Lists of costs of which each begins below a limit, and lists with fewer costs in the same order.
+-- Lists of costs, each of which begins below a limit, and lists with fewer costs in the same order.
 use Rattle.std.specs.Prelude.{◌-◌, sum}
 use Rattle.std.proofs.Common.{◌≡◌, ℕ, ◌+◌, ◌<◌, ◌≤◌, List, [], ◌∷◌, ◌++◌, refl, arith, subst}
 use Rattle.std.proofs.lemmas.List.Sums.{sum_by-cons}
@@ -12,7 +12,7 @@ pub sum-total : (cs : List ℕ) → sum cs ≡ total cs
 sum-total [] = refl
 sum-total (c ∷ cs) = let i = sum-total cs in let e : sum (c ∷ cs) ≡ c + sum cs = sum_by-cons (λ n. n) c cs in omega arith
 
--- those before each come to less than the limit, with what was spent before
+-- before each cost, the sum of the earlier costs and of the amount spent before is less than the limit
 abbrev pub Within : (limit spent : ℕ) → List ℕ → Type 0
 Within limit spent [] = Unit {0}
 Within limit spent (c ∷ cs) = (spent < limit) × Within limit (spent + c) cs
@@ -38,13 +38,13 @@ within-both limit spent [] b h k = let e : spent + 0 ≡ spent = omega arith in 
 within-both limit spent (c ∷ a) b h k =
     let e : spent + (c + total a) ≡ (spent + c) + total a = omega arith in (h.0, within-both limit (spent + c) a b h.1 (subst (λ n. Within limit n b) e k))
 
--- all but the last come to less than the limit
+-- the sum of all costs but the last is less than the limit
 pub within-last : (limit spent : ℕ) (front : List ℕ) (last : ℕ) → Within limit spent (front ++ (last ∷ [])) → spent + sum front < limit
 within-last limit spent [] last h = let e : sum [] ≡ 0 = refl in let x = h.0 in omega arith
 within-last limit spent (c ∷ front) last h =
     let i = within-last limit (spent + c) front last h.1 in let e : sum (c ∷ front) ≡ c + sum front = sum_by-cons (λ n. n) c front in omega arith
 
--- what is taken off what is left stays within the limit
+-- the costs that are subtracted from the rest of the limit stay within the limit
 pub record Spent (limit spent after : ℕ) (cs : List ℕ) : Type 0 where
   pub within : Within limit spent cs
   pub left : after ≡ limit - (spent + total cs)

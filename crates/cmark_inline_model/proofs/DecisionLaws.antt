@@ -20,7 +20,7 @@ use Rattle.cmark_inline_model.proofs.LinkNesting.{persist-then, no_link-persists
 use Rattle.cmark_inline_model.proofs.Openers.{Alike, alike-length, alike-drop, alike-persist, dropped-persist, inactive-persist, undoubled-persist, link-persist, inactive-opens-none, left-then}
 
 module _ (reader : Reader) (leaf : Leaf) where
-  -- what holds of each shape holds of what a decision comes to
+  -- a fact that holds of each shape holds of the outcome of a decision
   pub always-by : (s : State) (closer : Bracket) (Holds : Outcome → Type 0) → ((asked : List Exchange) (o : Outcome) → Shape reader leaf s closer asked o → Holds o) → Always Holds (decide reader leaf s closer)
   always-by s closer Holds keeps = go (decide reader leaf s closer) (decide-shape reader leaf s closer)
     where

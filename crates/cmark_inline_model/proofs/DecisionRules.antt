@@ -1,5 +1,5 @@
--- The grammar's decisions lead references to their definitions or to what a question was answered, ask only about labels without a
--- definition, and form footnote references and wikilinks only where they are read.
+-- The grammar's decisions give references the destination of their definition or of an answer. They ask only about labels without a
+-- definition, and form footnote references and wikilinks only if these are enabled.
 use Rattle.std.proofs.Common.{List, [], ◌∷◌, ◌++◌, Some, refl, sym, ap, subst, ◌∙◌, append_assoc}
 use Rattle.cmark_grammar.specs.Answers.{Destination}
 use Rattle.cmark_grammar.specs.BracketDecisions.{linked, decide}
@@ -17,7 +17,7 @@ use Rattle.cmark_inline_model.specs.LinkRules.{IsReferenceForm, AsksRightly, IsD
 use Rattle.cmark_inline_model.proofs.DecisionLaws.{always-by}
 use Rattle.cmark_inline_model.proofs.DecisionShape.{exchange, Shape, Stays, ToInline, ToReference, ToFootnote, ToWiki, Defined, Answered, DecisionShape, decide-shape}
 
--- behind further questions
+-- after further questions
 answered_more : (reader : Reader) (asked more : List Exchange) (written : LinkType) (l : Linked) → IsAnswered reader asked written l → IsAnswered reader (asked ++ more) written l
 answered_more reader asked more written l h = record {
   undefined = h.undefined;
@@ -47,7 +47,7 @@ rightly-more reader asked more (Linking target) h = led_more reader asked more t
 rightly-more reader asked more (Footnote label end) h = h
 rightly-more reader asked more (Wiki name display end) h = h
 
--- a reference in one of its three forms
+-- a reference in one of the three forms
 by_definition : (reader : Reader) (asked : List Exchange) (t : LinkType) (l : Linked) → IsReferenceForm t → IsDefined reader l → LeadsBy t reader asked l
 by_definition reader asked Inline l f h = absurd f
 by_definition reader asked Reference l f h = h

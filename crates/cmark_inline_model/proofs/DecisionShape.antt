@@ -1,4 +1,4 @@
--- What the decision about a closing bracket can come to, case by case.
+-- The possible outcomes of the decision about a closing bracket, case by case.
 use Rattle.std.specs.Prelude.{suc, ◌-◌, ◌==◌, ◌&&◌, ◌||◌, not, if◌then◌else◌, drop, map}
 use Rattle.std.proofs.Common.{◌≡◌, ◌⊎◌, inl, inr, ◌≤◌, ℕ, Bool, true, false, List, [], ◌∷◌, ◌++◌, length, Option, Some, None, refl, arith}
 use Rattle.cmark_grammar.specs.Answers.{Destination}
@@ -23,20 +23,20 @@ use Rattle.cmark_inline_model.proofs.FindRests.{IsBehind, ParsedBehind}
 use Rattle.cmark_inline_model.proofs.LinkRests.{LeavesBehind, collapsed-behind, reference_label-behind}
 use Rattle.cmark_inline_model.proofs.Openers.{Alike, alike-then, used-alike, tried-alike, IsTaken, AreTaken, taken-alike, nearest-taken, doubled-taken, IsFar, doubled-far, IsTouched, AreTouched, doubled-touched, touched-alike}
 
--- the same state but for its label, its questions and its opening brackets
+-- the same state except for its label, its questions and its opening brackets
 abbrev pub with_all : State → Option ℕ → List Exchange → List Opener → State
 with_all s label asked os = record { at = s.at; expansion_left = s.expansion_left; label_close = label; asked = asked; openers = os }
 
--- the question that an asked one is in
+-- the question that was put, with its answer
 abbrev pub exchange : Question → Option Destination → Exchange
 exchange q answer = record { question = q; answer = answer }
 
 module _ (reader : Reader) (leaf : Leaf) where
-  -- behind the closing bracket, or what is behind some text behind it, which ends with an ASCII byte
+  -- the end of the closing bracket, or of some text after it, which ends with an ASCII byte
   abbrev pub IsPlace : Bracket → ℕ → Type 0
   IsPlace closer p = (p ≡ closer.end) ⊎ ((rest : List ℕ) × (length rest ≤ length (behind reader leaf closer.end)) × (p ≡ place reader leaf rest) × IsBehind (behind reader leaf closer.end) rest)
 
-  -- a reference that may stand behind this closing bracket
+  -- a reference that may follow this closing bracket
   pub record IsNamed (closer : Bracket) (named : Named) : Type 0 where
     pub ends : IsPlace closer named.end
     pub passes : IsPlace closer named.resume
@@ -44,7 +44,7 @@ module _ (reader : Reader) (leaf : Leaf) where
     pub form : IsReferenceForm named.link_type
     pub costs : (size : ℕ) → (cost_as named.link_type size ≡ size ∷ []) × (cost_as (to_unknown named.link_type) size ≡ size ∷ [])
 
-  -- a definition says where a reference leads, or the answer to the last question does
+  -- the destination comes from a definition, or from the answer to the last question
   pub data Leads (named : Named) (link_type : LinkType) (found : Destination) (asked : List Exchange) : Type 0 where
     Defined : (definition : block.Reference) → reader.definition (fold named.label) ≡ Some definition → link_type ≡ named.link_type
         → found ≡ record { url = definition.destination; title = or_empty definition.title } → Leads named link_type found asked
@@ -57,8 +57,8 @@ module _ (reader : Reader) (leaf : Leaf) where
     pub is_taken : IsTaken os taken
     pub active : taken.opener.is_inactive ≡ false
 
-  -- a question about the text from the taken bracket to a place behind the closing one, where something of the reference expansion limit is
-  -- left
+  -- a question about the text from the taken bracket to an offset after the closing one, put while the reference expansion limit is not
+  -- used up
   pub record IsPut (s : State) (closer : Bracket) (q : Question) : Type 0 where
     pub taken : Taken
     pub takes : Takes s.openers taken

@@ -24,7 +24,7 @@ next_behind h all asked q answer k =
     record { rest = k.rest; cut = ap (λ l. h ++ l) k.cut ∙ sym (append_assoc h asked (record { question = q; answer = answer } ∷ k.rest)) }
 
 module _ (h : List Exchange) where
-  -- the second decision comes to what the first does, behind other questions
+  -- the second decision has the outcome of the first, after other questions
   abbrev Follows : State → Decision → Decision → Type 0
   Follows t d e = (all : List Exchange) (o : Outcome) → Comes (IsNext all) t.asked d o → Comes (IsNext (h ++ all)) (h ++ t.asked) e (outcome_behind h o)
 

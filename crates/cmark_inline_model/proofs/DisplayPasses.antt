@@ -1,4 +1,4 @@
--- A wikilink that shows what stands behind its pipe takes the place of its slots, with the runs and quotes that are left.
+-- A wikilink that shows the text after its pipe replaces its slots, with the runs and quotes that remain.
 use Rattle.std.specs.Prelude.{◌-◌, ◌==◌, ◌&&◌, ◌||◌, if◌then◌else◌, drop, take, get_or, Some, None}
 use Rattle.std.proofs.Common.{◌≡◌, true≢false, Bool, true, false, ℕ, zero, suc, ◌+◌, ◌<◌, ◌≤◌, List, [], ◌∷◌, ◌++◌, length, refl, sym, ap, ◌∙◌, subst, arith, append_assoc, append-nil, length-append, length-drop, eqb-true}
 use Rattle.std.proofs.Math.Seq.{take-add, take-append_seam, drop-append_seam}
@@ -246,7 +246,7 @@ module _ (reader : Reader) (leaf : Leaf) (before : Between) (turn : InTurn 0 lea
   begin_place [] ended turn = (0, (omega arith, refl))
   begin_place (s ∷ more) ended turn = (size_of (s ∷ more), (omega arith, sym (place-first reader.source s more ended)))
 
-  -- what is known of the siblings between the brackets
+  -- the facts about the siblings between the brackets
   record Held (opener closer : Bracket) (inside : Parts) (display : ℕ) : Type 0 where
     order : SiblingOrder Pipe opener.end (siblings_of reader.options inside) closer.start
     free : IsFree display (siblings_of reader.options inside)
@@ -258,7 +258,7 @@ module _ (reader : Reader) (leaf : Leaf) (before : Between) (turn : InTurn 0 lea
   abbrev ReadsTo : State → Parts → State → Type 0
   ReadsTo s parts t = Reads (token reader leaf) (decide reader leaf) AnyAnswer s parts t
 
-  -- a pipe stands directly before the place
+  -- a pipe is directly before the offset
   module _ (display : ℕ) (pipe : Pipe display) where
     abbrev Known : Inline → Type 0
     Known siblings = AreKnown Pipe reader.source display siblings
@@ -378,7 +378,7 @@ module _ (reader : Reader) (leaf : Leaf) (before : Between) (turn : InTurn 0 lea
         let n : length (cut.front ++ text) ≡ suc place.slot = (let a = slot_is in omega arith) in
         sym (ap (drop (suc place.slot)) (cut.slots_are ∙ sym (append_assoc cut.front text cut.behind)) ∙ ap (λ i. drop i ((cut.front ++ text) ++ cut.behind)) (sym n) ∙ drop-append_seam (cut.front ++ text) cut.behind)
 
-    -- what stands before what is shown, and what is shown
+    -- the slots before those that are shown, and those that are shown
     abbrev hidden_front : List Slot
     hidden_front = (cut.front ++ text) ++ nothings many []
 
@@ -465,7 +465,7 @@ module _ (reader : Reader) (leaf : Leaf) (before : Between) (turn : InTurn 0 lea
           (λ e. subst (λ x. at ≤ x) (sym (get_or-drop place.quotes quotes more_quotes 0) ∙ ap (λ l. get_or l more_quotes 0) behind_quotes)
           (subst (λ m. at ≤ get_or quotes m 0) (let q : left_quotes ≡ place.quotes + more_quotes = omega arith in q) (lq.behind (omega arith))))
 
-      -- the runs and the quotes that are left are those of what is shown
+      -- the remaining runs and quotes are those of the text that is shown
       left_runs_are : drop left_runs runs ≡ runs_in (display_from display closer.start inside)
       left_runs_are =
           let o = lr.order in

@@ -1,5 +1,4 @@
--- A row of siblings of which the slots that end by a place are nothing any more is the row of those siblings that a wikilink shows from
--- that place on.
+-- If the slots of a row that end by an offset become Nothing, the row is that of the siblings that a wikilink shows from this offset on.
 use Rattle.std.specs.Prelude.{nat_le, if◌then◌else◌, max, get_or}
 use Rattle.std.proofs.Common.{◌≡◌, inl, inr, Bool, true, false, ℕ, zero, suc, ◌+◌, ◌<◌, ◌≤◌, List, [], ◌∷◌, ◌++◌, length, refl, sym, ap, ◌∙◌, subst, arith, append_assoc, length-append}
 use Rattle.std.proofs.lemmas.List.{get_or-append-add}
@@ -91,7 +90,7 @@ places-from : (less at size : ℕ) (others : List ℕ) → less ≤ at → From 
 places-from less at zero others e h = h
 places-from less at (suc size) others e h = (e, places-from less (suc at) size others (omega arith) h)
 
--- the places of a row stand in it
+-- the offsets of a row are in order
 abbrev StandFrom : Inline → Type 0
 StandFrom x = (at : ℕ) (s : List Slot) (b q : List ℕ) → LaysOut at x s b q → From at b × From at q
 
@@ -118,7 +117,7 @@ lays-from (Around tag start end inside after) at s b q h =
 
 -- ## Siblings
 
--- a run has as many bytes as its range, and some
+-- a run has the length of its range, which is not empty
 abbrev pub ExactBy : ItemKind → (start end : ℕ) → Type 0
 ExactBy (Delimiters run) start end = (end ≡ start + run.run_length) × (0 < run.run_length)
 ExactBy _ start end = Unit {0}
@@ -128,7 +127,7 @@ AreExact Nil = Unit {0}
 AreExact (Single x after) = ExactBy x.kind x.start x.end × AreExact after
 AreExact (Around tag start end inside after) = AreExact after
 
--- what is left of a row, with the runs and quotes that are hidden
+-- the rest of a row, with the runs and quotes that are hidden
 pub record ShowsRow (place at : ℕ) (siblings : Inline) (row : List Slot) (bytes quotes : List ℕ) : Type 0 where
   pub rest : List Slot
   pub shown : shown_from place row ≡ nothings (hidden_by place row) rest
@@ -208,7 +207,7 @@ behind-hidden place at siblings after row bytes quotes runs quoted h same runs_a
       laid = subst (λ m. LaysOut m (from_place place siblings) i.rest i.later_bytes i.later_quotes) n (subst (λ l. LaysOut ((at + length h.front) + hidden_by place h.more) l i.rest i.later_bytes i.later_quotes) (sym same) i.laid);
     }
 
--- a row that begins with what is kept
+-- a row all of whose slots are kept
 all-kept : (place at : ℕ) (siblings : Inline) (row : List Slot) (bytes quotes : List ℕ) → hidden_by place row ≡ 0 → LaysOut at siblings row bytes quotes
     → runs_in (from_place place siblings) ≡ runs_in siblings → quotes_of (from_place place siblings) ≡ quotes_of siblings → LaysOut at (from_place place siblings) (shown_from place row) bytes quotes
     → ShowsRow place at siblings row bytes quotes
@@ -397,7 +396,7 @@ kept-item kind x place After le free ex at s b q h =
 
 -- ## Elements
 
--- what is seen of some slots ends by a place
+-- if the slots other than Nothing end by an offset, all slots do
 slots-end : (place : ℕ) (own : List Slot) → EndBy place (seen own) → EndBy place own
 slots-end place [] h = tt
 slots-end place (ItemSlot x ∷ slots) h = (h.0, slots-end place slots h.1)
@@ -483,7 +482,7 @@ module _ (Pipe : ℕ → Type 0) where
   -- ## The first slot that is shown
 
   module _ (source : List ℕ) where
-    -- an item can be cut where no autolink stands and the place is inside it
+    -- an item can be cut if it is not an autolink and the offset is inside it
     abbrev pub IsKnown : (place : ℕ) → Item → Type 0
     IsKnown place x = x.start < place → place < x.end → CutFacts source x
 
@@ -556,7 +555,7 @@ module _ (Pipe : ℕ → Type 0) where
   sibling-up from (Single x after) to h = let a = h.0 in let b = h.1 in let c = sibling-up x.end after to h.3 in omega arith
   sibling-up from (Around tag start end inside after) to h = let c = sibling-up end after to h.5 in let a = h.1 in let d = h.3 in let b = begun-up Pipe tag h.0 start h.2 in omega arith
 
-  -- behind all siblings none is shown
+  -- after all siblings no sibling is shown
   pub none-from : (place : ℕ) (siblings : Inline) (from : ℕ) → SiblingOrder Pipe from siblings place → from_place place siblings ≡ Nil
   none-from place Nil from order = refl
   none-from place (Single x after) from order =

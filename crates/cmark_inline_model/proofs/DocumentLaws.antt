@@ -1,4 +1,4 @@
--- A document with its spans is read, for each plan of answers, and for each list of answers in one way.
+-- A document with its spans has a reading for each plan of answers, and only one for each list of answers.
 use Rattle.std.proofs.Common.{◌≡◌, ℕ, List, [], ◌∷◌, ◌++◌, refl, sym, ap, ◌∙◌, subst, append_assoc, append-nil}
 use Rattle.cmark_grammar.specs.BlockDocument.{BlockDocument}
 use Rattle.cmark_grammar.specs.BracketDecisions.{decide}
@@ -50,7 +50,7 @@ module _ (reader : Reader) (recorded : (leaf : Leaf) → IsRecorded (decide read
       let f : all ≡ h.2.asked ++ (b.0 ++ rest) = e ∙ ap (λ l. l ++ rest) b.1 ∙ append_assoc h.2.asked b.0 rest in
       (h.0, h.1, h.2, leaf-next reader leaf (recorded leaf) Says before h.2 h.0 all (b.0 ++ rest) f h.3, all-next all rest others h.2 after h.1 e h.4, h.5)
 
--- the segments are read in one way, for each list of answers
+-- the segments have only one reading for each list of answers
 pub all-same : (reader : Reader) (all : List Exchange) (others : List Segment) (before : Between) (first second : List Ranged) (a b : Between) → ReadsAll reader (IsNext all) others before first a
     → ReadsAll reader (IsNext all) others before second b → first ≡ second
 all-same reader all [] before first second a b h k = h.0 ∙ sym k.0

@@ -1,4 +1,4 @@
--- The leaves of a document that is derived stand in order.
+-- The leaves of a document that is derived are in order.
 use Rattle.cmark_grammar.specs.TagEnd.{end_of}
 use Rattle.cmark_grammar.specs.Tag as tag
 use Rattle.cmark_grammar.specs.Tag.{Tag}
@@ -129,7 +129,7 @@ starts-are (Text bytes) titled = inl refl
 starts-are (OwnedText bytes) titled = inl refl
 starts-are (Html bytes) titled = inl refl
 
--- an element that begins gives its start first, and where two begin, the second is a title
+-- an element that begins gives its start first; if two begin, the second is a title
 abbrev pub StartsWith : ℕ → List Segment → Type 0
 StartsWith zero all = Unit {0}
 StartsWith (suc zero) all = (r : Ranged) × (others : List Segment) × (all ≡ Given r ∷ others) × (t : Tag) × (r.event ≡ Start t)

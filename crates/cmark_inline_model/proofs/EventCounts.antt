@@ -1,4 +1,4 @@
--- How many events a text is read as: those of its blocks, and of each leaf three a byte at most.
+-- The number of events of a text: those of its blocks, and at most three for each byte of a leaf.
 use Rattle.std.specs.Prelude.{if◌then◌else◌, get_or, nat_le, ◌==◌, max, drop, encode_utf8}
 use Rattle.std.proofs.Common.{◌≡◌, ℕ, zero, suc, ◌+◌, ◌*◌, ◌<◌, ◌≤◌, Bool, true, false, List, [], ◌∷◌, ◌++◌, length, refl, ap, ◌∙◌, arith, Some, None}
 use Rattle.std.proofs.lemmas.List.{length-append}
@@ -143,7 +143,7 @@ dress-few options siblings =
 
 -- ## Three slots a byte
 
--- what is left of siblings behind a pipe, and a text of no bytes where nothing is
+-- the siblings after a pipe, and an empty text if there are none
 from-size : (place : ℕ) (siblings : Inline) → size (from_place place siblings) ≤ size siblings
 from-size place Nil = omega arith
 from-size place (Single x after) = go (from-size place after) (nat_le x.end place)
@@ -195,7 +195,7 @@ footnote-few true start label end after = omega arith
 footnote-few false start label end after = omega arith
 
 module _ (reader : Reader) (leaf : Leaf) (most : ℕ) (turn : InTurn 0 leaf.stretches most) (Says : Saying) where
-  -- what two brackets form, with its two slots and those of what it shows
+  -- a construct that two brackets form, with its two slots and the slots of its content
   formed-few : (siblings : Inline) (after : List Slot) → length (slots_of (dress reader.options siblings) ++ (EndSlot ∷ after)) ≤ suc (size siblings + length after)
   formed-few siblings after =
       let a = around-size (dress reader.options siblings) after in

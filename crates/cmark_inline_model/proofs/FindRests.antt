@@ -1,4 +1,5 @@
--- Code spans, formulas, autolinks, tags, and what stands behind a link's bracket end behind an ASCII byte that ends no line, and markup that is sought in the source behind an ASCII byte.
+-- Code spans, formulas, autolinks, tags, and the text after a link's closing bracket end after an ASCII byte that does not end a line.
+-- Markup that is searched in the source ends after an ASCII byte.
 use Rattle.std.specs.Prelude.{option_map, ◌&&◌, not}
 use Rattle.std.specs.List.{prefix_len}
 use Rattle.std.proofs.Common.{◌≡◌, ◌⊎◌, inl, inr, ⊎_elim, ℕ, zero, suc, ◌+◌, ◌<◌, ◌≤◌, Bool, true, false, ◌==◌, ◌||◌, if◌then◌else◌, List, [], ◌∷◌, length, drop, get_or, Option, None, Some, refl, sym, ap, subst, ◌∙◌, arith, eqb-true, length-drop, drop-drop}
@@ -14,7 +15,7 @@ use Rattle.cmark_grammar.specs.Tags.{is_name_byte, is_attribute_start, is_attrib
 use Rattle.cmark_grammar.proofs.RowEdges.{Front}
 use Rattle.cmark_inline_model.proofs.WordBytes.{and-left, and-right, IsWord, Leads, prefix-leads, word-is}
 
--- what stands behind some bytes
+-- a rest after some bytes
 abbrev pub IsRest : (bs r : List ℕ) → Type 0
 IsRest bs r = (k : ℕ) × (r ≡ drop k bs)
 
@@ -47,7 +48,7 @@ byte_behind b c bs k a e =
     let same = eqb-true b c e in
     record { place = 0; inside = omega arith; content = subst (λ x. is_content x ≡ true) (sym same) k; ascii = subst (λ x. x < 128) (sym same) a; rest = refl }
 
--- what was answered came from one of the branches, or from the part in front
+-- the result came from one of the branches, or from the first part
 pub branch : {A : Type 0} (z : Bool) (x y : Option A) (r : A) → (if z then x else y) ≡ Some r → ((z ≡ true) × (x ≡ Some r)) ⊎ (y ≡ Some r)
 branch true x y r e = inl (refl, e)
 branch false x y r e = inr e
@@ -195,7 +196,7 @@ run_rest size goes_on (b ∷ bs) =
     (λ e. ((0, refl), eqb-true (backticks (b ∷ bs)) size (and-right (not goes_on) (backticks (b ∷ bs) == size) (and-right (is_backtick b) (not goes_on && (backticks (b ∷ bs) == size)) e))))
     (λ e. put_run size b bs after_it (run_rest size (is_backtick b) bs))
 
--- the last of so many bytes in front
+-- the last of some bytes at the front
 front_last : (Q : ℕ → Type 0) (m : ℕ) (l : List ℕ) → suc m ≤ length l → Front Q (suc m) l → Q (get_or l m 0)
 front_last Q m [] h f = absurd (omega arith)
 front_last Q zero (b ∷ l) h f = f.0

@@ -1,4 +1,4 @@
--- A leaf with a byte is read as some event, and one without a byte as none; the events of a leaf never begin with the end of an element.
+-- A leaf with a byte has some event, and an empty leaf has no event; the events of a leaf never begin with the end of an element.
 use Rattle.std.specs.Prelude.{zero, suc, ◌-◌, ◌==◌, ◌&&◌, ◌||◌, max, get_or}
 use Rattle.std.proofs.Common.{◌≡◌, ◌≢◌, ℕ, ◌+◌, ◌<◌, ◌≤◌, Bool, true, false, List, [], ◌∷◌, ◌++◌, length, Option, Some, None, refl, sym, ap, subst, ◌∙◌, arith, true≢false}
 use Rattle.cmark_grammar.specs.BracketDecisions.{decide}
@@ -127,7 +127,7 @@ element_span : (tag : Option Tag) (start end : ℕ) (inside after : Inline) → 
 element_span (Some tag) start end inside after = tt
 element_span None start end inside after = tt
 
--- where no byte of a run is left over, the first sibling stands before them
+-- if no byte of a run is left over, the first sibling comes before the runs
 first_span : (siblings : Inline) → AreSome siblings → 0 ≡ places_taken (runs_from siblings 0) → IsSpan (get_or (gaps_of siblings) 0 Nil)
 first_span Nil h e = absurd h
 first_span (Around tag start end inside after) h e = put_span (Around tag start end inside) (gaps_of after) (λ gap. tt)
@@ -192,7 +192,7 @@ first_no_end source (Around tag start end inside after) h = h
 
 -- ## Leaves
 
--- the text is the same from each place up to its begin
+-- the text is the same from each offset up to its start
 same_bytes : (source : List ℕ) (from : ℕ) (st : List Stretch) (size a b : ℕ) → InTurn from st size → a ≤ from → b ≤ from → bytes_from source st a ≡ bytes_from source st b
 same_bytes source from [] size a b h j k = refl
 same_bytes source from (s ∷ more) size a b h j k =

@@ -1,4 +1,4 @@
--- Tokens and decisions of a leaf lead on in it and stand within it.
+-- Tokens and decisions of a leaf lead forward in it and are inside it.
 use Rattle.std.specs.Prelude.{◌==◌}
 use Rattle.std.proofs.Common.{◌≡◌, ◌⊎◌, inl, inr, ◌<◌, ◌≤◌, ℕ, List, length, Option, Some, None, sym, subst, arith}
 use Rattle.cmark_grammar.specs.BracketDecisions.{behind, place, decide}
@@ -22,7 +22,7 @@ module _ (reader : Reader) (leaf : Leaf) (size : ℕ) (turn : InTurn 0 leaf.stre
   abbrev end : ℕ
   end = end_of leaf.stretches
 
-  -- places behind a closing bracket
+  -- offsets after a closing bracket
   rest_place : (closer : Bracket) (rest : List ℕ) → closer.end ≤ end → length rest ≤ length (behind reader leaf closer.end) → (closer.end ≤ place reader leaf rest) × (place reader leaf rest ≤ end)
   rest_place closer rest w h =
       (place-from reader.source leaf.stretches size turn (length rest) closer.end h w, place-within reader.source leaf.stretches size turn (length rest))

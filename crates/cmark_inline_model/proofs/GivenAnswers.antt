@@ -1,4 +1,4 @@
--- A reading is determined by the answers alone: they say which questions are put.
+-- A reading is determined by the answers alone: they determine which questions are put.
 use Rattle.std.proofs.Common.{◌≡◌, ℕ, List, [], ◌∷◌, ◌++◌, Option, None, refl, sym, ap, ◌∙◌, subst}
 use Rattle.cmark_grammar.specs.Answers.{Destination}
 use Rattle.cmark_grammar.specs.BlockDocument.{BlockDocument}
@@ -21,7 +21,7 @@ use Rattle.cmark_inline_model.specs.GivenAnswers.{answers_of}
 use Rattle.cmark_inline_model.proofs.BracketsOne.{parts-same}
 use Rattle.cmark_inline_model.proofs.SiblingsOne.{spans-one}
 
--- the answer to a question behind so many others
+-- the answer to a question after `asked` others
 abbrev answer-in : List (Option Destination) → (asked : List Exchange) → Option Destination
 answer-in [] asked = None
 answer-in (a ∷ answers) [] = a
@@ -37,7 +37,7 @@ here x (a ∷ asked) rest = here x asked rest
 pub next-in : (all asked : List Exchange) (question : Question) (answer : Option Destination) → IsNext all asked question answer → ByPlan (plan-in (answers_of all)) asked question answer
 next-in all asked question answer h = sym (ap (λ l. answer-in (answers_of l) asked) h.cut ∙ here (record { question = question; answer = answer }) asked h.rest)
 
--- ## What is read with some answers is read where more may be given
+-- ## A reading with some answers is a reading if more answers may be given
 
 module _ (Says Other : Saying) (wider : (asked : List Exchange) (question : Question) (answer : Option Destination) → Says asked question answer → Other asked question answer) where
   comes-wider : (asked : List Exchange) (decision : Decision) (outcome : Outcome) → Comes Says asked decision outcome → Comes Other asked decision outcome
@@ -80,7 +80,7 @@ module _ (Says Other : Saying) (wider : (asked : List Exchange) (question : Ques
 -- ## One reading for each plan
 
 module _ (reader : Reader) (plan : Plan) where
-  -- the spans, the events and what goes over to the next leaf
+  -- the spans, the events and the state for the next leaf
   pub record SameLeaf (leaf : Leaf) (before : Between) (first second : List Ranged) (one other : Between) (h : ReadsLeaf reader (ByPlan plan) leaf before first one) (k : ReadsLeaf reader (ByPlan plan) leaf before second other) : Type 0 where
     pub spans : h.spans ≡ k.spans
     pub events : first ≡ second
@@ -120,7 +120,7 @@ answered-one text profile asked others first second e h k =
         (subst (λ x. ReadsAll (reader_of text profile x) (ByPlan (plan-in (answers_of others))) (segments x) (at_start profile) first h.after) e r) s in
         (i.0, sym h.asked ∙ ap (λ (x : Between). x.asked) i.1 ∙ k.asked)
 
--- what a leaf is read as with the same answers
+-- the readings of a leaf with the same answers
 pub leaf-answered : (reader : Reader) (leaf : Leaf) (before one other : Between) (asked others : List Exchange) (first second : List Ranged) → answers_of asked ≡ answers_of others
     → (h : ReadsLeaf reader (IsNext asked) leaf before first one) → (k : ReadsLeaf reader (IsNext others) leaf before second other) → (h.spans ≡ k.spans) × (first ≡ second) × (one ≡ other)
 unfolding leaf-wider

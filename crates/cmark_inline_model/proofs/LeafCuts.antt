@@ -1,4 +1,4 @@
--- A place of the source parts the bytes of a leaf into those before it and those behind it.
+-- An offset of the source divides the bytes of a leaf into those before it and those from there on.
 use Rattle.std.specs.Prelude.{◌-◌, nat_lt, max, min, get_or, drop, take}
 use Rattle.std.proofs.Common.{◌≡◌, ◌⊎◌, inl, inr, Bool, true, false, ℕ, suc, ◌+◌, ◌<◌, ◌≤◌, List, [], ◌∷◌, ◌++◌, length, refl, sym, ap, ◌∙◌, subst, arith, length-drop, drop-drop, append_assoc}
 use Rattle.std.proofs.Math.Seq.{drop-cons, drop-append_seam, take-append_seam}
@@ -46,7 +46,7 @@ slice_joined source start mid end h k =
     dropped : (n : ℕ) → drop n (drop start source) ≡ drop (start + n) source
     dropped n = drop-drop n start source
 
--- behind the place no byte of earlier stretches is left, and before it none of later ones
+-- after the offset no byte of earlier stretches is left, and before it no byte of later ones
 none_before : (source : List ℕ) (low : ℕ) (st : List Stretch) (size at : ℕ) → at ≤ low → InTurn low st size → bytes_before source st at ≡ []
 none_before source low [] size at h k = refl
 none_before source low (s ∷ more) size at h k =
@@ -109,7 +109,7 @@ module _ (reader : Reader) (leaf : Leaf) (size : ℕ) (turn : InTurn 0 leaf.stre
   parts : (x : ℕ) → before reader leaf x ++ from reader leaf x ≡ text
   parts x = cut reader.source 0 leaf.stretches size x turn ∙ sym all_is
 
-  -- as many bytes stand behind the place as have later places
+  -- the bytes from the offset on are those with later offsets
   count_is : (x count : ℕ) → IsParted (length text) place x count → length (from reader leaf x) ≡ length text - count
   count_is x count h = go (le_or count j) (le_or j count)
     where

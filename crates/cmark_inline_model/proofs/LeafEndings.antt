@@ -22,7 +22,7 @@ use Rattle.cmark_inline_model.proofs.LeafPlaces.{by_size}
 use Rattle.cmark_inline_model.proofs.LeafSteps.{place-first}
 use Rattle.cmark_inline_model.proofs.LeafStretches.{AllLeaves}
 
--- a byte that ends a line stands directly behind the one before it
+-- a byte that ends a line is directly after the byte before it
 ending_at : (source : List ℕ) (from : ℕ) (st : List Stretch) (size n : ℕ) → InTurn from st size → HaveLineEnds source st → GoOnWithText source st → suc n ≤ size_of st
     → is_content (get_or source (place_with n st) 0) ≡ false → 0 < n → suc (place_with (suc n) st) ≡ place_with n st
 ending_at source from [] size n h l g k c p = absurd (omega arith)

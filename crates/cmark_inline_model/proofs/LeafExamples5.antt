@@ -1,4 +1,4 @@
--- Examples of CommonMark, computed: what the model gives for the text of one leaf is the standard's HTML.
+-- Examples of CommonMark, computed: the result of the model for the text of one leaf is the standard's HTML.
 use Rattle.std.specs.Prelude.{◌≡◌, [], ◌∷◌, ◌++◌, codes}
 use Rattle.std.specs.Str.{chars}
 use Rattle.std.proofs.Common.{refl}

@@ -1,4 +1,4 @@
--- The leaves of a text stand apart in it, so that together they take no more bytes than it has.
+-- The leaves of a text do not overlap, so together they are at most as long as the text.
 use Rattle.std.specs.Prelude.{◌-◌}
 use Rattle.std.proofs.Common.{ℕ, ◌+◌, ◌≤◌, List, [], ◌∷◌, length, arith}
 use Rattle.cmark_grammar.specs.Answers.{Lookup}

@@ -1,4 +1,4 @@
--- In the leaves of a document that is derived no stretch but the first begins with a line ending: a line of a paragraph is not blank.
+-- In the leaves of a document that is derived only the first stretch may begin with a line ending: a line of a paragraph is not blank.
 use Rattle.std.specs.Prelude.{◌==◌, nat_lt, if◌then◌else◌, cond, get_or, take_while}
 use Rattle.std.proofs.Common.{◌≡◌, ℕ, zero, suc, ◌+◌, Bool, true, false, List, [], ◌∷◌, ◌++◌, length, drop, refl, sym, ap, ◌∙◌, subst, arith, append_assoc, Option, Some, None, true≢false, length-append, get_or-append-add}
 use Rattle.std.proofs.lemmas.List.Sums.{take_while-cons}
@@ -22,7 +22,7 @@ use Rattle.cmark_inline_model.proofs.LeafStretches.{AllLeaves, KeepsStretches, d
 
 -- ## Columns
 
--- a byte that begins in one of these columns ends no line, and stands in the text there; other columns are of a tab
+-- a byte that begins in one of these columns does not end a line, and is in the text there; other columns belong to a tab
 abbrev AreColumns : (text : List ℕ) → List Column → Type 0
 AreColumns text [] = Unit {0}
 AreColumns text (c ∷ cs) = ((c.part == 0) ≡ true → is_content (get_or text c.at 0) ≡ true) × ((c.part == 0) ≡ false → is_blank c ≡ true) × AreColumns text cs
@@ -207,7 +207,7 @@ before_go_on text at (Node n inside after) h = go (nat_lt n.end at) (before_begi
 
 -- ## Leaves
 
--- a line that goes on with a paragraph is not blank
+-- a line that continues a paragraph is not blank
 words_are : (text : List ℕ) (options : Options) (more rest : List Row) → AreRows text more → AreText options more rest → AreWords text more
 words_are text options [] rest h t = tt
 words_are text options (r ∷ more) rest h t = (row_begins text r h.0 (texts-words options r (shown (more ++ rest)) t.0.0), words_are text options more rest h.1 t.1)

@@ -1,4 +1,4 @@
--- Between the places of a byte of a leaf's text and of the next one stand only prefixes of containers, and no pipe.
+-- Between the offsets of a byte of a leaf's text and of the next byte there are only prefixes of containers, and no pipe.
 use Rattle.std.specs.Prelude.{◌-◌, ◌==◌, get_or}
 use Rattle.std.proofs.Common.{◌≡◌, ℕ, suc, ◌<◌, ◌≤◌, Bool, true, false, List, [], ◌∷◌, length, refl, sym, ap, ◌∙◌, subst, arith, eqb-true, true≢false, length-drop}
 use Rattle.cmark_grammar.specs.Answers.{Lookup}
@@ -19,7 +19,7 @@ use Rattle.cmark_inline_model.proofs.LeafPrefixes.{HaveGaps, derived-gaps}
 use Rattle.cmark_inline_model.proofs.LeafSteps.{place-first}
 use Rattle.cmark_inline_model.proofs.LeafStretches.{AllLeaves}
 
--- what stands between the last bytes and those but one
+-- the bytes between the last n bytes and those but one
 between : (source : List ℕ) (from : ℕ) (st : List Stretch) (size n x : ℕ) → InTurn from st size → HaveLineEnds source st → HaveGaps source st → suc n ≤ size_of st → 0 < n
     → place_with (suc n) st < x → x < place_with n st → is_prefix_byte (get_or source x 0) ≡ true
 between source from [] size n x h l g k p low high = absurd (omega arith)

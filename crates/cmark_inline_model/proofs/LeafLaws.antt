@@ -1,4 +1,4 @@
--- A leaf is read, for each plan of answers, and for each list of answers in one way.
+-- A leaf has a reading for each plan of answers, and only one for each list of answers.
 use Rattle.std.proofs.Common.{◌≡◌, List, ◌++◌, refl, sym, ap, ◌∙◌}
 use Rattle.cmark_grammar.specs.BracketDecisions.{decide}
 use Rattle.cmark_grammar.specs.Event.{Ranged}
@@ -18,7 +18,7 @@ use Rattle.cmark_inline_model.proofs.BracketsSound.{parts-read}
 use Rattle.cmark_inline_model.proofs.SiblingsOne.{spans-sound, spans-one}
 
 module _ (reader : Reader) (leaf : Leaf) where
-  -- however the questions are answered, the leaf is read
+  -- the leaf has a reading, for each plan of answers
   pub leaf-read : IsForward (token reader leaf) (decide reader leaf) (end_of leaf.stretches) → (plan : Plan) (before : Between)
       → ReadsLeaf reader (ByPlan plan) leaf before (leaf_events reader plan leaf before) (leaf_after reader plan leaf before)
   leaf-read forward plan before = record {
@@ -34,7 +34,7 @@ module _ (reader : Reader) (leaf : Leaf) where
     after_is = refl;
   }
 
-  -- a reading with any answers is one with the list of those that it got, and any others behind them
+  -- a reading with any answers is a reading with the list of the answers that it got, followed by any others
   pub leaf-next : IsRecorded (decide reader leaf) → (Says : Saying) (before after : Between) (events : List Ranged) (all rest : List Exchange) → all ≡ after.asked ++ rest
       → ReadsLeaf reader Says leaf before events after → ReadsLeaf reader (IsNext all) leaf before events after
   leaf-next recorded Says before after events all rest e h = record {
@@ -50,7 +50,7 @@ module _ (reader : Reader) (leaf : Leaf) where
     after_is = h.after_is;
   }
 
-  -- a leaf is read in one way, for each list of answers
+  -- a leaf has only one reading for each list of answers
   pub leaf-same : (all : List Exchange) (before : Between) (first second : List Ranged) (a b : Between) → ReadsLeaf reader (IsNext all) leaf before first a → ReadsLeaf reader (IsNext all) leaf before second b → (first ≡ second) × (a ≡ b)
   leaf-same all before first second a b h k =
       let e = parts-same (token reader leaf) (decide reader leaf) (IsNext all) (plan_of all) (next-plan all) (entering leaf before) h.parts k.parts h.last k.last h.reads k.reads in

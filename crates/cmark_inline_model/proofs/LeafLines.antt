@@ -130,7 +130,7 @@ stretches_end text begin r (s ∷ more) h = go (begin_of s == r.line_end) (stret
     go true p q = p
     go false p q = stretch_ends text begin r.line_end (stretches text (begin_of s) s more) (⊎_elim (λ n. absurd (let d : ⊥ = cc in d)) inr h.0) q
 
--- texts before a place end as they did, but for the last
+-- texts before an offset end as they did, except the last
 before_ends : (text : List ℕ) (at : ℕ) (d : BlockDocument) → HaveLineEnds text (stretches_of d) → HaveLineEnds text (stretches_of (texts_before text at d))
 before_ends text at Nil h = tt
 before_ends text at (Node n inside Nil) h = go (nat_lt n.end at)

@@ -1,4 +1,4 @@
--- Places of a leaf whose stretches are in turn: what is left behind a place lies behind it, and up to the leaf's end.
+-- Offsets in a leaf whose stretches are in order: the bytes that are left after an offset are after it, and end with the leaf.
 use Rattle.std.specs.Prelude.{◌-◌, nat_lt, max, if◌then◌else◌, drop}
 use Rattle.std.proofs.Common.{◌≡◌, ◌⊎◌, inl, inr, Bool, true, false, ℕ, suc, ◌+◌, ◌<◌, ◌≤◌, List, [], ◌∷◌, length, refl, ap, arith, length-drop}
 use Rattle.std.proofs.lemmas.Bool.{ltb-true, ltb-false}
@@ -9,7 +9,7 @@ use Rattle.cmark_grammar.specs.Tokens.{slice}
 slice_size : (source : List ℕ) (start end : ℕ) → length (slice source start end) ≤ end - start
 slice_size source start end = let e = length-take (end - start) (drop start source) in omega arith
 
--- at most one byte stands between a place and the next
+-- at most one byte is between an offset and the next
 slice_next : (source : List ℕ) (at start end : ℕ) → length (slice source (max at start) end) ≤ suc (length (slice source (max (suc at) start) end))
 slice_next source at start end =
     let a = length-take (end - max at start) (drop (max at start) source) in
@@ -51,7 +51,7 @@ start_up_to from s (t ∷ more) size left h k =
     by_size (λ p. s.start ≤ p) (size_of (t ∷ more)) left (s.end - (left - size_of (t ∷ more))) (place_with left (t ∷ more)) (λ lt. (let x = h.1 in omega arith))
     (λ le. (let i = start_up_to s.end t more size left h.2 le in let x = h.1 in let y = h.2.0 in omega arith))
 
--- the leaf ends where its last stretch does
+-- the leaf ends where its last stretch ends
 end_more : (s t : Stretch) (more : List Stretch) → end_of (s ∷ (t ∷ more)) ≡ end_of (t ∷ more)
 end_more s t more = by_size (λ p. p ≡ end_of (t ∷ more)) (size_of (t ∷ more)) 0 (s.end - (0 - size_of (t ∷ more))) (end_of (t ∷ more)) (λ lt. absurd (omega arith)) (λ le. refl)
 
@@ -67,7 +67,7 @@ pub end-within : (st : List Stretch) (size : ℕ) → InTurn 0 st size → end_o
 end-within [] size h = h
 end-within (s ∷ more) size h = (ends_behind 0 s more size h).1
 
--- where so many bytes are left is up to the end
+-- the offset at which `left` bytes are left is at most the end
 place_up_to : (from : ℕ) (st : List Stretch) (size left : ℕ) → InTurn from st size → place_with left st ≤ end_of st
 place_up_to from [] size left h = omega arith
 place_up_to from (s ∷ []) size left h = omega arith
@@ -76,7 +76,7 @@ place_up_to from (s ∷ (t ∷ more)) size left h =
     by_size (λ p. p ≤ end_of (s ∷ (t ∷ more))) (size_of (t ∷ more)) left (s.end - (left - size_of (t ∷ more))) (place_with left (t ∷ more))
     (λ lt. (let i = ends_behind from s (t ∷ more) size h in let a = i.0 in omega arith)) (λ le. (let i = place_up_to s.end (t ∷ more) size left h.2 in omega arith))
 
--- what is left behind a place begins at it or behind it
+-- the bytes that are left from an offset on begin there or later
 place_behind_from : (source : List ℕ) (from : ℕ) (st : List Stretch) (size left x : ℕ) → InTurn from st size → left ≤ length (bytes_from source st x) → x ≤ end_of st → x ≤ place_with left st
 place_behind_from source from [] size left x h k w = omega arith
 place_behind_from source from (s ∷ []) size left x h k w =
@@ -101,7 +101,7 @@ place_behind_from source from (s ∷ (t ∷ more)) size left x h k w =
         let y = h.2.0 in
         omega arith
 
--- behind the end there is nothing
+-- after the end there are no bytes
 none_from : (source : List ℕ) (from : ℕ) (st : List Stretch) (size at : ℕ) → InTurn from st size → end_of st ≤ at → length (bytes_from source st at) ≡ 0
 none_from source from [] size at h e = refl
 none_from source from (s ∷ []) size at h e = let l = length-append (slice source (max at s.start) s.end) [] in let a = slice_size source (max at s.start) s.end in omega arith
@@ -113,7 +113,7 @@ none_from source from (s ∷ (t ∷ more)) size at h e =
     let i = none_from source s.end (t ∷ more) size at h.2 (omega arith) in
     omega arith
 
--- as many bytes as are left stand between a place and the end
+-- there is room for the bytes that are left between an offset and the end
 pub fits_from : (source : List ℕ) (from : ℕ) (s : Stretch) (more : List Stretch) (size at : ℕ) → InTurn from (s ∷ more) size → at ≤ end_of (s ∷ more) → length (bytes_from source (s ∷ more) at) + max at s.start ≤ end_of (s ∷ more)
 fits_from source from s [] size at h e = let l = length-append (slice source (max at s.start) s.end) [] in let a = slice_size source (max at s.start) s.end in let x = h.1 in omega arith
 fits_from source from s (t ∷ more) size at h e =
@@ -124,7 +124,7 @@ fits_from source from s (t ∷ more) size at h e =
     let x = h.1 in let y = h.2.0 in
     omega arith
 
--- in front of all stretches the next place has the same bytes behind it
+-- before all stretches the next offset has the same bytes after it
 same_from : (source : List ℕ) (at : ℕ) (st : List Stretch) (size : ℕ) → InTurn (suc at) st size → length (bytes_from source st at) ≡ length (bytes_from source st (suc at))
 same_from source at [] size h = refl
 same_from source at (s ∷ more) size h =
@@ -163,7 +163,7 @@ module _ (source : List ℕ) (st : List Stretch) (size : ℕ) (turn : InTurn 0 s
   pub place-from : (left x : ℕ) → left ≤ length (bytes_from source st x) → x ≤ end_of st → x ≤ place_with left st
   place-from left x = place_behind_from source 0 st size left x turn
 
-  -- where some bytes are left
+  -- some bytes are left
   pub some-fit : (at : ℕ) → 0 < length (bytes_from source st at) → length (bytes_from source st at) + at ≤ end_of st
   some-fit at h = pick (le_or (end_of st) at)
     where
@@ -185,7 +185,7 @@ module _ (source : List ℕ) (st : List Stretch) (size : ℕ) (turn : InTurn 0 s
       let p = place-from left (suc at) (omega arith) (omega arith) in
       omega arith
 
--- a leaf ends at its beginning or behind it
+-- a leaf does not end before it begins
 pub leaf-up : (st : List Stretch) (size : ℕ) → InTurn 0 st size → begin_of st ≤ end_of st
 leaf-up [] size h = omega arith
 leaf-up (s ∷ more) size h = let e = (ends_behind 0 s more size h).0 in let x = h.1 in omega arith

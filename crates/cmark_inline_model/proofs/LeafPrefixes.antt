@@ -1,4 +1,4 @@
--- Between two stretches of a leaf of a document that is derived stand only prefixes of containers: blanks, and `>` of block quotes.
+-- Between two stretches of a leaf of a document that is derived there are only prefixes of containers: blanks, and `>` of block quotes.
 use Rattle.std.specs.Prelude.{◌==◌, nat_lt, if◌then◌else◌, get_or}
 use Rattle.std.proofs.Common.{◌≡◌, ℕ, zero, suc, ◌+◌, ◌≤◌, ◌<◌, Bool, true, false, ◌&&◌, ◌||◌, nat_le, List, [], ◌∷◌, ◌++◌, length, drop, refl, sym, ap, ◌∙◌, subst, arith, append_assoc, Option, Some, None, true≢false, length-append, get_or-append-add}
 use Rattle.std.proofs.lemmas.Bool.{ltb-true, ltb-false}
@@ -22,7 +22,7 @@ use Rattle.cmark_inline_model.proofs.LeafStretches.{AllLeaves, KeepsStretches, d
 
 -- ## Bytes
 
--- only such bytes stand from one place to another
+-- only prefix bytes are between two offsets
 abbrev pub ArePrefixes : (text : List ℕ) → (start end : ℕ) → Type 0
 ArePrefixes text start end = (x : ℕ) → start ≤ x → x < end → is_prefix_byte (get_or text x 0) ≡ true
 
@@ -55,7 +55,7 @@ front_zero : (cs : List Column) → Front IsPrefixColumn 0 cs
 front_zero [] = tt
 front_zero (c ∷ cs) = tt
 
--- a byte that begins in one of these columns stands in the text there; other columns are of a tab
+-- a byte that begins in one of these columns is in the text there; other columns belong to a tab
 abbrev AreBytes : (text : List ℕ) → List Column → Type 0
 AreBytes text [] = Unit {0}
 AreBytes text (c ∷ cs) = ((c.part == 0) ≡ true → get_or text c.at 0 ≡ c.byte) × ((c.part == 0) ≡ false → is_blank c ≡ true) × AreBytes text cs
@@ -89,7 +89,7 @@ expand_are text before (b ∷ bs) after column at e l =
     go true t p q = tab_are text at 0 (to_tab_stop column) (expand (column + to_tab_stop column) (suc at) bs) (byte ∙ is_tab b t) p
     go false t p q = ((λ x. byte), (λ x. absurd (true≢false x)), q)
 
--- where such columns are taken from the front, such bytes are
+-- if prefix columns are taken from the front, the bytes are prefix bytes
 taken : (text : List ℕ) (n from : ℕ) (cs : List Column) (to : ℕ) → Runs from cs to → AreBytes text cs → Front IsPrefixColumn n cs → ArePrefixes text from (first_place to (drop n cs))
 taken text zero from cs to h a f = let e = first_place-Runs from cs to h in none_between text from (first_place to cs) (omega arith)
 taken text (suc n) from [] to h a f = let e : from ≡ to = h in none_between text from to (omega arith)
@@ -186,7 +186,7 @@ kept text k bare r s a e = go _ e
 abbrev IsRow : (text : List ℕ) → Row → Type 0
 IsRow text r = Runs (begin_of r) r.columns r.content_end × AreBytes text r.columns
 
--- between two lines stand only prefixes
+-- only prefixes are between two lines
 abbrev HasFront : (text : List ℕ) → (line_end : ℕ) → List Row → Type 0
 HasFront text line_end [] = Unit {0}
 HasFront text line_end (r ∷ rs) = ArePrefixes text line_end (begin_of r)
@@ -262,7 +262,7 @@ rows_are text = rows_of_lines text [] (lines text) 0 (sym (lines-ended text).1) 
 
 -- ## Stretches
 
--- between a place and these stretches, and between them, stand only prefixes
+-- only prefixes are between an offset and these stretches, and between the stretches
 abbrev pub HaveGapsFrom : (text : List ℕ) → (line_end : ℕ) → List Stretch → Type 0
 HaveGapsFrom text line_end [] = Unit {0}
 HaveGapsFrom text line_end (s ∷ more) = ArePrefixes text line_end s.start × HaveGapsFrom text s.end more

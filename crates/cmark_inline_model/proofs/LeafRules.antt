@@ -91,7 +91,7 @@ backslash_at_end : html (codes "a\\") ≡ codes "a\\"
 unfolding caseless encode chars token decide ucd_category is_unicode_white_space is_unicode_punctuation agrees pair_of rest_of_opener rest_of_closer kinds_of deactivates closed
 backslash_at_end = refl
 
--- beside the backslash of a break a run stands beside punctuation
+-- beside the backslash of a break a run is beside punctuation
 run_before_break : html (codes "x *\\\ny*") ≡ codes "x <em><br />\ny</em>"
 unfolding caseless encode chars token decide ucd_category is_unicode_white_space is_unicode_punctuation agrees pair_of rest_of_opener rest_of_closer kinds_of deactivates closed
 run_before_break = refl
@@ -101,7 +101,7 @@ escaped_run : html (codes "\\``a") ≡ codes "``a"
 unfolding caseless encode chars token decide ucd_category is_unicode_white_space is_unicode_punctuation agrees pair_of rest_of_opener rest_of_closer kinds_of deactivates closed
 escaped_run = refl
 
--- code keeps the blanks in front of its later lines
+-- code keeps the blanks before its later lines
 blanks_in_code : html (codes "`a\n   b`") ≡ codes "<code>a    b</code>"
 unfolding caseless encode chars token decide ucd_category is_unicode_white_space is_unicode_punctuation agrees pair_of rest_of_opener rest_of_closer kinds_of deactivates closed
 blanks_in_code = refl
@@ -141,7 +141,7 @@ bracket_kinds : html (codes "foo" ++ ((194 ∷ 167 ∷ []) ++ (codes "__(bar)__"
 unfolding caseless encode chars token decide ucd_category is_unicode_white_space is_unicode_punctuation agrees pair_of rest_of_opener rest_of_closer kinds_of deactivates closed
 bracket_kinds = refl
 
--- a destination may stand on a line of its own
+-- a destination may be on a line of its own
 code_over_lines : html (codes "[`\ni8\n`](\n../../../std/primitive.i8.html\n)") ≡ codes "<a href=\"../../../std/primitive.i8.html\"><code>i8</code></a>"
 unfolding caseless encode chars token decide ucd_category is_unicode_white_space is_unicode_punctuation agrees pair_of rest_of_opener rest_of_closer kinds_of deactivates closed
 code_over_lines = refl
@@ -151,7 +151,7 @@ escaped_backtick : html (codes "\\`foo`") ≡ codes "`foo`"
 unfolding caseless encode chars token decide ucd_category is_unicode_white_space is_unicode_punctuation agrees pair_of rest_of_opener rest_of_closer kinds_of deactivates closed
 escaped_backtick = refl
 
--- behind a backslash the rest of a run opens a code span
+-- after a backslash the rest of a run opens a code span
 shorter_run : html (codes "\\``foo``bar`") ≡ codes "`<code>foo``bar</code>"
 unfolding caseless encode chars token decide ucd_category is_unicode_white_space is_unicode_punctuation agrees pair_of rest_of_opener rest_of_closer kinds_of deactivates closed
 shorter_run = refl

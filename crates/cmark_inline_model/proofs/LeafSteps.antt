@@ -1,5 +1,5 @@
--- Byte after byte through a leaf: what stands behind the place of a byte, and the place of the next one, which follows at once where
--- the byte ends no line.
+-- A leaf, byte by byte: the bytes after the offset of a byte, and the offset of the next byte, which follows directly if the byte does not
+-- end a line.
 use Rattle.std.specs.Prelude.{◌-◌, max, get_or, drop, take}
 use Rattle.std.proofs.Common.{◌≡◌, ◌⊎◌, inl, inr, ℕ, suc, ◌+◌, ◌<◌, ◌≤◌, true, List, [], ◌∷◌, ◌++◌, length, refl, sym, ap, ◌∙◌, subst, arith, length-drop, append-nil, true≢false, drop-drop}
 use Rattle.std.proofs.Math.Seq.{drop-append-add, drop-cons, drop-nil}
@@ -37,7 +37,7 @@ slice_none source start end h = none (slice source start end) (let t = length-ta
     none [] e = refl
     none (b ∷ l) e = cc
 
--- in front of all stretches all their bytes stand behind a place
+-- before all stretches all their bytes come after an offset
 pub bytes-low : (source : List ℕ) (at from : ℕ) (st : List Stretch) (size : ℕ) → at ≤ from → InTurn from st size → bytes_from source st at ≡ all_bytes source st
 bytes-low source at from [] size h k = refl
 bytes-low source at from (s ∷ more) size h k =
@@ -45,14 +45,14 @@ bytes-low source at from (s ∷ more) size h k =
     let e : max at s.start ≡ s.start = omega arith in
     ap (λ n. slice source n s.end ++ bytes_from source more at) e ∙ ap (λ l. slice source s.start s.end ++ l) (bytes-low source at s.end more size (omega arith) k.2)
 
--- the last bytes begin behind the beginning of the stretches
+-- the last bytes begin after the start of the stretches
 pub place-low : (from : ℕ) (s : Stretch) (more : List Stretch) (size left : ℕ) → InTurn from (s ∷ more) size → left ≤ size_of (s ∷ more) → s.start ≤ place_with left (s ∷ more)
 place-low from s [] size left h k = let x = h.1 in omega arith
 place-low from s (t ∷ more) size left h k =
     by_size (λ p. s.start ≤ p) (size_of (t ∷ more)) left (s.end - (left - size_of (t ∷ more))) (place_with left (t ∷ more)) (λ lt. (let x = h.1 in omega arith))
     (λ le. (let i = place-low s.end t more size left h.2 le in let x = h.1 in let y = h.2.0 in omega arith))
 
--- the stretches begin where all their bytes are left
+-- the stretches begin at the offset at which all their bytes are left
 pub place-first : (source : List ℕ) (s : Stretch) (more : List Stretch) → HaveLineEnds source (s ∷ more) → place_with (size_of (s ∷ more)) (s ∷ more) ≡ s.start
 place-first source s [] l = let x = l.0 in omega arith
 place-first source s (t ∷ more) l =
@@ -190,7 +190,7 @@ byte_at source from (s ∷ more) size n h w k = go more refl (λ e. byte_at sour
                   ∙ ap (λ j. get_or (all_bytes source (s ∷ more)) j 0) (y ∙ a),
             )
 
--- the next byte stands directly behind one that ends no line
+-- the next byte is directly after a byte that does not end a line
 next_at : (source : List ℕ) (from : ℕ) (st : List Stretch) (size n : ℕ) → InTurn from st size → HaveLineEnds source st → suc n ≤ size_of st
     → is_content (get_or source (place_with (suc n) st) 0) ≡ true → suc (place_with (suc n) st) ≡ place_with n st
 next_at source from [] size n h l k c = absurd (omega arith)
@@ -213,7 +213,7 @@ next_at source from (s ∷ (t ∷ more)) size n h l k c =
         by_size (λ p. suc (place_with (suc n) (t ∷ more)) ≡ p) (size_of (t ∷ more)) n (s.end - (n - size_of (t ∷ more))) (place_with n (t ∷ more)) (λ m. absurd (omega arith)) (λ m. i)
 
 module _ (source : List ℕ) (st : List Stretch) (size : ℕ) (turn : InTurn 0 st size) (within : size ≤ length source) (lines : HaveLineEnds source st) where
-  -- the place of the first of so many last bytes, or the end
+  -- the offset of the first of the last `left` bytes, or the end
   abbrev pub IsAt : (left at : ℕ) → Type 0
   IsAt left at = (left ≤ size_of st) × (at ≡ place_with left st)
 

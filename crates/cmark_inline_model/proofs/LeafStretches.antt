@@ -1,5 +1,5 @@
--- What holds of the stretches of each paragraph holds of each leaf of a document that is derived, where it also holds of one stretch or
--- none, and of stretches that are cut at a place.
+-- A property of the stretches of each paragraph holds of each leaf of a document that is derived, if it also holds of at most one stretch,
+-- and of stretches that are cut at an offset.
 use Rattle.std.specs.Prelude.{◌==◌, nat_lt, if◌then◌else◌, take_while}
 use Rattle.std.proofs.Common.{◌≡◌, ℕ, zero, suc, ◌+◌, ◌<◌, Bool, true, false, List, [], ◌∷◌, ◌++◌, length, drop, refl, sym, ◌∙◌, subst, arith, Option, Some, None, true≢false}
 use Rattle.cmark_grammar.specs.Answers.{Lookup}
@@ -101,7 +101,7 @@ AllLeaves Holds [] = Unit {0}
 AllLeaves Holds (Given r ∷ others) = AllLeaves Holds others
 AllLeaves Holds (Content leaf ∷ others) = Holds leaf.stretches × AllLeaves Holds others
 
--- what holds of some lines, and what then holds of the stretches of a paragraph or a heading
+-- a property of some lines, and the property that the stretches of a paragraph or a heading then have
 pub record KeepsStretches (text : List ℕ) (options : Options) (Holds : List Stretch → Type 0) (AreRows : List Row → Type 0) : Type 0 where
   pub none : Holds []
   pub one : (start end : ℕ) → start < end → Holds (record { start = start; end = end } ∷ [])

@@ -1,4 +1,4 @@
--- Slots that give the same events, before and behind what quotes and marks write into them.
+-- Slots that give the same events, before and after quotes and marks are written into them.
 use Rattle.std.proofs.Common.{◌≡◌, ℕ, zero, suc, ◌-◌, List, [], ◌∷◌, drop, set, get_or, refl, sym, ap, ◌∙◌, subst, Option, Some, None}
 use Rattle.cmark_grammar.specs.Event.{Start, End, Ranged}
 use Rattle.cmark_grammar.specs.InlineReading.{event_of, over}

@@ -44,7 +44,7 @@ no_link-persists [] b h k = subst OpenNoLink (sym h) tt
 no_link-persists (o ∷ a) [] h k = absurd h
 no_link-persists (o ∷ a) (n ∷ b) h k = (still o n h.0 h.1 k.0, no_link-persists a b h.2 k.1)
 
--- what stands behind the first of some openers
+-- the openers after the first ones
 dropped_more : (n : ℕ) (os : List Opener) (o : Opener) (more : List Opener) → drop n os ≡ o ∷ more → drop (suc n) os ≡ more
 dropped_more zero [] o more e = cc
 dropped_more zero (x ∷ os) o more e = ap (drop 1) e

@@ -1,4 +1,5 @@
--- What stands behind a closing bracket ends behind an ASCII byte that ends no line, and so does markup that is sought in the source.
+-- The text after a closing bracket that belongs to a link ends after an ASCII byte that does not end a line. So does markup that is
+-- searched in the source.
 use Rattle.std.specs.Prelude.{option_map, ◌&&◌, not, nat_le, codes, take_while}
 use Rattle.std.specs.Option.{option_or}
 use Rattle.std.proofs.Common.{◌≡◌, ⊎_elim, ℕ, suc, ◌<◌, Bool, true, false, ◌==◌, ◌||◌, if◌then◌else◌, List, [], ◌∷◌, length, drop, Option, None, Some, refl, sym, subst, arith}
@@ -152,7 +153,7 @@ link_tail-behind bs = go (behind_if (λ b. b == 40) bs) (if-rest (λ b. b == 40)
         let found : ParsedRest rest (link_destination_in spaced) = parsed-on rest spaced (link_destination_in spaced) (separator-rest rest) (destination-rest spaced) in
         tail-on bs rest (tail_inside rest) (h rest refl) (titled-behind rest (link_destination_in spaced) (title_behind (link_destination_in spaced)) found (title-behind-rest rest (link_destination_in spaced) found))
 
--- ## Some bytes in front, or the first that stand anywhere
+-- ## Some bytes at the front, or the first occurrence of some bytes
 
 start-behind : (prefix bs : List ℕ) → 0 < length prefix → Front IsWord (length prefix) prefix → LeavesBehind bs (behind_start prefix bs)
 start-behind prefix bs some words =
@@ -186,7 +187,7 @@ comment-behind bs =
     (or-behind bs (behind_start (codes "->") bs) (behind_first (codes "-->") bs) (start-behind (codes "->") bs (omega arith) (word 45 refl (omega arith), (word 62 refl (omega arith), tt)))
     (first-behind (codes "-->") bs (omega arith) (word 45 refl (omega arith), (word 45 refl (omega arith), (word 62 refl (omega arith), tt)))))
 
--- what opened, behind its closer
+-- the text after the closer of markup that was opened
 abbrev OpenedBehind : List ℕ → Option (Option (List ℕ)) → Type 0
 OpenedBehind bs None = Unit {0}
 OpenedBehind bs (Some o) = LeavesBehind bs o

@@ -26,7 +26,7 @@ use Rattle.cmark_inline_model.proofs.SpanElements.{AllElements, dress-elements, 
 
 -- ## Tags
 
--- the end of an element ends a link or an image where its tag begins one
+-- the end of an element ends a link or an image if its tag begins one
 pub data TagView (t : Tag) : Type 0 where
   ALink : (is_image : Bool) (linked : Linked) → of_tag t ≡ Begins is_image linked → of_end (end_of t) ≡ Finishes is_image → TagView t
   NoLink : of_tag t ≡ Neither → of_end (end_of t) ≡ Neither → TagView t
@@ -57,7 +57,7 @@ tag-view (tag.Link linked) = ALink false linked refl refl
 tag-view (tag.Image linked) = ALink true linked refl refl
 tag-view (tag.MetadataBlock kind) = NoLink refl refl
 
--- where a wikilink leads
+-- the destination of a wikilink
 abbrev wiki_linked : (name : List ℕ) → (has_pothole : Bool) → Linked
 wiki_linked name has_pothole = linked (WikiLink has_pothole) (record { url = name; title = [] }) []
 
@@ -213,12 +213,12 @@ module _ (options : Options) where
   pub spans-apart : (parts : Parts) → HasLinksApart parts → AreApart (spans_in options parts)
   spans-apart parts h = dress_apart (siblings_of options parts) (siblings_apart parts h)
 
--- behind an event that begins or ends a link, or does neither
+-- after an event that begins or ends a link, or does neither
 abbrev Onward : (rest : List Ranged) → LinkEvent → (begun : ℕ) → Type 0
 Onward rest l begun = ApartBy l begun (λ n. LinksApart n rest)
 
 module _ (source : List ℕ) where
-  -- where no link holds another and, if some have begun, all are autolinks
+  -- if no link contains another, and, inside open links, all are autolinks
   events_apart : (spans : Inline) (begun : ℕ) (rest : List Ranged) → AreApart spans → (0 < begun → AreAutos spans) → LinksApart begun rest → LinksApart begun (inline_events source spans ++ rest)
   events_apart Nil begun rest h autos k = k
   events_apart (Single x after) begun rest h autos k =

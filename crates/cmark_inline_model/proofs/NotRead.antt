@@ -34,7 +34,7 @@ module _ (reader : Reader) (leaf : Leaf) (before : Between) (all : List Exchange
       let p = parts-one (token reader leaf) (decide reader leaf) (IsNext all) (plan_of all) (next-plan all) (end_of leaf.stretches) (entering leaf before) h.parts h.last e h.reads in
       (h.events_are ∙ ap (inline_events reader.source) (spans-one reader.options h.parts h.spans h.are ∙ ap (spans_in reader.options) p.0), h.after_is ∙ ap leaving p.1)
 
--- whatever the answers, no reading of the leaf is written so
+-- whatever the answers are, no reading of the leaf has this HTML
 abbrev pub Refused : Reader → Leaf → (wrong : List ℕ) → Type 0
 Refused reader leaf wrong = (all : List Exchange) (events : List Ranged) (after : Between) → ReadsLeaf reader (IsNext all) leaf start events after → html_of events ≡ wrong → ⊥
 
@@ -71,7 +71,7 @@ pub code_in_autolink : Refused (plain_reader no_options (codes "<http://a`b>c`")
 unfolding caseless encode chars token decide ucd_category is_unicode_white_space is_unicode_punctuation agrees pair_of rest_of_opener rest_of_closer kinds_of deactivates closed
 code_in_autolink = refused (plain_reader no_options (codes "<http://a`b>c`")) (whole (codes "<http://a`b>c`")) (codes "&lt;http://a<code>b&gt;c</code>") (λ all. refl) (λ all. refl) refl
 
--- a shortcut reference where the label of a full one has no definition
+-- a shortcut reference, although the label of the full reference has no definition
 pub shortcut_behind_full : Refused (defining_reader no_options (codes "[x][y]")) (whole (codes "[x][y]")) (codes "<a href=\"/u\">x</a>[y]")
 unfolding caseless encode chars token decide ucd_category is_unicode_white_space is_unicode_punctuation agrees pair_of rest_of_opener rest_of_closer kinds_of deactivates closed
 shortcut_behind_full = refused (defining_reader no_options (codes "[x][y]")) (whole (codes "[x][y]")) (codes "<a href=\"/u\">x</a>[y]") (λ all. refl) (λ all. refl) refl
@@ -86,7 +86,7 @@ pub without_rule_of_three : Refused (plain_reader no_options (codes "*a**b*")) (
 unfolding caseless encode chars token decide ucd_category is_unicode_white_space is_unicode_punctuation agrees pair_of rest_of_opener rest_of_closer kinds_of deactivates closed
 without_rule_of_three = refused (plain_reader no_options (codes "*a**b*")) (whole (codes "*a**b*")) (codes "<em>a</em><em>b</em>") (λ all. refl) (λ all. refl) refl
 
--- a wikilink one of whose brackets became a link
+-- a wikilink, although one of its brackets became a link
 pub wikilink_over_link : Refused (plain_reader wikilinks (codes "![[a](b)c]]")) (whole (codes "![[a](b)c]]")) (codes "<img src=\"a%5D(b)c\" alt=\"a](b)c\" />")
 unfolding caseless encode chars token decide ucd_category is_unicode_white_space is_unicode_punctuation agrees pair_of rest_of_opener rest_of_closer kinds_of deactivates closed
 wikilink_over_link = refused (plain_reader wikilinks (codes "![[a](b)c]]")) (whole (codes "![[a](b)c]]")) (codes "<img src=\"a%5D(b)c\" alt=\"a](b)c\" />") (λ all. refl) (λ all. refl) refl
@@ -101,7 +101,7 @@ pub escape_in_code : Refused (plain_reader no_options (codes "`a\\`b`")) (whole 
 unfolding caseless encode chars token decide ucd_category is_unicode_white_space is_unicode_punctuation agrees pair_of rest_of_opener rest_of_closer kinds_of deactivates closed
 escape_in_code = refused (plain_reader no_options (codes "`a\\`b`")) (whole (codes "`a\\`b`")) (codes "<code>a`b</code>") (λ all. refl) (λ all. refl) refl
 
--- code without the blanks in front of its lines
+-- code without the blanks before its lines
 pub blanks_lost_in_code : Refused (plain_reader no_options (codes "`a\n   b`")) (whole (codes "`a\n   b`")) (codes "<code>a b</code>")
 unfolding caseless encode chars token decide ucd_category is_unicode_white_space is_unicode_punctuation agrees pair_of rest_of_opener rest_of_closer kinds_of deactivates closed
 blanks_lost_in_code = refused (plain_reader no_options (codes "`a\n   b`")) (whole (codes "`a\n   b`")) (codes "<code>a b</code>") (λ all. refl) (λ all. refl) refl
@@ -126,7 +126,7 @@ pub link_around_footnote : Refused (defining_reader footnotes (codes "a [b [^1] 
 unfolding caseless encode chars token decide ucd_category is_unicode_white_space is_unicode_punctuation agrees pair_of rest_of_opener rest_of_closer kinds_of deactivates closed
 link_around_footnote = refused (defining_reader footnotes (codes "a [b [^1] c](u)")) (whole (codes "a [b [^1] c](u)")) (codes "a <a href=\"u\">b {^1} c</a>") (λ all. refl) (λ all. refl) refl
 
--- a tag that wins over a code span in front of it
+-- a tag that takes precedence over an earlier code span
 pub tag_before_code : Refused (plain_reader no_options (codes "`<a href=\"`\">`")) (whole (codes "`<a href=\"`\">`")) (codes "`<a href=\"`\">`")
 unfolding caseless encode chars token decide ucd_category is_unicode_white_space is_unicode_punctuation agrees pair_of rest_of_opener rest_of_closer kinds_of deactivates closed
 tag_before_code = refused (plain_reader no_options (codes "`<a href=\"`\">`")) (whole (codes "`<a href=\"`\">`")) (codes "`<a href=\"`\">`") (λ all. refl) (λ all. refl) refl
@@ -148,12 +148,12 @@ short_closing_run = refused (plain_reader no_options (codes "``a`b``")) (whole (
 
 -- ## Questions
 
--- where questions begin and end
+-- the starts and ends of questions
 abbrev pub places : List Exchange → List ℕ
 places [] = []
 places (x ∷ xs) = x.question.start ∷ x.question.end ∷ places xs
 
--- no reading of the whole text puts these questions, and none else
+-- no reading of the whole text puts exactly these questions
 abbrev pub NeverAsked : Reader → Between → (wrong : List Exchange) → Type 0
 NeverAsked reader before wrong = (events : List Ranged) (after : Between) → ReadsLeaf reader (IsNext wrong) (whole reader.source) before events after → after.asked ≡ wrong → ⊥
 
@@ -183,12 +183,12 @@ pub question_twice : NeverAsked (asking no_options (codes "[a][]")) start (unans
 unfolding caseless encode chars token decide ucd_category is_unicode_white_space is_unicode_punctuation agrees pair_of rest_of_opener rest_of_closer kinds_of deactivates closed
 question_twice = never_asked (asking no_options (codes "[a][]")) start (unanswered 0 3 Collapsed (codes "a") ∷ unanswered 0 3 Collapsed (codes "a") ∷ []) refl refl refl
 
--- questions in another order than that of their closing brackets
+-- questions that are not in the order of their closing brackets
 pub questions_out_of_order : NeverAsked (asking no_options (codes "[a [b] c]")) start (unanswered 0 9 Shortcut (codes "a [b] c") ∷ unanswered 3 6 Shortcut (codes "b") ∷ [])
 unfolding caseless encode chars token decide ucd_category is_unicode_white_space is_unicode_punctuation agrees pair_of rest_of_opener rest_of_closer kinds_of deactivates closed
 questions_out_of_order = never_asked (asking no_options (codes "[a [b] c]")) start (unanswered 0 9 Shortcut (codes "a [b] c") ∷ unanswered 3 6 Shortcut (codes "b") ∷ []) refl refl refl
 
--- questions in another order than that of the text
+-- questions that are not in the order of the text
 pub second_before_first : NeverAsked (asking no_options (codes "[b] [c]")) start (unanswered 4 7 Shortcut (codes "c") ∷ unanswered 0 3 Shortcut (codes "b") ∷ [])
 unfolding caseless encode chars token decide ucd_category is_unicode_white_space is_unicode_punctuation agrees pair_of rest_of_opener rest_of_closer kinds_of deactivates closed
 second_before_first = never_asked (asking no_options (codes "[b] [c]")) start (unanswered 4 7 Shortcut (codes "c") ∷ unanswered 0 3 Shortcut (codes "b") ∷ []) refl refl refl
@@ -198,7 +198,7 @@ pub label_asked_again : NeverAsked (asking no_options (codes "[a][b]")) start (u
 unfolding caseless encode chars token decide ucd_category is_unicode_white_space is_unicode_punctuation agrees pair_of rest_of_opener rest_of_closer kinds_of deactivates closed
 label_asked_again = never_asked (asking no_options (codes "[a][b]")) start (unanswered 0 6 Reference (codes "b") ∷ unanswered 3 6 Shortcut (codes "b") ∷ []) refl refl refl
 
--- a question where nothing is left of the reference expansion limit
+-- a question although the reference expansion limit is used up
 pub question_at_limit : NeverAsked (asking no_options (codes "[a]")) spent (unanswered 0 3 Shortcut (codes "a") ∷ [])
 unfolding caseless encode chars token decide ucd_category is_unicode_white_space is_unicode_punctuation agrees pair_of rest_of_opener rest_of_closer kinds_of deactivates closed
 question_at_limit = never_asked (asking no_options (codes "[a]")) spent (unanswered 0 3 Shortcut (codes "a") ∷ []) refl refl refl

@@ -8,7 +8,7 @@ use Rattle.cmark_grammar.specs.OpenBrackets.{Taken, one_nearer, nearest, used_up
 use Rattle.cmark_inline_model.specs.NestedLinks.{Persist, OpenNoLink}
 use Rattle.cmark_inline_model.proofs.LinkNesting.{persist-same}
 
--- the same brackets, as inactive as they were
+-- the same brackets, with the same inactive ones
 abbrev pub Alike : List Opener → List Opener → Type 0
 Alike [] b = b ≡ []
 Alike (o ∷ a) [] = ⊥
@@ -118,7 +118,7 @@ pub doubled-far : (os : List Opener) → IsFar (doubled os)
 doubled-far [] = tt
 doubled-far (o ∷ os) = doubled_behind_far o os
 
--- the second bracket of a doubled one stands directly behind the first, and opens no image
+-- the second bracket of a doubled one is directly after the first, and opens no image
 pub record IsTouched (os : List Opener) (taken : Taken) : Type 0 where
   pub n : ℕ
   pub second : Opener
@@ -215,7 +215,7 @@ pub inactive-opens-none : (os : List Opener) → OpenNoLink (map inactive os)
 inactive-opens-none [] = tt
 inactive-opens-none (o ∷ os) = (or_not o.is_inactive o.bracket.is_image, inactive-opens-none os)
 
--- those up to the taken one are gone
+-- the brackets up to the taken one are removed
 pub left-then : (size nearer : ℕ) (os left : List Opener) (o : Opener) (before : List Opener) → length os ≡ size → drop nearer os ≡ o ∷ before → length left ≡ length (drop (suc nearer) os) → length left + suc nearer ≡ size
 left-then size nearer os left o before e f g =
     let a = length-drop nearer os in

@@ -1,4 +1,4 @@
--- Texts with the options, computed as HTML. A footnote reference stands as its label, the footnote is `1`, and the definition `[x]: /u`.
+-- Texts with the options, computed as HTML. A footnote reference is shown as its label, the footnote is `1`, and the definition `[x]: /u`.
 use Rattle.std.specs.Prelude.{◌≡◌, true, [], ◌∷◌, ◌++◌, codes}
 use Rattle.std.specs.Str.{chars}
 use Rattle.std.proofs.Common.{refl}
@@ -49,7 +49,7 @@ footnotes_wikilinks = record no_options { footnotes = true; wikilinks = true }
 abbrev old_footnotes : Options
 old_footnotes = record no_options { footnotes = true; old_footnotes = true }
 
--- a closing tilde or caret that finds none closes the others
+-- a closing tilde or caret that finds no opening one closes the others
 tilde_and_caret : html_with strikethrough_superscript (codes "^a b~ c^") ≡ codes "^a b~ c^"
 unfolding caseless encode chars token decide ucd_category is_unicode_white_space is_unicode_punctuation agrees pair_of rest_of_opener rest_of_closer kinds_of deactivates closed
 tilde_and_caret = refl
@@ -103,12 +103,12 @@ highlight_closes_emphasis : html_with highlight (codes "==a *b== c*") ≡ codes 
 unfolding caseless encode chars token decide ucd_category is_unicode_white_space is_unicode_punctuation agrees pair_of rest_of_opener rest_of_closer kinds_of deactivates closed
 highlight_closes_emphasis = refl
 
--- a closing tilde that finds none closes no equals signs
+-- a closing tilde that finds no opening one closes no equals signs
 equals_stay_open : html_with strikethrough_highlight (codes "==a b~ c==") ≡ codes "<mark>a b~ c</mark>"
 unfolding caseless encode chars token decide ucd_category is_unicode_white_space is_unicode_punctuation agrees pair_of rest_of_opener rest_of_closer kinds_of deactivates closed
 equals_stay_open = refl
 
--- and closing equals signs that find none close no tilde
+-- and closing equals signs that find no opening ones close no tilde
 tildes_stay_open : html_with strikethrough_highlight (codes "~a b== c~") ≡ codes "<del>a b== c</del>"
 unfolding caseless encode chars token decide ucd_category is_unicode_white_space is_unicode_punctuation agrees pair_of rest_of_opener rest_of_closer kinds_of deactivates closed
 tildes_stay_open = refl
@@ -158,12 +158,12 @@ escaped_dots : html_with smart (codes "No ellipses\\.\\.\\.") ≡ codes "No elli
 unfolding caseless encode chars token decide ucd_category is_unicode_white_space is_unicode_punctuation agrees pair_of rest_of_opener rest_of_closer kinds_of deactivates closed
 escaped_dots = refl
 
--- a dollar sign opens in front of no white space
+-- a dollar sign before white space opens nothing
 spaced_dollar : html_with math (codes "$ a$") ≡ codes "$ a$"
 unfolding caseless encode chars token decide ucd_category is_unicode_white_space is_unicode_punctuation agrees pair_of rest_of_opener rest_of_closer kinds_of deactivates closed
 spaced_dollar = refl
 
--- a no-break space is none
+-- a no-break space is not white space here
 no_break_space : html_with math (codes "$" ++ ((194 ∷ 160 ∷ []) ++ (codes "a$"))) ≡ codes "<span class=\"math math-inline\">" ++ ((194 ∷ 160 ∷ []) ++ (codes "a</span>"))
 unfolding caseless encode chars token decide ucd_category is_unicode_white_space is_unicode_punctuation agrees pair_of rest_of_opener rest_of_closer kinds_of deactivates closed
 no_break_space = refl
@@ -173,7 +173,7 @@ contexts : html_with math (codes "}{$b}$") ≡ codes "}{$b}$"
 unfolding caseless encode chars token decide ucd_category is_unicode_white_space is_unicode_punctuation agrees pair_of rest_of_opener rest_of_closer kinds_of deactivates closed
 contexts = refl
 
--- a formula keeps its line endings, and the blanks behind them
+-- a formula keeps its line endings, and the blanks after them
 blanks_in_formula : html_with math (codes "$a\n   b$") ≡ codes "<span class=\"math math-inline\">a\n   b</span>"
 unfolding caseless encode chars token decide ucd_category is_unicode_white_space is_unicode_punctuation agrees pair_of rest_of_opener rest_of_closer kinds_of deactivates closed
 blanks_in_formula = refl
@@ -233,7 +233,7 @@ image_at_pipe : html_with wikilinks (codes "[[a ![b|c](u)]]") ≡ codes "<a href
 unfolding caseless encode chars token decide ucd_category is_unicode_white_space is_unicode_punctuation agrees pair_of rest_of_opener rest_of_closer kinds_of deactivates closed
 image_at_pipe = refl
 
--- brackets of a formed image open nothing any more
+-- brackets of a formed image open nothing
 doubled_in_image : html_with wikilinks (codes "![x [[y] z] w](u) q]]") ≡ codes "<img src=\"u\" alt=\"x [[y] z] w\" /> q]]"
 unfolding caseless encode chars token decide ucd_category is_unicode_white_space is_unicode_punctuation agrees pair_of rest_of_opener rest_of_closer kinds_of deactivates closed
 doubled_in_image = refl
@@ -243,7 +243,7 @@ farther_opener : html_with wikilinks (codes "[x [[a] b] c]](u)") ≡ codes "[x <
 unfolding caseless encode chars token decide ucd_category is_unicode_white_space is_unicode_punctuation agrees pair_of rest_of_opener rest_of_closer kinds_of deactivates closed
 farther_opener = refl
 
--- a doubled bracket one of which became a link opens nothing
+-- a doubled bracket opens nothing if one of its brackets became a link
 link_in_doubled : html_with wikilinks (codes "![[a](b)c]]") ≡ codes "![<a href=\"b\">a</a>c]]"
 unfolding caseless encode chars token decide ucd_category is_unicode_white_space is_unicode_punctuation agrees pair_of rest_of_opener rest_of_closer kinds_of deactivates closed
 link_in_doubled = refl
@@ -257,12 +257,12 @@ unknown_footnote : html_with footnotes (codes "no such note[^x]") ≡ codes "no 
 unfolding caseless encode chars token decide ucd_category is_unicode_white_space is_unicode_punctuation agrees pair_of rest_of_opener rest_of_closer kinds_of deactivates closed
 unknown_footnote = refl
 
--- a label over lines is none of a footnote
+-- a label with a line ending is not a footnote's
 label_over_lines : html_defining footnotes (codes "[^1\nb]") ≡ codes "[^1\nb]"
 unfolding caseless encode chars token decide ucd_category is_unicode_white_space is_unicode_punctuation agrees pair_of rest_of_opener rest_of_closer kinds_of deactivates closed
 label_over_lines = refl
 
--- but of an old one, which needs no footnote
+-- a reference to an old footnote needs no definition of its label
 old_label : html_defining old_footnotes (codes "[^7 b]") ≡ codes "{^7 b}"
 unfolding caseless encode chars token decide ucd_category is_unicode_white_space is_unicode_punctuation agrees pair_of rest_of_opener rest_of_closer kinds_of deactivates closed
 old_label = refl

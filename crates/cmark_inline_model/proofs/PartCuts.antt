@@ -1,4 +1,4 @@
--- Lists of parts, one behind the other and cut.
+-- Lists of parts, joined and cut.
 use Rattle.std.proofs.Common.{◌≡◌, ℕ, ◌+◌, Bool, true, false, ◌==◌, if◌then◌else◌, Option, Some, None, refl, sym, ap, arith, ◌∙◌}
 use Rattle.std.proofs.lemmas.Bool.{eq-eqb, eqb-true, ne_eqb}
 use Rattle.cmark_grammar.specs.Items.{Bracket}
@@ -26,7 +26,7 @@ openings-join (Form opener inside closer formed after) b = openings-join after b
 openings-join (Closing closer after) b = openings-join after b
 openings-join (Opening opener after) b = let e = openings-join after b in omega arith
 
--- a list is cut between what stands before the bracket and behind it
+-- a list is cut into the parts before the bracket and after it
 pub cut-is : (a : Parts) (opener : Bracket) (b : Parts) → cut_at (openings b) (join a (Opening opener b)) ≡ Some (record { before = a; opener = opener; inside = b })
 cut-is Nil opener b = go (openings b == openings b) (eq-eqb (openings b) (openings b) refl)
   where

@@ -1,4 +1,4 @@
--- The siblings and the spans that parts become stand in order, but for what the pipe of a wikilink cuts.
+-- The siblings and the spans of parts are in order, except for cuts by the pipe of a wikilink.
 use Rattle.std.specs.Prelude.{suc, ◌-◌, ◌==◌, nat_le, max, get_or, drop, take, if◌then◌else◌}
 use Rattle.std.specs.List.{prefix_len}
 use Rattle.std.proofs.Common.{◌≡◌, inl, inr, ℕ, ◌+◌, ◌<◌, ◌≤◌, Bool, true, false, List, [], ◌∷◌, length, Some, None, refl, sym, ap, ◌∙◌, subst, arith, length-drop, eqb-true, true≢false}
@@ -93,9 +93,9 @@ part-up from (Form opener inside closer formed after) to h =
 part-up from (Closing closer after) to h = let a = h.0 in let b = h.1 in let c = part-up closer.end after to h.2 in omega arith
 part-up from (Opening opener after) to h = let a = h.0 in let b = h.1 in let c = part-up opener.end after to h.2 in omega arith
 
--- ## Siblings behind a pipe
+-- ## Siblings after a pipe
 
--- the place of the pipe does not stand inside of a run
+-- the offset of the pipe is not inside a run
 abbrev pub FreeBy : ItemKind → (place start end : ℕ) → Type 0
 FreeBy (Delimiters run) place start end = start < place → place ≤ end → ⊥
 FreeBy (Autolink uri) place start end = ⊥
@@ -190,7 +190,7 @@ module _ (reader : Reader) (leaf : Leaf) (size : ℕ) (turn : InTurn 0 leaf.stre
   abbrev Pipe : ℕ → Type 0
   Pipe at = IsBehindPipe reader.options reader.source at
 
-  -- no run stands around a pipe
+  -- no run contains a pipe
   item_free : (place : ℕ) → Pipe place → (x : Item) (after : Inline) → UncutItem x → IsFree place after → IsFree place (item_then x.kind x after)
   item_free place pipe x after u k = go x.kind refl
     where

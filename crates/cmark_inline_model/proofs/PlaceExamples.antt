@@ -33,7 +33,7 @@ quoted_text = refl
 quoted_places : map (place_in (plain_reader no_options (codes "> a\r\n> b\r\n")) (paragraph (stretch 2 5 ∷ stretch 7 8 ∷ []))) (0 ∷ (1 ∷ (2 ∷ (3 ∷ (4 ∷ []))))) ≡ 2 ∷ (3 ∷ (4 ∷ (7 ∷ (8 ∷ []))))
 quoted_places = refl
 
--- a line that has nothing but a line feed behind its prefix is blank: it begins no stretch, and parts two paragraphs
+-- a line that has only a line feed after its prefix is blank: it begins no stretch, and separates two paragraphs
 blank_line_apart : leaves_of (codes "> a\r>\n> b") ≡ paragraph (stretch 2 3 ∷ []) ∷ (paragraph (stretch 8 9 ∷ []) ∷ [])
 unfolding blocks begin opens keeps enter underlines texts
 blank_line_apart = refl

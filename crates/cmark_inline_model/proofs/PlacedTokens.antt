@@ -1,4 +1,4 @@
--- What begins at a place of a leaf is what begins in its text, in the places of the source.
+-- The token at an offset of a leaf is the token of its text, with offsets of the source.
 use Rattle.std.specs.Prelude.{suc, zero, ◌-◌, ◌==◌, ◌&&◌, ◌||◌, not, nat_lt, if◌then◌else◌, is_none, get_or, drop, take, codes, chars, reverse, min, max}
 use Rattle.std.specs.List.{prefix_len}
 use Rattle.std.proofs.Common.{◌≡◌, ◌⊎◌, inl, inr, ⊎_elim, ◌<◌, ◌≤◌, ◌+◌, ℕ, Bool, true, false, List, [], ◌∷◌, length, Option, Some, None, refl, sym, ap, ◌∙◌, subst, arith, length-drop, drop-drop, eqb-true, true≢false}
@@ -84,7 +84,7 @@ module _ (reader : Reader) (leaf : Leaf) (text : List ℕ) (place : ℕ → ℕ)
       go j a b (inl c) = subst (λ i. place k ≤ place i) (let e : k ≡ j = omega arith in e) (omega arith)
       go j a b (inr c) = let o = h.places.order k j c (omega arith) in omega arith
 
-  -- behind a byte
+  -- after a byte
   pub at-behind : (k : ℕ) → k < length text → IsParted (length text) place (suc (place k)) (suc k)
   at-behind k lt = record { within = lt; earlier = λ j a. go j a (le_or k j); later = λ j a b. (let o = h.places.order k j a (omega arith) in omega arith) }
     where
@@ -139,7 +139,7 @@ module _ (reader : Reader) (leaf : Leaf) (text : List ℕ) (place : ℕ → ℕ)
       item_is kind s e e s0 e0 e0 (a ∙ sym x ∙ ap place (sym c)) (b ∙ (let q : place k + n ≡ suc (place k + (n - 1)) = omega arith in q) ∙ ap suc (sym y) ∙ ap (λ j. suc (place j)) (let q : k + (n - 1) ≡ e0 - 1 = omega arith in q))
       (b ∙ sym z ∙ ap place (sym g))
 
-  -- up to behind a byte that ends no line
+  -- up to the end of a byte that does not end a line
   rest_is : (kind : ItemKind) (k : ℕ) (l rest : List ℕ) → drop k text ≡ l → IsBehind l rest → item_at kind (place k) (place_of reader leaf rest) ≡ placed place (item_at kind k (place_of one alone rest))
   rest_is kind k l rest d b =
       let j = k + b.place in
@@ -159,14 +159,14 @@ module _ (reader : Reader) (leaf : Leaf) (text : List ℕ) (place : ℕ → ℕ)
       → item_at (kind f.bytes) (place k) (place_of reader leaf f.behind) ≡ placed place (item_at (kind f.bytes) k (place_of one alone f.behind))
   found_is kind k l found d b f e = rest_is (kind f.bytes) k l f.behind d (subst (ParsedBehind l) e b)
 
-  -- one of two, by the condition
+  -- one of two tokens, by the condition
   either : (b : Bool) (x y x0 y0 : Token) → (b ≡ true → x ≡ placed place x0) → (b ≡ false → y ≡ placed place y0) → (if b then x else y) ≡ placed place (if b then x0 else y0)
   either true x y x0 y0 p q = p refl
   either false x y x0 y0 p q = q refl
 
-  -- ## Behind a line ending and behind markup
+  -- ## After a line ending and after markup
 
-  -- where the text is read on
+  -- the offset at which reading continues
   pub read-on : (x k : ℕ) → IsParted (length text) place x k → read_on reader leaf x ≡ place (read_on one alone k)
   read-on x k p =
       let line : line_begins reader leaf x ≡ line_begins one alone k = ap (λ l. first_is (λ b. not (is_content b)) (reverse l)) (h.front x k p ∙ sym (before-text k p.within)) in
@@ -194,7 +194,7 @@ module _ (reader : Reader) (leaf : Leaf) (text : List ℕ) (place : ℕ → ℕ)
       by true = at _
       by false = at 0
 
-  -- no markup is sought in the source where none may open
+  -- no markup is searched in the source if none may open
   starts_not : (c : ℕ) (prefix l : List ℕ) → prefix ≡ 60 ∷ c ∷ [] → (take 2 l ≡ 60 ∷ c ∷ [] → ⊥) → starts prefix l ≡ false
   starts_not c prefix l is other = false_from_ne_true (starts prefix l) (λ t. other (ap (λ p. take (length p) l) (sym is) ∙ (bytes_eq-Decides (take (length prefix) l) prefix).0 t ∙ is))
 
@@ -203,14 +203,14 @@ module _ (reader : Reader) (leaf : Leaf) (text : List ℕ) (place : ℕ → ℕ)
       ap (λ z. if z then behind_opened (opened_in (drop 2 l)) else if starts (codes "<?") l then behind_first (codes "?>") (drop 2 l) else None) (starts_not 33 (codes "<!") l refl x)
       ∙ ap (λ z. if z then behind_first (codes "?>") (drop 2 l) else None) (starts_not 63 (codes "<?") l refl y)
 
-  -- the source has the leaf's next byte behind a byte that ends no line
+  -- the source has the leaf's next byte after a byte that does not end a line
   second_of_source : (k c : ℕ) → k < length text → is_content (get_or text k 0) ≡ true → take 2 (source_from reader leaf (place k)) ≡ 60 ∷ c ∷ [] → first_is (λ d. d == c) (drop (suc k) text) ≡ true
   second_of_source k c lt content e = go (le_or (length text) (suc k))
     where
       end : ℕ
       end = end_of leaf.stretches
 
-      -- two bytes stand before the end
+      -- two bytes are before the end
       two : suc (place k) < end
       two =
           let t = length-take 2 (source_from reader leaf (place k)) in
@@ -433,7 +433,7 @@ module _ (reader : Reader) (leaf : Leaf) (text : List ℕ) (place : ℕ → ℕ)
           ∙ ap (λ l. placed place (tag_or_text one alone k (behind_tag no_prefix l))) (sym from_own)
           ∙ ap (λ o. placed place (markup_or one alone k o tag0)) (sym (no-own e n))))
 
-      -- ## Runs, formulas, and what smart punctuation reads
+      -- ## Runs, formulas, and smart punctuation
       character_before_is : character_before reader leaf (place k) ≡ character_before one alone k
       character_before_is = ap (λ l. first_of (reverse (chars l))) before_here
 
@@ -584,7 +584,7 @@ module _ (reader : Reader) (leaf : Leaf) (text : List ℕ) (place : ℕ → ℕ)
           opens_is : (is_image : Bool) (n : ℕ) → Leads IsWord n (b ∷ bs) → Opens (bracket is_image (place k) (place k + n)) ≡ placed place (Opens (bracket is_image k (k + n)))
           opens_is is_image n w = ap (λ x. Opens (bracket is_image (place k) x)) (sym (steps n k (b ∷ bs) here (content-leads n (b ∷ bs) w)))
 
-  -- what begins there, but for markup that is sought in the source
+  -- the token there, except for markup that is searched in the source
   pub begins-at : (k : ℕ) → k ≤ length text → may_open_markup reader.options.email_autolinks (drop k text) ≡ false → begins_at reader leaf (place k) ≡ placed place (begins_at one alone k)
   begins-at k le none = ap (begins reader leaf (place k)) (from-place k le) ∙ go (drop k text) refl ∙ ap (λ l. placed place (begins one alone k l)) (sym (from-text k))
     where

@@ -1,4 +1,4 @@
--- A leaf of one line whose bytes all stand for themselves is read as one text.
+-- A leaf of one line whose bytes are all plain is read as one text.
 use Rattle.std.specs.Prelude.{suc, ◌-◌, ◌==◌, ◌||◌, not, if◌then◌else◌, get_or, drop, max, take_while, option_map}
 use Rattle.std.proofs.Common.{◌≡◌, inl, ℕ, ◌+◌, ◌<◌, ◌≤◌, Bool, true, false, List, [], ◌∷◌, ◌++◌, ◌&&◌, length, Option, Some, None, refl, sym, ap, ◌∙◌, subst, arith, length-drop, eqb-true, true≢false, append-nil}
 use Rattle.std.proofs.Math.Seq.{drop-cons}
@@ -37,7 +37,7 @@ if_so b x y e = ap (λ z. if z then x else y) e
 abbrev EndNoLine : List ℕ → Type 0
 EndNoLine text = (k : ℕ) → k < length text → is_content (get_or text k 0) ≡ true
 
--- behind blanks no line ends
+-- no line ends after blanks
 no_ending : (l : List ℕ) → EndNoLine l → behind_ending l ≡ None
 no_ending [] h = refl
 no_ending (b ∷ bs) h = go (b == 10) (b == 13) (h 0 (omega arith))

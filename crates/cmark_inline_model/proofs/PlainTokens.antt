@@ -1,4 +1,4 @@
--- Bytes that stand for themselves without a gap are one text, in the leaf as in its text.
+-- Plain bytes without a gap are one text, in the leaf as in its text.
 use Rattle.std.specs.Prelude.{suc, zero, ◌-◌, ◌==◌, ◌&&◌, ◌||◌, not, nat_lt, if◌then◌else◌, is_none, drop, take, codes}
 use Rattle.std.specs.List.{prefix_len}
 use Rattle.std.proofs.Common.{◌≡◌, ◌⊎◌, inl, inr, ◌<◌, ◌≤◌, ◌+◌, ℕ, Bool, true, false, List, [], ◌∷◌, length, Option, Some, None, refl, sym, ap, ◌∙◌, subst, arith, eqb-true, true≢false}
@@ -34,7 +34,7 @@ le_or a b = go (nat_lt b a) refl
     go false e = inl (ltb-false b a e)
 
 module _ (reader : Reader) (leaf : Leaf) where
-  -- ## Behind bytes that stand for themselves the text is read on where they end
+  -- ## After plain bytes reading continues where they end
   abbrev pub Shaped : Token → Type 0
   Shaped (Stands x resume) = is_plain x.kind ≡ true → x.end ≡ resume
   Shaped (Opens b) = Unit {0}
@@ -222,11 +222,11 @@ module _ (reader : Reader) (leaf : Leaf) (text : List ℕ) (place : ℕ → ℕ)
       go (inr c) x = let o = h.places.order k j c a in
           false_from_ne_true (place j == place k) (λ t. (let q = eqb-true (place j) (place k) t in omega arith)) ∙ sym (false_from_ne_true (j == k) (λ t. (let q = eqb-true j k t in omega arith)))
 
-  -- a text ends directly behind a byte
+  -- a text ends directly after a byte
   abbrev Ended : ℕ → Type 0
   Ended k = place k ≡ suc (place (k - 1))
 
-  -- what a text is at a place of the text, and how it ends
+  -- a text at an offset of the text, and its end
   record GoesOn (t t0 : Token) (k : ℕ) : Type 0 where
     same : (more more0 : ℕ → ℕ) → ((x : ℕ) → x ≤ length text → Ended x → more (place x) ≡ place (more0 x)) → goes_on reader leaf t (place k) more ≡ place (goes_on one alone t0 k more0)
     ends : (more0 : ℕ → ℕ) → Ended k → ((x : ℕ) → x ≤ length text → Ended x → Ended (more0 x)) → Ended (goes_on one alone t0 k more0)
@@ -307,7 +307,7 @@ module _ (reader : Reader) (leaf : Leaf) (text : List ℕ) (place : ℕ → ℕ)
   longest_is (Closes b) k o s p = refl
   longest_is Ends k o s p = refl
 
-  -- the token there, but for markup that is sought in the source
+  -- the token there, except for markup that is searched in the source
   pub token-at : (k : ℕ) → k ≤ length text → may_open_markup reader.options.email_autolinks (drop k text) ≡ false → token reader leaf (place k) ≡ placed place (token one alone k)
   unfolding token
   token-at k le none =
@@ -315,7 +315,7 @@ module _ (reader : Reader) (leaf : Leaf) (text : List ℕ) (place : ℕ → ℕ)
       ap (longest reader leaf) q
       ∙ longest_is (begins_at one alone k) k (onward k) (begins-shaped one alone k (from one alone k)) (subst (Shaped reader leaf) q (begins-shaped reader leaf (place k) (from reader leaf (place k))))
 
--- bytes that stand for themselves up to a place where none begin that do are one text
+-- plain bytes, up to an offset at which no plain byte begins, are one text
 module _ (reader : Reader) (leaf : Leaf) where
   plain_reaches : (n at to : ℕ) → at ≤ to → to - at ≤ n → ((k : ℕ) → at ≤ k → k < to → StandsUpTo reader leaf k to) → StopsAt reader leaf to → plain_end reader leaf n at ≡ to
   plain_reaches zero at to le few all stops = omega arith

@@ -1,4 +1,4 @@
--- What is left of a text can be read, with the answers that a plan gives.
+-- The rest of a text can be read with the answers of a plan.
 use Rattle.std.proofs.Common.{◌≡◌, ℕ, List, [], ◌∷◌, ◌++◌, length, refl, sym, ap, ◌∙◌, subst, append_assoc, append-nil}
 use Rattle.cmark_grammar.specs.BracketDecisions.{decide}
 use Rattle.cmark_grammar.specs.BracketReading.{Comes, Reads}
@@ -20,7 +20,7 @@ use Rattle.cmark_inline_model.proofs.DocumentLaws.{all-next, all-read}
 use Rattle.cmark_inline_model.proofs.ForwardLaws.{leaf-forward}
 
 module _ (plan : Plan) where
-  -- one answer more
+  -- one more answer
   planned-on : (before xs : List Exchange) (x : Exchange) → AreByPlan plan before xs → x.answer ≡ plan (before ++ xs) x.question → AreByPlan plan before (xs ++ (x ∷ []))
   planned-on before [] x h e = (e ∙ ap (λ l. plan l x.question) (append-nil before), tt)
   planned-on before (y ∷ ys) x h e = (h.0, planned-on (before ++ (y ∷ [])) ys x h.1 (e ∙ ap (λ l. plan l x.question) (sym (append_assoc before (y ∷ []) ys))))
@@ -51,7 +51,7 @@ module _ (plan : Plan) where
     all-planned (Given r ∷ others) before after events k h = all-planned others before after k.0 k.1 h
     all-planned (Content leaf ∷ others) before after events k h = all-planned others k.2 after k.1 k.4 (leaf-planned leaf before k.2 k.0 k.3 h)
 
--- with the plan's answers some events are left
+-- with the plan's answers the rest has some events
 pub left-planned : (reader : Reader) (segments : List Segment) (expansion_left : ℕ) (plan : Plan) → AreLeavesInTurn (length reader.source) segments
     → (exchanges : List Exchange) × (events : List Ranged) × AreByPlan plan [] exchanges × Left reader segments expansion_left exchanges events
 left-planned reader segments expansion_left plan turn =

@@ -22,7 +22,7 @@ use Rattle.cmark_inline_model.specs.LeafModel.{leaf_events, leaf_after}
 use Rattle.cmark_inline_model.specs.ReadingLinks.{reference_costs, spent_before}
 use Rattle.cmark_inline_model.proofs.SampleReading.{never, plain_reader, defining_reader, asking, stretch, paragraph, whole, start, html_of, questions, answered_html, leading}
 
--- the second question alone is answered
+-- only the second question has an answer other than None
 abbrev second : Plan
 second [] question = None
 second (first ∷ asked) question = Some (record { url = codes "/u"; title = [] })
@@ -73,7 +73,7 @@ not_at_link : questions never (codes "[a [b](c)] [d](e)") ≡ []
 unfolding caseless encode chars token decide ucd_category is_unicode_white_space is_unicode_punctuation agrees pair_of rest_of_opener rest_of_closer kinds_of deactivates closed
 not_at_link = refl
 
--- an answer makes a link, and the brackets before it inactive
+-- an answer makes a link, and makes the brackets before it inactive
 answered : answered_html second (codes "[x [a] [b] c][]") ≡ codes "[x [a] <a href=\"/u\">b</a> c][]"
 unfolding caseless encode chars token decide ucd_category is_unicode_white_space is_unicode_punctuation agrees pair_of rest_of_opener rest_of_closer kinds_of deactivates closed
 answered = refl
@@ -82,14 +82,14 @@ my_website : answered_html website (codes "Hello world, check out [my website][]
 unfolding caseless encode chars token decide ucd_category is_unicode_white_space is_unicode_punctuation agrees pair_of rest_of_opener rest_of_closer kinds_of deactivates closed
 my_website = refl
 
--- a reference that was answered has a type of its own
+-- a reference that the callback answered has a type of its own
 answered_types : map Ranged.event (leaf_events (asking no_options (codes "[a][]")) website (whole (codes "[a][]")) start)
     ≡ Start (Link (leading CollapsedUnknown (codes "http://example.com") (codes "my example website") (codes "a"))) ∷ (Text (codes "a")
     ∷ (End (end_tag (Link (leading CollapsedUnknown (codes "http://example.com") (codes "my example website") (codes "a")))) ∷ []))
 unfolding caseless encode chars token decide ucd_category is_unicode_white_space is_unicode_punctuation agrees pair_of rest_of_opener rest_of_closer kinds_of deactivates closed
 answered_types = refl
 
--- where the limit is spent nothing is asked
+-- if the limit is used up, no question is put
 limit_spent : (leaf_after (asking no_options (codes "[a]")) never (whole (codes "[a]")) (record { expansion_left = 0; asked = [] })).asked ≡ []
 unfolding caseless encode chars token decide ucd_category is_unicode_white_space is_unicode_punctuation agrees pair_of rest_of_opener rest_of_closer kinds_of deactivates closed
 limit_spent = refl
@@ -99,7 +99,7 @@ limit_overspent : html_of (leaf_events (defining_reader no_options (codes "[x] [
 unfolding caseless encode chars token decide ucd_category is_unicode_white_space is_unicode_punctuation agrees pair_of rest_of_opener rest_of_closer kinds_of deactivates closed
 limit_overspent = refl
 
--- an answer takes them off too
+-- the destination and title of an answer are subtracted from the limit too
 limit_of_questions : (leaf_after (asking no_options (codes "[a] [b]")) website (whole (codes "[a] [b]")) (record { expansion_left = 30; asked = [] })).asked ≡ record { question = question 0 3 Shortcut (codes "a"); answer = Some example } ∷ []
 unfolding caseless encode chars token decide ucd_category is_unicode_white_space is_unicode_punctuation agrees pair_of rest_of_opener rest_of_closer kinds_of deactivates closed
 limit_of_questions = refl
@@ -114,13 +114,13 @@ quiet : (leaf_after (plain_reader no_options (codes "[a]")) website (whole (code
 unfolding caseless encode chars token decide ucd_category is_unicode_white_space is_unicode_punctuation agrees pair_of rest_of_opener rest_of_closer kinds_of deactivates closed
 quiet = refl
 
--- the questions of a leaf stand behind those of the leaf before, and what is left of the limit goes over
+-- the questions of a leaf come after those of the leaf before, and the rest of the limit is passed on
 next_leaf : map Exchange.question (leaf_after (asking no_options (codes "[a] [b]")) never (paragraph (stretch 4 7 ∷ [])) (leaf_after (asking no_options (codes "[a] [b]")) never (paragraph (stretch 0 3 ∷ [])) start)).asked
     ≡ question 0 3 Shortcut (codes "a") ∷ (question 4 7 Shortcut (codes "b") ∷ [])
 unfolding caseless encode chars token decide ucd_category is_unicode_white_space is_unicode_punctuation agrees pair_of rest_of_opener rest_of_closer kinds_of deactivates closed
 next_leaf = refl
 
--- of three references with a destination of 60,000 bytes two fit into a limit of 100,000: the third begins where nothing is left
+-- of three references with a destination of 60,000 bytes two fit into a limit of 100,000: at the third the limit is used up
 abbrev long : List ℕ → Option Definition
 long label = Some (record { label = codes "x"; destination = replicate 60000 117; title = None; start = 0; end = 0 })
 

@@ -1,4 +1,4 @@
--- Each question of a leaf is put where the references before it left something of the reference expansion limit.
+-- Each question of a leaf is put while the references so far have not used up the reference expansion limit.
 use Rattle.std.specs.Prelude.{zero, suc}
 use Rattle.std.proofs.Common.{◌≡◌, ℕ, ◌<◌, ◌≤◌, [], ◌++◌, refl, sym, subst, arith, append-nil}
 use Rattle.cmark_grammar.specs.BracketReading.{Reads}
@@ -24,11 +24,11 @@ module _ (token : ℕ → Token) (decide : State → (closer : Bracket) → Deci
     pub turns : Turns token decide Says size Holds s t
     pub below : PutInTurn (IsBelow parts s.expansion_left) s.at turns.more t.at
 
-  -- what is behind a place costs nothing up to it
+  -- the parts after an offset cost nothing up to it
   later : (s : State) (parts : Parts) (t : State) → s.at ≤ size → Reads token decide Says s parts t → (place : ℕ) → place < s.at → spent_to place parts ≡ 0
   later s parts t w h place k = let stands = reading-stands token decide Says size keeps.ranges s parts t s.at (omega arith) w h in spent-none place s.at parts t.at stands.0 k
 
-  -- a question is put where something is left
+  -- a question is put if the limit is not used up
   put : (Closer : ℕ → Type 0) (s t : State) (d : Decided token decide Says size Holds s t) → (0 < s.expansion_left → Closer s.at) → PutInTurn Closer s.at d.turns.more t.at
   put Closer s t d f = go s.expansion_left refl
     where

@@ -29,7 +29,7 @@ pub turn-both : (Closer : ℕ → Type 0) (from mid to : ℕ) (first second : Li
 turn-both Closer from mid to [] second h k = turn-wide Closer Closer (λ place c. c) from mid second to to h (omega arith) k
 turn-both Closer from mid to (x ∷ xs) second h k = (h.0, h.1, h.2, h.3, h.4, turn-both Closer (suc h.0) mid to xs second h.5 k)
 
--- what holds of each place there is
+-- a property of each offset there
 pub turn-within : (Closer Other : ℕ → Type 0) (from : ℕ) (asked : List Exchange) (to : ℕ) → ((place : ℕ) → from ≤ place → place < to → Closer place → Other place) → PutInTurn Closer from asked to → PutInTurn Other from asked to
 turn-within Closer Other from [] to f h = h
 turn-within Closer Other from (x ∷ xs) to f h =
@@ -59,7 +59,7 @@ begin-drop at zero os h = h
 begin-drop at (suc n) [] h = tt
 begin-drop at (suc n) (o ∷ os) h = begin-drop at n os h.1
 
--- what a decision leaves of them
+-- the opening brackets after a decision
 begin_after : (at : ℕ) (os new : List Opener) (result : Result) → ResultsApart os result new → FitsBy (length os) (length new) result → BeginUpTo at os → BeginUpTo at new
 begin_after at os new StaysText apart fits h = begin_persist at os new apart h
 begin_after at os new (Forms nearer formed) apart fits h = go (drop nearer os) refl (begin-drop at nearer os h)
@@ -80,7 +80,7 @@ pays_less : (before after : ℕ) (result : Result) → PaysBy before result afte
 pays_less before after StaysText h = omega (arith, h)
 pays_less before after (Forms nearer formed) h = spends_less (cost formed) before after h
 
--- a question of a decision about the text from one of the opening brackets to behind the closing one, where something is left
+-- a question about the text from one of the opening brackets to the end of the closing one, put while the limit is not used up
 pub record IsAbout (s : State) (closer : Bracket) (q : Question) : Type 0 where
   pub start : (at : ℕ) → BeginUpTo at s.openers → q.start ≤ at
   pub end : closer.end ≤ q.end
@@ -94,7 +94,7 @@ module _ (token : ℕ → Token) (decide : State → (closer : Bracket) → Deci
   abbrev pub IsCloserAt : ℕ → Type 0
   IsCloserAt place = (closer : Bracket) × (token place ≡ Closes closer)
 
-  -- what tokens and decisions keep for it
+  -- the facts that tokens and decisions preserve for this
   pub record KeepsTurn : Type 0 where
     pub forward : IsForward token decide size
     pub recorded : IsRecorded decide
@@ -104,7 +104,7 @@ module _ (token : ℕ → Token) (decide : State → (closer : Bracket) → Deci
     pub asks : (s : State) (closer : Bracket) → token s.at ≡ Closes closer → AsksAbout Holds s closer (decide s closer)
     pub closes : (at : ℕ) (closer : Bracket) → token at ≡ Closes closer → at < closer.end
 
-  -- behind the questions of one state come those of another
+  -- the questions of one state are followed by those of another
   pub record Turns (s t : State) : Type 0 where
     pub more : List Exchange
     pub added : t.asked ≡ s.asked ++ more

@@ -82,7 +82,7 @@ cdata_over_prefixes : events_in no_options (codes "> x <![CDATA[ a\n> b ]]> c") 
 unfolding caseless encode chars token decide ucd_category is_unicode_white_space is_unicode_punctuation agrees pair_of rest_of_opener rest_of_closer kinds_of deactivates closed
 cdata_over_prefixes = refl
 
--- a tab that a prefix cuts goes with the prefix
+-- a tab that a prefix cuts belongs to the prefix
 cut_tab : events_in no_options (codes "- a `b\n\tc`") (paragraph (stretch 2 7 ∷ stretch 8 10 ∷ [])) ≡ says 2 4 (codes "a ") ∷ (at 4 10 (Code (codes "b c")) ∷ [])
 unfolding caseless encode chars token decide ucd_category is_unicode_white_space is_unicode_punctuation agrees pair_of rest_of_opener rest_of_closer kinds_of deactivates closed
 cut_tab = refl
@@ -172,7 +172,7 @@ wikilink_in_cell : events_in wikilinks (codes "a|b\n-|-\n[[a\\|b]]|c") (cell 8 1
 unfolding caseless encode chars token decide ucd_category is_unicode_white_space is_unicode_punctuation agrees pair_of rest_of_opener rest_of_closer kinds_of deactivates closed
 wikilink_in_cell = refl
 
--- in a cell an escaped pipe is a literal one, in code too, and behind two backslashes
+-- in a cell an escaped pipe is a literal one, in code too, and after two backslashes
 pipes_in_cell : events_in no_options (codes "`a\\|b` \\| \\\\| c") (cell 0 15) ≡ at 0 6 (Code (codes "a|b")) ∷ (says 6 7 (codes " ") ∷ (says 8 10 (codes "| ") ∷ (says 12 15 (codes "| c") ∷ [])))
 unfolding caseless encode chars token decide ucd_category is_unicode_white_space is_unicode_punctuation agrees pair_of rest_of_opener rest_of_closer kinds_of deactivates closed
 pipes_in_cell = refl

@@ -1,4 +1,4 @@
--- The events of a reading are balanced: each start has its end, with the same bytes.
+-- The events of a reading are balanced: each start has its end, with the same range.
 use Rattle.cmark_inline_model.proofs.DocumentLeaves.{begins-start, StartsWith}
 use Rattle.std.specs.Prelude.{map}
 use Rattle.std.proofs.Common.{◌≡◌, ℕ, List, [], ◌∷◌, ◌++◌, refl, sym, ap, subst, ◌∙◌, zero, suc, ◌⊎◌, inl, inr, ⊎_elim}
@@ -21,7 +21,7 @@ use Rattle.cmark_grammar.proofs.BalanceLaws.{IsFit, fit}
 use Rattle.cmark_inline_model.specs.ReadingRanges.{ranged, Matched, NoMore, Alone as AloneEvent, Pair}
 use Rattle.cmark_grammar.specs.Tag.{Tag}
 
--- an event of its own behind so many others
+-- an event of its own after n others
 abbrev pub put : ℕ → Ranged → List Ranged → List Ranged
 put zero r events = r ∷ events
 put (suc n) r [] = r ∷ []
@@ -82,11 +82,11 @@ module _ (source : List ℕ) where
   spans_matched (Element_around tag start end inside after) = Pair tag start end (inline_events source inside) (inline_events source after) (spans_matched inside) (spans_matched after)
 
 module _ (reader : Reader) (Says : Saying) where
-  -- what is read of some segments, behind any others
+  -- the events of some segments, after any others
   abbrev Balances : List Segment → Type 0
   Balances others = (before after : Between) (events : List Ranged) → ReadsAll reader Says others before events after → Matched events
 
-  -- segments one behind the other are read so
+  -- segments that are read one after the other
   pub record Splits (a b : List Segment) (before : Between) (events : List Ranged) (after : Between) : Type 0 where
     pub between : Between
     pub first : List Ranged

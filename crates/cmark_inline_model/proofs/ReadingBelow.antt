@@ -1,4 +1,4 @@
--- Each question of a text is put where the references before it, in its leaf and in the leaves before, left something of the limit.
+-- Each question of a text is put while the references before it, in all leaves, have not used up the limit.
 use Rattle.std.specs.Prelude.{◌-◌}
 use Rattle.std.proofs.Common.{◌≡◌, inl, inr, ℕ, ◌+◌, ◌<◌, ◌≤◌, List, [], ◌∷◌, ◌++◌, length, refl, sym, ap, subst, arith, ◌∙◌, append-nil, append_assoc}
 use Rattle.cmark_grammar.specs.BracketDecisions.{decide}
@@ -68,7 +68,7 @@ module _ (reader : Reader) (Says : Saying) where
           let x = t.0 in
           spent-none place start.at h.parts h.last.at stands.0 (omega arith)
 
-  -- what comes behind a place costs nothing before it
+  -- the events after an offset cost nothing before it
   all_none : (others : List Segment) (from to : ℕ) (before after : Between) (events : List Ranged) → LeavesRise from others to → AreNeither others → ReadsAll reader Says others before events after
       → (place : ℕ) → place < from → spent_before place events ≡ 0
   all_none [] from to before after events r n h place w = ap (spent_before place) h.0

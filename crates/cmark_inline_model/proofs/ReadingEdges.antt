@@ -1,4 +1,4 @@
--- In a source of whole characters the parts of a leaf, and what brackets form, begin and end where characters do.
+-- If the source is UTF-8, the parts of a leaf, and the constructs that brackets form, begin and end at character boundaries.
 use Rattle.std.specs.Prelude.{suc, zero, ◌==◌, get_or, drop, IsUtf8}
 use Rattle.std.proofs.Common.{◌≡◌, inl, inr, ◌<◌, ◌+◌, ℕ, true, List, [], ◌∷◌, length, Option, Some, None, refl, sym, ap, ◌∙◌, subst, arith, length-drop, drop-drop, eqb-true}
 use Rattle.std.proofs.lemmas.List.{get_or-drop}
@@ -114,7 +114,7 @@ module _ (reader : Reader) (leaf : Leaf) (at : IsPlaced reader leaf) (utf8 : IsU
             is = ap suc a.is ∙ sym next;
           }
 
-  -- what is formed ends there; a wikilink's second opening bracket does too
+  -- a construct ends at a character boundary; so does a wikilink's second opening bracket
   abbrev FormedEdges : (opener : Bracket) → Formed → Type 0
   FormedEdges opener (Linking target) = Edge target.end
   FormedEdges opener (Footnote label end) = Edge end
@@ -175,7 +175,7 @@ module _ (reader : Reader) (leaf : Leaf) (at : IsPlaced reader leaf) (utf8 : IsU
     pub parts_are : PartsEdged parts
 
   module _ (Says : Saying) where
-    -- the openers behind a decision are among those before
+    -- the openers after a decision are among those before it
     kept : (s : State) (openers : List Opener) (t : State) → Persist openers t.openers → AreGood openers → AreGood t.openers
     kept s openers t p g = good-persist openers t.openers p g
 

@@ -1,5 +1,4 @@
--- What decisions keep, readings keep: what is formed, what it takes off the reference expansion limit, where it stands and how many
--- questions it puts.
+-- Readings preserve the facts that decisions preserve: about the constructs formed, their cost, their ranges, and the number of questions.
 use Rattle.std.specs.Prelude.{◌-◌, sum}
 use Rattle.std.proofs.Common.{◌≡◌, ℕ, suc, ◌+◌, ◌<◌, ◌≤◌, List, [], ◌∷◌, ◌++◌, length, sym, ap, subst, arith, ◌∙◌}
 use Rattle.std.proofs.lemmas.List.{length-append}
@@ -17,7 +16,7 @@ use Rattle.cmark_inline_model.proofs.BracketQuestions.{comes-adds, added-before,
 use Rattle.cmark_inline_model.proofs.LinkNesting.{always-comes}
 
 module _ (token : ℕ → Token) (decide : State → (closer : Bracket) → Decision) (Says : Saying) where
-  -- what is formed is right with all questions that are put in the end, where further ones change nothing
+  -- a construct is right with all questions of the reading, if further questions change nothing
   pub formed-hold : (Holds : List Exchange → Formed → Type 0) → ((asked more : List Exchange) (formed : Formed) → Holds asked formed → Holds (asked ++ more) formed)
       → IsRecorded decide → FormsOnly Holds decide → (all rest : List Exchange) (s : State) (parts : Parts) (t : State) → all ≡ t.asked ++ rest
       → Reads token decide Says s parts t → AllFormed (Holds all) parts

@@ -1,4 +1,5 @@
--- The events of a reading stand in order in the text, each element around what is inside it, but for what the pipe of a wikilink cuts.
+-- The events of a reading are in order in the text, and each element contains the events inside it, except for cuts by the pipe of a
+-- wikilink.
 use Rattle.std.specs.Prelude.{zero, suc, ◌-◌, get_or}
 use Rattle.std.proofs.Common.{◌≡◌, ⊎_elim, inl, inr, ℕ, ◌<◌, ◌≤◌, true≢false, List, [], ◌∷◌, ◌++◌, length, refl, sym, ap, subst, arith, ◌∙◌, append_assoc, append-nil, zero, suc}
 use Rattle.std.proofs.lemmas.Bool.{eq-eqb}
@@ -68,7 +69,7 @@ module _ (options : Options) (text : List ℕ) where
   inline_placed source from (SpanAround tag start end inside after) to h =
       Element from to tag h.0 start end (inline_events source inside) (inline_events source after) h.1 (⊎_elim (λ e. inl e) (λ c. inr (inl c)) h.2) h.3 (inline_placed source h.0 inside end h.4) (inline_placed source end after to h.5)
 
--- where nothing begins there are no parts
+-- if no token begins, there are no parts
 pub no-parts : (token : ℕ → Token) (decide : State → (closer : Bracket) → Decision) (Says : Saying) → ((at : ℕ) → token at ≡ Ends) → (s : State) (parts : Parts) (t : State)
     → Reads token decide Says s parts t → parts ≡ NoParts
 no-parts token decide Says ends s NoParts t h = refl
@@ -77,7 +78,7 @@ no-parts token decide Says ends s (Form opener inside closer formed after) t h =
 no-parts token decide Says ends s (Closing closer after) t h = absurd (let e = sym (ends s.at) ∙ h.closes in let d : ⊥ = cc in d)
 no-parts token decide Says ends s (Opening opener after) t h = absurd (let e = sym (ends s.at) ∙ h.0 in let d : ⊥ = cc in d)
 
--- spans between the beginning and the end of some stretches stand where the stretches do
+-- spans between the start and the end of some stretches are between the offsets of the stretches
 wider : (Pipe : ℕ → Type 0) (from : ℕ) (stretches : List Stretch) (to at : ℕ) (spans : Inline) → InTurn from stretches to → at ≤ end_of stretches → (stretches ≡ [] → spans ≡ NoSpans)
     → InlineOrder Pipe (begin_of stretches) spans at → InlineOrder Pipe from spans to
 wider Pipe from [] to at spans turn w none h = subst (λ l. InlineOrder Pipe from l to) (sym (none refl)) turn
@@ -87,7 +88,7 @@ wider Pipe from (s ∷ more) to at spans turn w none h =
     inline-wide Pipe from s.start spans at to x (omega arith) h
 
 module _ (options : Options) (text : List ℕ) where
-  -- a task marker stands before these events, or as the first in the element that begins with them
+  -- a task marker comes before these events, or first in the element that begins with them
   task_before : (from : ℕ) (m : Ranged) (events : List Ranged) (to : ℕ) → IsSingle m.event → from ≤ m.start → m.start ≤ m.end → Places options text m.end events to → Places options text from (m ∷ events) to
   task_before from m events to single a b k = Single from to m events single a b k
 
@@ -203,7 +204,7 @@ module _ (reader : Reader) (Says : Saying) where
   node_placed (First event) node inside from fits a b k = λ bound lines before after events h. subst (λ es. Stand from es node.end) (sym h.0) (Nothing from node.end (omega arith))
   node_placed Silent node inside from fits a b k = λ bound lines before after events h. subst (λ es. Stand from es node.end) (sym h.0) (Nothing from node.end (omega arith))
 
-  -- a task marker and what is read behind it
+  -- a task marker and the events after it
   first_placed : (m : Ranged) (document : BlockDocument) (from to : ℕ) → IsTask m.event → IsSingle m.event → from ≤ m.start → m.start ≤ m.end → Placed m.end to (segments document) → Placed from to (first_of_segments (starts_before document) (Given m) (segments document))
   first_placed m document from to task single a b k = go (starts_before document) (begins-start document)
     where
@@ -226,7 +227,7 @@ module _ (reader : Reader) (Says : Saying) where
       go (suc (suc zero)) b = subst (λ l. Placed from to (first_of_segments 2 (Given m) l)) (sym b.3) (third b.0 b.1 b.2 b.4 b.5 b.6 (subst (λ l. Placed m.end to l) b.3 k))
       go (suc (suc (suc n))) b = absurd b
 
-  -- a node and those behind it
+  -- a node and the later ones
   both_placed : (first second : List Segment) (from mid to : ℕ) → mid ≤ to → Placed from mid first → Placed mid to second → Placed from to (first ++ second)
   both_placed first second from mid to on k l = λ bound lines before last events h.
       let cut = lines-split reader.source first second lines in

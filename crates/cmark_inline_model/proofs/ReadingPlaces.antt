@@ -1,5 +1,5 @@
--- Each place that a reading of a leaf reaches is that of a byte or the leaf's end; so no pipe stands among the bytes of its delimiter
--- runs; and where a wikilink has a display, a pipe stands directly before it.
+-- Each offset that a reading of a leaf reaches is the offset of a byte or the leaf's end. So the bytes of its delimiter runs contain no
+-- pipe, and the display of a wikilink comes directly after a pipe.
 use Rattle.std.specs.Prelude.{zero, suc, ◌-◌, ◌==◌, if◌then◌else◌, get_or, drop, take}
 use Rattle.std.proofs.Common.{◌≡◌, inl, inr, ℕ, ◌+◌, ◌<◌, ◌≤◌, Bool, true, false, List, [], ◌∷◌, length, Option, Some, None, refl, sym, ap, subst, arith, ◌∙◌, eqb-true}
 use Rattle.std.proofs.lemmas.List.{length-take, get_or-drop}
@@ -28,7 +28,7 @@ use Rattle.cmark_inline_model.proofs.TokenPlaces.{IsPlace, next-place, rest-plac
 
 -- ## Pipes
 
--- the pipe in front of a display
+-- the pipe before a display
 pub record IsPipe (at : ℕ) (bs : List ℕ) (found : ℕ) : Type 0 where
   pub behind : at < found
   pub within : found ≤ at + length bs
@@ -55,7 +55,7 @@ take_get (suc n) zero (b ∷ l) h = refl
 take_get (suc n) (suc i) (b ∷ l) h = take_get n i l (omega arith)
 
 module _ (reader : Reader) where
-  -- a display begins directly behind a pipe, and not behind the closing bracket
+  -- a display begins directly after a pipe, and not after the closing bracket
   abbrev pub DisplayBy : Formed → (closer : Bracket) → Type 0
   DisplayBy (Linking target) closer = Unit {0}
   DisplayBy (Footnote label end) closer = Unit {0}
@@ -110,7 +110,7 @@ module _ (reader : Reader) (leaf : Leaf) (size : ℕ) (turn : InTurn 0 leaf.stre
   abbrev pub Place : ℕ → Type 0
   Place at = IsPlace reader leaf size turn within lines at
 
-  -- ## What a closing bracket comes to
+  -- ## The outcome of a closing bracket
 
   below : (n : ℕ) (o : Option LinkTail) (tail : LinkTail) → TailBelow n o → o ≡ Some tail → length tail.behind < n
   below n None tail h e = cc

@@ -1,4 +1,5 @@
--- The questions of each reading of a text: in turn, about labels without a definition, and none at an reference expansion limit of nothing.
+-- The questions of each reading of a text: they are in order, about labels without a definition, and there are none if the reference
+-- expansion limit is 0.
 use Rattle.std.proofs.Common.{◌≡◌, inl, inr, ℕ, ◌≤◌, List, [], ◌∷◌, ◌++◌, length, refl, sym, ap, subst, arith, ◌∙◌, append-nil, append_assoc}
 use Rattle.cmark_grammar.specs.BracketDecisions.{decide}
 use Rattle.cmark_grammar.specs.BracketStates.{State, Decision, Settled, Asks}

@@ -1,4 +1,4 @@
--- Rows of parts grow behind, and are cut at an opening bracket.
+-- Rows of parts grow at the end, and are cut at an opening bracket.
 use Rattle.std.specs.Prelude.{drop, take, get_or, encode_utf8, Some}
 use Rattle.std.proofs.Common.{◌≡◌, Bool, true, false, None, ℕ, zero, suc, ◌+◌, ◌<◌, List, [], ◌∷◌, ◌++◌, length, set, refl, sym, ap, ◌∙◌, subst, arith, append_assoc, append-nil, length-append}
 use Rattle.std.proofs.lemmas.List.{length-set}
@@ -20,7 +20,7 @@ use Rattle.cmark_inline_model.proofs.PartCuts.{join_assoc, openings-join, cut-is
 use Rattle.cmark_inline_model.proofs.SlotLaws.{pairs-write, marks-make}
 use Rattle.cmark_inline_model.proofs.SlotQuotes.{quotes-written}
 
--- ## Siblings one behind the other
+-- ## Siblings one after the other
 
 item-then-append : (kind : ItemKind) (x : Item) (a b : Inline) → item_then kind x (append a b) ≡ append (item_then kind x a) b
 item-then-append (Autolink uri) x a b = refl
@@ -139,7 +139,7 @@ pub length-run-places : (at size : ℕ) (a : List ℕ) → length (run_places at
 length-run-places at zero a = omega arith
 length-run-places at (suc size) a = let i = length-run-places (suc at) size a in omega arith
 
--- as many places as there are bytes of runs, and quotes
+-- there are as many indices as bytes of runs, and as quotes
 abbrev Counts : Inline → Type 0
 Counts x = (at : ℕ) (s : List Slot) (b q : List ℕ) → LaysOut at x s b q → (length b ≡ bytes_in (runs_in x)) × (length q ≡ length (quotes_of x))
 
@@ -174,13 +174,12 @@ module _ (options : Options) where
   siblings-join (Closing closer after) b = ap (text_then closer) (siblings-join after b)
   siblings-join (Opening opener after) b = ap (text_then opener) (siblings-join after b)
 
-  -- parts behind others
+  -- parts after others
   parts-grow : (a p : Parts) (at : ℕ) (s t : List Slot) (b c q r : List ℕ) → LaysOut at (siblings_of options a) s b q → LaysOut (at + length s) (siblings_of options p) t c r → LaysOut at (siblings_of options (join a p)) (s ++ t) (b ++ c) (q ++ r)
   parts-grow a p at s t b c q r h k =
       subst (λ x. LaysOut at x (s ++ t) (b ++ c) (q ++ r)) (sym (siblings-join a p)) (rows-grow (siblings_of options a) (siblings_of options p) at s t b c q r h k)
 
-  -- ## Rows with their opening brackets
-  -- behind an opening bracket, as one list
+  -- ## Rows whose last opening bracket is followed by parts, as one list
   opening-grow : (before inside : Parts) (opener : Bracket) (front behind : List Slot) (fb bb fq bq : List ℕ) → LaysOut 0 (siblings_of options before) front fb fq → LaysOut (suc (length front)) (siblings_of options inside) behind bb bq
       → LaysOut 0 (siblings_of options (join before (Opening opener inside))) (front ++ (text_slot opener ∷ behind)) (fb ++ bb) (fq ++ bq)
   opening-grow before inside opener front behind fb bb fq bq h k = parts-grow before (Opening opener inside) 0 front (text_slot opener ∷ behind) fb bb fq bq h (behind, refl, subst (λ i. LaysOut i (siblings_of options inside) behind bb bq) (let e : suc (length front) ≡ suc (0 + length front) = omega arith in e) k)
@@ -194,7 +193,7 @@ module _ (options : Options) where
       (subst (λ l. LaysOut 0 (siblings_of options (join h.before (Opening h.opener h.inside))) (h.front ++ (text_slot h.opener ∷ h.behind)) l quotes) (sym h.bytes_are)
       (subst (λ l. LaysOut 0 (siblings_of options (join h.before (Opening h.opener h.inside))) (h.front ++ (text_slot h.opener ∷ h.behind)) (h.front_bytes ++ h.behind_bytes) l) (sym h.quotes_are) w)))
 
-  -- more parts behind, none of them an opening bracket
+  -- more parts at the end, without opening brackets
   row-grows : (bs : List BracketPlace) (parts piece : Parts) (slots more : List Slot) (bytes more_bytes quotes more_quotes : List ℕ) → LaysParts options bs parts slots bytes quotes → openings piece ≡ 0
       → LaysOut (length slots) (siblings_of options piece) more more_bytes more_quotes → LaysParts options bs (join parts piece) (slots ++ more) (bytes ++ more_bytes) (quotes ++ more_quotes)
   row-grows [] parts piece slots more bytes more_bytes quotes more_quotes h none k =
@@ -229,7 +228,7 @@ module _ (options : Options) where
             (subst (λ i. LaysOut i (siblings_of options piece) more more_bytes more_quotes) (let e : length slots ≡ suc (length h.front) + length h.behind = omega arith in e) k);
       }
 
-  -- an opening bracket behind
+  -- an opening bracket at the end
   row-opens : (bs : List BracketPlace) (parts : Parts) (opener : Bracket) (slots : List Slot) (bytes quotes : List ℕ) → LaysParts options bs parts slots bytes quotes
       → LaysParts options (record { bracket = opener; slot = length slots; runs = length (runs_in (siblings_of options parts)); quotes = length (quotes_of (siblings_of options parts)) } ∷ bs) (join parts (Opening opener NoParts))
       (slots ++ (text_slot opener ∷ [])) bytes quotes
@@ -337,7 +336,7 @@ module _ (options : Options) where
                 (h.behind, refl, subst (λ i. LaysOut i (siblings_of options h.inside) h.behind h.behind_bytes h.behind_quotes) (let e : suc (length h.front) ≡ suc (suc (length c.front) + length c.behind) = omega arith in e) h.laid_behind);
           }
 
-  -- ## The same with runs and quotes
+  -- ## These lemmas with runs and quotes
   runs-join : (a b : Parts) → runs_in (siblings_of options (join a b)) ≡ runs_in (siblings_of options a) ++ runs_in (siblings_of options b)
   runs-join a b = ap runs_in (siblings-join a b) ∙ runs-append (siblings_of options a) (siblings_of options b)
 
@@ -402,12 +401,11 @@ module _ (options : Options) where
         quoted_behind = qbehind;
       }
 
-  -- ## What brackets form
-  -- an element around what stands for the siblings inside it
+  -- ## A construct that brackets form: an element around the slots of the siblings inside it
   element-laid : (at : ℕ) (tag : Tag) (start end : ℕ) (inside : Inline) (own : List Slot) → seen own ≡ slots_of inside → LaysOut at (Around tag start end inside Nil) (BeginSlot tag start end ∷ (own ++ (EndSlot ∷ []))) [] []
   element-laid at tag start end inside own e = (own, [], e, refl, (refl, refl, refl))
 
-  -- in the place of what stands behind the bracket that was cut at
+  -- it replaces the slots after the bracket at which the row was cut
   pub formed-row : (nearer : ℕ) (bs : List BracketPlace) (parts piece : Parts) (slots more : List Slot) (bytes quotes : List ℕ) (runs : List Run) (quoted : List Quote) (c : CutsRow options nearer bs parts slots bytes quotes runs quoted) → openings piece ≡ 0
       → runs_in (siblings_of options piece) ≡ [] → quotes_of (siblings_of options piece) ≡ [] → LaysOut (length c.front) (siblings_of options piece) more [] []
       → IsRow options (drop (suc nearer) bs) (join c.cut.before piece) (c.front ++ more) c.front_bytes c.front_quotes (take c.place.runs runs) (take c.place.quotes quoted)
@@ -423,7 +421,7 @@ module _ (options : Options) where
       (subst (λ l. IsRow options others p s (c.front_bytes ++ []) (c.front_quotes ++ []) l qs) (ap (λ l. rs ++ l) no_runs ∙ append-nil rs)
       (subst (λ l. IsRow options others p s (c.front_bytes ++ []) (c.front_quotes ++ []) (rs ++ runs_in (siblings_of options piece)) l) (ap (λ l. qs ++ l) no_quotes ∙ append-nil qs) r)))
 
-  -- siblings that are laid out behind others become their spans, once their quotes and the pairs of their runs have written into the row
+  -- siblings that are laid out after others become their spans, once their quotes and the pairs of their runs have written into the row
   pub row-dressed : (siblings : Inline) (before behind slots : List Slot) (bytes quotes : List ℕ) (runs : List Run) (quotes_are : List Quote) → slots ≡ before ++ behind → LaysOut (length before) siblings behind bytes quotes → runs_in siblings ≡ runs
       → quotes_of siblings ≡ quotes_are → (pairs : List Pair) (spans : Spans) → IsEmphasis (counted 0 runs) pairs spans
       → StandBehind before behind (dress options siblings) (marked options bytes (marks_by (length bytes) pairs) (quoted quotes (quote_characters [] quotes_are) slots) [])
@@ -449,7 +447,7 @@ module _ (options : Options) where
           → quoted quotes (quote_characters [] (quotes_of siblings)) (before ++ behind) ≡ before ++ now → length now ≡ length behind
       as_many now behind l e = let a = length-append before now in let b = length-append before behind in let n = ap length e in omega arith
 
-  -- what stands behind the bracket becomes the spans of these siblings, once their quotes and the pairs of their runs have written into it
+  -- the slots after the bracket become the spans of these siblings, once their quotes and the pairs of their runs have written into them
   pub dressed-behind : (nearer : ℕ) (bs : List BracketPlace) (parts : Parts) (slots : List Slot) (bytes quotes : List ℕ) (runs : List Run) (quoted_quotes : List Quote) (c : CutsRow options nearer bs parts slots bytes quotes runs quoted_quotes)
       → (pairs : List Pair) (spans : Spans) → IsEmphasis (counted 0 (drop c.place.runs runs)) pairs spans
       → StandBehind (c.front ++ (text_slot c.cut.opener ∷ [])) c.behind (dress options (siblings_of options c.cut.inside))

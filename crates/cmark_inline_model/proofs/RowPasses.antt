@@ -1,4 +1,4 @@
--- Each step of a pass over a leaf keeps the slots that stand for what it has read, and at the end the leaf's events are read off them.
+-- Each step of a pass over a leaf preserves the slots of the parts that it has read, and at the end the leaf's events are read from them.
 use Rattle.std.specs.Prelude.{drop, take, Some}
 use Rattle.std.proofs.Common.{◌≡◌, true, ℕ, zero, suc, ◌-◌, ◌<◌, true≢false, List, [], ◌∷◌, ◌++◌, length, refl, sym, ap, ◌∙◌, subst, arith, append_assoc, append-nil, length-append}
 use Rattle.std.proofs.Math.Seq.{drop-append_seam, take-append_seam}
@@ -34,7 +34,7 @@ use Rattle.cmark_inline_model.proofs.RowParts.{row-whole, grown-row, opened-row,
 use Rattle.cmark_inline_model.proofs.SiblingsOne.{spans-sound}
 use Rattle.cmark_inline_model.proofs.SlotLaws.{slots-give}
 
--- ## Slots that are like others, one behind the other
+-- ## Slots that are like others, one after the other
 
 module _ (source : List ℕ) where
   like-length : (a b : List Slot) → AreLike source a b → length a ≡ length b
@@ -70,7 +70,7 @@ module _ (reader : Reader) (leaf : Leaf) (before : Between) where
     many : length slots ≡ length h.row
     many = like-length reader.source slots h.row h.like
 
-    -- parts behind
+    -- parts at the end
     reached-more : (next : State) (piece : Parts) (more : List Slot) (more_bytes more_quotes : List ℕ) → openings piece ≡ 0 → Reads (token reader leaf) (decide reader leaf) AnyAnswer (entering leaf before) (join p.here piece) next
         → StandsFor reader (length slots) piece more more_bytes more_quotes
         → IsReached reader leaf before (pass next (join p.here piece)) bs (slots ++ more) (bytes ++ more_bytes) (quotes ++ more_quotes) (runs ++ runs_in (siblings_of reader.options piece)) (quoted_are ++ quotes_of (siblings_of reader.options piece))
@@ -232,7 +232,7 @@ module _ (reader : Reader) (leaf : Leaf) (before : Between) where
       abbrev pub others : List BracketPlace
       others = drop (suc nearer) bs
 
-      -- with these slots in the place of the opening bracket's and of those behind it
+      -- with these slots instead of the opening bracket's and all later ones
       pub reached-piece : (front more row : List Slot) → AreLike reader.source front c.front → AreLike reader.source more row → LaysOut (length c.front) (siblings_of reader.options piece) row [] [] → runs_in (siblings_of reader.options piece) ≡ []
           → quotes_of (siblings_of reader.options piece) ≡ []
           → IsReached reader leaf before to others (front ++ more) (take count bytes) (take place.quotes quotes) (take place.runs runs) (take place.quotes quoted_are)
@@ -248,7 +248,7 @@ module _ (reader : Reader) (leaf : Leaf) (before : Between) where
             like = like-both reader.source front c.front more row lf lm;
           }
 
-      -- what has no runs and no quotes of its own, and does not look at what stands between the brackets
+      -- a construct that has no runs and no quotes of its own, and does not depend on the content of the brackets
       pub reached-formed : (more : List Slot)
           → ((cut : Cut) → cut_at nearer p.here ≡ Some cut → cut.opener ≡ place.bracket → StandsFor reader place.slot (Form cut.opener cut.inside closer formed Nil) more [] [])
           → ((cut : Cut) → (runs_in (siblings_of reader.options (Form cut.opener cut.inside closer formed Nil)) ≡ []) × (quotes_of (siblings_of reader.options (Form cut.opener cut.inside closer formed Nil)) ≡ []))
@@ -260,7 +260,7 @@ module _ (reader : Reader) (leaf : Leaf) (before : Between) where
           (like-take reader.source place.slot slots c.front (text_slot c.cut.opener ∷ c.behind) slot_is (subst (AreLike reader.source slots) c.slots_are h.like)) s.like
           (subst (λ i. LaysOut i (siblings_of reader.options piece) s.row [] []) slot_is s.laid) n.0 n.1
 
-      -- what stands behind the opening bracket, with its quotes and its emphasis
+      -- the slots after the opening bracket, with quotes and emphasis
       abbrev pub dressed_slots : List Pair → List Slot
       dressed_slots pairs =
           marked reader.options (drop (bytes_in (take place.runs runs)) bytes) (marks_by (length (drop (bytes_in (take place.runs runs)) bytes)) pairs)
@@ -293,7 +293,7 @@ module _ (reader : Reader) (leaf : Leaf) (before : Between) where
             own_is = s.stand_for;
           }
 
-  -- a link or an image around what stands between its brackets
+  -- a link or an image around the content of its brackets
   pub reached-link : (p : Pass) (bs : List BracketPlace) (slots : List Slot) (bytes quotes : List ℕ) (runs : List Run) (quoted_are : List Quote) → (h : IsReached reader leaf before p bs slots bytes quotes runs quoted_are)
       → (closer : Bracket) (nearer : ℕ) (target : Target) (next : State) (place : BracketPlace) (there : drop nearer bs ≡ place ∷ drop (suc nearer) bs) (t : token reader leaf p.state.at ≡ Closes closer)
       → (comes : Comes AnyAnswer p.state.asked (decide reader leaf p.state closer) (record { result = Forms nearer (Linking target); after = next })) (pairs : List Pair) (spans : Spans) → IsEmphasis (counted 0 (drop place.runs runs)) pairs spans

@@ -16,7 +16,7 @@ use Rattle.cmark_grammar.specs.Tag.{Tag, Linked}
 use Rattle.cmark_grammar.specs.TagEnd.{end_of as end_tag}
 use Rattle.cmark_inline_model.specs.LeafModel.{leaf_events, leaf_after, all_events}
 
--- no question is answered
+-- the plan whose answers are all None
 abbrev pub never : Plan
 never asked question = None
 

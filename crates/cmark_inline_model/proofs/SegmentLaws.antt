@@ -1,4 +1,4 @@
--- The segments of a document: its blocks are no links and need no option of spans, and its leaves stand one behind the other.
+-- The segments of a document: its blocks are no links and need no option of spans, and its leaves are in order.
 use Rattle.std.proofs.Common.{◌≡◌, ℕ, ◌≤◌, List, [], ◌∷◌, ◌++◌, refl, arith, zero, suc}
 use Rattle.cmark_grammar.specs.BlockDocument.{BlockKind, Paragraph, TightParagraph, Heading, ThematicBreak, IndentedCode, FencedCode, HtmlBlock, LinkDefinition, MetadataBlock, BlockQuote, BlockList, ListItem, TaskMarker, FootnoteDefinition, DefinitionList, DefinitionListTitle, DefinitionListDefinition, Text, OwnedText, Html, BlockNode, BlockDocument, Nil, Node, Table, TableHead, TableRow, TableCell}
 use Rattle.cmark_grammar.specs.BlockReading.{Reads, Around, Inside, Alone, First, Silent, starts_before, first_event, read_as, over}
@@ -87,7 +87,7 @@ segments_given Holds kinds (Node node inside after) =
     (node_given Holds (read_as node.kind) node own (kinds node.kind) (inside_given Holds node.kind inside (segments inside) (segments_given Holds kinds inside)))
     (segments_given Holds kinds after))
 
--- none of them begins or ends a link
+-- no event of these begins or ends a link
 abbrev pub AreNeither : List Segment → Type 0
 AreNeither others = AllGiven (λ e. link_event e ≡ Neither) others
 
@@ -120,7 +120,7 @@ kind_neither (Html bytes) = refl
 pub segments-neither : (document : BlockDocument) → AreNeither (segments document)
 segments-neither document = segments_given (λ e. link_event e ≡ Neither) kind_neither document
 
--- none of them needs an option of spans
+-- no event of these needs an option of spans
 kind_optionless : (options : Options) (kind : BlockKind) → GivenBy (IsGiven options) (read_as kind)
 kind_optionless options Paragraph = (tt, tt)
 kind_optionless options TightParagraph = tt
@@ -152,7 +152,7 @@ segments-optionless options document = segments_given (IsGiven options) (kind_op
 
 -- ## Leaves
 
--- from one place to another the leaves stand one behind the other
+-- the leaves between two offsets are in order
 abbrev pub LeavesRise : (from : ℕ) → List Segment → (to : ℕ) → Type 0
 LeavesRise from [] to = from ≤ to
 LeavesRise from (Given r ∷ others) to = LeavesRise from others to

@@ -1,4 +1,4 @@
--- What the parts of a text become is one list of spans, that of the model.
+-- The parts of a text have exactly one list of spans, that of the model.
 use Rattle.std.proofs.Common.{◌≡◌, true, false, refl, ap, ◌∙◌, Some, None}
 use Rattle.cmark_grammar.specs.EmphasisModel.{pairs_of, spans_of}
 use Rattle.cmark_grammar.specs.Options.{Options}

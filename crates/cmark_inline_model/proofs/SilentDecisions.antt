@@ -1,4 +1,4 @@
--- Where no question gets an answer, a decision comes to what it comes to where there is nobody to ask, but for the questions.
+-- If every answer is None, the outcome of a decision is the same as without a callback, except for the questions.
 use Rattle.std.specs.Prelude.{◌-◌, ◌==◌, ◌&&◌, ◌||◌, not, if◌then◌else◌, drop, map}
 use Rattle.std.proofs.Common.{◌≡◌, ℕ, Bool, true, false, List, [], ◌∷◌, length, Option, Some, None, refl, sym, ap, subst, ◌∙◌}
 use Rattle.cmark_grammar.specs.BlockDocument as block
@@ -19,7 +19,7 @@ use Rattle.cmark_grammar.specs.Questions.{Question, Saying, AnyAnswer}
 use Rattle.cmark_grammar.specs.Readers.{Reader}
 use Rattle.cmark_inline_model.specs.Unanswered.{silent, unasked}
 
--- no question gets an answer
+-- every answer is None
 abbrev pub NoAnswer : Saying
 NoAnswer asked q answer = answer ≡ None
 

@@ -1,4 +1,4 @@
--- A reading in which no question got an answer is one without a callback, but for the questions.
+-- A reading whose answers are all None is a reading without a callback, except for the questions.
 use Rattle.std.proofs.Common.{◌≡◌, ℕ, List, [], ◌∷◌, ◌++◌, Option, None, refl, ap, subst, ◌∙◌}
 use Rattle.cmark_grammar.specs.Answers.{Destination}
 use Rattle.cmark_grammar.specs.BracketDecisions.{decide}
@@ -19,7 +19,7 @@ use Rattle.cmark_inline_model.proofs.DecisionLaws.{decide-recorded}
 use Rattle.cmark_inline_model.proofs.SilentDecisions.{NoAnswer, unasked_outcome, decide-falls}
 use Rattle.cmark_inline_model.proofs.SilentTokens.{token-same}
 
--- the next of such a list got no answer
+-- the answer to the next question of such a list is None
 next_none : (asked rest : List Exchange) (x : Exchange) → AreUnanswered (asked ++ (x ∷ rest)) → x.answer ≡ None
 next_none [] rest x h = h.0
 next_none (a ∷ asked) rest x h = next_none asked rest x h.1

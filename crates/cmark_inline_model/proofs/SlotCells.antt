@@ -1,4 +1,4 @@
--- Siblings that are laid out as slots, cut at the bytes of their runs: what stands before them, and each byte with what stands behind it.
+-- Siblings that are laid out as slots, cut at the bytes of their runs: the slots before them, and each byte with the slots after it.
 use Rattle.std.proofs.Common.{◌≡◌, ℕ, zero, suc, ◌+◌, List, [], ◌∷◌, ◌++◌, length, get_or, refl, sym, ap, ◌∙◌, subst, arith, append_assoc, length-append}
 use Rattle.cmark_grammar.specs.Emphasis.{StandFrom, places_taken}
 use Rattle.cmark_grammar.specs.Items.{ItemKind, Own, Quoted, Delimiters, FootnoteReference, Item}
@@ -30,7 +30,7 @@ seen-slots (Around tag start end inside after) =
     ∙ ap (λ l. l ++ (EndSlot ∷ seen (slots_of after))) (seen-slots inside)
     ∙ ap (λ l. slots_of inside ++ (EndSlot ∷ l)) (seen-slots after))
 
--- what stands before another thing, both as they are seen
+-- slots before other slots, both without Nothing
 pub seen-both : (g d : Inline) (s o : List Slot) → seen s ≡ slots_of g → seen o ≡ slots_of d → seen (s ++ o) ≡ slots_of (append g d)
 seen-both g d s o h k = seen-append s o ∙ ap (λ l. l ++ seen o) h ∙ ap (λ l. slots_of g ++ l) k ∙ sym (slots-append g d)
 
@@ -43,7 +43,7 @@ byte_at bytes i = get_or bytes i no_item
 abbrev pub gap_at : List Inline → ℕ → Inline
 gap_at gaps i = get_or gaps i Nil
 
--- slots and places of these bytes, with what stands between them
+-- slots and indices of these bytes, with the slots between them
 pub record AreCells (at : ℕ) (gaps : List Inline) (bytes : List Item) (slots : List Slot) (places : List ℕ) : Type 0 where
   pub front : List Slot
   pub cells : List Cell
@@ -172,7 +172,7 @@ laid-out Nil at = (refl, refl, refl)
 laid-out (Single x after) at = item-laid x.kind x after (laid-out after) at
 laid-out (Around tag start end inside after) at = (slots_of inside, row_of after, seen-slots inside, refl, laid-out after (at + (length (slots_of inside) + 2)))
 
--- ## The places of the runs are those of their bytes
+-- ## The indices of the runs are those of their bytes
 
 length-bytes : (size start : ℕ) (bytes : List Item) → length (bytes_then start size bytes) ≡ size + length bytes
 length-bytes zero start bytes = omega arith

@@ -1,4 +1,4 @@
--- Texts of one leaf, read off the slots into which their pairs write, computed as HTML.
+-- Texts of one leaf, read from the slots into which their pairs write, computed as HTML.
 use Rattle.std.specs.Prelude.{◌≡◌, true, List, ℕ, [], ◌∷◌, ◌++◌, codes, length}
 use Rattle.std.specs.Str.{chars}
 use Rattle.std.proofs.Common.{refl}
@@ -53,7 +53,7 @@ left_over : html_off no_options (codes "**foo*") ≡ codes "*<em>foo</em>"
 unfolding caseless encode chars token decide ucd_category is_unicode_white_space is_unicode_punctuation agrees pair_of rest_of_opener rest_of_closer kinds_of deactivates closed
 left_over = refl
 
--- what a link holds has slots of its own
+-- the content of a link has slots of its own
 around_link : html_off no_options (codes "**a [b *c*](/u) d** `e`") ≡ codes "<strong>a <a href=\"/u\">b <em>c</em></a> d</strong> <code>e</code>"
 unfolding caseless encode chars token decide ucd_category is_unicode_white_space is_unicode_punctuation agrees pair_of rest_of_opener rest_of_closer kinds_of deactivates closed
 around_link = refl
@@ -63,7 +63,7 @@ tildes : html_off strikethrough (codes "~a~ ~~b *c*~~ ^d^") ≡ codes "<del>a</d
 unfolding caseless encode chars token decide ucd_category is_unicode_white_space is_unicode_punctuation agrees pair_of rest_of_opener rest_of_closer kinds_of deactivates closed
 tildes = refl
 
--- two tildes without strikethrough are one text, whatever stands between them
+-- two tildes without strikethrough are one text, whatever is between them
 one_text : read_off subscript (codes "~~a *b*~~") ≡ says 0 9 (codes "~~a *b*~~") ∷ []
 unfolding caseless encode chars token decide ucd_category is_unicode_white_space is_unicode_punctuation agrees pair_of rest_of_opener rest_of_closer kinds_of deactivates closed
 one_text = refl

@@ -1,4 +1,4 @@
--- The slots that the marks of a list of siblings' spans make, and the events that are read off slots.
+-- The slots that the marks of a list of siblings' spans make, and the events that are read from slots.
 use Rattle.std.proofs.Common.{◌≡◌, ℕ, zero, suc, ◌+◌, ◌-◌, List, [], ◌∷◌, ◌++◌, length, set, get_or, refl, sym, ap, ◌∙◌, subst, arith, append_assoc, append-nil, length-append, Option, Some, None}
 use Rattle.std.specs.Prelude.{map}
 use Rattle.std.proofs.lemmas.List.{length-set, map-append}
@@ -146,7 +146,7 @@ spans-tight siblings pairs spans e = subst (AreTight (λ i. get_or (gaps_of sibl
 
 -- ## Entries of another kind, as code writes them
 
--- entries that say the same of the bytes of each side of a span are the marks of spans
+-- entries that agree about the bytes of each side of a span are the marks of spans
 pub entries-say : (Entry : Type 0) (single : Entry) (opens closes : SpanKind → List Entry) (mark : Entry → Mark) → mark single ≡ Stays → ((k : SpanKind) → map mark (opens k) ≡ opening k)
     → ((k : SpanKind) → map mark (closes k) ≡ closing k) → (spans : Spans) → map mark (entries_of Entry single opens closes spans) ≡ marks_of spans
 entries-say Entry single opens closes mark s o c spans.Nil = refl
@@ -186,7 +186,7 @@ module _ (source : List ℕ) where
       ∙ ap (λ l. first ∷ (inline_events source inside ++ (last ∷ l))) (events-on after rest opened)
       ∙ ap (λ l. first ∷ l) (sym (append_assoc (inline_events source inside) (last ∷ inline_events source after) (slot_events source rest opened)))
 
-  -- slots that stand for spans, before others, give the events of the spans before those of the others
+  -- the slots of spans, before others, give the events of the spans before those of the others
   pub slots-give : (spans : Inline) (slots rest : List Slot) (opened : List Ranged) → seen slots ≡ slots_of spans → slot_events source (slots ++ rest) opened ≡ inline_events source spans ++ slot_events source rest opened
   slots-give spans slots rest opened h =
       seen-events (slots ++ rest) opened

@@ -1,4 +1,4 @@
--- Marks written into slots: what they make of the slots of their own bytes, whatever stands around.
+-- Marks written into slots: their effect on the slots of their own bytes does not depend on the other slots.
 use Rattle.std.proofs.Common.{◌≡◌, ℕ, zero, suc, ◌+◌, ◌-◌, List, [], ◌∷◌, ◌++◌, length, set, get_or, refl, sym, ap, ◌∙◌, arith, append_assoc, append-nil, length-append, Option, Some, None}
 use Rattle.cmark_grammar.specs.Items.{Own, Item}
 use Rattle.cmark_grammar.specs.Options.{Options}
@@ -7,7 +7,7 @@ use Rattle.cmark_grammar.specs.Spans.{SpanKind, span_tag}
 use Rattle.cmark_grammar.specs.Tag.{Tag}
 use Rattle.cmark_inline_model.specs.SlotRows.{Slot, ItemSlot, BeginSlot, EndSlot, NothingSlot, Mark, Stays, Begins, Ends, Blank, start_in, end_in, used_up, spanned, marked}
 
--- a byte of a run, and the slots behind it, before the next one
+-- a byte of a run, and the slots after it up to the next byte
 pub record Cell : Type 0 where
   pub byte : Item
   pub gap : List Slot
@@ -69,7 +69,7 @@ length-closed None s e m r =
     let c : length (nothings (suc (length m)) ++ r) ≡ length m + suc (length r) = omega (arith, a, b) in
     ap suc c
 
--- the same lists in other groups
+-- the same lists, grouped in another way
 group_single : (a g x b : List Slot) (i : Slot) → (a ++ (i ∷ g)) ++ (x ++ b) ≡ a ++ ((i ∷ (g ++ x)) ++ b)
 group_single a g x b i = append_assoc a (i ∷ g) (x ++ b) ∙ ap (λ l. a ++ (i ∷ l)) (sym (append_assoc g x b))
 
@@ -80,7 +80,7 @@ used-up-here (v ∷ m) a r n e =
     ∙ used-up-here m (a ++ NothingSlot ∷ []) r (suc n) (let l = length-append a (NothingSlot ∷ []) in omega (arith, e, l))
     ∙ append_assoc a (NothingSlot ∷ []) (nothings (length m) ++ r)
 
--- the slots of two bytes become those of what is from the one to the other
+-- the slots of two bytes become the span from one to the other
 spanned-here : (t : Option Tag) (a m r : List Slot) (x y : Item) (s : List Slot) (p q : ℕ) → s ≡ a ++ (ItemSlot x ∷ (m ++ (ItemSlot y ∷ r))) → p ≡ length a → q ≡ length (a ++ (ItemSlot x ∷ m))
     → spanned t p q s ≡ a ++ closed_by t x.start y.end m r
 spanned-here t a m r x y s p q e f h = go t
@@ -127,7 +127,7 @@ spanned-here t a m r x y s p q e f h = go t
         ∙ set_here a p (ItemSlot x) (ItemSlot (item Own x.start y.end)) (nothings (suc (length m)) ++ r) f
 
 module _ (options : Options) where
-  -- these marks on these cells make these slots of theirs, whatever stands around
+  -- these marks turn these cells into these slots, whatever the other slots are
   abbrev pub MarksMake : List Mark → List Cell → List Slot → Type 0
   MarksMake marks cells out = (ds : List Cell) (ms : List Mark) (a b : List Slot) (begun : List ℕ)
       → marked options (places_from (length a) (cells ++ ds)) (marks ++ ms) (a ++ (flatten cells ++ b)) begun ≡ marked options (places_from (length (a ++ out)) ds) ms (a ++ (out ++ b)) begun
@@ -185,7 +185,7 @@ module _ (options : Options) where
       ∙ ap (λ l. marked options (places_from (length l) ds) ms (a2 ++ (rest ++ b)) begun) whole
       ∙ ap (λ l. marked options (places_from (length (a ++ out)) ds) ms l begun) (sym (append_assoc a2 rest b) ∙ ap (λ l. l ++ b) whole ∙ append_assoc a out b)
 
-  -- a byte beside one that begins or ends a span is nothing any more
+  -- a byte beside one that begins or ends a span becomes Nothing
   blank_marks : (c : Cell) → MarksMake (Blank ∷ []) (c ∷ []) (NothingSlot ∷ c.gap)
   blank_marks c ds ms a b begun =
       let now = a ++ (NothingSlot ∷ c.gap) in
@@ -193,7 +193,7 @@ module _ (options : Options) where
       ∙ ap (λ l. marked options (places_from (length now) ds) ms l begun)
       (set_here a (length a) (ItemSlot c.byte) NothingSlot ((c.gap ++ []) ++ b) refl ∙ ap (λ l. a ++ (NothingSlot ∷ (l ++ b))) (append-nil c.gap))
 
-  -- marks one behind the other
+  -- marks one after the other
   marks_append : (m n : List Mark) (c d : List Cell) (v w : List Slot) → MarksMake m c v → MarksMake n d w → MarksMake (m ++ n) (c ++ d) (v ++ w)
   marks_append m n c d v w h k ds ms a b begun =
       ap (λ l. marked options (places_from (length a) l) ((m ++ n) ++ ms) (a ++ (flatten (c ++ d) ++ b)) begun) (append_assoc c d ds)
@@ -206,7 +206,7 @@ module _ (options : Options) where
       ∙ ap (λ l. marked options (places_from (length l) ds) ms ((a ++ v) ++ (w ++ b)) begun) (append_assoc a v w)
       ∙ ap (λ l. marked options (places_from (length (a ++ (v ++ w))) ds) ms l begun) (append_assoc a v (w ++ b) ∙ ap (λ l. a ++ l) (sym (append_assoc v w b)))
 
-  -- a span of two bytes a side: a blank behind its begin, and one before its end
+  -- a span of width 2: a blank after its start, and one before its end
   pub wide_marks : (k : SpanKind) (inside after : List Mark) (o p : Cell) (inner : List Cell) (c d : Cell) (others : List Cell) (w rest : List Slot) → MarksMake inside inner w → MarksMake after others rest
       → MarksMake (Begins k ∷ (((Blank ∷ []) ++ (inside ++ (Blank ∷ []))) ++ (Ends k ∷ after))) (o ∷ (((p ∷ []) ++ (inner ++ (c ∷ []))) ++ (d ∷ others)))
       (closed_by (span_tag options k) o.byte.start d.byte.end (o.gap ++ ((NothingSlot ∷ p.gap) ++ (w ++ (NothingSlot ∷ c.gap)))) (d.gap ++ rest))

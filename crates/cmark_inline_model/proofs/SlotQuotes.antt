@@ -14,7 +14,7 @@ length-run-slots : (size start : ℕ) → length (run_slots start size []) ≡ s
 length-run-slots zero start = refl
 length-run-slots (suc size) start = ap suc (length-run-slots size (suc start))
 
--- behind some slots the quotes at these places are these characters, and the slots are laid out as these siblings, with no quotes
+-- after some slots the quotes at these indices become these characters, and the slots are laid out as these siblings, without quotes
 pub record AreQuoted (before slots : List Slot) (bytes quotes : List ℕ) (cs : List ℕ) (result : Inline) : Type 0 where
   pub now : List Slot
   pub cut : quoted quotes cs (before ++ slots) ≡ before ++ now

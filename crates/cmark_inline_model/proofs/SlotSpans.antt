@@ -21,7 +21,7 @@ seen-closed (Some t) s e m r d1 d2 h k =
     ap (λ l. BeginSlot t s e ∷ l) (seen-append m (EndSlot ∷ r) ∙ ap (λ l. l ++ (EndSlot ∷ seen r)) h ∙ ap (λ l. slots_of d1 ++ (EndSlot ∷ l)) k)
 seen-closed None s e m r d1 d2 h k = ap (λ l. ItemSlot (item Own s e) ∷ l) (seen-nothings (suc (length m)) r ∙ k)
 
--- between a wide span's bytes: nothing stands beside the blanks on their outer side
+-- inside the bytes of a span of width 2: there is nothing beside the blanks on their outer side
 seen-between : (s0 s1 s2 s3 : List Slot) (g d : Inline) → seen s0 ≡ [] → seen s1 ≡ slots_of g → seen s2 ≡ slots_of d → seen s3 ≡ []
     → seen (s0 ++ ((NothingSlot ∷ s1) ++ (s2 ++ (NothingSlot ∷ s3)))) ≡ slots_of (append g d)
 seen-between s0 s1 s2 s3 g d h0 h1 h2 h3 =
@@ -42,7 +42,7 @@ wide-ringed k mi ma o c =
     ∙ ap (λ l. Begins k ∷ (Blank ∷ ((mi ++ l) ++ ma))) c
     ∙ ap (λ l. Begins k ∷ (Blank ∷ l)) (append_assoc mi (Blank ∷ (Ends k ∷ [])) ma ∙ sym (append_assoc mi (Blank ∷ []) (Ends k ∷ ma)))
 
--- ## Cells that stand side by side
+-- ## Cells that are adjacent
 
 module _ (cells : List Cell) where
   abbrev pub cells_from : (count n : ℕ) → List Cell
@@ -65,7 +65,7 @@ all-cells (c ∷ cs) = ap (λ l. c ∷ l) (cells-shift c cs (length cs) 0 ∙ al
 
 -- ## Spans around the bytes
 
--- the cells have these bytes, and are seen to have these gaps behind them
+-- the cells have these bytes, and these gaps after them
 abbrev SameBytes : List Item → List Cell → Type 0
 SameBytes bytes cells = (i : ℕ) → (cell_at cells i).byte ≡ byte_at bytes i
 
@@ -73,7 +73,7 @@ abbrev SameGaps : List Inline → List Cell → Type 0
 SameGaps gaps cells = (i : ℕ) → seen (cell_at cells i).gap ≡ slots_of (gap_at gaps (suc i))
 
 module _ (options : Options) (gaps : List Inline) (bytes : List Item) (cells : List Cell) (same_byte : SameBytes bytes cells) (same_gap : SameGaps gaps cells) where
-  -- spans over so many places: their marks make slots that are seen as theirs
+  -- spans over n bytes: their marks make slots that show them
   pub record Dressed (n : ℕ) (sp : Spans) (m : ℕ) : Type 0 where
     pub count : ℕ
     pub places : n + count ≡ m
@@ -93,7 +93,7 @@ module _ (options : Options) (gaps : List Inline) (bytes : List Item) (cells : L
   abbrev inner : Spans → Inline
   inner sp = dressed options gaps bytes sp
 
-  -- what a span is, with the places of its first and its last byte
+  -- a span, with the indices of its first and its last byte
   abbrev ringed : (kind : SpanKind) (first last i j : ℕ) (inside after : Spans) → List Slot
   ringed kind first last i j inside after =
       slots_of (element (span_tag options kind) (at_cell first).byte.start (at_cell last).byte.end (append (gap i) (inner inside)) (append (gap j) (inner after)))

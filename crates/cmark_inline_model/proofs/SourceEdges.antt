@@ -1,4 +1,4 @@
--- In a source of whole characters the tokens of a leaf, whose stretches cut none, begin and end where characters do.
+-- If the source is UTF-8 and the stretches of a leaf begin and end at character boundaries, so do its tokens.
 use Rattle.std.specs.Prelude.{suc, zero, ◌-◌, ◌==◌, ◌||◌, ◌&&◌, not, nat_lt, max, if◌then◌else◌, is_none, get_or, drop, take, IsUtf8}
 use Rattle.std.specs.Str.{IsCharBoundary}
 use Rattle.std.proofs.Common.{◌≡◌, ◌⊎◌, inl, inr, ◌<◌, ◌≤◌, ◌+◌, ℕ, Bool, true, false, List, [], ◌∷◌, length, Option, Some, None, refl, sym, ap, ◌∙◌, subst, arith, length-drop, drop-drop, eqb-true, true≢false}
@@ -124,7 +124,7 @@ module _ (reader : Reader) (leaf : Leaf) (at : IsPlaced reader leaf) (utf8 : IsU
   pub at-edge : (p : ℕ) → At p → Edge p
   at-edge p a = subst Edge (sym a.is) (place-edge a.k a.edge)
 
-  -- behind the last byte of an item
+  -- after the last byte of an item
   end-place : (e : ℕ) → 0 < e → TextEdge e → Edge (suc (place (e - 1)))
   end-place e some edge = go (is_content (get_or text (e - 1) 0)) refl
     where
@@ -137,7 +137,7 @@ module _ (reader : Reader) (leaf : Leaf) (at : IsPlaced reader leaf) (utf8 : IsU
           subst Edge (ap place (let q : e ≡ suc (e - 1) = omega arith in q) ∙ n) (place-edge e edge)
       go false c = behind-ascii (place (e - 1)) (ascii-there (e - 1) lt (ends-low (get_or text (e - 1) 0) c))
 
-  -- ## Behind markup, which is sought in the source
+  -- ## After markup that is searched in the source
 
   record Cut (x n : ℕ) : Type 0 where
     count : ℕ
@@ -182,7 +182,7 @@ module _ (reader : Reader) (leaf : Leaf) (at : IsPlaced reader leaf) (utf8 : IsU
                   subst (λ i. x ≤ place i) (let q : n ≡ k = omega arith in q) (omega arith)
               more k a b (inr e) = c.later k a e
 
-  -- as many bytes of the text as stand before such a place of the source end with a character
+  -- the bytes of the text before a character boundary of the source end with a character
   counted-edge : (x : ℕ) → Edge x → (count : ℕ) → IsParted (length text) place x count → TextEdge count
   counted-edge x edge count p = go (le_or (length text) count)
     where
@@ -225,7 +225,7 @@ module _ (reader : Reader) (leaf : Leaf) (at : IsPlaced reader leaf) (utf8 : IsU
 
   -- ## Tokens
 
-  -- the bytes of a run are ASCII, and so are the first and the last one of an autolink
+  -- the bytes of a run are ASCII, and so are the first and the last byte of an autolink
   abbrev pub Bytes : ItemKind → (start end : ℕ) → Type 0
   Bytes (Delimiters run) start end = (i : ℕ) → start ≤ i → i < end → Ascii i
   Bytes (Autolink uri) start end = Ascii start × Ascii (end - 1)
@@ -250,7 +250,7 @@ module _ (reader : Reader) (leaf : Leaf) (at : IsPlaced reader leaf) (utf8 : IsU
   abbrev TextWord : ℕ → Type 0
   TextWord k = (k < length text) × IsWord (get_or text k 0)
 
-  -- words stand side by side in the source
+  -- words are without a gap in the source
   words-place : (start n : ℕ) → ((i : ℕ) → start ≤ i → i < start + n → TextWord i) → place (start + n) ≡ place start + n
   words-place start zero w = ap place (let q : start + 0 ≡ start = omega arith in q) ∙ (let q : place start ≡ place start + 0 = omega arith in q)
   words-place start (suc n) w =
@@ -309,7 +309,7 @@ module _ (reader : Reader) (leaf : Leaf) (at : IsPlaced reader leaf) (utf8 : IsU
       bytes items.SoftBreak b = tt
       bytes items.HardBreak b = tt
 
-  -- ## Where markup may open that is sought in the source
+  -- ## Where markup may open that is searched in the source
 
   module _ (k : ℕ) (within : k ≤ length text) (edge : TextEdge k) (bs : List ℕ) (here : drop k text ≡ 60 ∷ bs) where
     there : from reader leaf (place k) ≡ 60 ∷ bs
@@ -337,7 +337,7 @@ module _ (reader : Reader) (leaf : Leaf) (at : IsPlaced reader leaf) (utf8 : IsU
         let n = h.places.next k inside-text (ap is_content byte) in
         record { k = suc k; within = inside-text; edge = texts.behind-ascii reader.options reader.lookup leaf.is_cell text whole-text k (inside-text, (let e = byte in omega arith)); is = sym n }
 
-    -- behind a byte of the text
+    -- after a byte of the text
     rest-at : (rest : List ℕ) → IsBehind (60 ∷ bs) rest → At (place_of reader leaf rest)
     rest-at rest b =
         let i = b.inside in
@@ -416,7 +416,7 @@ module _ (reader : Reader) (leaf : Leaf) (at : IsPlaced reader leaf) (utf8 : IsU
   is-none None e = refl
   is-none (Some f) e = cc
 
-  -- a token that is no text that goes on is what begins there
+  -- a token other than a longer text is the one that begins there
   stays-token : (q : ℕ) → NotPlain reader leaf (begins_at reader leaf q) → Whole (begins_at reader leaf q) → Whole (token reader leaf q)
   unfolding token
   stays-token q n w = go (begins_at reader leaf q) n w

@@ -1,4 +1,4 @@
--- What the references of a leaf cost: in its spans and events no more than in its parts, and in the same order.
+-- The cost of the references of a leaf: in its spans and events at most that in its parts, and in the same order.
 use Rattle.std.specs.Prelude.{zero, suc, ◌-◌, ◌==◌, nat_le, if◌then◌else◌, max, get_or, drop}
 use Rattle.std.proofs.Common.{◌≡◌, ℕ, ◌+◌, ◌<◌, ◌≤◌, Bool, true, false, List, [], ◌∷◌, ◌++◌, length, Option, Some, None, refl, sym, ap, subst, arith, ◌∙◌, append_assoc, append-nil}
 use Rattle.cmark_grammar.specs.Autolinks.{has_scheme}
@@ -94,7 +94,7 @@ pub record IsPriced (priced : Tag → (end : ℕ) → List ℕ) (price : Linked 
   pub wiki : (name : List ℕ) (has_pothole : Bool) (end : ℕ) → price (leading (WikiLink has_pothole) (record { url = name; title = [] }) []) end ≡ []
 
 module _ (priced : Tag → (end : ℕ) → List ℕ) (price : Linked → (end : ℕ) → List ℕ) (is_priced : IsPriced priced price) where
-  -- what the links and images of parts are priced at, in the order of their closing brackets
+  -- the prices of the links and images of parts, in the order of their closing brackets
   abbrev pub prices : Parts → List ℕ
   prices NoParts = []
   prices (SinglePart x after) = prices after
@@ -161,7 +161,7 @@ module _ (priced : Tag → (end : ℕ) → List ℕ) (price : Linked → (end : 
   -- ## Spans
 
   module _ (options : Options) (gaps : List Inline) (bytes : List Item) where
-    -- the costs of so many gaps from one on
+    -- the costs of `count` gaps from one on
     abbrev some_gaps : (n count : ℕ) → List ℕ
     some_gaps n zero = []
     some_gaps n (suc count) = priced_in (get_or gaps n Nil) ++ some_gaps (suc n) count
@@ -175,7 +175,7 @@ module _ (priced : Tag → (end : ℕ) → List ℕ) (price : Linked → (end : 
         ∙ ap (λ l. priced_in (get_or gaps n Nil) ++ l) (gaps_split a b (suc n) ∙ ap (λ k. some_gaps (suc n) a ++ some_gaps k b) f)
         ∙ sym (append_assoc (priced_in (get_or gaps n Nil)) (some_gaps (suc n) a) (some_gaps (n + suc a) b))
 
-    -- a gap with some spans behind it
+    -- a gap with some spans after it
     gap_then_spans : (n k : ℕ) (f : Inline) → Fewer (priced_in f) (some_gaps (suc n) k) → Fewer (priced_in (append (get_or gaps n Nil) f)) (some_gaps n (suc k))
     gap_then_spans n k f h =
         subst (λ l. Fewer l (some_gaps n (suc k))) (sym (costs_append (get_or gaps n Nil) f))

@@ -1,4 +1,4 @@
--- In a source of whole characters the spans of a leaf, and the events of a text, begin and end where characters do.
+-- If the source is UTF-8, the spans of a leaf, and the events of a text, begin and end at character boundaries.
 use Rattle.std.specs.Prelude.{zero, suc, ◌-◌, ◌==◌, nat_le, max, get_or, drop, encode_utf8, if◌then◌else◌, IsUtf8}
 use Rattle.std.specs.Str.{IsCharBoundary}
 use Rattle.std.proofs.Common.{◌≡◌, ℕ, ◌+◌, ◌<◌, ◌≤◌, Bool, true, false, List, [], ◌∷◌, ◌++◌, length, Option, Some, None, refl, sym, ap, subst, arith, ◌∙◌}
@@ -278,7 +278,7 @@ module _ (reader : Reader) (leaf : Leaf) (at : IsPlaced reader leaf) (utf8 : IsU
   abbrev All : Inline → Type 0
   All spans = AllEdges Edge Ascii at-ascii behind-ascii at-start spans
 
-  -- a place behind a pipe
+  -- an offset after a pipe
   pipe-edge : (p : ℕ) → IsBehindPipe reader.options reader.source p → Edge p
   pipe-edge p b =
       let s = b.some in

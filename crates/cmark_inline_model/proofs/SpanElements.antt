@@ -12,7 +12,7 @@ use Rattle.cmark_grammar.specs.Spans.{SpanKind, span_tag, span_width, Spans}
 use Rattle.cmark_grammar.specs.Tag.{Tag, Link}
 use Rattle.cmark_inline_model.proofs.KindViews.{KindView, AQuote, ARun, AnAutolink, AText, kind-view}
 
--- what a quote becomes, or any other item
+-- the character of a quote, or any other item
 abbrev pub quoted_then : Item → Inline → List ℕ → Inline
 quoted_then x after cs = Single (item (Written (encode_utf8 (get_or cs 0 0))) x.start x.end) (with_characters after (drop 1 cs))
 
@@ -20,7 +20,7 @@ abbrev pub other_then : Item → Inline → List ℕ → Inline
 other_then x after cs = Single x (with_characters after cs)
 
 module _ (Holds : Tag → Inline → Type 0) where
-  -- it holds of each element, with what is inside it
+  -- it holds of each element, with its content
   abbrev pub AllElements : Inline → Type 0
   AllElements Nil = Unit {0}
   AllElements (Single x after) = AllElements after

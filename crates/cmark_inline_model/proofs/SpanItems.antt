@@ -115,7 +115,7 @@ module _ (options : Options) where
 
   -- ## Elements of delimiter runs
 
-  -- one tilde is an element where strikethrough or subscript is read, a caret where superscript is, two equals signs where highlight is
+  -- one tilde is an element with strikethrough or subscript, a caret with superscript, and two equals signs with highlight
   abbrev KindRead : SpanKind → Type 0
   KindRead Emphasis = Unit {0}
   KindRead Strong = Unit {0}

@@ -1,4 +1,4 @@
--- Which kinds of spans the delimiter runs of siblings become: those of the runs' delimiters.
+-- The kinds of spans that the delimiter runs of siblings form: those of the runs' delimiters.
 use Rattle.std.specs.Prelude.{map}
 use Rattle.std.proofs.Common.{◌≡◌, ℕ, zero, suc, ◌+◌, ◌-◌, Bool, true, false, nat_lt, if◌then◌else◌, List, [], ◌∷◌, ◌++◌, refl, sym, subst}
 use Rattle.cmark_grammar.specs.Emphasis.{Run, Pair, Sibling, Plain, Delimiter, Piece, Whole, Standing, pair_of, rest_of_opener, rest_of_closer, kinds_of, nest, wrapped, row, keep, is_tilde_or_caret, deactivates, deactivated, left_open, stand, Closes}

@@ -1,4 +1,4 @@
--- Where a leaf's siblings stand in order, its spans do, but for what a pipe cuts.
+-- If a leaf's siblings are in order, so are its spans, except for cuts by a pipe.
 use Rattle.std.specs.Prelude.{zero, suc, ◌-◌, get_or, drop}
 use Rattle.std.proofs.Common.{◌≡◌, ◌⊎◌, inl, inr, ℕ, ◌+◌, ◌<◌, ◌≤◌, List, [], ◌∷◌, length, Option, Some, None, refl, sym, ap, subst, arith, ◌∙◌}
 use Rattle.cmark_grammar.specs.Emphasis.{places_taken}
@@ -23,7 +23,7 @@ Fills (Delimiters run) start end = start + run.run_length ≤ end
 Fills (Autolink uri) start end = start + 2 ≤ end
 Fills _ start end = Unit {0}
 
--- an element begins where it is written to begin, or behind a pipe that cuts it
+-- an element begins where it is written to begin, or after a pipe that cuts it
 abbrev pub Begun : (Pipe : ℕ → Type 0) → Tag → (written start : ℕ) → Type 0
 Begun Pipe tag written start = (start ≡ written) ⊎ (IsLinkOrImage tag × (written < start) × Pipe start)
 
@@ -32,7 +32,7 @@ begun-up Pipe tag written start (inl e) = omega arith
 begun-up Pipe tag written start (inr h) = let a = h.1 in omega arith
 
 module _ (Pipe : ℕ → Type 0) where
-  -- spans from one place to another, one behind the other and each element around what is inside it, which begins where the element is
+  -- the spans between two offsets are in order, and each element contains the spans inside it. Its content begins where the element is
   -- written to begin
   abbrev pub InlineOrder : ℕ → Inline → ℕ → Type 0
   InlineOrder from Nil to = from ≤ to
@@ -130,7 +130,7 @@ module _ (Pipe : ℕ → Type 0) where
       go i _ (AnAutolink uri) = i n
       go i _ (AText kind t) = ap length (t.bytes x.start (run_bytes after)) ∙ i n ∙ ap places_taken (sym (t.run n (runs_from after)))
 
-  -- the place behind the byte before one, and that in front of it
+  -- the end of the byte before the index, or `from`; and the start of the byte with the index, or `to`
   abbrev behind : (from : ℕ) → List Item → ℕ → ℕ
   behind from bytes zero = from
   behind from [] (suc n) = from
@@ -152,7 +152,7 @@ module _ (Pipe : ℕ → Type 0) where
   gap_order from (gap ∷ gaps) (b ∷ bytes) to zero h k = h.0
   gap_order from (gap ∷ gaps) (b ∷ bytes) to (suc n) h k = gap_order b.end gaps bytes to n h.2 (omega arith)
 
-  -- a byte reaches from the place in front of it to the place behind it
+  -- a byte reaches from the offset before it to the offset after it
   record IsByte (from : ℕ) (bytes : List Item) (to n : ℕ) : Type 0 where
     pub start : (get_or bytes n no_item).start ≡ until to bytes n
     pub end : (get_or bytes n no_item).end ≡ behind from bytes (suc n)

@@ -1,4 +1,4 @@
--- What the references of a leaf cost that end up to a place: in its events no more than in its parts, and nothing before it.
+-- The cost of the references of a leaf that end up to an offset: in its events at most that in its parts, and nothing before it.
 use Rattle.std.specs.Prelude.{nat_le, if◌then◌else◌, sum}
 use Rattle.std.proofs.Common.{◌≡◌, ℕ, ◌+◌, ◌<◌, ◌≤◌, Bool, true, false, List, [], ◌∷◌, ◌++◌, refl, sym, ap, arith, append_assoc}
 use Rattle.cmark_grammar.specs.Event.{Start, End, Ranged}
@@ -42,7 +42,7 @@ module _ (place : ℕ) where
       by true linked end = refl
       by false linked end = refl
 
-  -- what the references of these parts cost that end up to the place
+  -- the cost of the references of these parts that end up to the offset
   abbrev pub spent_to : Parts → ℕ
   spent_to parts = total (prices priced_to price_to to-is-priced parts)
 
@@ -91,7 +91,7 @@ module _ (place : ℕ) where
   spent-less (Closing closer after) = spent-less after
   spent-less (Opening opener after) = spent-less after
 
-  -- nothing by parts behind the place
+  -- parts after the offset cost nothing
   pub spent-none : (from : ℕ) (parts : Parts) (to : ℕ) → StandBetween from parts to → place < from → spent_to parts ≡ 0
   spent-none from NoParts to h w = refl
   spent-none from (SinglePart x after) to h w = let a = h.0 in let b = h.1 in spent-none x.end after to h.2 (omega arith)
@@ -117,7 +117,7 @@ module _ (place : ℕ) where
   spent-none from (Closing closer after) to h w = let a = h.0 in let b = h.1 in spent-none closer.end after to h.2 (omega arith)
   spent-none from (Opening opener after) to h w = let a = h.0 in let b = h.1 in spent-none opener.end after to h.2 (omega arith)
 
-  -- a form that ends behind the place costs what is inside it and behind it
+  -- a form that ends after the offset costs only its content and the later parts
   pub spent-inside : (opener : Bracket) (inside : Parts) (closer : Bracket) (formed : Formed) (after : Parts) → place < ranges.end_of formed → spent_to after ≡ 0 → spent_to (Form opener inside closer formed after) ≡ spent_to inside
   spent-inside opener inside closer (Linking target) after h k =
       let p = price_later target.linked target.end h in
@@ -128,7 +128,7 @@ module _ (place : ℕ) where
   spent-inside opener inside closer (Wiki name display end) after h k =
       let e = total-append (prices priced_to price_to to-is-priced inside) (prices priced_to price_to to-is-priced after) in omega arith
 
-  -- and no form costs more than it takes off the limit
+  -- and no form costs more than is subtracted from the limit
   pub spent-form-less : (opener : Bracket) (inside : Parts) (closer : Bracket) (formed : Formed) (after : Parts)
       → spent_to (Form opener inside closer formed after) ≤ total (costs inside) + (total (cost formed) + spent_to after)
   spent-form-less opener inside closer (Linking target) after =

@@ -1,4 +1,4 @@
--- In a text of whole characters each token begins and ends where a character does.
+-- In a UTF-8 text each token begins and ends at a character boundary.
 use Rattle.std.specs.Prelude.{suc, zero, ◌-◌, ◌==◌, ◌&&◌, ◌||◌, not, nat_lt, if◌then◌else◌, get_or, drop, take, codes, take_while, max, IsUtf8}
 use Rattle.std.specs.List.{prefix_len}
 use Rattle.std.specs.Str.{IsCharBoundary}
@@ -38,7 +38,7 @@ use Rattle.cmark_inline_model.proofs.WordBytes.{IsWord, EntityLeads, Leads, and-
 use Rattle.cmark_grammar.proofs.RowEdges.{Front}
 use Rattle.cmark_grammar.proofs.ShorterRests.{prefix-some}
 
--- the byte in front of so many, of which this holds
+-- the byte before the last of some bytes that have this property
 pub leads-last : (Q : ℕ → Type 0) (m : ℕ) (l : List ℕ) → Leads Q (suc m) l → (m < length l) × Q (get_or l m 0)
 leads-last Q m l h = (h.fits, go m l h.fits h.front)
   where
@@ -80,13 +80,13 @@ module _ (options : Options) (lookup : Lookup) (is_cell : Bool) (text : List ℕ
   pub behind-ascii : (i : ℕ) → Ascii i → Edge (suc i)
   behind-ascii i a = subst Edge (let e : i + 1 ≡ suc i = omega arith in e) (IsCharBoundary-after_ascii text i utf8 a.0 a.1)
 
-  -- the bytes of a run, and the first and the last one of an autolink
+  -- the bytes of a run, and the first and the last byte of an autolink
   abbrev pub Bytes : ItemKind → (start end : ℕ) → Type 0
   Bytes (Delimiters run) start end = (i : ℕ) → start ≤ i → i < end → Word i
   Bytes (Autolink uri) start end = Ascii start × Ascii (end - 1)
   Bytes _ start end = Unit {0}
 
-  -- a text that goes on with further bytes is judged where these end
+  -- a text that continues with further bytes is judged at its end
   abbrev pub Edged : Token → Type 0
   Edged (Stands x resume) = Edge x.start × (is_plain x.kind ≡ false → (0 < x.end) × Edge x.end × Edge resume × Bytes x.kind x.start x.end)
   Edged (Opens o) = Edge o.start × Edge o.end × Word o.start × (o.start < o.end) × (o.is_image ≡ false → o.end ≡ suc o.start)
@@ -116,7 +116,7 @@ module _ (options : Options) (lookup : Lookup) (is_cell : Bool) (text : List ℕ
     ascii-at : (i : ℕ) → i < length l → get_or l i 0 < 128 → Ascii (k + i)
     ascii-at i lt a = (fits i lt, subst (λ c. c < 128) (sym (byte-at i)) a)
 
-    -- behind words, of which there are some or none
+    -- after any number of words
     words-edge : (n : ℕ) → Edge k → Leads IsWord n l → Edge (k + n)
     words-edge zero e h = subst Edge (let q : k ≡ k + 0 = omega arith in q) e
     words-edge (suc n) e h =
@@ -151,7 +151,7 @@ module _ (options : Options) (lookup : Lookup) (is_cell : Bool) (text : List ℕ
   place-drop : (j : ℕ) → j ≤ length text → place_of one alone (drop j text) ≡ j
   place-drop j le = let d = length-drop j text in let e : length text - length (drop j text) ≡ j = omega arith in e
 
-  -- where the text is read on behind a place
+  -- the offset at which reading continues after an offset
   pub read-on-edge : (x : ℕ) → Edge x → Edge (read_on one alone x)
   read-on-edge x e = go (line_begins one alone x)
     where
@@ -174,7 +174,7 @@ module _ (options : Options) (lookup : Lookup) (is_cell : Bool) (text : List ℕ
     second : IsWord b → Edge (suc k)
     second w = behind-ascii k (first w)
 
-    -- an item over words that is no text that goes on
+    -- an item over words, other than a longer text
     words-edged : (kind : ItemKind) (n : ℕ) → 0 < n → Leads IsWord n (b ∷ bs) → ((i : ℕ) → k ≤ i → i < k + n → Word i) → (((i : ℕ) → k ≤ i → i < k + n → Word i) → Bytes kind k (k + n)) → Edged (item_at kind k (k + n))
     words-edged kind n some h all f = (edge, λ p. (let e = words-edge k (b ∷ bs) here n edge h in (omega arith, e, e, f all)))
 
@@ -270,7 +270,7 @@ module _ (options : Options) (lookup : Lookup) (is_cell : Bool) (text : List ℕ
         kind true = rest-edged (OwnedHtml (take (size_to one alone k rest) (from one alone k))) rest (h rest refl) tt
         kind false = rest-edged Html rest (h rest refl) tt
 
-    -- behind `<`
+    -- after `<`
     autolink-edged : IsWord b → (found : Option Parsed) (other : Token) → ParsedBehind bs found → Edged other → Edged (autolink_or one alone k found other)
     autolink-edged w None other h o = o
     autolink-edged w (Some found) other h o =
@@ -383,7 +383,7 @@ module _ (options : Options) (lookup : Lookup) (is_cell : Bool) (text : List ℕ
         one-of (inl f) = word-is b 42 refl (omega arith) f
         one-of (inr f) = two (or-either (b == 95) ((b == 126) || ((b == 94) || (b == 61))) f)
 
-    -- a bracket of so many words
+    -- a bracket of n words
     opener-edges : (is_image : Bool) (n : ℕ) → 0 < n → (is_image ≡ false → k + n ≡ suc k) → Leads IsWord n (b ∷ bs) → Edged (Opens (bracket is_image k (k + n)))
     opener-edges is_image n some short h =
         (edge, words-edge k (b ∷ bs) here n edge h, words-bytes k (b ∷ bs) here n h k (omega arith) (omega arith), omega arith, short)
@@ -431,9 +431,9 @@ module _ (options : Options) (lookup : Lookup) (is_cell : Bool) (text : List ℕ
       go [] f = tt
       go (b ∷ bs) f = begins-edged k b bs f e
 
-  -- ## Texts that go on
+  -- ## Texts that continue
 
-  -- inside of a character a text begins that goes on
+  -- a text that continues begins inside a character
   high-plain : (k b : ℕ) (bs : List ℕ) → 128 ≤ b → begins one alone k (b ∷ bs) ≡ item_at Plain k (suc k)
   high-plain k b bs h = go
     where
@@ -486,7 +486,7 @@ module _ (options : Options) (lookup : Lookup) (is_cell : Bool) (text : List ℕ
           ∙ abbrev-if (options.math && is_dollar b) _ _ (and-false options.math (is_dollar b) (not-is 36 (omega arith)))
           ∙ smart options.smart_punctuation
 
-  -- where texts do not go on
+  -- texts do not continue here
   stop-edge : (k : ℕ) → k ≤ length text → ((start : ℕ) (resume : ℕ) → begins_at one alone k ≡ Stands (record { kind = Plain; start = k; end = start }) resume → ⊥) → Edge k
   stop-edge k le stops = go (drop k text) refl
     where
@@ -547,7 +547,7 @@ module _ (options : Options) (lookup : Lookup) (is_cell : Bool) (text : List ℕ
       go (Closes c) e ih = omega arith
       go Ends e ih = omega arith
 
-  -- each item begins and ends where characters do, and so does what is read behind it
+  -- each item begins and ends at a character boundary, and so does the text after it
   abbrev pub Whole : Token → Type 0
   Whole (Stands x resume) = Edge x.start × (0 < x.end) × Edge x.end × Edge resume × Bytes x.kind x.start x.end
   Whole (Opens o) = Edged (Opens o)

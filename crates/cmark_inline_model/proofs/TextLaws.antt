@@ -1,4 +1,4 @@
--- Each text has a reading, with the answers that a plan gives.
+-- Each text has a reading with the answers of a plan.
 use Rattle.std.proofs.Common.{ℕ, List, [], length, refl, arith}
 use Rattle.cmark_grammar.specs.BlocksModel.{blocks}
 use Rattle.cmark_grammar.specs.Derivation.{Derives, document}

@@ -1,4 +1,5 @@
--- The places of a leaf's text: what stands from a place on are the bytes of the text from one on, and the places are in order.
+-- The offsets of a leaf's text in the source: the leaf, read from an offset on, has the bytes of the text from one on, and the offsets are
+-- in order.
 use Rattle.std.specs.Prelude.{◌-◌, get_or, drop}
 use Rattle.std.proofs.Common.{◌≡◌, ℕ, suc, ◌<◌, ◌≤◌, true, List, [], ◌∷◌, length, refl, sym, ap, ◌∙◌, subst, arith, length-drop}
 use Rattle.std.proofs.Math.Seq.{drop-cons}

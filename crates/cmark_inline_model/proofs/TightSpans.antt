@@ -1,4 +1,4 @@
--- The bytes that open a span stand in one run, and so do those that close it: nothing stands between them.
+-- The bytes that open a span are in one run, and so are those that close it: there is nothing between them.
 use Rattle.std.proofs.Common.{◌≡◌, ℕ, zero, suc, ◌+◌, ◌-◌, ◌<◌, ◌≤◌, Bool, true, false, nat_lt, if◌then◌else◌, List, [], ◌∷◌, ◌++◌, get_or, refl, sym, ap, ◌∙◌, subst, arith, map}
 use Rattle.cmark_grammar.specs.Emphasis.{Run, Pair, Sibling, Plain, Delimiter, Piece, Whole, Standing}
 use Rattle.cmark_grammar.specs.Emphasis.{paired_count, pair_of, rest_of_opener, rest_of_closer, kinds_of, nest, wrapped, row, keep, is_tilde_or_caret, deactivates, deactivated, left_open, stand, Closes}
@@ -121,7 +121,7 @@ module _ (E : ℕ → Type 0) where
   pub spans-tight : (ts : List Sibling) → TightSiblings ts → AreTight E (spans_of ts)
   spans-tight ts h = tight-row (resolve ts []).pieces Nil (resolved-tight ts [] tt h) tt
 
--- what stands in front of a list of gaps does not show behind its first
+-- siblings before a list of gaps do not change the gaps after the first
 pub put-rest : (put : Inline → Inline) (gaps : List Inline) (i : ℕ) → get_or (put_gap put gaps) (suc i) NoSiblings ≡ get_or gaps (suc i) NoSiblings
 put-rest put [] i = refl
 put-rest put (g ∷ gaps) i = refl
@@ -137,7 +137,7 @@ no-gaps-behind (suc n) i gaps =
     let e : suc n + i ≡ suc (n + i) = omega arith in
     ap (λ j. get_or (NoSiblings ∷ no_gaps n gaps) j NoSiblings) e ∙ no-gaps-behind n i gaps
 
--- the gaps behind the first byte that are empty are so from this place on
+-- the gaps after the first byte that are empty are so from this index on
 abbrev Empties : (E : ℕ → Type 0) → ℕ → List Inline → Type 0
 Empties E n gaps = (j : ℕ) → 0 < j → get_or gaps j NoSiblings ≡ NoSiblings → E (n + j)
 

@@ -1,4 +1,4 @@
--- The bytes of a text, of an autolink and of a tag on one line stand side by side in the source.
+-- The bytes of a text, of an autolink and of a tag on one line are without a gap in the source.
 use Rattle.std.specs.Prelude.{suc, zero, ◌-◌, ◌==◌, ◌&&◌, ◌||◌, not, nat_le, nat_lt, if◌then◌else◌, get_or, drop, take, codes}
 use Rattle.std.specs.List.{prefix_len}
 use Rattle.std.proofs.Common.{◌≡◌, ◌<◌, ◌≤◌, ◌+◌, ℕ, Bool, true, false, List, [], ◌∷◌, length, Option, Some, None, refl, sym, ap, ◌∙◌, subst, arith, eqb-true, true≢false, length-drop}
@@ -40,7 +40,7 @@ module _ (reader : Reader) (leaf : Leaf) (text : List ℕ) (place : ℕ → ℕ)
     pub last : place end ≡ suc (place (end - 1))
     pub content : (i : ℕ) → start + i < end → is_content (get_or text (start + i) 0) ≡ true
 
-  -- so many bytes that end no line
+  -- n bytes that do not end a line
   front-at : (n : ℕ) (l : List ℕ) (j : ℕ) → Front (λ b. is_content b ≡ true) n l → j < n → j < length l → is_content (get_or l j 0) ≡ true
   front-at n [] j f lt m = absurd (omega (arith, m))
   front-at zero (b ∷ l) j f lt m = absurd (omega (arith, lt))
@@ -191,7 +191,7 @@ module _ (reader : Reader) (leaf : Leaf) (text : List ℕ) (place : ℕ → ℕ)
         both false true e f = not_written (sym f)
         both false false e f = refl
 
-    -- up to behind a byte of these
+    -- up to the end of one of these bytes
     rest_joined : (rest : List ℕ) → IsBehind (b ∷ bs) rest → Front (λ c. is_content c ≡ true) (length (b ∷ bs) - length rest) (b ∷ bs) → Together k (place_of one alone rest)
     rest_joined rest x f =
         let n = length (b ∷ bs) - length rest in
@@ -215,7 +215,7 @@ module _ (reader : Reader) (leaf : Leaf) (text : List ℕ) (place : ℕ → ℕ)
             rest_joined rest (tag-behind (b ∷ bs) rest e)
             (no_lines (length (b ∷ bs) - length rest) (b ∷ bs) (sym (ap (λ l. takes_lines (take (length l - length rest) l)) from_here) ∙ f))
 
-    -- the bytes of an autolink up to behind its `>`
+    -- the bytes of an autolink, including its `>`
     abbrev UriFront : Option Parsed → Type 0
     UriFront None = Unit {0}
     UriFront (Some f) = Front (λ d. is_content d ≡ true) (length (b ∷ bs) - length f.behind) (b ∷ bs)
@@ -357,7 +357,7 @@ module _ (reader : Reader) (leaf : Leaf) (text : List ℕ) (place : ℕ → ℕ)
       go [] e = tt
       go (b ∷ bs) e = begins_joined k b bs e (ap (may_open_markup reader.options.email_autolinks) (sym e) ∙ none)
 
-  -- ## Texts one behind the other
+  -- ## Texts one after the other
   grown : (s m e : ℕ) → Together s m → Together m e → Together s e
   grown s m e a b = record {
     some = (let x = a.some in let y = b.some in omega arith);
@@ -414,7 +414,7 @@ module _ (reader : Reader) (leaf : Leaf) (text : List ℕ) (place : ℕ → ℕ)
   unfolding token
   token-joined k none = longest_joined (begins_at one alone k) (begins-joined k none) (begins-shaped one alone k (from one alone k))
 
-  -- an item's bytes of the source are those of the text
+  -- an item's bytes in the source are those of the text
   pub text-together : (k : ℕ) → may_open_markup reader.options.email_autolinks (drop k text) ≡ false → (x : Item) (resume : ℕ) → token one alone k ≡ Stands x resume → is_as_written x.kind ≡ true → slice reader.source (place x.start) (suc (place (x.end - 1))) ≡ slice text x.start x.end
   text-together k none x resume e w = together-slice x.start x.end (subst Joined e (token-joined k none) w)
 

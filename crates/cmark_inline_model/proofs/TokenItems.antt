@@ -1,4 +1,4 @@
--- What holds of each kind of item that a token of a leaf can be holds of its tokens, and of the items of its parts.
+-- A property of each kind of item that a token of a leaf can be holds of its tokens, and of the items of its parts.
 use Rattle.std.specs.Prelude.{suc, ◌==◌, ◌&&◌, ◌||◌, not, nat_lt, if◌then◌else◌, drop, take, codes}
 use Rattle.std.specs.List.{prefix_len}
 use Rattle.std.proofs.Common.{◌≡◌, ◌+◌, ℕ, Bool, true, false, List, [], ◌∷◌, length, Option, Some, None, refl}
@@ -196,7 +196,7 @@ OfItems Holds (Form opener inside closer formed after) = OfItems Holds inside ×
 OfItems Holds (Closing closer after) = OfItems Holds after
 OfItems Holds (Opening opener after) = OfItems Holds after
 
--- what holds of the items of a text's tokens holds of the items of its parts
+-- a property of the items of a text's tokens holds of the items of its parts
 pub items-hold : (token : ℕ → Token) (decide : State → (closer : Bracket) → Decision) (Says : Saying) (Holds : Item → Type 0)
     → ((at resume : ℕ) (item : Item) → token at ≡ Stands item resume → Holds item) → (s : State) (parts : Parts) (t : State) → Reads token decide Says s parts t → OfItems Holds parts
 items-hold token decide Says Holds keeps s Nil t h = tt

@@ -1,4 +1,4 @@
--- Each token leads on in its leaf, and stands within it.
+-- Each token leads forward in its leaf, and is inside it.
 use Rattle.std.specs.Prelude.{suc, zero, ◌-◌, ◌==◌, ◌&&◌, ◌||◌, not, nat_lt, if◌then◌else◌, drop, take, codes}
 use Rattle.std.specs.List.{prefix_len}
 use Rattle.std.proofs.Common.{◌≡◌, ◌<◌, ◌≤◌, ◌+◌, ℕ, Bool, true, false, List, [], ◌∷◌, length, Option, Some, None, refl, ap, arith, ◌∙◌, length-drop, eqb-true}
@@ -45,7 +45,7 @@ module _ (reader : Reader) (leaf : Leaf) (size : ℕ) (turn : InTurn 0 leaf.stre
   Onward at (Closes closer) = (closer.start ≡ at) × (closer.end ≡ suc at) × (suc at ≤ end)
   Onward at Ends = Unit {0}
 
-  -- one of two, by the condition
+  -- one of two tokens, by the condition
   when : (at : ℕ) (b : Bool) (x y : Token) → (b ≡ true → Onward at x) → Onward at y → Onward at (if b then x else y)
   when at true x y h k = h refl
   when at false x y h k = k
@@ -53,7 +53,7 @@ module _ (reader : Reader) (leaf : Leaf) (size : ℕ) (turn : InTurn 0 leaf.stre
   item_onward : (at start item_end : ℕ) (kind : ItemKind) → at ≤ start → start ≤ item_end → at < item_end → item_end ≤ end → Onward at (item_at kind start item_end)
   item_onward at start item_end kind a b c d = (record { begins = a; ordered = b; ends = omega arith }, c, d)
 
-  -- behind so many bytes of the leaf
+  -- after a byte of the leaf
   module _ (at : ℕ) (b : ℕ) (bs : List ℕ) (here : from reader leaf at ≡ b ∷ bs) where
     size_here : length (from reader leaf at) ≡ suc (length bs)
     size_here = ap length here

@@ -1,5 +1,5 @@
--- Each token of a leaf ends where a byte of the leaf begins, or at its end, and the bytes of a delimiter run stand one behind the
--- other in the source.
+-- Each token of a leaf ends where a byte of the leaf begins, or at its end, and the bytes of a delimiter run are without a gap in the
+-- source.
 use Rattle.std.specs.Prelude.{suc, zero, ◌-◌, ◌==◌, ◌&&◌, ◌||◌, not, nat_lt, if◌then◌else◌, get_or, drop, take, codes}
 use Rattle.std.specs.List.{prefix_len}
 use Rattle.std.proofs.Common.{◌≡◌, ◌⊎◌, inl, inr, ◌<◌, ◌≤◌, ◌+◌, ℕ, Bool, true, false, List, [], ◌∷◌, length, Option, Some, None, refl, sym, ap, ◌∙◌, subst, arith, length-drop, eqb-true, true≢false}
@@ -38,7 +38,7 @@ module _ (reader : Reader) (leaf : Leaf) (size : ℕ) (turn : InTurn 0 leaf.stre
   abbrev pub IsPlace : ℕ → Type 0
   IsPlace at = (left : ℕ) × IsAt reader.source leaf.stretches size turn within lines left at
 
-  -- no pipe stands among these bytes of the source
+  -- these bytes of the source contain no pipe
   abbrev pub HaveNoPipe : (start end : ℕ) → Type 0
   HaveNoPipe start end = (k : ℕ) → start ≤ k → k < end → (get_or reader.source k 0 == 124) ≡ false
 
@@ -46,8 +46,8 @@ module _ (reader : Reader) (leaf : Leaf) (size : ℕ) (turn : InTurn 0 leaf.stre
   abbrev pub HaveContent : (start end : ℕ) → Type 0
   HaveContent start end = (k : ℕ) → start ≤ k → k < end → is_content (get_or reader.source k 0) ≡ true
 
-  -- what an item of some kinds is where a pipe stands among its bytes: no delimiter run, no quote and no text that is written otherwise; a
-  -- text stands on one line, and a tag with a text of its own does not
+  -- the kinds of an item whose bytes contain a pipe: not a delimiter run, a quote, or a text that is written in another way. A text has no
+  -- line ending, and a tag with a text of its own has one
   abbrev pub Uncut : ItemKind → (start end : ℕ) → Type 0
   Uncut (Delimiters run) start end = HaveNoPipe start end
   Uncut (Written text) start end = HaveNoPipe start end
@@ -64,7 +64,7 @@ module _ (reader : Reader) (leaf : Leaf) (size : ℕ) (turn : InTurn 0 leaf.stre
       let s = n.next c in
       ((length bs, (n.fits, s)), ap (from reader leaf) s ∙ n.rest, n.byte)
 
-  -- what is read over some bytes that end no line
+  -- a construct over n bytes that do not end a line
   pub record Walked (R : ℕ → Type 0) (at n : ℕ) (rest : List ℕ) : Type 0 where
     pub place : IsPlace (at + n)
     pub rest_is : from reader leaf (at + n) ≡ rest
@@ -106,7 +106,7 @@ module _ (reader : Reader) (leaf : Leaf) (size : ℕ) (turn : InTurn 0 leaf.stre
   Sits (Closes closer) = IsPlace closer.end × HaveContent closer.start closer.end
   Sits Ends = Unit {0}
 
-  -- one of two, by the condition
+  -- one of two tokens, by the condition
   when : (b : Bool) (x y : Token) → (b ≡ true → Sits x) → (b ≡ false → Sits y) → Sits (if b then x else y)
   when true x y h k = h refl
   when false x y h k = k refl
@@ -114,11 +114,11 @@ module _ (reader : Reader) (leaf : Leaf) (size : ℕ) (turn : InTurn 0 leaf.stre
   abbrev Anything : ℕ → Type 0
   Anything b = Unit {0}
 
-  -- behind words
+  -- after words
   words : (n at : ℕ) (l : List ℕ) → IsPlace at → from reader leaf at ≡ l → Leads IsWord n l → IsPlace (at + n)
   words n at l h e k = (walk Anything n at l h e k.fits (front-map IsWord (λ b. (is_content b ≡ true) × Unit {0}) (λ b w. (w.content, tt)) n l k.front)).place
 
-  -- and what these are
+  -- and a property of these words
   words_are : (R : ℕ → Type 0) (n at : ℕ) (l : List ℕ) → IsPlace at → from reader leaf at ≡ l → Leads (λ b. IsWord b × R b) n l → IsPlace (at + n) × ((k : ℕ) → at ≤ k → k < at + n → R (get_or reader.source k 0))
   words_are R n at l h e k =
       let w = walk R n at l h e k.fits (front-map (λ b. IsWord b × R b) (λ b. (is_content b ≡ true) × R b) (λ b w. (w.0.content, w.1)) n l k.front) in

@@ -1,4 +1,4 @@
--- What is found in front of a text is not longer than it.
+-- A construct that is found at the start of a text is not longer than the text.
 use Rattle.std.specs.Prelude.{suc, ◌==◌, ◌&&◌, ◌||◌, not, nat_lt, nat_le, if◌then◌else◌, drop, take, take_while, option_map}
 use Rattle.std.proofs.Common.{◌≡◌, ◌<◌, ◌≤◌, ◌+◌, ℕ, Bool, true, false, List, [], ◌∷◌, length, Option, Some, None, refl, ap, arith, length-drop}
 use Rattle.std.proofs.lemmas.List.{length-take}
@@ -24,7 +24,7 @@ pub first-size : (p : ℕ → Bool) (bs : List ℕ) → first_is p bs ≡ true �
 first-size p [] e = cc
 first-size p (b ∷ bs) e = omega arith
 
--- an entity has some bytes, and up to so many
+-- an entity has at least one byte, and at most n
 abbrev pub EntityWithin : ℕ → Option Entity → Type 0
 EntityWithin n None = Unit {0}
 EntityWithin n (Some entity) = (0 < entity.size) × (entity.size ≤ n)
@@ -33,7 +33,7 @@ and_right : (a b : Bool) → (a && b) ≡ true → b ≡ true
 and_right true b e = e
 and_right false b e = cc
 
--- one of two, by the condition
+-- one of two values, by the condition
 when : {A : Type 0} (P : A → Type 0) (b : Bool) (x y : A) → (b ≡ true → P x) → P y → P (if b then x else y)
 when P true x y h k = h refl
 when P false x y h k = k
@@ -75,7 +75,7 @@ entity-within lookup bs =
     larger a b None h k = tt
     larger a b (Some x) h k = (k.0, let y = k.1 in omega arith)
 
--- what stands before a break, and what is behind it
+-- the text before a break, and the text after it
 abbrev pub BreakWithin : ℕ → Option LineBreak → Type 0
 BreakWithin n None = Unit {0}
 BreakWithin n (Some found) = (found.before + length found.behind < n)

@@ -28,7 +28,7 @@ IsSome (Opens opener) = Unit {0}
 IsSome (Closes closer) = Unit {0}
 IsSome Ends = ⊥
 
--- one of two
+-- one of two tokens
 when : (b : Bool) (x y : Token) → IsSome x → IsSome y → IsSome (if b then x else y)
 when true x y h k = h
 when false x y h k = k
@@ -133,7 +133,7 @@ module _ (reader : Reader) (leaf : Leaf) where
   longest_some (Closes closer) h = tt
   longest_some Ends h = h
 
-  -- the text ends where no byte is left, and nowhere else
+  -- the text ends exactly if no byte is left
   pub ends-behind-bytes : (at : ℕ) → from reader leaf at ≡ [] → token reader leaf at ≡ Ends
   unfolding token
   ends-behind-bytes at e = go (from reader leaf at) e

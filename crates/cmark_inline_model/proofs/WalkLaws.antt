@@ -58,7 +58,7 @@ module _ (text : List ℕ) where
   abbrev Balances : List Segment → Type 0
   Balances others = (events : List Ranged) → AreGiven text others events → Matched events
 
-  -- segments one behind the other give what each gives
+  -- segments one after the other give the events of each
   record Splits (a b : List Segment) (events : List Ranged) : Type 0 where
     pub first : List Ranged
     pub second : List Ranged

@@ -1,4 +1,4 @@
--- Between the brackets of a wikilink stands another one.
+-- Between the brackets of a wikilink there is another bracket.
 use Rattle.std.proofs.Common.{◌≡◌, ℕ, ◌+◌, ◌<◌, ◌≤◌, List, sym, ap, subst, arith}
 use Rattle.cmark_grammar.specs.BracketDecisions.{decide}
 use Rattle.cmark_grammar.specs.BracketReading.{Reads}
@@ -14,7 +14,7 @@ use Rattle.cmark_inline_model.proofs.DecisionLaws.{always-by}
 use Rattle.cmark_inline_model.proofs.DecisionShape.{Shape, Stays, ToInline, ToReference, ToFootnote, ToWiki}
 use Rattle.cmark_inline_model.proofs.LinkNesting.{always-comes}
 
--- a byte at least stands between the brackets of a wikilink
+-- at least one byte is between the brackets of a wikilink
 abbrev GapBy : Formed → (opener closer : Bracket) → Type 0
 GapBy (Linking target) opener closer = Unit {0}
 GapBy (Footnote label end) opener closer = Unit {0}

@@ -1,4 +1,4 @@
--- Siblings among which no delimiter run is one of `=` have the spans that the grammar without highlight says.
+-- If siblings have no delimiter run of `=`, their spans are those of the grammar without highlight.
 use Rattle.std.specs.Prelude.{◌==◌, ◌&&◌, ◌||◌, not, nat_lt, nat_le, if◌then◌else◌, max, drop}
 use Rattle.std.proofs.Common.{◌≡◌, ℕ, ◌+◌, Bool, true, false, List, [], ◌∷◌, Some, None, refl, sym, ap, subst, ◌∙◌, true≢false, eqb-true}
 use Rattle.cmark_grammar.specs.Emphasis.{Run, Pair, Sibling, Plain as PlainSibling, Delimiter, Piece, Whole, Standing, keeps_rule_of_three, agrees, pair_of, rest_of_opener, rest_of_closer, emphasis_kinds, tilde_kinds, caret_kinds, equals_kinds, kinds_of, nest, wrapped, row, keep, stand, Misses, Closes, Pairs}
@@ -15,7 +15,7 @@ use Rattle.cmark_inline_model.specs.WithoutHighlight.{agrees_without, kinds_with
 use Rattle.cmark_inline_model.proofs.KindViews.{KindView, AQuote, ARun, AnAutolink, AText, kind-view}
 use Rattle.cmark_inline_model.proofs.SpanElements.{quoted_then, other_then}
 
--- ## Runs that are none of `=`
+-- ## Runs of other bytes than `=`
 abbrev pub IsOther : Run → Type 0
 IsOther run = (run.delimiter == 61) ≡ false
 
@@ -129,7 +129,7 @@ HasOthers Nil = Unit {0}
 HasOthers (Single x after) = IsOtherKind x.kind × HasOthers after
 HasOthers (Around tag start end inside after) = HasOthers after
 
--- where highlight is off, no run of `=` is read
+-- if highlight is off, no run of `=` is read
 pub read-other : (options : Options) → options.highlight ≡ false → (kind : ItemKind) → IsRead options kind → IsOtherKind kind
 read-other options off (Delimiters run) h = go (run.delimiter == 61) refl
   where
@@ -231,7 +231,7 @@ display_other place end siblings h = go (place == end)
     go false = from_other place siblings h
 
 module _ (options : Options) where
-  -- what parts become, and that no run of `=` is among it
+  -- the siblings of parts, none of which is a run of `=`
   siblings_to : (parts : Parts) (siblings : Inline) → AllItems IsOtherKind parts → AreSiblings options parts siblings → AreSiblingsWithout options parts siblings × HasOthers siblings
   siblings_to NoParts siblings o h = (h, subst HasOthers (sym h) tt)
   siblings_to (SinglePart x after) siblings o h =

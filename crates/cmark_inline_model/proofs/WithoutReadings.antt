@@ -1,4 +1,4 @@
--- Where highlight is off, the readings of a text are those of the grammar without highlight.
+-- If highlight is off, the readings of a text are those of the grammar without highlight.
 use Rattle.std.proofs.Common.{◌≡◌, ℕ, ◌≤◌, false, List, [], ◌∷◌, length, refl, sym, subst, ◌∙◌, arith}
 use Rattle.cmark_grammar.specs.BracketDecisions.{decide}
 use Rattle.cmark_grammar.specs.BracketReading.{Reads}

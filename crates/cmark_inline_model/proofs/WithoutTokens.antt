@@ -1,4 +1,4 @@
--- Where highlight is off, at each place of a leaf begins what the grammar without highlight says.
+-- If highlight is off, the tokens of a leaf are those of the grammar without highlight.
 use Rattle.std.specs.Prelude.{zero, suc, ◌==◌, ◌&&◌, ◌||◌, not, nat_lt, if◌then◌else◌, cond, codes}
 use Rattle.std.specs.List.{prefix_len}
 use Rattle.std.proofs.Common.{◌≡◌, ℕ, ◌+◌, ◌<◌, ◌≤◌, Bool, true, false, List, [], ◌∷◌, length, Option, refl, sym, ap, subst, ◌∙◌, arith, eqb-true}
@@ -56,7 +56,7 @@ delimiters_same b e = ap (λ z. (b == 42) || ((b == 95) || ((b == 126) || ((b ==
 
 -- ## What begins at a place
 module _ (reader : Reader) (leaf : Leaf) (off : reader.options.highlight ≡ false) where
-  -- what is no `=`
+  -- a byte other than `=`
   other_begins : (at b : ℕ) (bs : List ℕ) → (b == 61) ≡ false → begins reader leaf at (b ∷ bs) ≡ begins_without reader leaf at (b ∷ bs)
   other_begins at b bs e = ap (λ z. by z (run_at reader leaf at b n)) (delimiters_same b e) ∙ ap (by (is_run_delimiter_without b)) runs
     where
@@ -81,7 +81,7 @@ module _ (reader : Reader) (leaf : Leaf) (off : reader.options.highlight ≡ fal
       runs : run_at reader leaf at b n ≡ run_at_without reader leaf at b n
       runs = ap (run_or reader leaf at b n) (flanking_same reader.options b n (character_before reader leaf at) (character_at reader leaf (at + n)) off)
 
-  -- so many `=` stand for themselves
+  -- `=` signs are plain text
   equals_begins : (at : ℕ) (bs : List ℕ) → begins reader leaf at (61 ∷ bs) ≡ item_at Plain at (at + prefix_len (λ c. c == 61) (61 ∷ bs))
   equals_begins at bs = ap by off
     where
@@ -111,7 +111,7 @@ module _ (reader : Reader) (leaf : Leaf) (off : reader.options.highlight ≡ fal
     abbrev Place : ℕ → Type 0
     Place at = IsPlace reader leaf size turn within lines at
 
-    -- fewer bytes are left behind a later place
+    -- fewer bytes are left after a later offset
     fewer : (at resume : ℕ) → Place at → Place resume → at < resume → resume ≤ end_of leaf.stretches → length (from reader leaf resume) < length (from reader leaf at)
     fewer at resume h k lt le = go (nat_lt (length (from reader leaf resume)) (length (from reader leaf at))) refl
       where
@@ -154,7 +154,7 @@ module _ (reader : Reader) (leaf : Leaf) (off : reader.options.highlight ≡ fal
                   ∙ ap (plain_end_without reader leaf i.0) z,
             )
 
-    -- ## The longest text of bytes that stand for themselves
+    -- ## The longest plain text
     none_left : (n at : ℕ) → from reader leaf at ≡ [] → plain_end reader leaf n at ≡ at
     none_left zero at e = refl
     none_left (suc n) at e = ap (λ l. goes_on reader leaf (begins reader leaf at l) at (plain_end reader leaf n)) e
@@ -166,7 +166,7 @@ module _ (reader : Reader) (leaf : Leaf) (off : reader.options.highlight ≡ fal
     abbrev Same : (n m at : ℕ) → Type 0
     Same n m at = Place at → length (from reader leaf at) ≤ n → length (from reader leaf at) ≤ m → plain_end reader leaf n at ≡ plain_end_without reader leaf m at
 
-    -- behind a token
+    -- after a token
     goes_same : (n m at : ℕ) → Place at → length (from reader leaf at) ≤ suc n → length (from reader leaf at) ≤ suc m → ((resume : ℕ) → Same n m resume) → (t : Token) → begins_at reader leaf at ≡ t
         → goes_on reader leaf t at (plain_end reader leaf n) ≡ goes_on reader leaf t at (plain_end_without reader leaf m)
     goes_same n m at h v w ih (Opens opener) e = refl
@@ -187,7 +187,7 @@ module _ (reader : Reader) (leaf : Leaf) (off : reader.options.highlight ≡ fal
     begins_same : (at b : ℕ) (bs : List ℕ) → from reader leaf at ≡ b ∷ bs → (b == 61) ≡ false → begins_at reader leaf at ≡ begins_at_without reader leaf at
     begins_same at b bs e f = ap (begins reader leaf at) e ∙ other_begins at b bs f ∙ sym (ap (begins_without reader leaf at) e)
 
-    -- a run of `=`, and what is behind it
+    -- a run of `=`, and the text after it
     pub record Equals (at m : ℕ) : Type 0 where
       pub count : ℕ
       pub bytes : ℕ

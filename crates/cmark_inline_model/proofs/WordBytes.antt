@@ -1,4 +1,4 @@
--- Bytes in front of a text that are ASCII and end no line: those of entities, escapes and runs.
+-- ASCII bytes at the start of a text that do not end a line: those of entities, escapes and runs.
 use Rattle.std.specs.Prelude.{suc, zero, ◌-◌, ◌==◌, ◌&&◌, ◌||◌, not, nat_lt, nat_le, if◌then◌else◌, drop, take, take_while, cond}
 use Rattle.std.specs.List.{prefix_len}
 use Rattle.std.proofs.Common.{◌≡◌, ◌⊎◌, inl, inr, ◌<◌, ◌≤◌, ◌+◌, ℕ, Bool, true, false, List, [], ◌∷◌, length, Option, Some, None, refl, sym, ap, subst, arith, length-drop, eqb-true}
@@ -19,7 +19,7 @@ pub record IsWord (b : ℕ) : Type 0 where
   pub content : is_content b ≡ true
   pub ascii : b < 128
 
--- and stands before the braces and the pipe
+-- a word byte that comes before the braces and the pipe in ASCII
 pub record IsName (b : ℕ) : Type 0 where
   pub word : IsWord b
   pub low : b < 123
@@ -105,7 +105,7 @@ punctuation-word b e = one (or-either (nat_le 33 b && nat_le b 47) ((nat_le 58 b
 
 -- ## Bytes in front
 
--- so many bytes there are, and this holds of them
+-- there are n bytes, and Q holds of each
 pub record Leads (Q : ℕ → Type 0) (n : ℕ) (l : List ℕ) : Type 0 where
   pub front : Front Q n l
   pub fits : n ≤ length l
@@ -164,7 +164,7 @@ while-leads Q p f l = record { front = prefix-front p Q f l; fits = fits l }
         by true i = omega arith
         by false i = omega arith
 
--- the bytes of an entity behind its `&`
+-- the bytes of an entity after its `&`
 abbrev pub EntityNames : List ℕ → Option Entity → Type 0
 EntityNames l None = Unit {0}
 EntityNames l (Some entity) = (size : ℕ) × (entity.size ≡ suc size) × Leads IsName size l

@@ -1,4 +1,4 @@
--- The parts of a text by one pass, which cuts what it has read where a closing bracket forms something.
+-- The parts of a text by one pass, which cuts the parts read so far if a closing bracket forms a construct.
 use Rattle.std.specs.Prelude.{ℕ, zero, suc, List, Option, Some, None}
 use Rattle.cmark_grammar.specs.BracketStates.{State, moved, opened, Result, StaysText, Forms, Outcome, Decision, Settled, Asks}
 use Rattle.cmark_grammar.specs.Items.{Bracket, Token, Stands, Opens, Closes, Ends}
@@ -6,7 +6,7 @@ use Rattle.cmark_grammar.specs.Parts.{Formed, Parts, Nil, Single, Form, Closing,
 use Rattle.cmark_grammar.specs.Questions.{Exchange, Plan}
 use Rattle.cmark_inline_model.specs.PartLists.{join, Cut, cut_at}
 
--- how far the text is read, and the parts that it was read as so far
+-- the state of the reading, and the parts read so far
 pub record Pass : Type 0 where
   pub state : State
   pub here : Parts
@@ -14,12 +14,12 @@ pub record Pass : Type 0 where
 abbrev pub pass : State → Parts → Pass
 pass s here = record { state = s; here = here }
 
--- what a decision comes to where the questions are answered by a plan
+-- the outcome of a decision whose question is answered by a plan
 abbrev pub outcome_by : Plan → List Exchange → Decision → Outcome
 outcome_by plan asked (Settled outcome) = outcome
 outcome_by plan asked (Asks question answered) = answered (plan asked question)
 
--- where there is no such opening bracket, the pass stays
+-- if there is no such opening bracket, the pass does not change
 abbrev pub formed_by : Pass → (closer : Bracket) → Formed → (next : State) → Option Cut → Pass
 formed_by p closer formed next None = p
 formed_by p closer formed next (Some cut) = pass next (join cut.before (Form cut.opener cut.inside closer formed Nil))
@@ -28,7 +28,7 @@ abbrev pub resulting : Pass → (closer : Bracket) → Result → (next : State)
 resulting p closer StaysText next = pass next (join p.here (Closing closer Nil))
 resulting p closer (Forms nearer formed) next = formed_by p closer formed next (cut_at nearer p.here)
 
--- where a closing bracket comes to this
+-- the pass after a closing bracket with this outcome
 abbrev pub closed_by : Pass → (closer : Bracket) → Outcome → Pass
 closed_by p closer outcome = resulting p closer outcome.result outcome.after
 
@@ -46,7 +46,7 @@ module _ (token : ℕ → Token) (decide : State → (closer : Bracket) → Deci
   run zero p = p
   run (suc n) p = run n (step p)
 
-  -- the parts that so many steps read behind a state, and the state behind them
+  -- the parts that this number of steps reads from a state on, and the state after them
   abbrev pub parts_by : ℕ → State → Parts
   parts_by steps s = (run steps (pass s Nil)).here
 

@@ -1,4 +1,4 @@
--- Where the events of a text stand in it, and what the pipe of a wikilink cuts there (this profile's own).
+-- The ranges of the events of a text, and the effect of a wikilink's pipe on them (this profile's own).
 use Rattle.std.specs.Prelude.{◌≡◌, ◌⊎◌, ℕ, ◌-◌, ◌≤◌, ◌<◌, true, List, [], ◌∷◌, ◌++◌, get_or}
 use Rattle.cmark_grammar.specs.Balance.{IsSingle}
 use Rattle.cmark_grammar.specs.Event.{Event, Start, End, TaskListMarker, Ranged}
@@ -7,7 +7,7 @@ use Rattle.cmark_grammar.specs.Tag.{Tag, Link, Image, DefinitionListTitle}
 use Rattle.cmark_grammar.specs.TagEnd.{end_of}
 use Rattle.cmark_inline_model.specs.ReadingRanges.{ranged}
 
--- wikilinks are read, and a pipe stands directly before this place
+-- wikilinks are enabled, and a pipe is directly before this offset
 pub record IsBehindPipe (options : Options) (text : List ℕ) (at : ℕ) : Type 0 where
   pub wikilinks : options.wikilinks ≡ true
   pub some : 0 < at
@@ -27,20 +27,20 @@ abbrev pub BeginsWithTask : List Ranged → Type 0
 BeginsWithTask [] = ⊥
 BeginsWithTask (r ∷ others) = IsTask r.event ⊎ ((r.event ≡ Start DefinitionListTitle) × BeginsWithTask others)
 
--- none is
+-- no event is a task marker
 abbrev pub HasNoTasks : List Ranged → Type 0
 HasNoTasks [] = Unit {0}
 HasNoTasks (r ∷ others) = (IsTask r.event → ⊥) × HasNoTasks others
 
--- an element begins where it is written to begin; but a link or an image that a pipe cuts begins directly behind the pipe, and a paragraph,
--- a heading or a title behind its task marker, and so does the definition list that begins with this title (GFM 5.3)
+-- an element begins where it is written to begin, with two exceptions. A link or an image that a pipe cuts begins directly after the pipe.
+-- A paragraph, a heading, a title, or the definition list of that title begins after its task marker (GFM 5.3)
 abbrev pub BeginsAt : Options → (text : List ℕ) → Tag → List Ranged → (written start : ℕ) → Type 0
 BeginsAt options text tag inside written start =
     (start ≡ written) ⊎ ((IsLinkOrImage tag × (written < start) × IsBehindPipe options text start) ⊎ ((written ≤ start) × BeginsWithTask inside))
 
--- from one place to another the events stand one behind the other, and each element around what is inside it, but for what a pipe
--- cuts and for task markers: the inside of such an element begins where the element is written to begin, which is behind all events before
--- it, or with the task marker
+-- the events between two offsets are in order, and each element contains the events inside it, except for cuts by a pipe and for task
+-- markers. In these cases the content of the element begins where the element is written to begin, which is after all events before it, or
+-- with the task marker
 pub data InPlaceButCut (options : Options) (text : List ℕ) : (from : ℕ) → List Ranged → (to : ℕ) → Type 0 where
   Nothing : (from to : ℕ) → from ≤ to → InPlaceButCut options text from [] to
   Single : (from to : ℕ) (r : Ranged) (after : List Ranged) → IsSingle r.event → from ≤ r.start → r.start ≤ r.end → InPlaceButCut options text r.end after to

@@ -1,4 +1,4 @@
--- What holds of all that brackets form in a text, and how many closing brackets it has.
+-- Facts about all constructs that brackets form in a text, and the number of its closing brackets.
 use Rattle.std.specs.Prelude.{ℕ, suc, ◌+◌, List}
 use Rattle.cmark_grammar.specs.BracketStates.{State, Result, StaysText, Forms, Decision}
 use Rattle.cmark_grammar.specs.Items.{Bracket}
@@ -17,11 +17,11 @@ abbrev pub ResultHolds : (Formed → Type 0) → Result → Type 0
 ResultHolds Holds StaysText = Unit {0}
 ResultHolds Holds (Forms nearer formed) = Holds formed
 
--- whatever a closing bracket forms, this holds of it with the questions that were put by then
+-- Holds is true of whatever a closing bracket forms, with the questions that were put so far
 pub record FormsOnly (Holds : List Exchange → Formed → Type 0) (decide : State → (closer : Bracket) → Decision) : Type 0 where
   pub forms : (s : State) (closer : Bracket) → Always (λ o. ResultHolds (Holds o.after.asked) o.result) (decide s closer)
 
--- how many closing brackets were read as such
+-- the number of closing brackets that were read
 abbrev pub closings : Parts → ℕ
 closings Nil = 0
 closings (Single item after) = closings after

@@ -1,4 +1,4 @@
--- How many bytes of the source the leaves of a document take.
+-- The number of bytes of the source that the leaves of a document cover.
 use Rattle.std.specs.Prelude.{ℕ, ◌+◌, ◌-◌, List, [], ◌∷◌}
 use Rattle.cmark_grammar.specs.LeafText.{Leaf, begin_of, end_of}
 use Rattle.cmark_grammar.specs.SpanDocuments.{Segment, Given, Content}
@@ -7,7 +7,7 @@ use Rattle.cmark_grammar.specs.SpanDocuments.{Segment, Given, Content}
 abbrev pub extent : Leaf → ℕ
 extent leaf = end_of leaf.stretches - begin_of leaf.stretches
 
--- those of all leaves together
+-- the sum for all leaves
 abbrev pub extents : List Segment → ℕ
 extents [] = 0
 extents (Given r ∷ others) = extents others

@@ -1,4 +1,4 @@
--- What stands in the source between the lines of a leaf: the prefixes of the containers around it (CommonMark 5).
+-- The bytes of the source between the lines of a leaf: the prefixes of the containers around it (CommonMark 5).
 use Rattle.std.specs.Prelude.{◌≡◌, ◌<◌, ℕ, suc, Bool, true, false, ◌==◌, ◌||◌, List, [], ◌∷◌, get_or, length}
 use Rattle.cmark_grammar.specs.Columns.{is_blank_byte}
 use Rattle.cmark_grammar.specs.LeafText.{Leaf}
@@ -10,15 +10,15 @@ use Rattle.cmark_inline_model.specs.TextPlaces.{place_in, text_of}
 abbrev pub is_prefix_byte : ℕ → Bool
 is_prefix_byte b = is_blank_byte b || (b == 62)
 
--- between the places of a byte of the text and of the next one stand only blanks and `>`
+-- between the offsets of a byte of the text and of the next byte there are only blanks and `>`
 abbrev pub HasPrefixesBetween : Reader → Leaf → Type 0
 HasPrefixesBetween reader leaf = (k x : ℕ) → suc k < length (text_of reader leaf) → place_in reader leaf k < x → x < place_in reader leaf (suc k) → is_prefix_byte (get_or reader.source x 0) ≡ true
 
--- between them stands no pipe
+-- there is no pipe between them
 abbrev pub HasNoPipesBetween : Reader → Leaf → Type 0
 HasNoPipesBetween reader leaf = (k x : ℕ) → suc k < length (text_of reader leaf) → place_in reader leaf k < x → x < place_in reader leaf (suc k) → (get_or reader.source x 0 == 124) ≡ false
 
--- so it is in each leaf
+-- the same for each leaf
 abbrev pub HavePrefixesBetween : Reader → List Segment → Type 0
 HavePrefixesBetween reader [] = Unit {0}
 HavePrefixesBetween reader (Given r ∷ others) = HavePrefixesBetween reader others

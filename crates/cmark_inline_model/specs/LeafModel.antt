@@ -37,17 +37,17 @@ all_after reader plan [] before = before
 all_after reader plan (Given r ∷ others) before = all_after reader plan others before
 all_after reader plan (Content leaf ∷ others) before = all_after reader plan others (leaf_after reader plan leaf before)
 
--- the stretches of each leaf stand in order within so many bytes
+-- the stretches of each leaf are in order, and inside the first `size` bytes
 abbrev pub AreLeavesInTurn : (size : ℕ) → List Segment → Type 0
 AreLeavesInTurn size [] = Unit {0}
 AreLeavesInTurn size (Given r ∷ others) = AreLeavesInTurn size others
 AreLeavesInTurn size (Content leaf ∷ others) = InTurn 0 leaf.stretches size × AreLeavesInTurn size others
 
--- a line feed or a carriage return stands directly before this place
+-- a line feed or a carriage return is directly before this offset
 abbrev pub EndsLine : (source : List ℕ) → (at : ℕ) → Type 0
 EndsLine source at = (0 < at) × (is_content (get_or source (at - 1) 0) ≡ false)
 
--- each of these stretches has some bytes, and each but the last ends with a line ending
+-- each of these stretches is not empty, and each but the last ends with a line ending
 abbrev pub HaveLineEnds : (source : List ℕ) → List Stretch → Type 0
 HaveLineEnds source [] = Unit {0}
 HaveLineEnds source (s ∷ more) = (s.start < s.end) × ((more ≡ []) ⊎ EndsLine source s.end) × HaveLineEnds source more

@@ -1,5 +1,4 @@
--- Slots that give the same events, whatever their items are called: a text is the same text, whether it is said to be bytes that stand
--- for themselves, or a text of its own.
+-- Slots that give the same events, whatever the kinds of their items are: a text is the same text, as plain bytes and as a text of its own.
 use Rattle.std.specs.Prelude.{◌≡◌, ℕ, Bool, true, false, List, [], ◌∷◌}
 use Rattle.cmark_grammar.specs.InlineHtml.{takes_lines}
 use Rattle.cmark_grammar.specs.InlineReading.{event_of}
@@ -13,8 +12,8 @@ is_html Html = true
 is_html _ = false
 
 module _ (source : List ℕ) where
-  -- an item gives the event of another, and comes from the same bytes; where a line ends among these, both are HTML that is a part of the
-  -- source, or neither is
+  -- an item gives the same event as another, and comes from the same bytes. If these have a line ending, both are HTML that is a part of
+  -- the source, or neither is
   pub record GivesTheSame (x y : Item) : Type 0 where
     pub start : x.start ≡ y.start
     pub end : x.end ≡ y.end

@@ -1,4 +1,4 @@
--- Where links and images lead, what questions are about, and what is formed without an option.
+-- The destinations of links and images, the subjects of questions, and the constructs that need an option.
 use Rattle.std.specs.Prelude.{◌≡◌, true, false, ◌==◌, List, [], ◌∷◌, ◌++◌, Some, None}
 use Rattle.cmark_grammar.specs.BlockDocument as block
 use Rattle.cmark_grammar.specs.BracketDecisions.{or_empty}
@@ -17,27 +17,27 @@ IsReferenceForm Collapsed = Unit {0}
 IsReferenceForm Shortcut = Unit {0}
 IsReferenceForm _ = ⊥
 
--- a question is about a reference whose label no definition has, and there is a callback to be asked
+-- a question is about a reference whose label has no definition, and there is a callback
 pub record IsQuestion (reader : Reader) (q : Question) : Type 0 where
   pub form : IsReferenceForm q.link_type
   pub undefined : reader.definition (case_folded q.reference) ≡ None
   pub has_callback : reader.has_callback ≡ true
 
--- and is put while something of the reference expansion limit is left
+-- a question is put only while the reference expansion limit is not used up
 abbrev pub AsksRightly : Reader → State → Decision → Type 0
 AsksRightly reader s (Settled outcome) = Unit {0}
 AsksRightly reader s (Asks q answered) = IsQuestion reader q × ((s.expansion_left == 0) ≡ false)
 
--- ## Where links and images lead
+-- ## The destinations of links and images
 
--- where the definition of its label says (CommonMark 4.7)
+-- the destination and title of the definition of its label (CommonMark 4.7)
 pub record IsDefined (reader : Reader) (linked : Linked) : Type 0 where
   pub definition : block.Reference
   pub found : reader.definition (case_folded linked.id) ≡ Some definition
   pub destination : linked.destination ≡ definition.destination
   pub title : linked.title ≡ or_empty definition.title
 
--- where no definition has its label and one of the questions was about it, where the answer says (this profile's own)
+-- the destination and title of an answer, if its label has no definition and was the subject of a question (this profile's own)
 pub record IsAnswered (reader : Reader) (asked : List Exchange) (written : LinkType) (linked : Linked) : Type 0 where
   pub undefined : reader.definition (case_folded linked.id) ≡ None
   pub exchange : Exchange
@@ -48,7 +48,7 @@ pub record IsAnswered (reader : Reader) (asked : List Exchange) (written : LinkT
   pub about : exchange.question.reference ≡ linked.id
   pub answer : exchange.answer ≡ Some (record { url = linked.destination; title = linked.title })
 
--- by the way in which it is written: an inline link has no label; a reference leads where its definition or an answer says; an autolink
+-- by the link type: an inline link has no label. A reference has the destination and title of its definition or of an answer. An autolink
 -- and a wikilink have no title and no label
 abbrev pub LeadsBy : LinkType → Reader → (asked : List Exchange) → Linked → Type 0
 LeadsBy Inline reader asked linked = linked.id ≡ []

@@ -1,11 +1,11 @@
--- No link stands in a link (CommonMark 6.3).
+-- No link is inside a link (CommonMark 6.3).
 use Rattle.std.specs.Prelude.{◌≡◌, Bool, true, false, not, ◌&&◌, ◌||◌, List, [], ◌∷◌, drop}
 use Rattle.cmark_grammar.specs.BracketStates.{Opener, State, Result, StaysText, Forms, Outcome, Decision}
 use Rattle.cmark_grammar.specs.Items.{Bracket}
 use Rattle.cmark_grammar.specs.Parts.{Formed, Linking, Footnote, Wiki, Parts, Nil, Single, Form, Closing, Opening}
 use Rattle.cmark_inline_model.specs.Progress.{Always}
 
--- what two brackets form is a link: no image and no footnote reference
+-- two brackets form a link: not an image and not a footnote reference
 abbrev pub is_link : Bracket → Formed → Bool
 is_link opener (Linking target) = not opener.is_image
 is_link opener (Footnote label end) = false
@@ -19,7 +19,7 @@ holds_link (Form opener inside closer formed after) = is_link opener formed || (
 holds_link (Closing closer after) = holds_link after
 holds_link (Opening opener after) = holds_link after
 
--- none of them holds another
+-- no link contains another
 abbrev pub HasLinksApart : Parts → Type 0
 HasLinksApart Nil = Unit {0}
 HasLinksApart (Single item after) = HasLinksApart after
@@ -27,20 +27,20 @@ HasLinksApart (Form opener inside closer formed after) = ((is_link opener formed
 HasLinksApart (Closing closer after) = HasLinksApart after
 HasLinksApart (Opening opener after) = HasLinksApart after
 
--- ## What a decision keeps for that
+-- ## Facts that a decision preserves for this
 
--- the same brackets, of which those that were inactive are so
+-- the same brackets; an inactive bracket stays inactive
 abbrev pub Persist : (old new : List Opener) → Type 0
 Persist [] new = new ≡ []
 Persist (o ∷ os) [] = ⊥
 Persist (o ∷ os) (n ∷ ns) = (n.bracket ≡ o.bracket) × (o.is_inactive ≡ true → n.is_inactive ≡ true) × Persist os ns
 
--- none of these can open a link
+-- no bracket of these can open a link
 abbrev pub OpenNoLink : List Opener → Type 0
 OpenNoLink [] = Unit {0}
 OpenNoLink (o ∷ os) = ((o.is_inactive || o.bracket.is_image) ≡ true) × OpenNoLink os
 
--- brackets behind the taken one are gone; it was active; and behind a link none before it can open a link
+-- brackets after the taken one are removed; it was active; and after a link no earlier bracket can open a link
 pub record FormsApart (taken : Opener) (before : List Opener) (formed : Formed) (after : List Opener) : Type 0 where
   pub active : taken.is_inactive ≡ false
   pub persist : Persist before after

@@ -1,4 +1,4 @@
--- What is read only where an option says so: items, and events.
+-- The items and events that are read only if an option is on.
 use Rattle.std.specs.Prelude.{◌≡◌, true, List, [], ◌∷◌}
 use Rattle.cmark_grammar.specs.Event.{Event, Start, End, InlineMath as InlineMathEvent, DisplayMath as DisplayMathEvent, FootnoteReference as FootnoteEvent, Ranged}
 use Rattle.cmark_grammar.specs.Flanking.{is_delimiter_run}
@@ -11,13 +11,13 @@ use Rattle.cmark_grammar.specs.Tag.{Tag, Strikethrough, Superscript, Subscript, 
 use Rattle.cmark_grammar.specs.TagEnd as end
 use Rattle.cmark_grammar.specs.TagEnd.{TagEnd}
 
--- a link to an email address is read with email autolinks (CommonMark 6.5)
+-- a link to an email address needs email autolinks (CommonMark 6.5)
 abbrev pub IsLinkGiven : Options → LinkType → Type 0
 IsLinkGiven options Email = options.email_autolinks ≡ true
 IsLinkGiven options _ = Unit {0}
 
--- a quote is read with smart punctuation, a formula with math, a footnote reference with footnotes, and of `~`, `^` and `=` the runs
--- that strikethrough, subscript, superscript and highlight make delimiter runs (GFM 6.5, and this profile's own)
+-- a quote needs smart punctuation, a formula math, and a footnote reference footnotes. A run of `~`, `^` or `=` has to be a delimiter run
+-- under strikethrough, subscript, superscript or highlight (GFM 6.5, and this profile's own)
 abbrev pub IsRead : Options → ItemKind → Type 0
 IsRead options (Quoted quote) = options.smart_punctuation ≡ true
 IsRead options (InlineMath text) = options.math ≡ true
@@ -27,7 +27,7 @@ IsRead options (Autolink address) = IsLinkGiven options (address_type address)
 IsRead options (Delimiters run) = is_delimiter_run options run.delimiter run.run_length ≡ true
 IsRead options _ = Unit {0}
 
--- this holds of each item of these parts
+-- P holds of each item of these parts
 abbrev pub AllItems : (ItemKind → Type 0) → Parts → Type 0
 AllItems Holds Nil = Unit {0}
 AllItems Holds (Single item after) = Holds item.kind × AllItems Holds after
@@ -35,7 +35,7 @@ AllItems Holds (Form opener inside closer formed after) = AllItems Holds inside 
 AllItems Holds (Closing closer after) = AllItems Holds after
 AllItems Holds (Opening opener after) = AllItems Holds after
 
--- strikethrough, superscripts, subscripts and highlights are given with theirs (GFM 6.5, and this profile's own)
+-- strikethrough, superscripts, subscripts and highlights need their options (GFM 6.5, and this profile's own)
 abbrev pub IsTagGiven : Options → Tag → Type 0
 IsTagGiven options Strikethrough = options.strikethrough ≡ true
 IsTagGiven options Superscript = options.superscript ≡ true
@@ -51,7 +51,7 @@ IsEndGiven options end.Subscript = options.subscript ≡ true
 IsEndGiven options end.Highlight = options.highlight ≡ true
 IsEndGiven options _ = Unit {0}
 
--- and a formula with math, a footnote reference with footnotes (both this profile's own)
+-- a formula needs math, and a footnote reference footnotes (both this profile's own)
 abbrev pub IsGiven : Options → Event → Type 0
 IsGiven options (Start tag) = IsTagGiven options tag
 IsGiven options (End tag_end) = IsEndGiven options tag_end

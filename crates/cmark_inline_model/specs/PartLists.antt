@@ -1,9 +1,9 @@
--- Lists of parts, one behind the other, and cut at an opening bracket that is a text.
+-- Lists of parts, joined, and cut at an opening bracket that is a text.
 use Rattle.std.specs.Prelude.{ℕ, ◌==◌, if◌then◌else◌, Option, Some, None}
 use Rattle.cmark_grammar.specs.Items.{Bracket}
 use Rattle.cmark_grammar.specs.Parts.{Parts, Nil, Single, Form, Closing, Opening, openings}
 
--- the second behind the first
+-- the second list after the first
 abbrev pub join : Parts → Parts → Parts
 join Nil other = other
 join (Single item after) other = Single item (join after other)
@@ -11,7 +11,7 @@ join (Form opener inside closer formed after) other = Form opener inside closer 
 join (Closing closer after) other = Closing closer (join after other)
 join (Opening opener after) other = Opening opener (join after other)
 
--- what stands before an opening bracket that is a text, the bracket, and what stands behind it
+-- the parts before an opening bracket that is a text, the bracket, and the parts after it
 pub record Cut : Type 0 where
   pub before : Parts
   pub opener : Bracket
@@ -21,7 +21,7 @@ abbrev pub behind : Parts → Option Cut → Option Cut
 behind piece None = None
 behind piece (Some cut) = Some (record { before = join piece cut.before; opener = cut.opener; inside = cut.inside })
 
--- cut at the opening bracket that has so many nearer ones
+-- cut at the opening bracket after which there are `nearer` others
 abbrev pub cut_at : (nearer : ℕ) → Parts → Option Cut
 cut_at nearer Nil = None
 cut_at nearer (Single item after) = behind (Single item Nil) (cut_at nearer after)

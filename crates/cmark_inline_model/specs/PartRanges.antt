@@ -1,4 +1,4 @@
--- Where the parts of a text stand: one behind the other, and what two brackets form around what stands between them.
+-- The offsets of the parts of a text: they are in order, and a construct that two brackets form surrounds the parts between them.
 use Rattle.std.specs.Prelude.{◌≡◌, ℕ, ◌≤◌, ◌<◌}
 use Rattle.cmark_grammar.specs.BracketStates.{State, Result, StaysText, Forms, Outcome, Decision}
 use Rattle.cmark_grammar.specs.Items.{Item, Bracket, Token, Stands, Opens, Closes}
@@ -10,7 +10,7 @@ end_of (Linking target) = target.end
 end_of (Footnote label end) = end
 end_of (Wiki name display end) = end
 
--- between two places, one behind the other
+-- between two offsets, in order
 abbrev pub StandBetween : ℕ → Parts → ℕ → Type 0
 StandBetween from Nil to = from ≤ to
 StandBetween from (Single item after) to = (from ≤ item.start) × (item.start ≤ item.end) × StandBetween item.end after to
@@ -19,9 +19,9 @@ StandBetween from (Form opener inside closer formed after) to =
 StandBetween from (Closing closer after) to = (from ≤ closer.start) × (closer.start < closer.end) × StandBetween closer.end after to
 StandBetween from (Opening opener after) to = (from ≤ opener.start) × (opener.start ≤ opener.end) × StandBetween opener.end after to
 
--- ## What tokens and decisions keep for that
+-- ## Facts that tokens and decisions preserve for this
 
--- a bracket begins at a place or behind it, and ends up to another
+-- a bracket begins at `at` or later, and ends at `to` or earlier
 pub record StandsFrom (at : ℕ) (start end : ℕ) (to : ℕ) : Type 0 where
   pub begins : at ≤ start
   pub ordered : start ≤ end
@@ -31,7 +31,7 @@ abbrev pub ReachesBy : (from : ℕ) → Result → (to : ℕ) → Type 0
 ReachesBy from StaysText to = from ≤ to
 ReachesBy from (Forms nearer formed) to = (from ≤ end_of formed) × (end_of formed ≤ to)
 
--- the text is read on behind the closing bracket, and behind what it forms
+-- reading continues after the closing bracket, and after the construct that it forms
 pub record Reaches (from size : ℕ) (o : Outcome) : Type 0 where
   pub behind : ReachesBy from o.result o.after.at
   pub within : o.after.at ≤ size

@@ -1,4 +1,4 @@
--- The leaves of a document, with the places of their bytes in the source, and texts of which each byte stands for itself.
+-- The leaves of a document, with the offsets of their bytes in the source, and texts whose bytes are all plain.
 use Rattle.std.specs.Prelude.{◌≡◌, ◌<◌, ℕ, Bool, true, List, [], ◌∷◌, drop, get_or, length, None}
 use Rattle.cmark_grammar.specs.Answers.{Lookup}
 use Rattle.cmark_grammar.specs.Columns.{is_blank_byte}
@@ -11,19 +11,20 @@ use Rattle.cmark_inline_model.specs.LeafModel.{HaveLineEnds}
 use Rattle.cmark_inline_model.specs.PlacedTokens.{AreLeafPlaces, StandsUpTo, one_stretch, text_reader}
 use Rattle.cmark_inline_model.specs.TextPlaces.{place_in, text_of}
 
--- the stretches of a leaf stand in order in the source, each but the last ends with a line ending, and the bytes of its text have their places
+-- the stretches of a leaf are in order in the source, each but the last ends with a line ending, and the bytes of its text have their
+-- offsets
 pub record IsPlaced (reader : Reader) (leaf : Leaf) : Type 0 where
   pub turn : InTurn 0 leaf.stretches (length reader.source)
   pub lines : HaveLineEnds reader.source leaf.stretches
   pub places : AreLeafPlaces reader leaf (text_of reader leaf) (place_in reader leaf)
 
--- so it is for each leaf
+-- the same for each leaf
 abbrev pub AreLeavesPlaced : Reader → List Segment → Type 0
 AreLeavesPlaced reader [] = Unit {0}
 AreLeavesPlaced reader (Given r ∷ others) = AreLeavesPlaced reader others
 AreLeavesPlaced reader (Content leaf ∷ others) = IsPlaced reader leaf × AreLeavesPlaced reader others
 
--- at each byte of a text begins an item that stands for itself and ends in the text, but at blanks with which a line break begins
+-- at each byte of a text a plain item begins that ends in the text, except at blanks with which a line break begins
 abbrev pub StandWhole : Options → Lookup → (is_cell : Bool) → (text : List ℕ) → Type 0
 StandWhole options lookup is_cell text =
     (k : ℕ) → k < length text → (is_blank_byte (get_or text k 0) ≡ true → blank_break_in (drop k text) ≡ None) → StandsUpTo (text_reader options lookup text) (one_stretch is_cell text) k (length text)

@@ -1,5 +1,5 @@
--- What tokens and decisions keep: they lead on in the text, take opening brackets that are there, record their question and see
--- no earlier one.
+-- Facts that tokens and decisions preserve: they lead forward in the text, take existing opening brackets, record their question and do not
+-- depend on earlier ones.
 use Rattle.std.specs.Prelude.{◌≡◌, ℕ, suc, ◌+◌, ◌<◌, ◌≤◌, List, [], ◌∷◌, ◌++◌, length, Option}
 use Rattle.cmark_grammar.specs.Answers.{Destination}
 use Rattle.cmark_grammar.specs.BracketReading.{Comes}
@@ -7,12 +7,12 @@ use Rattle.cmark_grammar.specs.BracketStates.{State, Result, StaysText, Forms, O
 use Rattle.cmark_grammar.specs.Items.{Item, Bracket, Token, Stands, Opens, Closes, Ends}
 use Rattle.cmark_grammar.specs.Questions.{Exchange, IsNext}
 
--- this holds of whatever a decision comes to
+-- Holds is true of every possible outcome of a decision
 abbrev pub Always : (Outcome → Type 0) → Decision → Type 0
 Always Holds (Settled outcome) = Holds outcome
 Always Holds (Asks question answered) = (answer : Option Destination) → Holds (answered answer)
 
--- so many opening brackets are texts: they stay, or those from the taken one on are gone
+-- `size` opening brackets are texts: they stay, or those from the taken one on are removed
 abbrev pub FitsBy : (size left : ℕ) → Result → Type 0
 FitsBy size left StaysText = left ≡ size
 FitsBy size left (Forms nearer formed) = left + suc nearer ≡ size
@@ -20,8 +20,8 @@ FitsBy size left (Forms nearer formed) = left + suc nearer ≡ size
 abbrev pub Fits : ℕ → Outcome → Type 0
 Fits size o = FitsBy size (length o.after.openers) o.result
 
--- each token and each decision leads on in the text, behind so many bytes there is none, and a closing bracket takes an opening
--- one that is there
+-- each token and each decision leads forward in the text; there is no token from `size` on; and a closing bracket takes an existing opening
+-- bracket
 pub record IsForward (token : ℕ → Token) (decide : State → (closer : Bracket) → Decision) (size : ℕ) : Type 0 where
   pub ends : (at : ℕ) → size ≤ at → token at ≡ Ends
   pub stands : (at resume : ℕ) (item : Item) → token at ≡ Stands item resume → at < resume
@@ -29,7 +29,7 @@ pub record IsForward (token : ℕ → Token) (decide : State → (closer : Brack
   pub comes : (s : State) (closer : Bracket) → token s.at ≡ Closes closer → Always (λ o. s.at < o.after.at) (decide s closer)
   pub fits : (s : State) (closer : Bracket) → Always (Fits (length s.openers)) (decide s closer)
 
--- what a decision comes to has put its question, or none
+-- the outcome of a decision records its question, if it put one
 abbrev pub Keeps : List Exchange → Decision → Type 0
 Keeps asked (Settled outcome) = outcome.after.asked ≡ asked
 Keeps asked (Asks question answered) = (answer : Option Destination) → (answered answer).after.asked ≡ asked ++ (record { question = question; answer = answer } ∷ [])
@@ -37,14 +37,14 @@ Keeps asked (Asks question answered) = (answer : Option Destination) → (answer
 pub record IsRecorded (decide : State → (closer : Bracket) → Decision) : Type 0 where
   pub keeps : (s : State) (closer : Bracket) → Keeps s.asked (decide s closer)
 
--- the same state behind other questions
+-- the same state after other questions
 abbrev pub asked_behind : List Exchange → State → State
 asked_behind h s = record { at = s.at; expansion_left = s.expansion_left; label_close = s.label_close; asked = h ++ s.asked; openers = s.openers }
 
 abbrev pub outcome_behind : List Exchange → Outcome → Outcome
 outcome_behind h o = record { result = o.result; after = asked_behind h o.after }
 
--- a decision does not hang on the questions that were put before
+-- a decision does not depend on the questions that were put before
 pub record IsShifted (decide : State → (closer : Bracket) → Decision) : Type 0 where
   pub comes : (h all : List Exchange) (s : State) (closer : Bracket) (o : Outcome) → Comes (IsNext all) s.asked (decide s closer) o
       → Comes (IsNext (h ++ all)) (h ++ s.asked) (decide (asked_behind h s) closer) (outcome_behind h o)

@@ -1,5 +1,5 @@
--- Links and images among the events of a text: no link in a link but autolinks (CommonMark 6.3 and 6.5), where each leads (4.7), and
--- what references take off the reference expansion limit (this profile's own).
+-- Links and images among the events of a text: no link is in a link except autolinks (CommonMark 6.3 and 6.5), and each has its destination
+-- (4.7). References cost a part of the reference expansion limit (this profile's own).
 use Rattle.std.specs.Prelude.{◌≡◌, ◌⊎◌, ℕ, zero, suc, pred, ◌+◌, Bool, true, false, nat_le, if◌then◌else◌, List, [], ◌∷◌, ◌++◌, length, sum}
 use Rattle.cmark_grammar.specs.Event.{Event, Start, End, Ranged}
 use Rattle.cmark_grammar.specs.LinkType.{LinkType, Autolink, Email}
@@ -11,7 +11,7 @@ use Rattle.cmark_grammar.specs.TagEnd.{TagEnd}
 use Rattle.cmark_inline_model.specs.ReferenceExpansion.{cost_as}
 use Rattle.cmark_inline_model.specs.LinkRules.{IsLed}
 
--- an event begins a link or an image, ends one, or does neither
+-- the event begins a link or an image, ends one, or does neither
 pub data LinkEvent : Type 0 where
   Begins : (is_image : Bool) → (linked : Linked) → LinkEvent
   Finishes : (is_image : Bool) → LinkEvent
@@ -34,11 +34,11 @@ link_event _ = Neither
 
 -- ## No link in a link
 
--- an autolink leads to a URI or to an email address
+-- an autolink, to a URI or to an email address
 abbrev pub IsOfAutolink : LinkType → Type 0
 IsOfAutolink link_type = (link_type ≡ Autolink) ⊎ (link_type ≡ Email)
 
--- a link that begins inside of others is an autolink
+-- a link that begins inside others is an autolink
 abbrev pub MayBegin : (begun : ℕ) → Linked → Type 0
 MayBegin zero linked = Unit {0}
 MayBegin (suc begun) linked = IsOfAutolink linked.link_type
@@ -50,12 +50,12 @@ ApartBy (Finishes false) begun Others = Others (pred begun)
 ApartBy (Finishes true) begun Others = Others begun
 ApartBy Neither begun Others = Others begun
 
--- behind so many links that have begun and not ended
+-- inside `begun` links that are open
 abbrev pub LinksApart : (begun : ℕ) → List Ranged → Type 0
 LinksApart begun [] = Unit {0}
 LinksApart begun (r ∷ rs) = ApartBy (link_event r.event) begun (λ n. LinksApart n rs)
 
--- ## Where they lead
+-- ## Their destinations
 
 abbrev pub LedBy : Reader → (asked : List Exchange) → LinkEvent → Type 0
 LedBy reader asked (Begins is_image linked) = IsLed reader asked linked
@@ -66,7 +66,7 @@ abbrev pub AreLed : Reader → (asked : List Exchange) → List Ranged → Type 
 AreLed reader asked [] = Unit {0}
 AreLed reader asked (r ∷ rs) = LedBy reader asked (link_event r.event) × AreLed reader asked rs
 
--- ## What they cost
+-- ## Their cost
 
 -- the bytes of a reference's destination and title; other links and images cost nothing
 abbrev pub own_cost : Linked → List ℕ
@@ -81,12 +81,12 @@ costs_by (Begins is_image linked) begun others = others (own_cost linked ∷ beg
 costs_by (Finishes is_image) begun others = finished begun others
 costs_by Neither begun others = others begun
 
--- what the references cost, in the order in which they end, behind those that have begun and not ended
+-- the costs of the references, in the order in which they end, after those that are open at the start
 abbrev pub reference_costs : (begun : List (List ℕ)) → List Ranged → List ℕ
 reference_costs begun [] = []
 reference_costs begun (r ∷ rs) = costs_by (link_event r.event) begun (λ more. reference_costs more rs)
 
--- what the references cost whose ranges end at a place or before it
+-- the cost of a reference whose range ends at `place` or before it
 abbrev pub spent_by : LinkEvent → (end place : ℕ) → ℕ
 spent_by (Begins is_image linked) end place = if nat_le end place then sum (own_cost linked) else 0
 spent_by (Finishes is_image) end place = 0

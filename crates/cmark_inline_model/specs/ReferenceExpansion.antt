@@ -1,4 +1,4 @@
--- What references take off the reference expansion limit (this profile's own).
+-- The cost of references under the reference expansion limit (this profile's own).
 use Rattle.std.specs.Prelude.{◌≡◌, ℕ, ◌+◌, ◌-◌, ◌<◌, List, [], ◌∷◌, ◌++◌, length}
 use Rattle.cmark_grammar.specs.BracketStates.{State, Result, StaysText, Forms, Outcome, Decision}
 use Rattle.cmark_grammar.specs.Items.{Bracket}
@@ -21,7 +21,7 @@ cost (Linking target) = cost_as target.linked.link_type (length target.linked.de
 cost (Footnote label end) = []
 cost (Wiki name display end) = []
 
--- what the references of these parts cost, in the order of their closing brackets
+-- the costs of the references of these parts, in the order of their closing brackets
 abbrev pub costs : Parts → List ℕ
 costs Nil = []
 costs (Single item after) = costs after
@@ -29,7 +29,7 @@ costs (Form opener inside closer formed after) = costs inside ++ (cost formed ++
 costs (Closing closer after) = costs after
 costs (Opening opener after) = costs after
 
--- each is taken off what is left, where something is left
+-- each cost is subtracted from the rest of the limit, which has to be more than 0
 abbrev pub Spends : (before : ℕ) → List ℕ → (after : ℕ) → Type 0
 Spends before [] after = after ≡ before
 Spends before (c ∷ cs) after = (0 < before) × Spends (before - c) cs after

@@ -1,4 +1,4 @@
--- The parts that a pass has read, laid out as a row of slots, and where the opening brackets that are texts stand in the row.
+-- The parts that a pass has read, laid out as a row of slots, with the indices of the opening brackets that are texts.
 use Rattle.std.specs.Prelude.{◌≡◌, ℕ, suc, ◌+◌, List, [], ◌∷◌, ◌++◌, length, drop, take, Some}
 use Rattle.cmark_grammar.specs.Emphasis.{Run, Sibling, Delimiter}
 use Rattle.cmark_grammar.specs.Items.{ItemKind, Delimiters, Bracket, Own}
@@ -12,7 +12,7 @@ use Rattle.cmark_inline_model.specs.SlotRows.{Slot, ItemSlot, LaysOut}
 
 -- ## Delimiter runs
 
--- those of a list of siblings
+-- the runs of a list of siblings
 abbrev pub run_before : ItemKind → List Run → List Run
 run_before (Delimiters run) runs = run ∷ runs
 run_before _ runs = runs
@@ -22,19 +22,19 @@ runs_in Nil = []
 runs_in (Single x after) = run_before x.kind (runs_in after)
 runs_in (Around tag start end inside after) = runs_in after
 
--- how many bytes they have
+-- the number of their bytes
 abbrev pub bytes_in : List Run → ℕ
 bytes_in [] = 0
 bytes_in (run ∷ runs) = run.run_length + bytes_in runs
 
--- as siblings, their bytes counted from a place on
+-- as siblings, their bytes counted from an index on
 abbrev pub counted : (at : ℕ) → List Run → List Sibling
 counted at [] = []
 counted at (run ∷ runs) = Delimiter (record { delimiter = run.delimiter; run_length = run.run_length; at = at; left = run.run_length; opens = run.opens; closes = run.closes }) ∷ counted (at + run.run_length) runs
 
 -- ## Rows
 
--- an opening bracket, with how many slots stand before it, how many runs, and how many quotes
+-- an opening bracket, with the numbers of slots, runs and quotes before it
 pub record BracketPlace : Type 0 where
   pub bracket : Bracket
   pub slot : ℕ
@@ -45,7 +45,7 @@ abbrev pub text_slot : Bracket → Slot
 text_slot bracket = ItemSlot (item Own bracket.start bracket.end)
 
 module _ (options : Options) where
-  -- parts laid out on both sides of an opening bracket that is a text. None of those behind it is another one
+  -- parts laid out on both sides of an opening bracket that is a text; no other one is among the parts after it
   pub record LaysBracket (Before : Parts → List Slot → (bytes quotes : List ℕ) → Type 0) (b : BracketPlace) (parts : Parts) (slots : List Slot) (bytes quotes : List ℕ) : Type 0 where
     pub before : Parts
     pub opener : Bracket
@@ -68,18 +68,18 @@ module _ (options : Options) where
     pub laid_before : Before before front front_bytes front_quotes
     pub laid_behind : LaysOut (suc (length front)) (siblings_of options inside) behind behind_bytes behind_quotes
 
-  -- parts laid out as a row, with the places of their opening brackets that are texts, the nearest first
+  -- parts laid out as a row, with the records of their opening brackets that are texts, the nearest first
   abbrev pub LaysParts : List BracketPlace → Parts → List Slot → (bytes quotes : List ℕ) → Type 0
   LaysParts [] parts slots bytes quotes = (openings parts ≡ 0) × LaysOut 0 (siblings_of options parts) slots bytes quotes
   LaysParts (b ∷ bs) parts slots bytes quotes = LaysBracket (λ p s c d. LaysParts bs p s c d) b parts slots bytes quotes
 
-  -- and these are their runs and their quotes
+  -- a row with its runs and its quotes
   pub record IsRow (bs : List BracketPlace) (parts : Parts) (slots : List Slot) (bytes quotes : List ℕ) (runs : List Run) (quoted : List Quote) : Type 0 where
     pub laid : LaysParts bs parts slots bytes quotes
     pub runs_are : runs_in (siblings_of options parts) ≡ runs
     pub quoted_are : quotes_of (siblings_of options parts) ≡ quoted
 
-  -- the row cut at the opening bracket that has so many nearer ones: its slot, what stands before it, and what stands behind it
+  -- the row cut at the opening bracket after which there are `nearer` others: its slot, the part before it, and the part after it
   pub record CutsRow (nearer : ℕ) (bs : List BracketPlace) (parts : Parts) (slots : List Slot) (bytes quotes : List ℕ) (runs : List Run) (quoted : List Quote) : Type 0 where
     pub cut : Cut
     pub cut_is : cut_at nearer parts ≡ Some cut

@@ -1,4 +1,4 @@
--- How far a pass over a leaf has come, and the slots that stand for what it has read.
+-- The state of a pass over a leaf, and the slots of the parts that it has read.
 use Rattle.std.specs.Prelude.{ℕ, suc, Bool, true, false, List, [], ◌∷◌, ◌++◌, drop, length, take}
 use Rattle.cmark_grammar.specs.BracketDecisions.{decide}
 use Rattle.cmark_grammar.specs.BracketReading.{Reads}
@@ -19,33 +19,33 @@ use Rattle.cmark_inline_model.specs.LikeSlots.{AreLike}
 use Rattle.cmark_inline_model.specs.RowParts.{BracketPlace, IsRow, bytes_in}
 use Rattle.cmark_inline_model.specs.SlotRows.{BeginSlot, EndSlot, Slot, LaysOut, marked, marks_by, quoted}
 
--- slots from this place of a row on that are like those of a list of parts
+-- slots from this index of a row on that are like the slots of a list of parts
 pub record StandsFor (reader : Reader) (at : ℕ) (piece : Parts) (slots : List Slot) (bytes quotes : List ℕ) : Type 0 where
   pub row : List Slot
   pub laid : LaysOut at (siblings_of reader.options piece) row bytes quotes
   pub like : AreLike reader.source slots row
 
--- from the leaf's beginning the pass has read its parts, whatever the answers were, and these slots are like their row
+-- from the start of the leaf the pass has read its parts, whatever the answers were, and these slots are like their row
 pub record IsReached (reader : Reader) (leaf : Leaf) (before : Between) (p : Pass) (bs : List BracketPlace) (slots : List Slot) (bytes quotes : List ℕ) (runs : List Run) (quoted : List Quote) : Type 0 where
   pub reads : Reads (token reader leaf) (decide reader leaf) AnyAnswer (entering leaf before) p.here p.state
   pub row : List Slot
   pub is_row : IsRow reader.options bs p.here row bytes quotes runs quoted
   pub like : AreLike reader.source slots row
 
--- how many bytes of runs stand before an opening bracket
+-- the number of bytes of runs before an opening bracket
 abbrev pub bytes_before : BracketPlace → List Run → ℕ
 bytes_before place runs = bytes_in (take place.runs runs)
 
--- the slots in which the quotes behind the bracket are characters, and the pairs of the runs there have written their marks
+-- the slots after the quotes after the bracket became characters and the pairs of the runs there have written their marks
 abbrev pub dressed_behind : Options → BracketPlace → List Pair → List Slot → (bytes quotes : List ℕ) → List Run → List Quote → List Slot
 dressed_behind options place pairs slots bytes quotes runs quotes_are =
     marked options (drop (bytes_before place runs) bytes) (marks_by (length (drop (bytes_before place runs) bytes)) pairs) (quoted (drop place.quotes quotes) (quote_characters [] (drop place.quotes quotes_are)) slots) []
 
--- the same at the end, where they are written all
+-- the slots at the end, after all quotes became characters and all pairs have written their marks
 abbrev pub dressed_slots : Options → List Pair → List Slot → (bytes quotes : List ℕ) → List Quote → List Slot
 dressed_slots options pairs slots bytes quotes quotes_are = marked options bytes (marks_by (length bytes) pairs) (quoted quotes (quote_characters [] quotes_are) slots) []
 
--- a link or an image begins in the bracket's slot, and ends behind the last
+-- a link or an image begins in the bracket's slot, and ends after the last slot
 abbrev pub linked_slots : BracketPlace → Target → List Slot → List Slot
 linked_slots place target slots =
     take place.slot slots ++ (BeginSlot (tag_by place.bracket.is_image target.linked) place.bracket.start target.end ∷ (drop (suc place.slot) slots ++ (EndSlot ∷ [])))

@@ -1,5 +1,5 @@
--- The grammar without highlight (this profile's own), where `=` is a byte as any other: each definition that highlight changed, as it
--- is without it, and those that name one.
+-- The grammar without highlight (this profile's own), in which `=` is an ordinary byte. It has each definition that highlight changed, as
+-- it was without it, and those that name such a definition.
 use Rattle.std.specs.Prelude.{◌≡◌, ℕ, zero, suc, ◌+◌, Bool, true, false, not, ◌==◌, ◌&&◌, ◌||◌, nat_lt, if◌then◌else◌, List, [], ◌∷◌, ◌++◌, codes, length, Option, Some, None}
 use Rattle.std.specs.List.{prefix_len}
 use Rattle.cmark_grammar.specs.BlockDocument.{BlockDocument}
@@ -58,7 +58,7 @@ flanking_without options delimiter run_length before after = record {
   closes = is_delimiter_run_without options delimiter run_length && closes_beside (is_intraword options delimiter run_length) before after;
 }
 
--- ## What begins at a place
+-- ## Tokens
 
 module _ (reader : Reader) (leaf : Leaf) where
   abbrev pub run_at_without : (at delimiter run_length : ℕ) → Token

@@ -1,5 +1,5 @@
-//! The theorem over the slots of a wikilink that shows what stands behind its pipe (this profile's own), the contract of a function that does
-//! nothing.
+//! The theorem about the slots of a wikilink that shows the text after its pipe (this profile's own). It is the contract of a function that
+//! does nothing.
 
 ghost use Rattle.std.specs.Prelude.{◌≡◌, ◌≤◌, ℕ, suc, List, ◌∷◌, Some, drop, length, take};
 ghost use Rattle.cmark_grammar.specs.BracketDecisions.{decide};
@@ -24,10 +24,12 @@ ghost use Rattle.cmark_inline_model.specs.RowParts.{BracketPlace, counted};
 ghost use Rattle.cmark_inline_model.specs.RowPasses.{IsReached, bytes_before, linked_slots};
 ghost use Rattle.cmark_inline_model.specs.SlotRows.{Slot};
 
-/// Where a closing bracket forms a wikilink that shows what stands behind its pipe, the slots behind the opening bracket that end by that place
-/// are nothing any more, the next one begins there, and the runs and quotes before it are gone. Once the quotes that are left are
-/// characters, and the pairs of the runs that are left have written their marks, the wikilink stands around these slots in the place of the
-/// bracket's. That the one slot that is cut is like what is left of its item is a premise: like slots may become others when they are cut.
+/// A closing bracket may form a wikilink that shows the text after its pipe. Then the slots after the opening bracket that end at the pipe
+/// or before it become Nothing. The next slot begins there, and earlier runs and quotes are dropped. Once the remaining quotes are
+/// characters, and the pairs of the remaining runs have written their marks, the wikilink replaces the bracket's slot and surrounds these
+/// slots.
+///
+/// A premise is that the slot that is cut is like the rest of its item: like slots may differ after a cut.
 pub fn what_a_wikilink_shows_takes_the_place_of_its_slots()
     ensures { (reader : Reader) (leaf : Leaf) (before : Between) → InTurn 0 leaf.stretches (length reader.source) → HaveLineEnds reader.source leaf.stretches
         → (p : Pass) (bs : List BracketPlace) (slots : List Slot) (bytes quotes : List ℕ) (runs : List Run) (quoted : List Quote) → IsReached reader leaf before p bs slots bytes quotes runs quoted

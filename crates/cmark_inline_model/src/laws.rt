@@ -1,4 +1,4 @@
-//! Theorems over the inline grammar, each the contract of a function that does nothing.
+//! Theorems about the inline grammar. Each is the contract of a function that does nothing.
 
 ghost use Rattle.std.specs.Prelude.{◌≡◌, ℕ, ◌+◌, ◌<◌, ◌≤◌, List, [], ◌∷◌, ◌++◌, length, map, sum};
 ghost use Rattle.cmark_grammar.specs.Answers.{Lookup};
@@ -37,7 +37,7 @@ ghost use Rattle.cmark_inline_model.specs.ReadingRanges.{Matched};
 ghost use Rattle.cmark_inline_model.specs.Unanswered.{AreUnanswered, without_callback};
 ghost use Rattle.cmark_inline_model.specs.Progress.{IsForward, IsRecorded, IsShifted, asked_behind};
 
-/// However the questions are answered, a text is read as some parts: those of the pass.
+/// For each plan of answers a text is read as some parts, which are those of the pass.
 pub fn a_text_has_parts()
     ensures { (token : ℕ → Token) (decide : State → Bracket → Decision) (size : ℕ) → IsForward token decide size
         → (plan : Plan) (s : State) → s.openers ≡ []
@@ -52,33 +52,33 @@ pub fn a_text_has_one_list_of_parts()
         → ReadsWhole token decide (IsNext all) s first t → ReadsWhole token decide (IsNext all) s second u → t ≡ u }
 {}
 
-/// One step of the pass keeps what it has read, whatever the answers.
+/// A step of the pass continues the reading of the parts so far, whatever the answers are.
 pub fn steps_keep_the_reading()
     ensures { (token : ℕ → Token) (decide : State → Bracket → Decision) (start : State) (p q : Pass)
         → Reads token decide AnyAnswer start p.here p.state → Steps token decide AnyAnswer p q → Reads token decide AnyAnswer start q.here q.state }
 {}
 
-/// Questions are only added: behind those that were put before come those of this reading.
+/// A reading only adds questions: its own questions follow those that were put before.
 pub fn questions_only_grow()
     ensures { (token : ℕ → Token) (decide : State → Bracket → Decision) → IsRecorded decide
         → (s : State) (parts : Parts) (t : State) → Reads token decide AnyAnswer s parts t → (more : List Exchange) × (t.asked ≡ s.asked ++ more) }
 {}
 
-/// A reading with any answers is the reading with the list of answers that it got.
+/// A reading with any answers is a reading with the list of the answers that it got.
 pub fn answers_become_a_list()
     ensures { (token : ℕ → Token) (decide : State → Bracket → Decision) → IsRecorded decide
         → (all rest : List Exchange) (s : State) (parts : Parts) (t : State) → all ≡ t.asked ++ rest
         → Reads token decide AnyAnswer s parts t → Reads token decide (IsNext all) s parts t }
 {}
 
-/// A reading does not see which questions were put before it.
+/// A reading does not depend on the questions that were put before it.
 pub fn earlier_questions_are_not_seen()
     ensures { (token : ℕ → Token) (decide : State → Bracket → Decision) → IsShifted decide
         → (h all : List Exchange) (s : State) (parts : Parts) (t : State) → Reads token decide (IsNext all) s parts t
         → Reads token decide (IsNext (h ++ all)) (asked_behind h s) parts (asked_behind h t) }
 {}
 
-/// No link of a leaf holds another (CommonMark 6.3).
+/// No link of a leaf contains another (CommonMark 6.3).
 pub fn no_link_holds_a_link()
     ensures { (reader : Reader) (leaf : Leaf) (s : State) (parts : Parts) (t : State)
         → Reads (token reader leaf) (decide reader leaf) AnyAnswer s parts t → HasLinksApart parts }
@@ -90,13 +90,13 @@ pub fn questions_are_few()
         → Reads (token reader leaf) (decide reader leaf) AnyAnswer s parts t → length t.asked ≤ closings parts + length s.asked }
 {}
 
-/// A question is about a label that no definition has, and is put only while something of the reference expansion limit is left.
+/// A question is about a label that has no definition, and is put only while the reference expansion limit is not used up.
 pub fn questions_are_about_unknown_labels()
     ensures { (reader : Reader) (leaf : Leaf) (s : State) (closer : Bracket) → AsksRightly reader s (decide reader leaf s closer) }
 {}
 
-/// A reference leads where the definition of its label says, and where there is none, where the answer does; footnote references
-/// and wikilinks are formed only where they are read.
+/// A reference has the destination and title of the definition of its label, or, if there is no definition, of the answer. Footnote
+/// references and wikilinks are formed only if they are enabled.
 pub fn references_lead_to_their_definitions()
     ensures formed { (reader : Reader) (leaf : Leaf) (s : State) (parts : Parts) (t : State)
         → Reads (token reader leaf) (decide reader leaf) AnyAnswer s parts t → AllFormed (IsFormedRightly reader t.asked) parts }
@@ -104,21 +104,21 @@ pub fn references_lead_to_their_definitions()
         → (reader_of text profile document).definition folded ≡ first_with fold folded (references document) }
 {}
 
-/// All references but the last cost less than there was of the reference expansion limit.
+/// All references but the last together cost less than the reference expansion limit was.
 pub fn references_keep_the_limit()
     ensures spent { (reader : Reader) (leaf : Leaf) (s : State) (parts : Parts) (t : State)
         → Reads (token reader leaf) (decide reader leaf) AnyAnswer s parts t → Spends s.expansion_left (costs parts) t.expansion_left }
     ensures below { (cs : List ℕ) (last before after : ℕ) → Spends before (cs ++ (last ∷ [])) after → sum cs < before }
 {}
 
-/// The parts of a leaf stand within it, one behind the other, and what brackets form around what stands between them.
+/// The parts of a leaf are inside it, one after the other. A construct that brackets form surrounds the parts between them.
 pub fn parts_stand_in_their_leaf()
     ensures { (reader : Reader) (leaf : Leaf) (s : State) (parts : Parts) (t : State) (size : ℕ)
         → Reads (token reader leaf) (decide reader leaf) AnyAnswer s parts t → InTurn 0 leaf.stretches size → s.at ≤ end_of leaf.stretches
         → StandBetween s.at parts t.at × (t.at ≤ end_of leaf.stretches) }
 {}
 
-/// The events of a reading are balanced: each start has its end behind it, of the same tag and with the same bytes.
+/// The events of a reading are balanced: each start is followed by its end, with the same tag and the same range.
 pub fn events_are_balanced()
     ensures matched { (text : List ℕ) (profile : Profile) (exchanges : List Exchange) (events : List Ranged)
         → IsReading text profile exchanges events → Matched events }
@@ -126,43 +126,44 @@ pub fn events_are_balanced()
         → IsReading text profile exchanges events → Balanced (map Ranged.event events) }
 {}
 
-/// Parts have spans, the model's, and no others: what a text's parts become is one list of spans.
+/// Each list of parts has exactly one list of spans, which is that of the model.
 pub fn one_spans()
     ensures some { (options : Options) (parts : Parts) → AreSpans options parts (spans_in options parts) }
     ensures one { (options : Options) (parts : Parts) (first second : Inline) → AreSpans options parts first → AreSpans options parts second → first ≡ second }
 {}
 
-/// The tokens and decisions of a leaf whose lines stand in order lead on in it.
+/// The tokens and decisions of a leaf lead forward, if the stretches of the leaf are in order.
 pub fn leaves_lead_on()
     ensures { (reader : Reader) (leaf : Leaf) (size : ℕ) → InTurn 0 leaf.stretches size → IsForward (token reader leaf) (decide reader leaf) (end_of leaf.stretches) }
 {}
 
-/// The tokens and decisions of such a leaf stand within it.
+/// The tokens and decisions of a leaf are inside it, if the stretches of the leaf are in order.
 pub fn leaves_keep_their_places()
     ensures { (reader : Reader) (leaf : Leaf) (size : ℕ) → InTurn 0 leaf.stretches size → KeepsRanges (token reader leaf) (decide reader leaf) (end_of leaf.stretches) }
 {}
 
-/// The leaves of a text are such leaves.
+/// The stretches of each leaf of a text are in order.
 pub fn leaves_stand_in_order()
     ensures { (text : List ℕ) (options : Options) (lookup : Lookup) (document : BlockDocument)
         → Derives text options lookup document → AreLeavesInTurn (length text) (segments document) }
 {}
 
-/// The leaves of a text consist of lines: each stretch has some bytes, and each but the last ends with a line ending.
+/// The leaves of a text consist of lines: no stretch is empty, and each but the last ends with a line ending.
 pub fn leaves_consist_of_lines()
     ensures { (text : List ℕ) (options : Options) (lookup : Lookup) (document : BlockDocument)
         → Derives text options lookup document → AreLeavesOfLines text (segments document) }
 {}
 
-/// The leaves of a text stand apart in it: together they take no more bytes than it has (`apart`), and none has more bytes than it takes (`own`).
+/// The leaves of a text do not overlap: their extents together are at most as long as the text (`apart`). The text of a leaf is at most as
+/// long as its extent (`own`).
 pub fn leaves_stand_apart()
     ensures apart { (text : List ℕ) (options : Options) (lookup : Lookup) (document : BlockDocument)
         → Derives text options lookup document → extents (segments document) ≤ length text }
     ensures own { (reader : Reader) (leaf : Leaf) (size : ℕ) → InTurn 0 leaf.stretches size → length (text_of reader leaf) ≤ extent leaf }
 {}
 
-/// What the grammar decides about a closing bracket records its question, sees no earlier one, and keeps links apart and the
-/// reference expansion limit.
+/// The grammar's decision about a closing bracket records its question and does not depend on earlier ones. It keeps links apart, and
+/// respects the reference expansion limit.
 pub fn decisions_keep_the_rules()
     ensures recorded { (reader : Reader) (leaf : Leaf) → IsRecorded (decide reader leaf) }
     ensures shifted { (reader : Reader) (leaf : Leaf) → IsShifted (decide reader leaf) }
@@ -170,25 +171,25 @@ pub fn decisions_keep_the_rules()
     ensures limit { (reader : Reader) (leaf : Leaf) → KeepsLimit (decide reader leaf) }
 {}
 
-/// However the questions are answered, a text has a reading with these answers.
+/// For each plan of answers a text has a reading with these answers.
 pub fn a_text_has_a_reading()
     ensures { (text : List ℕ) (profile : Profile) (plan : Plan)
         → (exchanges : List Exchange) × (events : List Ranged) × AreByPlan plan [] exchanges × IsReading text profile exchanges events }
 {}
 
-/// However the questions are answered, what is left of a text can be read with these answers.
+/// For each plan of answers the rest of a text can be read with these answers.
 pub fn what_is_left_can_be_read()
     ensures { (reader : Reader) (segments : List Segment) (expansion_left : ℕ) (plan : Plan) → AreLeavesInTurn (length reader.source) segments
         → (exchanges : List Exchange) × (events : List Ranged) × AreByPlan plan [] exchanges × Left reader segments expansion_left exchanges events }
 {}
 
-/// For each list of answers a text has one reading.
+/// For each list of answers a text has at most one reading.
 pub fn one_reading()
     ensures { (text : List ℕ) (profile : Profile) (exchanges : List Exchange) (first second : List Ranged)
         → IsReading text profile exchanges first → IsReading text profile exchanges second → first ≡ second }
 {}
 
-/// What is left behind an event of the blocks, or behind a leaf, is left with it in front.
+/// If the rest after an event of the blocks, or after a leaf, can be read, so can the rest that begins with this event or leaf.
 pub fn what_is_left_grows_backwards()
     ensures given { (reader : Reader) (r : Ranged) (others : List Segment) (expansion_left : ℕ) (exchanges : List Exchange) (events : List Ranged)
         → Left reader others expansion_left exchanges events → Left reader (Given r ∷ others) expansion_left exchanges (r ∷ events) }
@@ -197,14 +198,14 @@ pub fn what_is_left_grows_backwards()
         → Left reader others between.expansion_left rest later → Left reader (Content leaf ∷ others) expansion_left (taken ++ rest) (spans ++ later) }
 {}
 
-/// A callback that answers nothing and no callback differ in the questions alone: the events are the same.
+/// A callback that always answers `None`, and no callback, differ only in the questions: the events are the same.
 pub fn no_answers_are_no_callback()
     ensures { (text : List ℕ) (profile : Profile) (exchanges : List Exchange) (events : List Ranged)
         → AreUnanswered exchanges → IsReading text profile exchanges events → IsReading text (without_callback profile) [] events }
 {}
 
-/// Each byte of a leaf whose lines end with line endings has its place in the source, in order, and what stands from there on are the
-/// bytes of the text from this one on.
+/// If the lines of a leaf end with line endings, each byte of the leaf's text has an offset in the source. The offsets are in order. The
+/// leaf, read from such an offset on, has the bytes of the text from this byte on.
 pub fn a_text_stands_in_its_places()
     ensures { (reader : Reader) (leaf : Leaf) (size : ℕ) → InTurn 0 leaf.stretches size → size ≤ length reader.source → HaveLineEnds reader.source leaf.stretches → ArePlaces reader leaf (text_of reader leaf) (place_in reader leaf) }
 {}

@@ -1,7 +1,13 @@
-//! The spans of a leaf by one pass, and the theorems about them: a text has a reading for each plan of answers, and for each list
-//! of answers no other. The functions of [`laws`] and, over whole texts, of [`reading_laws`] carry them, and do nothing; those of
-//! [`slots`] are about siblings as a row of slots, those of [`row_laws`], [`pass_laws`] and [`display_laws`] about the row of the parts of a pass, those of [`token_laws`] about what begins at the places of a leaf, that of
-//! [`first_laws`] about the first event of a leaf, and those of [`walk_laws`] about what a walk over a document gives.
+//! The spans of a leaf by one pass, and the theorems about them: a text has a reading for each plan of answers, and only one for each list
+//! of answers. The theorems are contracts of functions that do nothing.
+//!
+//! - [`laws`]: the inline grammar.
+//! - [`reading_laws`]: readings of whole texts.
+//! - [`slots`]: siblings as a row of slots.
+//! - [`row_laws`], [`pass_laws`] and [`display_laws`]: the row of the parts of a pass.
+//! - [`token_laws`]: the tokens of a leaf.
+//! - [`first_laws`]: the first event of a leaf.
+//! - [`walk_laws`]: the events of a walk over a document.
 #![tactic(auto)]
 
 pub mod display_laws;

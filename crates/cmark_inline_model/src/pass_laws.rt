@@ -1,5 +1,5 @@
-//! Theorems over the slots that stand for what a pass over a leaf has read (`RowPasses`), each the contract of a function that does
-//! nothing: each step of the pass keeps them, and at the end the leaf's events are read off them.
+//! Theorems about the slots of the parts that a pass over a leaf has read (`RowPasses`). Each is the contract of a function that does
+//! nothing. Each step of the pass keeps the slots right, and at the end the events of the leaf are read from them.
 
 ghost use Rattle.std.specs.Prelude.{◌≡◌, ◌-◌, ℕ, suc, true, List, [], ◌∷◌, ◌++◌, Some, drop, length, take};
 ghost use Rattle.cmark_grammar.specs.BracketDecisions.{decide};
@@ -25,9 +25,8 @@ ghost use Rattle.cmark_inline_model.specs.RowParts.{BracketPlace, counted, runs_
 ghost use Rattle.cmark_inline_model.specs.RowPasses.{IsReached, StandsFor, bytes_before, dressed_behind, dressed_slots, has_own_slot, linked_slots};
 ghost use Rattle.cmark_inline_model.specs.SlotRows.{BeginSlot, EndSlot, ItemSlot, Slot, run_places, run_slots, slot_events};
 
-/// A pass begins with no slots (`first`). With an item it has the slots that stand for it behind those before, and its runs and quotes
-/// (`item`); with an opening bracket one slot more, and the place of that (`opening`); with a closing one that stays a text one slot more
-/// (`closing`).
+/// A pass begins with no slots (`first`). An item adds its slots, runs and quotes (`item`). An opening bracket adds one slot, whose index
+/// is recorded (`opening`). A closing bracket that stays a text adds one slot (`closing`).
 pub fn slots_follow_the_pass()
     ensures first { (reader : Reader) (leaf : Leaf) (before : Between) → IsReached reader leaf before (pass (entering leaf before) Nil) [] [] [] [] [] [] }
     ensures item { (reader : Reader) (leaf : Leaf) (before : Between) (p : Pass) (bs : List BracketPlace) (slots : List Slot) (bytes quotes : List ℕ) (runs : List Run) (quoted : List Quote)
@@ -47,8 +46,8 @@ pub fn slots_follow_the_pass()
         → IsReached reader leaf before (closed_by p closer (record { result = StaysText; after = next })) bs (slots ++ (slot ∷ [])) bytes quotes runs quoted }
 {}
 
-/// What the slots of an item are: one for most kinds (`own`); one for each byte of a delimiter run (`run`); one for a quote, whose place is
-/// noted (`quote`); and the begin, the text and the end of an autolink (`autolink`).
+/// The slots of an item. Most kinds have one slot (`own`). A delimiter run has one for each byte (`run`). A quote has one slot, whose index
+/// is recorded (`quote`). An autolink has a begin, a text and an end (`autolink`).
 pub fn items_have_their_slots()
     ensures own { (reader : Reader) (leaf : Leaf) (before : Between) (p : Pass) (bs : List BracketPlace) (slots : List Slot) (bytes quotes : List ℕ) (runs : List Run) (quoted : List Quote)
         → IsReached reader leaf before p bs slots bytes quotes runs quoted
@@ -68,10 +67,10 @@ pub fn items_have_their_slots()
         → IsReached reader leaf before (pass (moved resume p.state) (join p.here (Single (item (Autolink uri) start end) Nil))) bs (slots ++ (BeginSlot (Link (address_link uri)) start end ∷ (slot ∷ (EndSlot ∷ [])))) bytes quotes runs quoted }
 {}
 
-/// Where a closing bracket forms something with the opening one that is noted at a place, what is formed stands in the place of that one's
-/// slot and of all behind it, and the runs and the quotes behind it are gone. What shows nothing of what stands between the brackets has
-/// slots of its own (`formed`); a link or an image is around the slots behind the bracket, once their quotes are characters and their
-/// pairs have written their marks (`link`).
+/// If a closing bracket forms a construct with an opening one, the construct replaces the opening bracket's slot and all later slots, and
+/// the later runs and quotes are dropped. A construct that does not show the content of the brackets has slots of its own (`formed`). A
+/// link or an image surrounds the slots after the bracket, once their quotes are characters and their pairs have written their marks
+/// (`link`).
 pub fn what_is_formed_takes_the_place_of_its_slots()
     ensures formed { (reader : Reader) (leaf : Leaf) (before : Between) (p : Pass) (bs : List BracketPlace) (slots : List Slot) (bytes quotes : List ℕ) (runs : List Run) (quoted : List Quote)
         → IsReached reader leaf before p bs slots bytes quotes runs quoted
@@ -92,8 +91,8 @@ pub fn what_is_formed_takes_the_place_of_its_slots()
         (take (bytes_before place runs) bytes) (take place.quotes quotes) (take place.runs runs) (take place.quotes quoted) }
 {}
 
-/// At the end of the leaf its events are read off the slots, once all quotes are characters and all pairs have written their marks; the
-/// answers are those that were given, in turn, and any others behind them.
+/// At the end of a leaf its events are read from the slots, once all quotes are characters and all pairs have written their marks. The
+/// answers are those given so far, in order, followed by any others.
 pub fn the_events_of_a_leaf_are_read_off_the_slots_of_its_pass()
     ensures { (reader : Reader) (leaf : Leaf) (before : Between) (p : Pass) (bs : List BracketPlace) (slots : List Slot) (bytes quotes : List ℕ) (runs : List Run) (quoted : List Quote)
         → IsReached reader leaf before p bs slots bytes quotes runs quoted → token reader leaf p.state.at ≡ Ends

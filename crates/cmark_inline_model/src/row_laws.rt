@@ -1,5 +1,5 @@
-//! Theorems over the row of slots of the parts that a pass has read (`RowParts`), each the contract of a function that does nothing: the
-//! row grows behind, it is cut at an opening bracket, and what brackets form takes the place of what stands behind the cut.
+//! Theorems about the row of slots of the parts that a pass has read (`RowParts`). Each is the contract of a function that does nothing.
+//! The row grows at its end; it is cut at an opening bracket; and a construct that brackets form replaces the part after the cut.
 
 ghost use Rattle.std.specs.Prelude.{◌≡◌, ◌<◌, ℕ, suc, List, [], ◌∷◌, ◌++◌, drop, length, take};
 ghost use Rattle.cmark_grammar.specs.Emphasis.{IsEmphasis, Pair, Run};
@@ -14,8 +14,8 @@ ghost use Rattle.cmark_inline_model.specs.PartLists.{join};
 ghost use Rattle.cmark_inline_model.specs.RowParts.{BracketPlace, CutsRow, IsRow, counted, runs_in, text_slot};
 ghost use Rattle.cmark_inline_model.specs.SlotRows.{LaysOut, Slot, StandBehind, marked, marks_by, quoted};
 
-/// A row is one list of siblings laid out (`whole`). With more parts behind, none of them an opening bracket, it has their slots, runs and
-/// quotes behind its own (`grows`); with an opening bracket it has one slot more, and knows where that stands (`opens`).
+/// A row is one list of siblings laid out as slots (`whole`). Further parts without opening brackets add their slots, runs and quotes
+/// (`grows`). An opening bracket adds one slot, whose index is recorded (`opens`).
 pub fn rows_grow_with_the_parts()
     ensures whole { (options : Options) (bs : List BracketPlace) (parts : Parts) (slots : List Slot) (bytes quotes : List ℕ) (runs : List Run) (quoted : List Quote)
         → IsRow options bs parts slots bytes quotes runs quoted → LaysOut 0 (siblings_of options parts) slots bytes quotes }
@@ -27,15 +27,15 @@ pub fn rows_grow_with_the_parts()
         → IsRow options (record { bracket = opener; slot = length slots; runs = length runs; quotes = length quoted } ∷ bs) (join parts (Opening opener Nil)) (slots ++ (text_slot opener ∷ [])) bytes quotes runs quoted }
 {}
 
-/// Where the parts are cut at an opening bracket, the row is cut at the place that is noted of this one: its slots, the bytes of its runs,
-/// and its quotes.
+/// If the parts are cut at an opening bracket, the row is cut at the index recorded for it: its slots, the bytes of its runs, and its
+/// quotes.
 pub fn rows_are_cut_where_their_parts_are()
     ensures { (options : Options) (nearer : ℕ) (bs : List BracketPlace) (parts : Parts) (slots : List Slot) (bytes quotes : List ℕ) (runs : List Run) (quoted : List Quote)
         → nearer < length bs → IsRow options bs parts slots bytes quotes runs quoted → CutsRow options nearer bs parts slots bytes quotes runs quoted }
 {}
 
-/// Behind the cut the characters of the quotes and the marks of the pairs of the runs make the slots of the spans that the parts there
-/// become; the slots up to the bracket's own stay.
+/// After the cut, writing the characters of the quotes and the marks of the pairs of runs gives the slots of the spans of the parts there.
+/// The slots up to the bracket's own are unchanged.
 pub fn what_stands_behind_a_bracket_becomes_spans()
     ensures { (options : Options) (nearer : ℕ) (bs : List BracketPlace) (parts : Parts) (slots : List Slot) (bytes quotes : List ℕ) (runs : List Run) (quotes_are : List Quote)
         → (c : CutsRow options nearer bs parts slots bytes quotes runs quotes_are) → (pairs : List Pair) (spans : Spans) → IsEmphasis (counted 0 (drop c.place.runs runs)) pairs spans
@@ -43,8 +43,8 @@ pub fn what_stands_behind_a_bracket_becomes_spans()
         (marked options c.behind_bytes (marks_by (length c.behind_bytes) pairs) (quoted c.behind_quotes (quote_characters [] (drop c.place.quotes quotes_are)) slots) []) }
 {}
 
-/// What brackets form, which has no runs and no quotes of its own, takes the place of the opening bracket and all that stands behind it;
-/// the opening brackets before that stay where they are.
+/// A construct that brackets form, without runs and quotes of its own, replaces the opening bracket and all slots after it. Earlier opening
+/// brackets are unchanged.
 pub fn what_brackets_form_closes_the_row()
     ensures { (options : Options) (nearer : ℕ) (bs : List BracketPlace) (parts piece : Parts) (slots more : List Slot) (bytes quotes : List ℕ) (runs : List Run) (quoted : List Quote)
         → (c : CutsRow options nearer bs parts slots bytes quotes runs quoted) → openings piece ≡ 0 → runs_in (siblings_of options piece) ≡ [] → quotes_of (siblings_of options piece) ≡ []

@@ -1,5 +1,5 @@
-//! Theorems over what begins at the places of a leaf, each the contract of a function that does nothing: it is what begins in the leaf's
-//! text where that is read as a leaf of one stretch, in the places of the source.
+//! Theorems about the tokens of a leaf. Each is the contract of a function that does nothing. The tokens of a leaf are those of its text,
+//! read as a leaf of one stretch, with offsets of the source.
 
 ghost use Rattle.std.specs.Prelude.{◌≡◌, ◌≤◌, ◌<◌, ◌-◌, ℕ, suc, true, false, List, [], ◌∷◌, drop, length};
 ghost use Rattle.cmark_grammar.specs.Answers.{Lookup};
@@ -21,20 +21,20 @@ ghost use Rattle.cmark_inline_model.specs.PlacedLeaves.{AreLeavesPlaced, StandWh
 ghost use Rattle.cmark_inline_model.specs.PlacedTokens.{AreLeafPlaces, HaveWholeEndings, IsParted, StandsUpTo, StopsAt, is_as_written, may_open_markup, one_stretch, placed, text_reader};
 ghost use Rattle.cmark_inline_model.specs.TextPlaces.{place_in, text_of};
 
-/// Each place of the source parts the text of a leaf whose lines end with line endings.
+/// Each offset of the source divides the text of a leaf whose lines end with line endings.
 pub fn places_part_the_text()
     ensures { (reader : Reader) (leaf : Leaf) (size : ℕ) → InTurn 0 leaf.stretches size → size ≤ length reader.source → HaveLineEnds reader.source leaf.stretches
         → HaveWholeEndings (text_of reader leaf) (place_in reader leaf) → AreLeafPlaces reader leaf (text_of reader leaf) (place_in reader leaf) }
 {}
 
-/// The leaves of a text stand in order in it, their lines end with line endings, of which none is parted, and the bytes of their texts have
-/// their places.
+/// The stretches of the leaves of a text are in order, their lines end with whole line endings, and the bytes of their texts have offsets
+/// in the source.
 pub fn leaves_have_their_places()
     ensures { (reader : Reader) (options : Options) (lookup : Lookup) (document : BlockDocument)
         → Derives reader.source options lookup document → AreLeavesPlaced reader (segments document) }
 {}
 
-/// Between the lines of a leaf of a text stand in it only prefixes of the containers around the leaf, blanks and `>` (`prefixes`), so no pipe
+/// Between the lines of a leaf the source has only the prefixes of the containers around it, blanks and `>` (`prefixes`), so no pipe
 /// (`pipes`).
 pub fn no_pipe_stands_between_the_lines_of_a_leaf()
     ensures prefixes { (reader : Reader) (options : Options) (lookup : Lookup) (document : BlockDocument)
@@ -43,9 +43,9 @@ pub fn no_pipe_stands_between_the_lines_of_a_leaf()
         → Derives reader.source options lookup document → HaveNoPipesBetween reader (segments document) }
 {}
 
-/// At the place of a byte begins what begins at this byte of the text, with the items, their ranges and the place from which on the text is
-/// read in the places of the source: each byte that stands for itself (`begins`), and the longest text (`token`). Markup that is sought in
-/// the source is left out.
+/// The construct that begins at a byte's offset in the source is the one that begins at this byte of the text, with its ranges as offsets
+/// of the source. This holds for each single byte (`begins`), and for texts of maximal length (`token`). Markup that is searched in the
+/// source is excluded.
 pub fn tokens_stand_in_their_places()
     ensures begins { (reader : Reader) (leaf : Leaf) (text : List ℕ) (place : ℕ → ℕ) → AreLeafPlaces reader leaf text place
         → (k : ℕ) → k ≤ length text → may_open_markup reader.options.email_autolinks (drop k text) ≡ false
@@ -55,15 +55,15 @@ pub fn tokens_stand_in_their_places()
         → token reader leaf (place k) ≡ placed place (token (text_reader reader.options reader.lookup text) (one_stretch leaf.is_cell text) k) }
 {}
 
-/// Behind any place of the source the text is read on where it is behind the bytes that have earlier places.
+/// After any offset of the source reading continues at the first byte of the text that is not before this offset.
 pub fn the_text_is_read_on_in_its_places()
     ensures { (reader : Reader) (leaf : Leaf) (text : List ℕ) (place : ℕ → ℕ) → AreLeafPlaces reader leaf text place
         → (x count : ℕ) → IsParted (length text) place x count
         → read_on reader leaf x ≡ place (read_on (text_reader reader.options reader.lookup text) (one_stretch leaf.is_cell text) count) }
 {}
 
-/// The bytes of a text, of an autolink, and of a tag that takes no line ending stand side by side in the source, and are the bytes of the
-/// item in the text: of each byte that stands for itself (`begins`), and of the longest text (`token`).
+/// The bytes of a text, of an autolink, and of a tag without line ending have no gap in the source, and equal the bytes of the item in the
+/// text. This holds for each single byte (`begins`), and for texts of maximal length (`token`).
 pub fn texts_have_their_bytes_in_the_source()
     ensures begins { (reader : Reader) (leaf : Leaf) (text : List ℕ) (place : ℕ → ℕ) → AreLeafPlaces reader leaf text place → (k : ℕ) → may_open_markup reader.options.email_autolinks (drop k text) ≡ false
         → (x : Item) (resume : ℕ) → begins_at (text_reader reader.options reader.lookup text) (one_stretch leaf.is_cell text) k ≡ Stands x resume → is_as_written x.kind ≡ true
@@ -73,13 +73,13 @@ pub fn texts_have_their_bytes_in_the_source()
         → slice reader.source (place x.start) (suc (place (x.end - 1))) ≡ slice text x.start x.end }
 {}
 
-/// Bytes that stand for themselves without a gap, from the first of them up to a place where no such bytes begin, are one text.
+/// Bytes that are plain text, without a gap, are one text up to an offset at which no plain byte begins.
 pub fn bytes_that_stand_for_themselves_are_one_text()
     ensures { (reader : Reader) (leaf : Leaf) (at start end to : ℕ) → begins_at reader leaf at ≡ item_at Plain start end → end ≤ to → to - end ≤ length (from reader leaf end)
         → ((k : ℕ) → end ≤ k → k < to → StandsUpTo reader leaf k to) → StopsAt reader leaf to → token reader leaf at ≡ item_at Plain start to }
 {}
 
-/// A leaf of one line in which each byte stands for itself is read as one text, and nothing is asked on the way.
+/// A leaf of one line whose bytes are all plain text is read as one text, and no question is put.
 pub fn a_plain_line_is_read_as_one_text()
     ensures { (reader : Reader) (all : List Exchange) (leaf : Leaf) (before : Between) (start end : ℕ) → leaf.stretches ≡ record { start = start; end = end } ∷ []
         → start < end → end ≤ length reader.source → StandWhole reader.options reader.lookup leaf.is_cell (slice reader.source start end)

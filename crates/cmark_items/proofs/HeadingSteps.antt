@@ -13,7 +13,7 @@ abbrev pub left_size : Option (List ℕ) → ℕ
 left_size None = 0
 left_size (Some bs) = suc (length bs)
 
--- the first word, and those behind the white space that ends it
+-- the first word, and the words after the white space that ends it
 pub words-cut : (bs : List ℕ) → words bs ≡ take (length (take_while is_in_word bs)) bs ∷ words_behind (value_behind (drop (length (take_while is_in_word bs)) bs))
 words-cut [] = refl
 words-cut (b ∷ bs) = go (is_ascii_whitespace b) refl (words-cut bs)
@@ -31,7 +31,7 @@ words-cut (b ∷ bs) = go (is_ascii_whitespace b) refl (words-cut bs)
         ap (λ y. put_byte y b (words bs)) e ∙ ap (put_byte false b) ih
         ∙ sym (ap (λ k. take k (b ∷ bs) ∷ words_behind (value_behind (drop k (b ∷ bs)))) (at false e))
 
--- where bytes that pass end, a byte stands that does not
+-- after the bytes that pass comes a byte that does not
 pub behind-fails : (p : ℕ → Bool) (bs : List ℕ) → length (take_while p bs) < length bs → p (get_or bs (length (take_while p bs)) 0) ≡ false
 behind-fails p [] l = absurd (omega (arith, l))
 behind-fails p (b ∷ bs) l = go (p b) refl (behind-fails p bs)

@@ -1,4 +1,4 @@
--- The attributes of a heading as those of the definitions.
+-- The attributes of a heading, as attributes of the grammar.
 use Rattle.std.specs.Prelude.{ℕ, Bool, not, List, [], Option, Some, None}
 use Rattle.std.specs.Borrow.{Bor}
 use Rattle.std.specs.Char.{is_ascii_whitespace}
@@ -15,7 +15,7 @@ is_in_word b = not (is_ascii_whitespace b)
 abbrev pub str_bytes : Bor (List ℕ) → List ℕ
 str_bytes text = text.now
 
--- the words that are left behind one
+-- the words that are left after the first word
 abbrev pub words_behind : Option (List ℕ) → List (List ℕ)
 words_behind None = []
 words_behind (Some bs) = words bs

@@ -29,8 +29,8 @@ is_tight flags = (flags.0 % 2) == 1
 abbrev pub list_number : (delimiter number : ℕ) → Option ℕ
 list_number delimiter number = if is_delimiter delimiter then Some number else None
 
--- how an item of the block pass is a node: as an element, as what is spelt by the text at an index, as a slice of the text, or as a
--- paragraph or a title with one text inside, from where it begins to before a place; other items are none
+-- the form of an item as a node: an element; a text at an index; a slice of the text; or a paragraph or a title with one text inside. That
+-- text begins at the item's start and ends at a place. Other items are not nodes of a document
 pub data Shape : Type 0 where
   Element : (kind : BlockKind) → Shape
   Spelt : (kind : List ℕ → BlockKind) → (index : ℕ) → Shape
@@ -40,7 +40,7 @@ pub data Shape : Type 0 where
   TitleOf : (text_end : ℕ) → Shape
   NoNode : Shape
 
--- the columns that a delimiter row tells of
+-- the alignments of a delimiter row's columns
 abbrev pub columns_of : Option (List Alignment) → List Alignment
 columns_of None = []
 columns_of (Some alignments) = alignments
@@ -75,7 +75,7 @@ shape (body.SynthesizeChar char) = Element (document.OwnedText (encode_utf8 char
 shape body.Html = HtmlSlice
 shape _ = NoNode
 
--- what it is whatever its range, and whatever stands inside
+-- the kind of a node by its shape, without its range and its content
 abbrev pub kind_of : List CowStr → Shape → Option BlockKind
 kind_of texts (Element kind) = Some kind
 kind_of texts (Spelt kind index) = option_map kind (text_at texts index)
@@ -85,7 +85,7 @@ kind_of texts (ParagraphOf text_end) = None
 kind_of texts (TitleOf text_end) = None
 kind_of texts NoNode = None
 
--- what it is over its range
+-- the kind of a node by its shape and its range
 abbrev pub kind_over : List ℕ → List CowStr → (start end : ℕ) → Shape → Option BlockKind
 kind_over text texts start end (Element kind) = Some kind
 kind_over text texts start end (Spelt kind index) = option_map kind (text_at texts index)
@@ -98,12 +98,12 @@ kind_over text texts start end NoNode = None
 abbrev pub ranged : (start end : ℕ) → BlockKind → BlockNode
 ranged start end kind = node kind start end
 
--- one text and nothing else inside; where something does stand there, the first is no node of a document
+-- one text and no other node inside; if other nodes are inside, the result begins with an item that is no node of a document
 abbrev pub one_text : List ℕ → (start text_end : ℕ) → Forest (Option BlockNode) → Forest (Option BlockNode)
 one_text text start text_end forest.Nil = forest.Node (Some (node (document.Text (slice text start text_end)) start text_end)) forest.Nil forest.Nil
 one_text text start text_end (forest.Node first inside after) = forest.Node None inside after
 
--- what is shown inside an item that begins at a place, where this stands below it
+-- the content of an item that begins at a place, if these nodes are inside it
 abbrev pub shown_inside : List ℕ → (start : ℕ) → Shape → Forest (Option BlockNode) → Forest (Option BlockNode)
 shown_inside text start (ParagraphOf text_end) below = one_text text start text_end below
 shown_inside text start (TitleOf text_end) below = one_text text start text_end below

@@ -5,7 +5,7 @@ use Rattle.cmark_items.specs.declared.item.Item.{Item}
 use Rattle.cmark_items.specs.declared.item.ItemBody.{ItemBody}
 use Rattle.cmark_items.specs.declared.item.ItemBody.TheVariants.{Text}
 
--- a backslash stands before its first byte, and escapes it
+-- a backslash before its first byte escapes it
 abbrev pub is_escaped : ItemBody → Bool
 is_escaped (Text backslash_escaped) = backslash_escaped
 is_escaped _ = false

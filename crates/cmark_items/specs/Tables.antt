@@ -1,4 +1,4 @@
--- What the tables contain.
+-- The contents of the tables.
 use Rattle.std.specs.Prelude.{◌≡◌, ℕ, List, [], ◌∷◌, ◌++◌, slice_set}
 use Rattle.cmark_text_parts.specs.Shown.{text_bytes}
 use Rattle.cmark_text_parts.specs.declared.text.CowStr.{CowStr}
@@ -8,8 +8,7 @@ use Rattle.cmark_references.specs.declared.link.Link.{Link}
 use Rattle.cmark_references.specs.declared.definitions.RefDefs.{RefDefs}
 use Rattle.cmark_references.specs.declared.footnotes.FootnoteDefs.{FootnoteDefs}
 
--- the texts, the links and images and the alignments of tables, each at its index, and the
--- link reference definitions, and those of footnotes
+-- the texts, the links and images, and the alignments of tables, each at its index; and the definitions of links and of footnotes
 pub record Tables : Type 0 where
   pub texts : List CowStr
   pub links : List Link
@@ -34,14 +33,14 @@ with_link link t = record t { links = t.links ++ link ∷ [] }
 abbrev pub with_alignments : List Alignment → Tables → Tables
 with_alignments row t = record t { alignments = t.alignments ++ row ∷ [] }
 
--- an empty text stands at the index instead
+-- an empty text is at the index instead
 abbrev pub LeavesNoText : ℕ → Tables → Tables → Type 0
 LeavesNoText index old new = (left : CowStr) × (text_bytes left ≡ []) × (new ≡ record old { texts = slice_set old.texts index left })
 
--- an unknown shortcut without texts stands at the index instead
+-- an unknown shortcut without texts is at the index instead
 abbrev pub LeavesNoLink : ℕ → Tables → Tables → Type 0
 LeavesNoLink index old new = (left : Link) × IsUnknown left × (new ≡ record old { links = slice_set old.links index left })
 
--- no alignments stand at the index instead
+-- an empty list of alignments is at the index instead
 abbrev pub without_alignments : ℕ → Tables → Tables
 without_alignments index t = record t { alignments = slice_set t.alignments index [] }

@@ -12,26 +12,25 @@ use std::marker::Model;
 use std::mem;
 use std::ops::Index;
 
-/// Where a text stands in its table.
+/// The index of a text in its table.
 #[derive(Clone, Copy, PartialEq, Eq)]
 pub struct CowIndex(usize);
 
-/// Where a link or an image stands in its table.
+/// The index of a link or an image in its table.
 #[derive(Clone, Copy, PartialEq, Eq)]
 pub struct LinkIndex(usize);
 
-/// Where a table's alignments stand in theirs.
+/// The index of a table's alignments in their table.
 #[derive(Clone, Copy, PartialEq, Eq)]
 pub struct AlignmentIndex(usize);
 
-/// Where the words between the braces of a heading's attributes stand in the table of texts.
+/// The index, in the table of texts, of the words between the braces of a heading's attributes.
 #[derive(Clone, Copy, PartialEq, Eq)]
 pub struct HeadingIndex(usize);
 
 /// The tables that the items of a tree point into, and the definitions of links and footnotes.
 ///
-/// An index is good for the table that gave it. What is allocated stays at its index; what is taken leaves an empty value
-/// there.
+/// An index is valid for the table that returned it. An allocated value stays at its index; taking a value leaves an empty one there.
 #[derive(Drop)]
 pub struct Allocations<'a> {
     /// The link reference definitions of the text.
@@ -79,7 +78,7 @@ impl<'a> Allocations<'a> {
         }
     }
 
-    /// Keeps a text. Where memory is refused nothing changes, and the text is dropped.
+    /// Keeps a text and returns its index. If memory is refused nothing changes, and the text is dropped.
     pub fn allocate_cow(&mut self, text: CowStr<'a>) -> Result<CowIndex, AllocError>
         ensures index { IfOk result (λ index. index.0 ≡ length self.old.texts) }
         ensures kept { OnOk result (self.new ≡ with_text text.entry self.old) }
@@ -90,7 +89,7 @@ impl<'a> Allocations<'a> {
         Ok(CowIndex(index))
     }
 
-    /// Keeps what a link or an image says of itself. Where memory is refused nothing changes, and the texts are dropped.
+    /// Keeps the data of a link or an image and returns its index. If memory is refused nothing changes, and the texts are dropped.
     pub fn allocate_link(
         &mut self,
         link_type: LinkType,
@@ -113,7 +112,7 @@ impl<'a> Allocations<'a> {
         Ok(LinkIndex(index))
     }
 
-    /// Keeps a table's alignments. Where memory is refused nothing changes, and they are dropped.
+    /// Keeps a table's alignments and returns their index. If memory is refused nothing changes, and the alignments are dropped.
     pub fn allocate_alignment(
         &mut self,
         alignments: Vec<Alignment>,
@@ -127,8 +126,8 @@ impl<'a> Allocations<'a> {
         Ok(AlignmentIndex(index))
     }
 
-    /// Keeps the words between the braces of a heading's attributes as a text, which `HeadingAttributes::read` reads. Where memory
-    /// is refused nothing changes, and the words are dropped.
+    /// Keeps the words between the braces of a heading's attributes, for `HeadingAttributes::read`, and returns their index. If memory is
+    /// refused nothing changes, and the words are dropped.
     pub fn allocate_heading(&mut self, words: CowStr<'a>) -> Result<HeadingIndex, AllocError>
         ensures index { IfOk result (λ index. index.0 ≡ length self.old.texts) }
         ensures kept { OnOk result (self.new ≡ with_text words.entry self.old) }
@@ -139,7 +138,7 @@ impl<'a> Allocations<'a> {
         Ok(HeadingIndex(index))
     }
 
-    /// Takes a text out. An empty one is left.
+    /// Takes a text out and leaves an empty one.
     pub fn take_cow(&mut self, index: CowIndex) -> CowStr<'a>
         requires { index.0 < length self.old.texts }
         ensures value { slice_get self.old.texts index.0 ≡ Some result }
@@ -148,7 +147,7 @@ impl<'a> Allocations<'a> {
         mem::replace(&mut self.texts[index.0], CowStr::Borrowed(""))
     }
 
-    /// Takes a link or an image out. One of an unknown shortcut without texts is left.
+    /// Takes a link or an image out and leaves an unknown shortcut without texts.
     pub fn take_link(&mut self, index: LinkIndex) -> Link<'a>
         requires { index.0 < length self.old.links }
         ensures value { slice_get self.old.links index.0 ≡ Some result }
@@ -157,7 +156,7 @@ impl<'a> Allocations<'a> {
         mem::replace(&mut self.links[index.0], Link::none())
     }
 
-    /// Takes a table's alignments out. None are left.
+    /// Takes a table's alignments out and leaves an empty list.
     pub fn take_alignment(&mut self, index: AlignmentIndex) -> Vec<Alignment>
         requires { index.0 < length self.old.alignments }
         ensures value { slice_get self.old.alignments index.0 ≡ Some result.items }

@@ -9,18 +9,18 @@ ghost use Rattle.cmark_items.specs.Headings.{shown_heading, is_in_word, str_byte
 use cmark_text_parts::CowStr;
 use std::alloc::{AllocError, Global};
 
-/// The attributes of a heading, as its line has them in braces.
+/// The attributes of a heading, from the braces on its line.
 #[derive(Drop)]
 pub struct HeadingAttributes<'a> {
-    /// What stands behind the last `#`.
+    /// The text after the last `#`.
     pub id: Option<CowStr<'a>>,
-    /// What stands behind each `.`, in order.
+    /// The text after each `.`, in order.
     pub classes: Vec<CowStr<'a>>,
-    /// The other words in order, each with the value behind its `=`, if it has one.
+    /// The other words in order, each with the value after its `=`, if it has one.
     pub attrs: Vec<(CowStr<'a>, Option<CowStr<'a>>)>,
 }
 
-/// How many bytes of a word stand in front.
+/// The number of bytes of the word at the beginning.
 fn count_word(bytes: &[u8]) -> usize
     ensures value { result ≡ length (take_while is_in_word bytes.now) }
     ensures within { result ≤ length bytes.now }
@@ -31,7 +31,7 @@ fn count_word(bytes: &[u8]) -> usize
         .count()
 }
 
-/// How many bytes of a name stand in front, which ends before a `=`.
+/// The number of bytes of the name at the beginning, which ends before a `=`.
 fn count_name(bytes: &[u8]) -> usize
     ensures value { result ≡ length (take_while is_no_equals bytes.now) }
     ensures within { result ≤ length bytes.now }
@@ -39,7 +39,7 @@ fn count_name(bytes: &[u8]) -> usize
     bytes.iter().take_while(|byte| **byte != b'=').count()
 }
 
-/// What stands before an ASCII byte and behind it; all, where the text ends there.
+/// The text before an ASCII byte at place `at` and the text after it; if the text ends there, all of it.
 #[tactic(auto, using(std::proofs::lemmas::Str::lead_after_ascii))]
 fn cut(text: &str, at: usize) -> (&str, Option<&str>)
     requires within { at ≤ length text.now }
@@ -55,7 +55,7 @@ fn cut(text: &str, at: usize) -> (&str, Option<&str>)
     }
 }
 
-/// The first word, and what stands behind the white space that ends it.
+/// The first word, and the text after the white space that ends it.
 fn cut_word(text: &str) -> (&str, Option<&str>)
     ensures words { words text.now ≡ result.0.now ∷ words_behind (option_map str_bytes result.1) }
     ensures shorter { IfSome result.1 (λ behind. length behind.now < length text.now) }
@@ -69,7 +69,7 @@ fn owned<'a>(alloc: Global, text: &str) -> Result<CowStr<'a>, AllocError>
     CowStr::from_string(String::from_str(alloc, text)?)
 }
 
-/// A word as a name with the value behind its `=`, if it has one.
+/// A word as a name with the value after its `=`, if it has one.
 fn attribute_of<'a>(
     alloc: Global,
     word: &str,
@@ -84,7 +84,7 @@ fn attribute_of<'a>(
     }
 }
 
-/// Appends this text to a list of texts.
+/// Appends a copy of this text to a list of texts.
 fn push_owned<'a>(texts: &mut Vec<CowStr<'a>>, alloc: Global, text: &str) -> Result<(), AllocError>
     ensures { OnOk result (map text_bytes texts.new.items ≡ map text_bytes texts.old.items ++ (text.now ∷ [])) }
 {
@@ -92,7 +92,7 @@ fn push_owned<'a>(texts: &mut Vec<CowStr<'a>>, alloc: Global, text: &str) -> Res
     Ok(())
 }
 
-/// Appends the attribute that a word is to a list of attributes.
+/// Appends a word, as an attribute, to a list of attributes.
 fn push_attribute<'a>(
     attrs: &mut Vec<(CowStr<'a>, Option<CowStr<'a>>)>,
     alloc: Global,
@@ -115,7 +115,7 @@ impl<'a> HeadingAttributes<'a> {
         }
     }
 
-    /// One more word.
+    /// Adds the attribute of another word.
     #[tactic(auto, using(std::proofs::lemmas::Str::lead_after_ascii))]
     fn add(&mut self, alloc: Global, word: &str) -> Result<(), AllocError>
         ensures { OnOk result (shown_heading self.new ≡ with_word (shown_heading self.old) word.now) }
@@ -131,8 +131,8 @@ impl<'a> HeadingAttributes<'a> {
         Ok(())
     }
 
-    /// What the words between braces say: `#id`, of which the last one counts, `.class`, and other words, each with the value
-    /// behind its `=`. White space parts words, and a word of one byte is passed over.
+    /// The attributes in the words between braces: `#id` (the last one counts), `.class`, and other words, each with the value after its
+    /// `=`. White space separates words, and a word of one byte is ignored. Fails only if memory is refused.
     pub fn read(alloc: Global, words: &str) -> Result<HeadingAttributes<'a>, AllocError>
         ensures { IfOk result (λ read. shown_heading read ≡ attributes_of words.now) }
     {

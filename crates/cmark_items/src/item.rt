@@ -7,14 +7,14 @@ use crate::list_flags::ListFlags;
 use cmark_text_parts::{BlockQuoteKind, HeadingLevel, MetadataBlockKind};
 use cmark_tree::TreeSpan;
 
-/// A node of the tree: what it is, and its bytes in the text, from `start` to before `end`.
+/// A node of the tree: its body, and its range in the text, from byte offset `start` up to `end`.
 #[derive(Clone, Copy, PartialEq, Eq)]
 pub struct Item {
-    /// Where it begins: a byte offset of the text.
+    /// The start of its range, a byte offset of the text.
     pub start: usize,
-    /// Behind its last byte: a byte offset of the text.
+    /// The end of its range, a byte offset of the text.
     pub end: usize,
-    /// What it is.
+    /// The kind of node, with its data.
     pub body: ItemBody,
 }
 
@@ -42,19 +42,19 @@ impl TreeSpan for Item {
     }
 }
 
-// The fields of each lie in such an order that none has more than 16 bytes with its tag, for a node of the tree is as large as the largest.
-/// What an item is. The bodies that begin with `Maybe` are tokens: whether they come to anything is seen when the leaf
-/// around them is read.
+// In each variant the order of the fields keeps the size at 16 bytes or less with the tag: a node of the tree is as large as its largest
+// variant.
+/// The kinds of items. Those that begin with `Maybe` are tokens: the pass over the leaf around them decides whether they form anything.
 #[derive(Clone, Copy, Default, PartialEq, Eq)]
 pub enum ItemBody {
     /// A byte of a run of `*`, `_`, `~` or `^`: whether it can open and close, and the run's length from here on
     /// (CommonMark 6.2).
     MaybeEmphasis(bool, bool, usize),
-    /// A `$`: whether it can open and close, and the braces that it stands in (this profile's own).
+    /// A `$`: whether it can open and close, and the context of braces around it (this profile's own).
     MaybeMath(bool, bool, u8),
     /// A quotation mark, and whether it can open and close (this profile's own).
     MaybeSmartQuote(u8, bool, bool),
-    /// A run of backticks: whether a backslash stands before it, and how many there are (CommonMark 6.1).
+    /// A run of backticks: whether a backslash precedes it, and its length (CommonMark 6.1).
     MaybeCode(bool, usize),
     /// A `<` (CommonMark 6.5, 6.6).
     MaybeHtml,
@@ -69,23 +69,23 @@ pub enum ItemBody {
     Emphasis,
     /// Strong emphasis (CommonMark 6.2).
     Strong,
-    /// Struck out text (GFM 6.5).
+    /// Strikethrough (GFM 6.5).
     Strikethrough,
-    /// Raised text (this profile's own).
+    /// Superscript (this profile's own).
     Superscript,
-    /// Lowered text (this profile's own).
+    /// Subscript (this profile's own).
     Subscript,
-    /// Highlighted text (this project's own).
+    /// Highlight (this project's own).
     Highlight,
     /// A formula: whether it is displayed, and its text (this profile's own).
     Math(bool, CowIndex),
     /// A code span (CommonMark 6.1).
     Code(CowIndex),
-    /// A footnote's reference (this profile's own).
+    /// A footnote reference (this profile's own).
     FootnoteReference(CowIndex),
-    /// A tag over lines (CommonMark 6.6).
+    /// A tag over several lines (CommonMark 6.6).
     OwnedInlineHtml(CowIndex),
-    /// A text that the source spells otherwise.
+    /// A text that differs from the source.
     SynthesizeText(CowIndex),
     /// A link (CommonMark 6.3).
     Link(LinkIndex),
@@ -93,13 +93,13 @@ pub enum ItemBody {
     Image(LinkIndex),
     /// The marker of a task list item, and whether it is checked (GFM 5.3).
     TaskListMarker(bool),
-    /// HTML that stands as it is (CommonMark 6.6).
+    /// HTML as in the source (CommonMark 6.6).
     InlineHtml,
-    /// A character that the source spells otherwise.
+    /// A character that differs from the source.
     SynthesizeChar(char),
     /// A line of an HTML block (CommonMark 4.6).
     Html,
-    /// A text that stands as it is.
+    /// A text as in the source.
     Text {
         /// A backslash before its first byte escapes it.
         backslash_escaped: bool,
@@ -109,15 +109,15 @@ pub enum ItemBody {
     /// A hard line break (CommonMark 6.7), and whether a backslash makes it.
     HardBreak(bool),
 
-    /// Nothing of the document.
+    /// No node of the document.
     #[default]
     Root,
     /// A paragraph (CommonMark 4.8).
     Paragraph,
-    /// A paragraph with one text and nothing else inside, as one node: the text stands from where the paragraph begins to before this
-    /// byte offset of the source.
+    /// A paragraph that contains only one text, as one node: the text begins where the paragraph begins and ends before this byte offset of
+    /// the source.
     ParagraphOf(usize),
-    /// A paragraph that stands directly in an item of a tight list (CommonMark 5.3).
+    /// A paragraph directly in an item of a tight list (CommonMark 5.3).
     TightParagraph,
     /// A thematic break (CommonMark 4.1).
     Rule,
@@ -133,11 +133,11 @@ pub enum ItemBody {
     HtmlBlock,
     /// A block quote (CommonMark 5.1), and its kind if it is an alert.
     BlockQuote(Option<BlockQuoteKind>),
-    /// A list (CommonMark 5.3): what is known of it, its character, and its first item's number.
+    /// A list (CommonMark 5.3): its flags, its character, and its first item's number.
     List(ListFlags, u8, u64),
     /// An item (CommonMark 5.2), and the width of its prefix in columns.
     ListItem(usize),
-    /// A footnote's definition (this profile's own).
+    /// A footnote definition (this profile's own).
     FootnoteDefinition(CowIndex),
     /// A metadata block (this profile's own).
     MetadataBlock(MetadataBlockKind),
@@ -145,10 +145,10 @@ pub enum ItemBody {
     DefinitionList(ListFlags),
     /// A paragraph that is a title if a definition follows.
     MaybeDefinitionListTitle,
-    /// A title of definitions.
+    /// The title of definitions.
     DefinitionListTitle,
-    /// A title of definitions with one text and nothing else inside, as one node: the text stands from where the title begins to before
-    /// this byte offset of the source.
+    /// The title of definitions that contains only one text, as one node: the text begins where the title begins and ends before this byte
+    /// offset of the source.
     DefinitionListTitleOf(usize),
     /// A definition, and the width of its prefix in columns.
     DefinitionListDefinition(usize),

@@ -1,5 +1,4 @@
-//! What the tree of a document is made of: its items, and the tables that they point into. The definitions of links and footnotes
-//! stand in `cmark_references`.
+//! The items of a document's tree, and the tables that they point into. The definitions of links and footnotes are in `cmark_references`.
 #![tactic(auto)]
 
 mod allocations;

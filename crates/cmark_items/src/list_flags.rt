@@ -1,15 +1,15 @@
-//! What is known of a list, or of a definition list.
+//! The flags of a list or a definition list.
 
 ghost use Rattle.std.specs.Prelude.{⊤, [], ◌∷◌, codes};
 
 use bitflags::{Flag, Flags};
 
-/// What is known of a list. The calls of `bitflags::Flags`, as `union` and `contains`, make and read it.
+/// The flags of a list or a definition list. The calls of `bitflags::Flags`, for example `union` and `contains`, make and read them.
 #[derive(Clone, Copy, PartialEq, Eq)]
 pub struct ListFlags(u8);
 
 impl ListFlags {
-    /// No blank line stands between two of its items, nor between two blocks of one of them (CommonMark 5.3).
+    /// No blank line separates two of its items, or two blocks of an item (CommonMark 5.3).
     pub const IS_TIGHT: ListFlags = ListFlags(1);
     /// The last line that was read is blank.
     pub const LAST_LINE_EMPTY: ListFlags = ListFlags(2);

@@ -5,7 +5,7 @@ use Rattle.serde_json.specs.Data.{Data}
 use Rattle.serde_json.specs.View.{view}
 use Rattle.serde_json.specs.declared.value.Value.{Value}
 
--- one element more
+-- one more element
 pub one_more : {A : Type 0} (f : A → Data) (xs : List A) (i : ℕ) (d : A) (values : List Value) (v : Value) → i < length xs → map view values ≡ map f (take i xs) → view v ≡ f (get_or xs i d)
     → map view (values ++ v ∷ []) ≡ map f (take (i + 1) xs)
 one_more f xs i d values v lt before e =

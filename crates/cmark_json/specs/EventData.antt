@@ -1,5 +1,5 @@
--- An event as JSON: an array of its name and of its data, in the order in which the library declares them. What is absent is
--- null, and a choice without data is a text, its name.
+-- An event as JSON: an array of its name and its data, in the order in which the library declares them. Absent data is null. A variant
+-- without data is its name, as a string.
 use Rattle.std.specs.Prelude.{ℕ, List, map, codes, Option, Some, None}
 use Rattle.cmark_grammar.specs.Alignment.{Alignment, Unaligned, Left, Center, Right}
 use Rattle.cmark_grammar.specs.Attributes.{Attribute, Attributes}
@@ -15,7 +15,7 @@ use Rattle.cmark_grammar.specs.TagEnd.{TagEnd}
 use Rattle.serde_json.specs.View.{items_of}
 use Rattle.serde_json.specs.Data.{Data, null, boolean, number, unsigned, string, array, Items, no_items, item}
 
--- a name with its data, with one of them, or with none
+-- a name with several data, with one, or alone
 abbrev pub named : List ℕ → Items → Data
 named name items = array (item (string name) items)
 

@@ -4,7 +4,7 @@ use Rattle.cmark_grammar.specs.Event.{Ranged}
 use Rattle.cmark_json.specs.EventData.{event_data}
 use Rattle.serde_json.specs.Written.{compact_text}
 
--- an object of the range, an array of its start and its end, and of this event, without blanks
+-- an object without blanks: the range, as an array of its start and its end, and this event
 abbrev pub line_around : (start end : ℕ) → List ℕ → List ℕ
 line_around start end event =
     codes "{\"range\":[" ++ (decimal start ++ (codes "," ++ (decimal end ++ (codes "],\"event\":" ++ (event ++ codes "}\n")))))

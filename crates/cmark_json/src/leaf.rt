@@ -1,4 +1,4 @@
-//! What tags and events have in them, as JSON.
+//! The contents of tags and events as JSON.
 
 ghost use Rattle.std.specs.Prelude.{◌≡◌, ◌∷◌, [], ◌++◌, map, option_map, IfOk, OnOk};
 ghost use Rattle.cmark_text_parts.specs.Shown.{shown_attribute, shown_alignment, shown_block_quote_kind, shown_code_block_kind, shown_link_type, shown_metadata_block_kind, text_bytes};
@@ -31,7 +31,7 @@ pub fn with_text(alloc: Global, name: &str, text: &str) -> Result<Value, AllocEr
     json!(in alloc; [name, text])
 }
 
-/// Appends a value to those of an array.
+/// Appends a value to the elements of an array.
 pub fn push(values: &mut Vec<Value>, value: Value) -> Result<(), AllocError>
     ensures { OnOk result (map view values.new.items ≡ map view values.old.items ++ (view value ∷ [])) }
 {
@@ -39,7 +39,7 @@ pub fn push(values: &mut Vec<Value>, value: Value) -> Result<(), AllocError>
     Ok(())
 }
 
-/// Appends a text to the values of an array.
+/// Appends a text to the elements of an array.
 pub fn push_text(values: &mut Vec<Value>, alloc: Global, text: &str) -> Result<(), AllocError>
     ensures { OnOk result (map view values.new.items ≡ map view values.old.items ++ (string text.now ∷ [])) }
 {

@@ -1,4 +1,4 @@
-//! From events to JSON: a line for each event with its range.
+//! Writes events as JSON: one line for each event with its range.
 #![tactic(auto)]
 
 mod event;

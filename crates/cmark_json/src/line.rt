@@ -10,8 +10,7 @@ use itoa::Buffer;
 use std::alloc::{AllocError, Global};
 use std::ops::Range;
 
-/// Appends the line of an event, with its range, that is let go then. Where memory is refused, a beginning of it may have been
-/// appended.
+/// Appends the line of an event with its range, and drops the event. If memory is refused, a beginning of the line may have been appended.
 pub fn append_given(
     out: &mut String,
     alloc: Global,
@@ -26,7 +25,7 @@ pub fn append_given(
     written
 }
 
-/// Appends the line of an event with its range. Where memory is refused, a beginning of it may have been appended.
+/// Appends the line of an event with its range. If memory is refused, a beginning of the line may have been appended.
 fn append_line(
     out: &mut String,
     alloc: Global,
@@ -41,7 +40,7 @@ fn append_line(
     Ok(())
 }
 
-/// Appends the line around the JSON of an event.
+/// Appends the line: the JSON of an event, inside the object with its range.
 fn append_around(out: &mut String, range: &Range<usize>, json: &str) -> Result<(), AllocError>
     ensures { OnOk result (string_bytes out.new ≡ string_bytes out.old ++ line_around range.now.start range.now.end json.now) }
 {

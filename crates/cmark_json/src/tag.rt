@@ -108,7 +108,7 @@ fn heading_value(
 ) -> Result<Value, AllocError>
     ensures { IfOk result (λ v. view v ≡ named (codes "Heading") (heading (level_number level) (shown_attributes id.now classes.now attrs.now))) }
 {
-    // Each part is pushed as soon as it is made, so that there is one value alone to drop where memory is refused.
+    // Each part is pushed as soon as it is made, so that only one value has to be dropped if memory is refused.
     let mut parts = Vec::new(alloc);
     leaf::push_text(&mut parts, alloc, "Heading")?;
     leaf::push(&mut parts, Value::from(level_value(level)))?;

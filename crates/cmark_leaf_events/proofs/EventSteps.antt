@@ -1,4 +1,4 @@
--- Slots as those of the model, of which texts and links are taken one after the other.
+-- Slots as slots of the model, whose texts and links are moved out one after the other.
 use Rattle.std.proofs.Common.{◌≡◌, ◌≢◌, ℕ, zero, suc, ◌<◌, ◌≤◌, ◌+◌, drop, List, [], ◌∷◌, ◌++◌, length, get_or, set, Option, Some, None, Result, Ok, Err, refl, sym, ap, subst, ◌∙◌, arith}
 use Rattle.std.specs.Prelude.{All, IfOk, IsSomeAnd, OnOk, map, reverse, slice_get}
 use Rattle.std.proofs.Math.Seq.{drop-cons}
@@ -67,7 +67,7 @@ module _ (leaf : LeafText) (texts texts1 : List CowStr) (links links1 : List Lin
       let after = same-slots slots text link ts ls (λ k d lt. dt (suc k) d (let q : suc k < length (slot ∷ slots) = omega (arith, lt) in q)) (λ k d lt. dl (suc k) d (let q : suc k < length (slot ∷ slots) = omega (arith, lt) in q)) in
       ap (λ x. x ∷ shown_slots leaf texts1 links1 slots) first ∙ ap (λ l. shown_slot leaf texts links slot ∷ l) after
 
--- of slots each of which names its own, those behind the first name nothing that it names
+-- if each slot names things of its own, the slots after the first name nothing that the first one names
 differ-behind : (named : SlotKind → Option ℕ) (slot : Slot) (slots : List Slot) → AreOnce named (slot ∷ slots) → All (λ (s : Slot). Differ (named slot.kind) (named s.kind)) slots
 differ-behind named slot slots once k d lt = once 0 (suc k) d (omega arith) (let q : suc k < length (slot ∷ slots) = omega (arith, lt) in q)
 
@@ -81,7 +81,7 @@ there-in : (m n : ℕ) (named : Option ℕ) → m ≡ n → IsThere n named → 
 there-in m n named e there = subst (λ k. IsThere k named) (sym e) there
 
 module _ (leaf : LeafText) (texts texts1 : List CowStr) (links links1 : List Link) (slot : Slot) (slots : List Slot) where
-  -- what the first slot names is taken, and those behind it stand for what they stood for
+  -- the things that the first slot names are moved out, and the later slots keep their meaning
   pub seen-behind : CanBeGiven leaf texts links (slot ∷ slots) → KeepsOthers (text_named slot.kind) texts texts1 → KeepsOthers (link_named slot.kind) links links1
       → shown_slots leaf texts1 links1 slots ≡ shown_slots leaf texts links slots
   seen-behind h ts ls =
@@ -124,7 +124,7 @@ module _ (leaf : LeafText) (texts : List CowStr) (links : List Link) (slot : Slo
       ∙ ap (λ l. begins e ∷ slot_events (source_of leaf) l (shown_opened opened1)) (sym seen)
       ∙ ap (λ x. x ∷ events_of leaf texts1 links1 slots opened1) (sym g)
 
-  -- what has the range of its bytes
+  -- a slot whose range is the range of its bytes
   single-kind : (k : SlotKind) → ((end : ℕ) → k ≡ kind.SourceHtml end → ⊥) → ((end : ℕ) → k ≡ kind.SourceText end → ⊥) → (k ≡ kind.Empty → ⊥) → ((e : Element) → k ≡ kind.Begin e → ⊥) → (k ≡ kind.End → ⊥) → (k ≡ kind.Nothing → ⊥)
       → (rows : List row.Slot) (ends : List Ranged) → slot_events (source_of leaf) (slot_as leaf texts links slot k ∷ rows) ends ≡ over (source_of leaf) (first_of leaf slot) (slot_end leaf slot) (event_in leaf texts slot k) ∷ slot_events (source_of leaf) rows ends
   single-kind kind.Text html text empty begin end nothing rows ends = refl
@@ -157,7 +157,7 @@ module _ (leaf : LeafText) (texts : List CowStr) (links : List Link) (slot : Slo
       ∙ ap (λ l. shown_ranged given ∷ slot_events (source_of leaf) l (shown_opened opened)) (sym seen)
       ∙ ap (λ (l : List Opened). shown_ranged given ∷ slot_events (source_of leaf) (shown_slots leaf texts1 links1 slots) (shown_opened l)) (sym o)
 
-  -- what is given of the first slot, where memory is not refused
+  -- the event of the first slot, if memory is not refused
   abbrev Gives-first : {E : Type 0} → Result (Option Given) E → (texts1 : List CowStr) (links1 : List Link) (opened1 : List Opened) → Type 0
   Gives-first result texts1 links1 opened1 = IfOk result (λ given. events_of leaf texts links (slot ∷ slots) opened ≡ with_given given (events_of leaf texts1 links1 slots opened1))
 
@@ -176,19 +176,19 @@ module _ (leaf : LeafText) (texts : List CowStr) (links : List Link) (slot : Slo
   single-given (Ok (Some single)) texts1 links1 opened1 html text empty begin end nothing h ts ls o g = single-first texts1 links1 opened1 single html text empty begin end nothing h ts ls o g
   single-given (Err error) texts1 links1 opened1 html text empty begin end nothing h ts ls o g = tt
 
--- where memory is not refused, what holds anyway
+-- a fact that holds in any case holds if memory is not refused
 pub on-ok : {A E : Type 0} (r : Result A E) (P : Type 0) → P → OnOk r P
 on-ok (Ok a) P p = p
 on-ok (Err e) P p = tt
 
--- an element that ends leaves what none leaves, where none is open
+-- the end of an element leaves the open elements that no event leaves, if none is open
 pub passes-ended : (source : List ℕ) (old new : List Opened) (given : Option Given) → Gives source old given new → Passes source old given new
 passes-ended source old new None h = h.1 ∙ sym h.0
 passes-ended source old new (Some given) h = h
 
 -- ## The next event
 
--- what the next slot names is there
+-- the text or link that the next slot names exists
 pub named-there : (leaf : LeafText) (texts : List CowStr) (links : List Link) (slots : List Slot) (next : ℕ) (slot : Slot) → next < length slots → slot ≡ get_or slots next slot → CanBeGiven leaf texts links (drop next slots)
     → IsThere (length texts) (text_named slot.kind) × IsThere (length links) (link_named slot.kind)
 named-there leaf texts links slots next slot lt is h =
@@ -205,7 +205,7 @@ module _ (leaf : LeafText) (texts texts1 : List CowStr) (links links1 : List Lin
       ∙ ap (λ l. slot ∷ drop (suc next) l) (sym same)
       ∙ ap (λ n. slot ∷ drop n slots1) (let q : suc next ≡ next1 + 1 = omega (arith, place) in q)
 
-  -- behind a slot
+  -- after a slot
   pub events-behind : (slot : Slot) (given : Option Given) → next < length slots → slot ≡ get_or slots next slot → CanBeGiven leaf texts links (drop next slots)
       → ((behind : List Slot) → CanBeGiven leaf texts links (slot ∷ behind) → events_of leaf texts links (slot ∷ behind) opened ≡ with_given given (events_of leaf texts1 links1 behind opened1))
       → events_of leaf texts links (drop next slots) opened ≡ with_given given (events_of leaf texts1 links1 (drop (next1 + 1) slots1) opened1)
@@ -217,7 +217,7 @@ module _ (leaf : LeafText) (texts texts1 : List CowStr) (links links1 : List Lin
       → CanBeGiven leaf texts1 links1 (drop (next1 + 1) slots1)
   left-next slot lt is h keeps = keeps (drop (next1 + 1) slots1) (subst (CanBeGiven leaf texts links) (split slot lt is) h)
 
-  -- behind the last slot
+  -- after the last slot
   pub events-last : (given : Option Given) → length slots ≤ next → IsFirst given (shown_opened opened) (shown_opened opened1)
       → IsFirst given (events_of leaf texts links (drop next slots) opened) (events_of leaf texts1 links1 (drop next1 slots1) opened1)
   events-last given le h =

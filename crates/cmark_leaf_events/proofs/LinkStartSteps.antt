@@ -1,4 +1,4 @@
--- The start of a link is the first of the events that are still to come, where the next slot begins one.
+-- The start of a link is the first of the events that are still to come, if the next slot begins a link.
 use Rattle.std.specs.Prelude.{Option, None, Some, slice_get, is_some, IfSome}
 use Rattle.std.proofs.Common.{◌≡◌, ◌<◌, ◌-◌, ℕ, zero, suc, ◌+◌, List, [], ◌∷◌, ◌++◌, drop, get_or, length, true, refl, sym, ap, subst, ◌∙◌, arith}
 use Rattle.std.proofs.Math.Seq.{drop-cons}
@@ -32,7 +32,7 @@ use Rattle.cmark_leaf_events.proofs.EventSteps.{opened-more}
 
 -- ## The slot at a place
 
--- where a slot begins a link, there is one
+-- if a slot begins a link, the link exists
 pub ahead-lies : (links : List Link) (slots : List Slot) (at : ℕ) → is_some (link_begun_if links (slice_get slots at)) ≡ true → at < length slots
 ahead-lies links [] at h = cc
 ahead-lies links (slot ∷ slots) zero h = omega arith
@@ -60,7 +60,7 @@ module _ (leaf : LeafText) (texts : List CowStr) (links : List Link) (slot : Slo
   abbrev from : SlotKind → List Ranged → List Ranged
   from k ends = slot_events (source_of leaf) (slot_as leaf texts links slot k ∷ shown_slots leaf texts links slots) ends
 
-  -- what a link in the table makes of them
+  -- the events after a link of the table has started
   abbrev started : Option Link → List Ranged → List Ranged
   started found ends = here (event.Start (tag.Link (linked_or_none found))) ∷ behind (here (event.End end.Link) ∷ ends)
 
@@ -73,7 +73,7 @@ module _ (leaf : LeafText) (texts : List CowStr) (links : List Link) (slot : Slo
   kind-starts (kind.Begin e) link ends h = element-starts e link ends h
   kind-starts k link ends h = cc
 
-  -- what is open behind it
+  -- the elements that are open after it
   abbrev pub with_link : (start end : ℕ) → List Opened
   with_link start end = opened ++ (record { tag = tag_end.Link; start = start; end = end } ∷ [])
 
@@ -92,7 +92,7 @@ module _ (leaf : LeafText) (texts : List CowStr) (links : List Link) (slot : Slo
         first = kind-starts slot.kind link (shown_opened opened) h ∙ ap (λ (l : List Ranged). here (event.Start (tag.Link (shown_link link))) ∷ behind l) (sym (opened-more opened one));
       }
 
-  -- the same where the elements that are open, and their range, are given by other names
+  -- the same lemma, with other names for the open elements and their ranges
   pub link-first-now : (now : List Opened) (start stop : ℕ) (link : Link) → IsRead leaf → IsPart (text_of leaf) slot.start slot.end → link_begun links slot.kind ≡ Some link
       → start ≡ place_of leaf slot.start → stop ≡ place_of leaf (slot.end - 1) + 1 → now ≡ with_link start stop
       → IsStartFirst (source_of leaf) opened (shown_link link) now (events_of leaf texts links (slot ∷ slots) opened) (events_of leaf texts links slots now)

@@ -48,7 +48,7 @@ module _ (leaf : LeafText) (texts : List CowStr) (links : List Link) (slot : Slo
     pub begin-no-end : (e : Element) → slot.kind ≡ kind.Begin e → BeginWithoutEnd (events_of leaf texts links (slot ∷ behind) opened)
     begin-no-end e is = subst (λ (k : SlotKind). BeginWithoutEnd (slot_events (source_of leaf) (slot_as leaf texts links slot k ∷ shown_slots leaf texts links behind) (shown_opened opened))) (sym is) (λ h. h)
 
--- so it is for the slots from this one on
+-- the same for the slots from this one on
 pub here-no-end : (leaf : LeafText) (texts : List CowStr) (links : List Link) (slots : List Slot) (opened : List Opened) (at : ℕ) (slot : Slot) → at < length slots → slot ≡ get_or slots at slot
     → ((behind : List Slot) → BeginWithoutEnd (events_of leaf texts links (slot ∷ behind) opened)) → BeginWithoutEnd (events_of leaf texts links (drop at slots) opened)
 here-no-end leaf texts links slots opened at slot lt is h =

@@ -1,4 +1,4 @@
--- An event that is handed on is the first of those that are still to come.
+-- A short event that is given is the first of those that are still to come.
 use Rattle.std.specs.Prelude.{Some}
 use Rattle.std.proofs.Common.{◌≡◌, ◌<◌, ◌≤◌, ℕ, suc, ◌+◌, ◌-◌, List, [], ◌∷◌, ◌++◌, drop, get_or, length, refl, sym, ap, subst, ◌∙◌, arith}
 use Rattle.std.proofs.Math.Seq.{drop-cons}
@@ -114,7 +114,7 @@ module _ (leaf : LeafText) (texts : List CowStr) (links : List Link) (slot : Slo
   alone-some kind.End ends h = absurd h
   alone-some kind.Nothing ends h = absurd h
 
-  -- one of another kind
+  -- an event of another kind
   pub single-some : IsAlone slot.kind → AreSome (events_of leaf texts links (slot ∷ slots) opened)
   single-some h = alone-some slot.kind (shown_opened opened) h
 
@@ -143,7 +143,7 @@ module _ (leaf : LeafText) (texts : List CowStr) (links : List Link) (slot : Slo
             ∙ ap (λ (l : List Ranged). here (event.Start (shown_plain tag)) ∷ behind l) (ap (λ x. here (event.End x) ∷ shown_opened opened) same ∙ sym (opened-more opened one));
       }
 
-  -- the same where the elements that are open, and their range, are given by other names
+  -- the same lemma, with other names for the open elements and their ranges
   pub begin-short-now : (now : List Opened) (tag : PlainTag) (end : TagEnd) (e : Element) (start stop : ℕ) → IsRead leaf → IsPart (text_of leaf) slot.start slot.end → slot.kind ≡ kind.Begin e → Some (shown_plain tag) ≡ emphasis_tag e → IsSpan (shown_plain tag)
       → end_of (shown_plain tag) ≡ shown_end end → start ≡ place_of leaf slot.start → stop ≡ place_of leaf (slot.end - 1) + 1 → now ≡ opened ++ (record { tag = end; start = start; end = stop } ∷ [])
       → IsShortFirst (source_of leaf) opened (short.Start tag) now (events_of leaf texts links (slot ∷ slots) opened) (events_of leaf texts links slots now)
@@ -198,7 +198,7 @@ module _ (leaf : LeafText) (texts texts1 : List CowStr) (links links1 : List Lin
   kept : (l : List Slot) → events_of leaf texts links l opened1 ≡ events_of leaf texts1 links1 l opened1
   kept l = ap (λ (t : List CowStr). events_of leaf t links l opened1) (sym ts) ∙ ap (λ (k : List Link). events_of leaf texts1 k l opened1) (sym ls)
 
-  -- where no slot was passed
+  -- no slot was passed
   pub events-same : at1 ≡ at → opened1 ≡ opened → events_of leaf texts1 links1 (drop at1 slots1) opened1 ≡ events_of leaf texts links (drop at slots) opened
   events-same place o = sym (kept (drop at1 slots1)) ∙ ap (λ (l : List Opened). events_of leaf texts links (drop at1 slots1) l) o ∙ ap (λ n. events_of leaf texts links (drop n slots1) opened) place ∙ ap (λ (l : List Slot). events_of leaf texts links (drop at l) opened) same
 
@@ -234,7 +234,7 @@ pub first-since : (source : List ℕ) (opened0 opened new : List Opened) (n : Ne
 first-since source opened0 opened new n before here behind o e h =
     subst (λ (l : List Opened). IsNextFirst source l n new before behind) o (subst (λ l. IsNextFirst source opened n new l behind) (sym e) h)
 
--- what stands for a slot, by the place behind it
+-- the short event of a slot, by the index after the slot
 pub stands-at : (leaf : LeafText) (slots old : List Slot) (at behind : ℕ) (slot : Slot) (s : Short) → slots ≡ old → at < length slots → slot ≡ get_or slots at slot → behind ≡ at → StandsFor leaf slot s
     → (d : Slot) → StandsFor leaf (get_or old (behind + 1 - 1) d) s
 stands-at leaf slots old at behind slot s same lt is place h d =

@@ -1,4 +1,4 @@
--- An event that owns nothing, which is handed on without an event of any kind.
+-- An event that owns nothing, which is given without an `Event`.
 use Rattle.std.proofs.Common.{◌≡◌, ℕ, zero, suc, ◌+◌, ◌-◌, ◌<◌, List, [], ◌∷◌, ◌++◌, get_or, length, refl, sym, ◌∙◌, arith}
 use Rattle.cmark_grammar.specs.LeafSpans.{IsInline, IsRange, IsSpan}
 use Rattle.cmark_grammar.specs.TagEnd.{end_of}
@@ -65,19 +65,19 @@ end-gives source one old new part last = record {
   lent = tt;
 }
 
--- what stands at a place of a list is the same whatever stands for a place behind it
+-- an element of a list does not depend on the default for indices past its end
 pub get_or-any : {X : Type 0} (xs : List X) (i : ℕ) (d e : X) → i < length xs → get_or xs i d ≡ get_or xs i e
 get_or-any [] i d e lt = absurd (omega (arith, lt))
 get_or-any (x ∷ xs) zero d e lt = refl
 get_or-any (x ∷ xs) (suc i) d e lt = get_or-any xs i d e (omega (arith, lt))
 
--- an end, or none
+-- an end, or nothing
 pub passes : (source : List ℕ) (old new : List Opened) (n : Next) → GivesNext source old n new → PassesShort source old n new
 passes source old new (next.Short s) h = h
 passes source old new next.Long h = h
 passes source old new next.Over h = h.1 ∙ sym h.0
 
--- what stands for any slot
+-- a short event that belongs to any slot
 pub any-slot : (n : Next) (leaf : LeafText) (slots : List Slot) (i : ℕ) → ((text : LeafText) (slot : Slot) → IfShort n (StandsFor text slot)) → IfShort n (λ s. (d : Slot) → StandsFor leaf (get_or slots i d) s)
 any-slot (next.Short s) leaf slots i h = λ d. h leaf (get_or slots i d)
 any-slot next.Long leaf slots i h = tt

@@ -27,7 +27,7 @@ given-later leaf texts links n slots h = record {
   ends = all-drop (λ (slot : Slot). EndsBehind leaf slot slot.kind) n slots h.ends;
 }
 
--- further on in the same slots
+-- a later index in the same slots
 pub left-later : (leaf : LeafText) (old new : LeafEvents) → new.texts ≡ old.texts → new.links ≡ old.links → new.slots ≡ old.slots → old.walk.next ≤ new.walk.next → AreLeft leaf old → AreLeft leaf new
 left-later leaf old new texts links slots le h =
     let a : ℕ = old.walk.next in

@@ -1,4 +1,4 @@
--- The bytes of a leaf's text that a code span or a formula holds.
+-- The bytes of a leaf's text that are the content of a code span or a formula.
 use Rattle.std.specs.Prelude.{◌≡◌, ◌+◌, ◌-◌, ℕ, List}
 use Rattle.std.specs.Str.{IsCharBoundary}
 use Rattle.cmark_grammar.specs.InlineTokens.{as_in}
@@ -10,15 +10,15 @@ use Rattle.cmark_leaf_events.specs.declared.content.Content.{Content}
 abbrev pub written : Content → List ℕ
 written content = slice (text_of content.leaf.now) content.from content.to
 
--- and as they are read: in the cell of a table without the backslash of an escaped pipe (GFM 4.10)
+-- the bytes as they are read: in a table cell without the backslash of an escaped pipe (GFM 4.10)
 abbrev pub read_as : Content → List ℕ
 read_as content = as_in (is_cell_of content.leaf.now) (written content)
 
--- they stand in the source without a gap
+-- the bytes are in the source without a gap
 abbrev pub IsUnbroken : Content → Type 0
 IsUnbroken content = place_of content.leaf.now (content.to - 1) + 1 ≡ place_of content.leaf.now content.from + (content.to - content.from)
 
--- the leaf was read, and they cut no character of its text
+-- the leaf was read, and the content begins and ends at character boundaries of its text
 pub record IsInLeaf (content : Content) : Type 0 where
   pub read : IsRead content.leaf.now
   pub starts : IsCharBoundary (text_of content.leaf.now) content.from

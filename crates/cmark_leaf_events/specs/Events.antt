@@ -1,4 +1,4 @@
--- The events that are read off the slots of a leaf.
+-- The events that are read from the slots of a leaf.
 use Rattle.std.specs.Prelude.{◌≡◌, ◌≢◌, ℕ, List, [], ◌∷◌, length, map, reverse, drop, slice_get, encode_utf8, Option, None, Some}
 use Rattle.cmark_grammar.specs.CodeSpans.{code_text}
 use Rattle.cmark_grammar.specs.Event as event
@@ -21,14 +21,14 @@ use Rattle.cmark_slots.specs.declared.slot.SlotKind.TheVariants as kind
 use Rattle.cmark_leaf_events.specs.declared.leaf_events.LeafEvents.{LeafEvents}
 use Rattle.cmark_slots.specs.SlotViews.{CanBeGiven, first_of, shown_slots, slot_end, text_at, written}
 
--- the ends of the elements that began and have not ended, the last first
+-- the ends of the elements that are open, the last first
 abbrev pub shown_open : Opened → Ranged
 shown_open one = record { event = event.End (shown_end one.tag); start = one.start; end = one.end }
 
 abbrev pub shown_opened : List Opened → List Ranged
 shown_opened opened = reverse (map shown_open opened)
 
--- the events of some slots, and behind the last the ends of what is still open
+-- the events of some slots, and after the last the ends of the elements that are still open
 abbrev pub events_of : LeafText → List CowStr → List Link → List Slot → List Opened → List Ranged
 events_of leaf texts links slots opened = slot_events (source_of leaf) (shown_slots leaf texts links slots) (shown_opened opened)
 
@@ -36,28 +36,28 @@ events_of leaf texts links slots opened = slot_events (source_of leaf) (shown_sl
 abbrev pub events_to_come : LeafText → LeafEvents → List Ranged
 events_to_come leaf events = events_of leaf events.texts.items events.links.items (drop events.walk.next events.slots.items) events.walk.opened.items
 
--- an event is the first of some, and these are behind it; or there is none
+-- the given event is the first of the list, and `behind` are the others; or nothing was given, and the list is empty
 abbrev pub IsFirst : Option Given → (events behind : List Ranged) → Type 0
 IsFirst None events behind = (events ≡ []) × (behind ≡ [])
 IsFirst (Some given) events behind = events ≡ shown_ranged given ∷ behind
 
--- an event in front of others, if there is one
+-- the given event, if there is one, before others
 abbrev pub with_given : Option Given → List Ranged → List Ranged
 with_given None behind = behind
 with_given (Some given) behind = shown_ranged given ∷ behind
 
--- the same of the slots that were not given yet
+-- the texts and links of the slots that were not given yet can be given
 abbrev pub AreLeft : LeafText → LeafEvents → Type 0
 AreLeft leaf events = CanBeGiven leaf events.texts.items events.links.items (drop events.walk.next events.slots.items)
 
--- of a table nothing changed but what stood at an index, if any
+-- a table is unchanged, except for the element at an index, if any
 pub record KeepsOthers {X : Type 0} (taken : Option ℕ) (old new : List X) : Type 0 where
   pub size : length new ≡ length old
   pub others : (i : ℕ) → taken ≢ Some i → slice_get new i ≡ slice_get old i
 
--- ## What a slot gives that has the range of its bytes
+-- ## The event of a slot whose range is the range of its bytes
 
--- the bytes of its text
+-- the bytes of the event's text
 abbrev pub held_in : LeafText → List CowStr → Slot → SlotKind → List ℕ
 held_in leaf texts slot (kind.OwnedText index) = text_at texts index
 held_in leaf texts slot (kind.Character character) = encode_utf8 character
@@ -85,7 +85,7 @@ event_in leaf texts slot kind.SoftBreak = event.SoftBreak
 event_in leaf texts slot kind.HardBreak = event.HardBreak
 event_in leaf texts slot k = event_as k (held_in leaf texts slot k)
 
--- its text is lent as the zero-copy law says of the event
+-- the event's text is borrowed as the zero-copy law says
 abbrev pub IsHeldAs : SlotKind → (source : List ℕ) → (start end : ℕ) → CowStr → Type 0
 IsHeldAs (kind.FootnoteReference index) source start end text = Unit {0}
 IsHeldAs (kind.Code from to) source start end text = IsPartIfBorrowed source text

@@ -1,4 +1,4 @@
--- The start of a link that comes next, of which no event is made.
+-- The start of the link at the next slot, without an event.
 use Rattle.std.specs.Prelude.{◌≡◌, ℕ, List, ◌∷◌, Option, None, Some, slice_get}
 use Rattle.cmark_grammar.specs.Event.{Ranged, Start}
 use Rattle.cmark_grammar.specs.Tag as tag
@@ -13,7 +13,7 @@ use Rattle.cmark_slots.specs.declared.slot.SlotKind.{SlotKind}
 use Rattle.cmark_slots.specs.declared.slot.SlotKind.TheVariants as kind
 use Rattle.cmark_leaf_events.specs.declared.leaf_events.LeafEvents.{LeafEvents}
 
--- what a link, or an autolink, has in the table; an image is none
+-- the link in the table of a link or an autolink; an image has no link here
 abbrev pub link_as : List Link → Element → Option Link
 link_as links (element.Link index) = slice_get links index
 link_as links (element.Autolink index) = slice_get links index
@@ -32,7 +32,7 @@ link_begun_if links (Some slot) = link_begun links slot.kind
 abbrev pub link_to_come : LeafEvents → Option Link
 link_to_come events = link_begun_if events.links.items (slice_get events.slots.items events.walk.next)
 
--- the start of this link, with some range, is the first of some events, and these are behind it
+-- the start of this link, with some range, is the first of the events, and `behind` are the others
 pub record IsStartFirst (source : List ℕ) (old : List Opened) (link : Linked) (new : List Opened) (events behind : List Ranged) : Type 0 where
   pub given : Ranged
   pub is : given.event ≡ Start (tag.Link link)

@@ -31,32 +31,32 @@ pub record EndsAs (tag : end.TagEnd) (start end : ℕ) (one : Opened) : Type 0 w
   pub start_is : one.start ≡ start
   pub end_is : one.end ≡ end
 
--- a start opens an element, an end closes the one that was opened last, and other events leave them; the last opened is the
--- last of the list
+-- a start opens an element, an end closes the element that was opened last, and other events leave the list unchanged. The element opened
+-- last is the last of the list
 abbrev pub Opens : (old : List Opened) → Event → (start end : ℕ) → (new : List Opened) → Type 0
 Opens old (Start tag) start end new = IsSpan tag × ((one : Opened) × EndsAs (end_of tag) start end one × (new ≡ old ++ (one ∷ [])))
 Opens old (End tag) start end new = (one : Opened) × EndsAs tag start end one × (old ≡ new ++ (one ∷ []))
 Opens old event start end new = IsInline event × (new ≡ old)
 
--- an event behind which these elements are open
+-- an event, and the elements that are open after it
 pub record Follows (source : List ℕ) (old : List Opened) (r : Ranged) (new : List Opened) : Type 0 where
   pub range : IsRange source r.start r.end
   pub opens : Opens old r.event r.start r.end new
 
--- an event, or none, where no element is open
+-- an event; or nothing, if no element is open
 abbrev pub Gives : (source : List ℕ) → (old : List Opened) → Option Given → (new : List Opened) → Type 0
 Gives source old None new = (old ≡ []) × (new ≡ [])
 Gives source old (Some given) new = Follows source old (shown_ranged given) new
 
--- an event, or none
+-- an event, or nothing
 abbrev pub Passes : (source : List ℕ) → (old : List Opened) → Option Given → (new : List Opened) → Type 0
 Passes source old None new = new ≡ old
 Passes source old (Some given) new = Follows source old (shown_ranged given) new
 
--- no more events are left: at most two for each slot that was not given, and an end for each open element
+-- an upper bound of the events left: two for each slot that was not given, and an end for each open element
 abbrev pub events_left : LeafEvents → ℕ
 events_left events = 2 * (length events.slots.items - events.walk.next) + length events.walk.opened.items
 
--- the elements that began and have not ended have their ranges in the source
+-- the open elements have their ranges in the source
 abbrev pub AreOpened : (source : List ℕ) → List Opened → Type 0
 AreOpened source opened = All (λ (one : Opened). IsPart source one.start one.end) opened

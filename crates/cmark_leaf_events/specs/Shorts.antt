@@ -1,4 +1,4 @@
--- What is handed on of a leaf without an event being made.
+-- The events of a leaf that are passed on without an `Event`.
 use Rattle.std.specs.Prelude.{◌≡◌, ◌+◌, ◌-◌, ◌<◌, ℕ, List, [], ◌∷◌, Some}
 use Rattle.cmark_grammar.specs.CodeSpans.{code_text}
 use Rattle.cmark_grammar.specs.Event.{Ranged}
@@ -21,18 +21,18 @@ use Rattle.cmark_leaf_events.specs.declared.leaf_events.LeafEvents.{LeafEvents}
 use Rattle.cmark_slots.specs.Elements.{emphasis_tag}
 use Rattle.cmark_leaf_events.specs.Opens.{Follows, events_left}
 
--- the text of a slot: its bytes, or those of the source that it reaches over
+-- the text of a slot: its bytes, or the bytes of the source that it covers
 abbrev pub IsTextOf : LeafText → Slot → SlotKind → (part : List ℕ) → Type 0
 IsTextOf leaf slot kind.Text part = part ≡ slice (text_of leaf) slot.start slot.end
 IsTextOf leaf slot (kind.Whole last) part = part ≡ slice (source_of leaf) (place_of leaf slot.start) (place_of leaf (slot.end - 1) + 1)
 IsTextOf leaf slot _ part = ⊥
 
--- what a slot's code span holds
+-- the text of a slot's code span
 abbrev pub IsCodeOf : LeafText → SlotKind → (part : List ℕ) → Type 0
 IsCodeOf leaf (kind.Code from to) part = part ≡ code_text (as_in (is_cell_of leaf) (slice (text_of leaf) from to))
 IsCodeOf leaf _ part = ⊥
 
--- an event stands for this slot of a leaf's text; an end stands for the element that is open
+-- the short event of this slot of a leaf's text; an end belongs to the element that is open
 abbrev pub StandsFor : LeafText → Slot → Short → Type 0
 StandsFor leaf slot (short.Text part) = IsTextOf leaf slot slot.kind (excerpt_bytes part)
 StandsFor leaf slot (short.Code part) = IsCodeOf leaf slot.kind part.now
@@ -49,34 +49,34 @@ IfShort (next.Short short) P = P short
 IfShort next.Long P = Unit {0}
 IfShort next.Over P = Unit {0}
 
--- that event, with some range, is the first of those that are left
+-- this short event, with some range, is given
 pub record GivesShort (source : List ℕ) (old : List Opened) (short : Short) (new : List Opened) : Type 0 where
   pub given : Ranged
   pub is : given.event ≡ shown_short short
   pub follows : Follows source old given new
   pub lent : IsShortZeroCopy source short given.start given.end
 
--- that event, or none
+-- this short event is given, or nothing
 abbrev pub PassesShort : (source : List ℕ) → (old : List Opened) → Next → (new : List Opened) → Type 0
 PassesShort source old (next.Short short) new = GivesShort source old short new
 PassesShort source old next.Long new = new ≡ old
 PassesShort source old next.Over new = new ≡ old
 
--- an event of another kind was not given yet; behind the last event no element is open
+-- an event of another kind was not given; after the last event no element is open
 abbrev pub GivesNext : (source : List ℕ) → (old : List Opened) → Next → (new : List Opened) → Type 0
 GivesNext source old (next.Short short) new = GivesShort source old short new
 GivesNext source old next.Long new = new ≡ old
 GivesNext source old next.Over new = (old ≡ []) × (new ≡ [])
 
--- fewer events are left behind one that was given
+-- after an event was given fewer events are left
 abbrev pub LeavesFewer : LeafEvents → Next → LeafEvents → Type 0
 LeavesFewer old (next.Short short) new = events_left new < events_left old
 LeavesFewer old next.Long new = Unit {0}
 LeavesFewer old next.Over new = Unit {0}
 
--- ## What is given of the events that are still to come
+-- ## The short event among the events that are still to come
 
--- that event, with its range, is the first of some, and these are behind it
+-- this short event, with its range, is the first of the events, and `behind` are the others
 pub record IsShortFirst (source : List ℕ) (old : List Opened) (short : Short) (new : List Opened) (events behind : List Ranged) : Type 0 where
   pub given : Ranged
   pub is : given.event ≡ shown_short short
@@ -84,23 +84,23 @@ pub record IsShortFirst (source : List ℕ) (old : List Opened) (short : Short) 
   pub lent : IsShortZeroCopy source short given.start given.end
   pub first : events ≡ given ∷ behind
 
--- there are some
+-- the list is not empty
 abbrev pub AreSome : List Ranged → Type 0
 AreSome events = (first : Ranged) × (others : List Ranged) × (events ≡ first ∷ others)
 
--- that event is; or one of another kind, which was not given yet; or there are none
+-- this short event is the first; or the first event is of another kind, and was not given; or there are no events
 abbrev pub IsNextFirst : (source : List ℕ) → (old : List Opened) → Next → (new : List Opened) → (events behind : List Ranged) → Type 0
 IsNextFirst source old (next.Short short) new events behind = IsShortFirst source old short new events behind
 IsNextFirst source old next.Long new events behind = AreSome events × (behind ≡ events)
 IsNextFirst source old next.Over new events behind = (events ≡ []) × (behind ≡ [])
 
--- that event is the first of those of a slot and those behind it; or one of another kind; or the slot has none
+-- this short event is the first of the events from a slot on; or the first event is of another kind; or the slot has no event
 abbrev pub PassesFirst : (source : List ℕ) → (old : List Opened) → Next → (new : List Opened) → (events behind : List Ranged) → Type 0
 PassesFirst source old (next.Short short) new events behind = IsShortFirst source old short new events behind
 PassesFirst source old next.Long new events behind = AreSome events
 PassesFirst source old next.Over new events behind = events ≡ behind
 
--- a slot of this kind has an event of its own, which is not the begin and not the end of an element
+-- a slot of this kind has an event of its own, which is not the start and not the end of an element
 abbrev pub IsAlone : SlotKind → Type 0
 IsAlone (kind.Begin element) = ⊥
 IsAlone kind.End = ⊥

@@ -1,4 +1,4 @@
-//! What code spans and formulas hold.
+//! The contents of code spans and formulas.
 
 ghost use Rattle.std.specs.Prelude.{◌≡◌, ◌⊎◌, false, IfOk};
 ghost use Rattle.cmark_grammar.specs.CodeSpans.{code_text};
@@ -16,7 +16,7 @@ use cmark_slots::text::text_between;
 use cmark_text::CowStr;
 use std::alloc::{AllocError, Global};
 
-/// The bytes of a leaf's text that a code span or a formula holds.
+/// The bytes of a leaf's text that are the content of a code span or a formula.
 #[derive(Clone, Copy)]
 pub struct Content<'s, 'a> {
     pub leaf: &'s LeafText<'a>,
@@ -25,8 +25,8 @@ pub struct Content<'s, 'a> {
 }
 
 impl<'s, 'a> Content<'s, 'a> {
-    /// The text of a code span: borrowed where it stands in the source without a gap and no line ends in it. In the cell of a table a
-    /// pipe stands in the place of each escaped one, and it is a text of its own then (GFM 4.10).
+    /// The text of a code span: borrowed if it is in the source without a gap and has no line ending. In a table cell each escaped pipe
+    /// becomes a pipe, and the text is owned then (GFM 4.10).
     pub fn code(&self, alloc: Global) -> Result<CowStr<'a>, AllocError>
         requires { IsInLeaf self.now }
         ensures value { IfOk result (λ text. text_bytes text ≡ code_text (read_as self.now)) }
@@ -45,7 +45,7 @@ impl<'s, 'a> Content<'s, 'a> {
         }
     }
 
-    // The same, in the cell of a table.
+    // The text of a code span in a table cell.
     #[inline(never)]
     fn code_in_cell(&self, alloc: Global) -> Result<CowStr<'a>, AllocError>
         requires read { IsRead self.now.leaf.now }
@@ -66,8 +66,8 @@ impl<'s, 'a> Content<'s, 'a> {
         own_code(alloc, content.as_str())
     }
 
-    /// The text of a formula, with its line endings and blanks: borrowed where it stands in the source without a gap. In the cell of a
-    /// table a pipe stands in the place of each escaped one, and it is a text of its own then (GFM 4.10).
+    /// The text of a formula, with its line endings and blanks: borrowed if it is in the source without a gap. In a table cell each escaped
+    /// pipe becomes a pipe, and the text is owned then (GFM 4.10).
     pub fn formula(&self, alloc: Global) -> Result<CowStr<'a>, AllocError>
         requires { IsInLeaf self.now }
         ensures value { IfOk result (λ text. text_bytes text ≡ read_as self.now) }
@@ -87,7 +87,7 @@ impl<'s, 'a> Content<'s, 'a> {
     }
 }
 
-// The text of a code span that holds these bytes, in a value that borrows nothing.
+// The text of a code span with this content, as a value that borrows nothing.
 fn own_code<'a>(alloc: Global, content: &str) -> Result<CowStr<'a>, AllocError>
     ensures value { IfOk result (λ text. text_bytes text ≡ code_text content.now) }
     ensures own { IfOk result (λ text. IsBoxed text ⊎ IsInlined text) }

@@ -34,8 +34,7 @@ use std::alloc::{AllocError, Global};
 use std::ops::Range;
 
 impl<'a> LeafEvents<'a> {
-    /// The next event of the leaf that was resolved, with its range in the source; `None` behind the last. The end of an element takes no
-    /// memory.
+    /// The next event of the resolved leaf, with its range in the source; `None` after the last. An end of an element takes no memory.
     #[inline(always)]
     pub fn next(&mut self, leaf: &LeafText<'a>) -> Result<Option<Ranged<'a>>, AllocError>
         requires read { IsRead leaf.now }
@@ -98,7 +97,7 @@ impl<'a> LeafEvents<'a> {
         }
     }
 
-    // The start of an element, as `give` answers it.
+    // The start of an element, in the form that `give` returns.
     #[inline(always)]
     fn begin(
         &mut self,
@@ -121,7 +120,7 @@ impl<'a> LeafEvents<'a> {
         ensures texts { self.new.texts ≡ self.old.texts }
     {
         let range = leaf.range(slot.start, slot.end);
-        // The push comes first: where memory is refused, nothing was taken that has to be dropped.
+        // The push comes first: if memory is refused, no text was moved out that would have to be dropped.
         self.walk.opened.push(Opened {
             tag: element_end(element),
             start: range.start,
@@ -133,7 +132,7 @@ impl<'a> LeafEvents<'a> {
         }))
     }
 
-    // The event of a slot that has the range of its bytes, as `give` answers it.
+    // The event of a slot whose range is the range of its bytes, in the form that `give` returns.
     #[inline(always)]
     fn over_slot(
         &mut self,
@@ -233,7 +232,7 @@ impl<'a> LeafEvents<'a> {
         std::mem::replace(&mut self.texts[index], CowStr::Borrowed(""))
     }
 
-    // The text of a slot's event, which is no break.
+    // The text of a slot's event, which is not a line break.
     #[inline(always)]
     fn held(&mut self, leaf: &LeafText<'a>, slot: Slot) -> Result<CowStr<'a>, AllocError>
         requires read { IsRead leaf.now }
@@ -266,7 +265,7 @@ impl<'a> LeafEvents<'a> {
     }
 }
 
-// The event of a slot of this kind, which is no break, that has this text.
+// The event of a slot of this kind with this text. The slot is not a line break.
 #[inline(always)]
 fn event_of<'a>(kind: SlotKind, text: CowStr<'a>) -> Event<'a>
     ensures value { shown result ≡ event_as kind (text_bytes text.entry) }
@@ -338,7 +337,7 @@ fn image_tag<'a>(link: Link<'a>) -> Tag<'a>
     }
 }
 
-// A text that stands for what is written at a slot, as that of an entity: the text of its own that it is, if it is not the same.
+// The text of a slot that replaces its bytes, such as the text of an entity: borrowed if it equals the bytes, and otherwise owned.
 #[inline(never)]
 fn written<'a>(
     alloc: Global,
@@ -355,7 +354,8 @@ fn written<'a>(
     text.lent_by(alloc, part)
 }
 
-// A part of the source at a slot, up to this end behind the slot's begin, with the prefixes of its later lines: HTML, or a text.
+// A part of the source from the start of a slot up to `end`, if that is after the start: HTML, or a text. It includes the prefixes of its
+// later lines.
 fn source_part<'a>(leaf: &LeafText<'a>, slot: Slot, end: usize) -> Ranged<'a>
     requires read { IsRead leaf.now }
     requires slot { IsSlot (text_of leaf.now) (length (text_of leaf.now)) slot }
@@ -373,7 +373,7 @@ fn source_part<'a>(leaf: &LeafText<'a>, slot: Slot, end: usize) -> Ranged<'a>
     }
 }
 
-// A text of no bytes, before the first byte of a slot.
+// An empty text, before the first byte of a slot.
 fn empty_text<'a>(leaf: &LeafText<'a>, slot: Slot) -> Ranged<'a>
     requires read { IsRead leaf.now }
     requires slot { IsSlot (text_of leaf.now) (length (text_of leaf.now)) slot }
@@ -390,7 +390,7 @@ fn empty_text<'a>(leaf: &LeafText<'a>, slot: Slot) -> Ranged<'a>
     }
 }
 
-// A tag over lines that begins at a place, of which the slot has the last bytes.
+// A tag over several lines that begins at `from`. The slot has its last bytes.
 #[inline(never)]
 fn cut_html<'a>(
     alloc: Global,

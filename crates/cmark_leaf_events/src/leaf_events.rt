@@ -1,4 +1,4 @@
-//! The slots of a leaf, and how far their events were given.
+//! The slots of a leaf, and the state of the walk over them.
 
 ghost use Rattle.std.specs.Prelude.{◌≡◌, []};
 ghost use Rattle.cmark_leaf_events.specs.Events.{AreLeft, events_to_come};
@@ -11,7 +11,7 @@ use cmark_text::{CowStr, TagEnd};
 use std::alloc::Global;
 use std::mem;
 
-/// An element that began and has not ended.
+/// An element that is open.
 #[derive(Clone, Copy)]
 pub struct Opened {
     pub tag: TagEnd,
@@ -19,7 +19,7 @@ pub struct Opened {
     pub end: usize,
 }
 
-/// How far the slots were given.
+/// The state of a walk over slots.
 #[derive(Drop)]
 pub struct Walk {
     pub next: usize,
@@ -27,7 +27,7 @@ pub struct Walk {
 }
 
 impl Walk {
-    /// The walk of which nothing was given yet.
+    /// A walk that has given nothing yet.
     pub fn new(alloc: Global) -> Walk
         ensures opened { result.opened.items ≡ [] }
         ensures next { result.next ≡ 0 }
@@ -38,7 +38,7 @@ impl Walk {
         }
     }
 
-    /// Begins anew.
+    /// Starts again from the first slot.
     pub fn clear(&mut self)
         ensures opened { self.new.opened.items ≡ [] }
         ensures next { self.new.next ≡ 0 }
@@ -48,7 +48,7 @@ impl Walk {
     }
 }
 
-/// The events of one leaf after the other, read off its slots and the texts and links that these name. Its memory is used again.
+/// The events of one leaf after the other, read from its slots and the texts and links that these name. Its memory is reused.
 #[derive(Drop)]
 pub struct LeafEvents<'a> {
     pub(crate) alloc: Global,
@@ -73,8 +73,8 @@ impl<'a> LeafEvents<'a> {
         }
     }
 
-    /// Begins with the slots of a leaf and the texts and links that they name. Those of the last leaf are given for them, so that their memory
-    /// can be used again.
+    /// Begins with the slots of a leaf and the texts and links that they name. They are swapped with those of the last leaf, so that memory
+    /// can be reused.
     pub fn begin_leaf(
         &mut self,
         slots: &mut Vec<Slot>,

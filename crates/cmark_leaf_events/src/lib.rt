@@ -1,4 +1,4 @@
-//! The events of a leaf, read off its slots one after the other, with their ranges in the source (CommonMark 6).
+//! The events of a leaf, read from its slots one after the other, with their ranges in the source (CommonMark 6).
 #![tactic(auto)]
 
 mod content;

@@ -1,4 +1,4 @@
-//! The start of a link, of which no event is made: its link is lent where it stands, and then the start is passed.
+//! The start of a link without an `Event`: the link is borrowed, and then its start is passed.
 
 ghost use Rattle.std.specs.Prelude.{◌≡◌, ◌<◌, true, IfSome, OnErr, OnOk, is_some, length, option_map};
 ghost use Rattle.cmark_inline_model.specs.FirstEvents.{BeginWithoutEnd};
@@ -17,8 +17,8 @@ use cmark_text::TagEnd;
 use std::alloc::AllocError;
 
 impl<'a> LeafEvents<'a> {
-    /// The link that the next slot begins, or the autolink; `None` where that slot begins neither, or where there is none. Nothing counts as
-    /// given then: [`pass_link`](LeafEvents::pass_link) goes on behind the start.
+    /// The link or the autolink that begins at the next slot; `None` if that slot begins neither, or if there is no slot left. The walk
+    /// does not move: [`pass_link`](LeafEvents::pass_link) moves past the start.
     #[inline(always)]
     pub fn link_ahead(&self) -> Option<&Link<'a>>
         ensures { option_map (λ link. link.now) result ≡ link_to_come self.now }
@@ -34,8 +34,8 @@ impl<'a> LeafEvents<'a> {
         }
     }
 
-    /// Counts the start of the link that comes next as given, as `next` does with no event made: the link's end is then still to come, and what
-    /// the table holds of the link stays there. Fails where memory is refused.
+    /// Moves past the start of the link at the next slot, as `next` does, but builds no event. The link's end is still to come, and the
+    /// link stays in the table. Fails if memory is refused.
     #[inline(always)]
     pub fn pass_link(&mut self, leaf: &LeafText<'a>) -> Result<(), AllocError>
         requires read { IsRead leaf.now }
@@ -49,7 +49,7 @@ impl<'a> LeafEvents<'a> {
         ensures events { OnOk result (IfSome (link_to_come self.old) (λ link. IsStartFirst (source_of leaf.now) self.old.walk.opened.items (shown_link link) self.new.walk.opened.items (events_to_come leaf.now self.old) (events_to_come leaf.now self.new))) }
         ensures ends { OnErr result (BeginWithoutEnd (events_to_come leaf.now self.old)) }
     {
-        // The place behind the slot is a number too.
+        // The index after the slot fits in a `usize`.
         prove!(self.walk.next < self.slots.len());
         let slot = self.slots[self.walk.next];
         let range = leaf.range(slot.start, slot.end);

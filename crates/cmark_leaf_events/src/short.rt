@@ -1,4 +1,4 @@
-//! The events of a leaf's slots that own nothing, of which no event of any kind is made.
+//! The events of a leaf's slots that own nothing, without an `Event`.
 
 ghost use Rattle.std.specs.Prelude.{◌≡◌, ◌<◌, ◌≤◌, ◌+◌, ◌-◌, ◌∷◌, ℕ, List, IfOk, IfSome, OnErr, OnOk, get_or, length, option_map};
 ghost use Rattle.std.specs.Str.{IsCharBoundary};
@@ -33,7 +33,7 @@ use cmark_text::{Excerpt, Next, PlainTag, Short, TagEnd};
 use std::alloc::AllocError;
 
 impl<'a> LeafEvents<'a> {
-    /// What `next` would give, where no event is made: one that owns nothing counts as given then, and one of another kind does not. The
+    /// Like `next`, but builds no event: an event that owns nothing is given, and an event of another kind is reported and not given. An
     /// end of an element takes no memory.
     #[inline(always)]
     pub fn next_short(&mut self, leaf: &LeafText<'a>) -> Result<Next<'a>, AllocError>
@@ -68,7 +68,7 @@ impl<'a> LeafEvents<'a> {
         Ok(self.end_short())
     }
 
-    // What a slot gives, where no event is made; that nothing is left stands for nothing here.
+    // Like `next_short` for one slot; `Over` says that the slot has no event.
     #[inline(always)]
     fn give_short(&mut self, leaf: &LeafText<'a>, slot: Slot) -> Result<Next<'a>, AllocError>
         requires read { IsRead leaf.now }
@@ -87,7 +87,7 @@ impl<'a> LeafEvents<'a> {
         ensures ends { OnErr result ((texts : List Texts) (links : List Links) (behind : List Slots) → BeginWithoutEnd (events_of leaf.now texts links (slot ∷ behind) self.old.walk.opened.items)) }
     {
         match slot.kind {
-            // The begin of a link or an image is of another kind.
+            // The start of a link or an image is an event of another kind.
             SlotKind::Begin(element) => {
                 let Some((tag, end)) = plain_element(element) else {
                     return Ok(Next::Long);
@@ -106,7 +106,7 @@ impl<'a> LeafEvents<'a> {
         }
     }
 
-    // The element that began last ends, if one is open.
+    // The end of the element that began last, if one is open.
     #[inline(always)]
     fn end_short(&mut self) -> Next<'a>
         ensures slots { self.new.slots ≡ self.old.slots }
@@ -146,7 +146,7 @@ fn plain_element(element: Element) -> Option<(PlainTag, TagEnd)>
     }
 }
 
-// The event of a slot that is no element, where it owns nothing.
+// The event of a slot that is not an element, if it owns nothing.
 #[inline(always)]
 fn single_short<'a>(leaf: &LeafText<'a>, slot: Slot) -> Next<'a>
     requires read { IsRead leaf.now }
@@ -162,7 +162,7 @@ fn single_short<'a>(leaf: &LeafText<'a>, slot: Slot) -> Next<'a>
     }
 }
 
-// The event of a slot that is no element, where its text is a part of the source.
+// The event of a slot that is not an element, if its text is a part of the source.
 #[inline(always)]
 fn part_of<'a>(leaf: &LeafText<'a>, slot: Slot) -> Option<Short<'a>>
     requires read { IsRead leaf.now }
@@ -196,8 +196,8 @@ fn part_of<'a>(leaf: &LeafText<'a>, slot: Slot) -> Option<Short<'a>>
     }
 }
 
-// What a code span holds that stands in the source without a gap, where no line ends in it. In the cell of a table it may be a text of
-// its own (GFM 4.10).
+// The text of a code span if its content is in the source without a gap and without a line ending. `None` in a table cell, since the text
+// may be owned there (GFM 4.10).
 #[inline(always)]
 fn code_in<'a>(leaf: &LeafText<'a>, from: usize, to: usize) -> Option<&'a str>
     requires read { IsRead leaf.now }

@@ -1,4 +1,4 @@
--- A part of a text that stands in the source without a gap.
+-- A part of a text that is without a gap in the source.
 use Rattle.std.proofs.Common.{◌≡◌, ℕ, ◌+◌, ◌-◌, ◌≤◌, ◌<◌, Bool, true, false, List, [], ◌∷◌, length, get_or, refl, sym, ap, ◌∙◌, arith}
 use Rattle.std.specs.Prelude.{if◌then◌else◌, nat_lt}
 use Rattle.std.proofs.lemmas.Bool.{ltb-true, ltb-false}
@@ -10,7 +10,7 @@ use Rattle.cmark_leaf_text.specs.declared.stretch.Stretch.{Stretch}
 use Rattle.cmark_leaf_text.proofs.StretchSteps.{slice-length, byte-in-slice, size-joined, placed, part-there}
 
 module _ (source : List ℕ) where
-  -- a byte stands at least as far in the source as in the text
+  -- a byte is at least as far from the start in the source as in the text
   place-far : (first from : ℕ) (ss : List Stretch) (at : ℕ) → AreStretches source first from ss → first ≤ at → at < first + length (joined source ss) → from + (at - first) ≤ place_in ss at
   place-far first from [] at all le lt = absurd (omega (arith, le, lt))
   place-far first from (x ∷ ss) at all le lt = go (λ l m. place-far (first + size_of x) x.end ss at all.1 l m) (nat_lt at (x.at + size_of x)) refl
@@ -26,7 +26,7 @@ module _ (source : List ℕ) where
           let r = behind (let q : first + size_of x ≤ at = omega (arith, p, g) in q) (let q : at < (first + size_of x) + length (joined source ss) = omega (arith, lt, n) in q) in
           omega (arith, b, o, r, p, g)
 
-  -- two bytes stand at least as far from one another
+  -- two bytes are at least as far apart in the source as in the text
   place-apart : (first from : ℕ) (ss : List Stretch) (a b : ℕ) → AreStretches source first from ss → first ≤ a → a ≤ b → b < first + length (joined source ss) → place_in ss a + (b - a) ≤ place_in ss b
   place-apart first from [] a b all le ab lt = absurd (omega (arith, le, ab, lt))
   place-apart first from (x ∷ ss) a b all le ab lt = go (λ l m. place-apart (first + size_of x) x.end ss a b all.1 l ab m) (nat_lt a (x.at + size_of x)) (nat_lt b (x.at + size_of x)) refl refl
@@ -53,7 +53,7 @@ module _ (source : List ℕ) where
           let g = ltb-false a (x.at + size_of x) d in
           behind (let q : first + size_of x ≤ a = omega (arith, p, g) in q) (let q : b < (first + size_of x) + length (joined source ss) = omega (arith, lt, n) in q)
 
-  -- where the ends stand as far apart in the source as in the text, the bytes are the same
+  -- if the ends are as far apart in the source as in the text, the bytes are the same
   pub same-bytes : (ss : List Stretch) (from to : ℕ) → AreStretches source 0 0 ss → IsPart (joined source ss) from to
       → (place_in ss (to - 1) + 1) - place_in ss from ≡ to - from
       → slice source (place_in ss from) (place_in ss (to - 1) + 1) ≡ slice (joined source ss) from to

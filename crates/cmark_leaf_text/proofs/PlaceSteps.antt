@@ -1,4 +1,4 @@
--- The places of the bytes of stretches that are pushed.
+-- The offsets of the bytes of stretches that are pushed.
 use Rattle.std.proofs.Common.{◌≡◌, ℕ, ◌+◌, ◌-◌, ◌≤◌, ◌<◌, Bool, true, false, List, [], ◌∷◌, ◌++◌, length, get_or, refl, sym, ap, ◌∙◌, subst, arith, length-append}
 use Rattle.std.specs.Prelude.{if◌then◌else◌, nat_lt}
 use Rattle.std.proofs.lemmas.Bool.{ltb-true, ltb-false}
@@ -7,7 +7,7 @@ use Rattle.cmark_leaf_text.specs.declared.stretch.LeafLine.{LeafLine}
 use Rattle.cmark_leaf_text.specs.declared.stretch.Stretch.{Stretch}
 use Rattle.cmark_leaf_text.proofs.StretchSteps.{first-open, from_start, joined-append, joined-one, ordered-open, size-joined, slice-length, slice-none}
 
--- a choice between two places, by a comparison
+-- a choice between two offsets, by a comparison
 by-less : (P : ℕ → Type 0) (m n a b : ℕ) → (m < n → P a) → (n ≤ m → P b) → P (if nat_lt m n then a else b)
 by-less P m n a b h k = go (nat_lt m n) refl
   where
@@ -19,7 +19,7 @@ module _ (source : List ℕ) where
   abbrev size : List Stretch → ℕ
   size ss = length (joined source ss)
 
-  -- so many bytes stand before the last stretch
+  -- the number of bytes before the last stretch
   size-before : (at from : ℕ) (ss : List Stretch) (s : Stretch) → AreStretches source at from (ss ++ (s ∷ [])) → s.at ≡ at + size ss
   size-before at from [] s all = let p = all.0.place in omega (arith, p)
   size-before at from (x ∷ ss) s all =
@@ -50,7 +50,7 @@ module _ (source : List ℕ) where
           let n = size-joined source x ss all.0.within in
           behind (let q : at + size_of x ≤ k = omega (arith, g, p) in q) (let q : k < (at + size_of x) + size ss = omega (arith, lt, n) in q)
 
-  -- those of the last one
+  -- the bytes of the last stretch
   last-place : (at from : ℕ) (ss : List Stretch) (s : Stretch) (k : ℕ) → AreStretches source at from (ss ++ (s ∷ [])) → at + size ss ≤ k → k < s.at + size_of s → place_in (ss ++ (s ∷ [])) k ≡ s.start + (k - s.at)
   last-place at from [] s k all le lt = by-less (λ p. p ≡ s.start + (k - s.at)) k (s.at + size_of s) (s.start + (k - s.at)) k (λ h. refl) (λ h. absurd (omega (arith, h, lt)))
   last-place at from (x ∷ ss) s k all le lt =
@@ -101,7 +101,7 @@ module _ (source : List ℕ) where
           last-place 0 0 ss t (size (ss ++ (s ∷ [])) + k) g.all (let q : 0 + size ss ≤ size (ss ++ (s ∷ [])) + k = omega (arith, n) in q) (let q : size (ss ++ (s ∷ [])) + k < s.at + (end - s.start) = omega (arith, n, b, lt, is, o) in q)
           ∙ (let q : s.start + ((size (ss ++ (s ∷ [])) + k) - s.at) ≡ start + k = omega (arith, n, b, is, o) in q)
 
-  -- a stretch is put behind the last one
+  -- a stretch is added after the last one
   pub added-places : (ss : List Stretch) (s t : Stretch) → IsOpen source (ss ++ (s ∷ [])) t → PlacesMore source (ss ++ (s ∷ [])) t.start (t.end - t.start) ((ss ++ (s ∷ [])) ++ (t ∷ []))
   added-places ss s t h = record {
     same = λ k lt. front-place 0 0 (ss ++ (s ∷ [])) t k h.all (let q : 0 ≤ k = omega arith in q) (let q : k < 0 + size (ss ++ (s ∷ [])) = omega (arith, lt) in q);
@@ -114,7 +114,7 @@ module _ (source : List ℕ) where
 
   -- ## Lines
 
-  -- the bytes of these stretches have their places, and those of the lines that are left come behind them
+  -- the bytes of these stretches have the offsets of the lines that were pushed, and the bytes of the remaining lines follow
   pub record StandSoFar (lines rest : List LeafLine) (ss : List Stretch) : Type 0 where
     pub so_far : StandAs source lines ss
     pub behind : (k : ℕ) → place_on lines (length (joined source ss) + k) ≡ place_on rest k
@@ -143,7 +143,7 @@ module _ (source : List ℕ) where
         places = record { so_far = λ k lt. absurd (omega (arith, no, lt)); behind = λ k. ap (place_on lines) (let q : size (record { at = 0; start = line.start; end = line.start } ∷ []) + k ≡ k = omega (arith, no) in q) };
       })
 
-  -- a line more
+  -- one more line
   pub stand-more : (lines rest others : List LeafLine) (line : LeafLine) (old new : List Stretch) → rest ≡ line ∷ others → StandSoFar lines rest old → PlacesMore source old line.start (end_in_leaf line others - line.start) new
       → size new ≡ size old + (end_in_leaf line others - line.start) → StandSoFar lines others new
   stand-more lines rest others line old new is h more grows = record { so_far = so_far; behind = behind }

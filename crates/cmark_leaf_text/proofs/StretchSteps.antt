@@ -1,4 +1,4 @@
--- Stretches that are pushed, and the places of bytes in them.
+-- Stretches that are pushed, and the offsets of bytes in them.
 use Rattle.std.proofs.Common.{◌≡◌, ℕ, zero, suc, ◌+◌, ◌-◌, ◌≤◌, ◌<◌, Bool, true, false, List, [], ◌∷◌, ◌++◌, length, drop, take, get_or, refl, sym, ap, ◌∙◌, subst, arith, append_assoc, Some, None, ◌⊎◌, inl, inr, drop-drop, take-add, length-append}
 use Rattle.std.specs.Prelude.{if◌then◌else◌, nat_lt, slice_get}
 use Rattle.std.specs.Str.{IsCharBoundary}
@@ -62,7 +62,7 @@ module _ (source : List ℕ) where
       ∙ sym (append_assoc (joined source ss) (joined source (s ∷ [])) (slice source s.end end))
       ∙ ap (λ l. l ++ slice source s.end end) (sym (joined-append ss (s ∷ [])))
 
-  -- a stretch is put behind the last one
+  -- a stretch is added after the last one
   adds : (at from : ℕ) (ss : List Stretch) (s t : Stretch) → AreStretches source at from (ss ++ (s ∷ []))
       → IsStretch source (s.at + size_of s) s.end t → AreStretches source at from ((ss ++ (s ∷ [])) ++ (t ∷ []))
   adds at from [] s t all new =
@@ -82,7 +82,7 @@ module _ (source : List ℕ) where
   pub added-text : (ss : List Stretch) (s t : Stretch) → joined source ((ss ++ (s ∷ [])) ++ (t ∷ [])) ≡ joined source (ss ++ (s ∷ [])) ++ slice source t.start t.end
   added-text ss s t = joined-append (ss ++ (s ∷ [])) (t ∷ []) ∙ ap (λ l. joined source (ss ++ (s ∷ [])) ++ l) (joined-one t)
 
-  -- a stretch among them
+  -- a stretch in the list
   pub stretch-there : (at from : ℕ) (ss : List Stretch) (i : ℕ) (s : Stretch) → AreStretches source at from ss → slice_get ss i ≡ Some s
       → (at ≤ s.at) × IsStretch source s.at from s
   stretch-there at from [] i s all e = absurd (none e)
@@ -195,7 +195,7 @@ module _ (source : List ℕ) where
       ∙ ap (λ l. before ++ leaf_bytes source l) (sym is)
       ∙ told
 
-  -- the stretch in which a byte stands
+  -- the stretch that contains a byte
   pub first-begins : (ss : List Stretch) (s : Stretch) → AreStretches source 0 0 ss → slice_get ss 0 ≡ Some s → s.at ≡ 0
   first-begins [] s all e = absurd (none e)
     where
@@ -217,14 +217,14 @@ module _ (source : List ℕ) where
       → ((t : Stretch) → slice_get ss (i + 1) ≡ Some t → at < t.at) → at < length (joined source ss) → Placed ss at s
   found ss at i s all e le next lt = finds 0 0 ss at i s all e le (λ t h. next t (ap (slice_get ss) (let n : i + 1 ≡ suc i = omega arith in n) ∙ h)) (let n : at < 0 + length (joined source ss) = omega (arith, lt) in n)
 
-  -- bytes in their places
+  -- bytes at their offsets
   pub byte-in-slice : (a b k : ℕ) → k < b - a → b ≤ length source → get_or (slice source a b) k 0 ≡ get_or source (a + k) 0
   byte-in-slice a b k lt le = get_or-take (b - a) (drop a source) k 0 lt ∙ get_or-drop a source k 0
 
   pub record PlacedByte (ss : List Stretch) (first at : ℕ) : Type 0 where
     pub byte : get_or (joined source ss) (at - first) 0 ≡ get_or source (place_in ss at) 0
     pub within : place_in ss at < length source
-    -- the byte behind stands next to it in the source, or a stretch ends there
+    -- the next byte of the text is the next byte of the source, or a stretch ends here
     pub goes_on : ((place_in ss (at + 1) ≡ place_in ss at + 1) × (at + 1 < first + length (joined source ss))) ⊎ IsCharBoundary source (place_in ss at + 1)
 
   pub placed : (first from : ℕ) (ss : List Stretch) (at : ℕ) → AreStretches source first from ss → first ≤ at → at < first + length (joined source ss) → PlacedByte ss first at

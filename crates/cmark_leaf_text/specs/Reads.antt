@@ -11,11 +11,11 @@ text_of leaf = joined leaf.source.now leaf.stretches.items
 abbrev pub source_of : LeafText → List ℕ
 source_of leaf = leaf.source.now
 
--- whether the text is that of a cell of a table
+-- whether the text is the content of a table cell
 abbrev pub is_cell_of : LeafText → Bool
 is_cell_of leaf = leaf.is_cell
 
--- where in the source a byte of the text stands
+-- the offset in the source of a byte of the text
 abbrev pub place_of : LeafText → ℕ → ℕ
 place_of leaf at = place_in leaf.stretches.items at
 
@@ -24,13 +24,13 @@ pub record IsRead (leaf : LeafText) : Type 0 where
   pub stretches : AreStretches leaf.source.now 0 0 leaf.stretches.items
   pub copied : 1 < length leaf.stretches.items → string_bytes leaf.copied ≡ joined leaf.source.now leaf.stretches.items
 
--- all bytes of the text before this one stand before a place of the source, and no other does
+-- exactly the bytes of the text before `at` are before `place` in the source
 pub record IsFirstFrom (leaf : LeafText) (place at : ℕ) : Type 0 where
   pub within : at ≤ length (text_of leaf)
   pub before : (k : ℕ) → k < at → place_of leaf k < place
   pub behind : (k : ℕ) → at ≤ k → k < length (text_of leaf) → place ≤ place_of leaf k
 
--- bytes of the text from one place to behind another, both not inside a character
+-- the bytes from `from` up to `to`, both at character boundaries
 pub record IsPart (text : List ℕ) (from to : ℕ) : Type 0 where
   pub some : from < to
   pub within : to ≤ length text

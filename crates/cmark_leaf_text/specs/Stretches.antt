@@ -1,11 +1,11 @@
--- Stretches of a source, one behind the other, and the text of the lines of a leaf.
+-- Stretches of a source, one after the other, and the text of the lines of a leaf.
 use Rattle.std.specs.Prelude.{◌≡◌, ℕ, ◌+◌, ◌-◌, ◌≤◌, nat_lt, if◌then◌else◌, List, [], ◌∷◌, ◌++◌, length, slice_get, Some, ◌<◌}
 use Rattle.std.specs.Str.{IsCharBoundary}
 use Rattle.cmark_grammar.specs.Tokens.{slice}
 use Rattle.cmark_leaf_text.specs.declared.stretch.LeafLine.{LeafLine}
 use Rattle.cmark_leaf_text.specs.declared.stretch.Stretch.{Stretch}
 
--- a line lies in the source behind this place, and cuts no character
+-- a line is in the source at or after `from`, and has character boundaries at both ends
 pub record IsLine (source : List ℕ) (from : ℕ) (line : LeafLine) : Type 0 where
   pub behind : from ≤ line.start
   pub content : line.start ≤ line.content_end
@@ -25,7 +25,7 @@ leaf_bytes source [] = []
 leaf_bytes source (line ∷ []) = slice source line.start line.content_end
 leaf_bytes source (line ∷ next ∷ lines) = slice source line.start line.line_end ++ leaf_bytes source (next ∷ lines)
 
--- the place behind a line: with its line end, if others follow
+-- the end of a line in the text: with its line end, if others follow
 abbrev pub end_in_leaf : LeafLine → (others : List LeafLine) → ℕ
 end_in_leaf line [] = line.content_end
 end_in_leaf line (next ∷ others) = line.line_end
@@ -33,7 +33,7 @@ end_in_leaf line (next ∷ others) = line.line_end
 abbrev pub size_of : Stretch → ℕ
 size_of stretch = stretch.end - stretch.start
 
--- a stretch lies in the source behind this place and cuts no character; so many bytes stand in the text before it
+-- a stretch is in the source at or after `from`, with character boundaries at both ends; `at` bytes of the text are before it
 pub record IsStretch (source : List ℕ) (at from : ℕ) (stretch : Stretch) : Type 0 where
   pub place : stretch.at ≡ at
   pub behind : from ≤ stretch.start
@@ -46,36 +46,36 @@ abbrev pub AreStretches : (source : List ℕ) → (at from : ℕ) → List Stret
 AreStretches source at from [] = Unit {0}
 AreStretches source at from (stretch ∷ stretches) = IsStretch source at from stretch × AreStretches source (at + size_of stretch) stretch.end stretches
 
--- their bytes, one behind the other
+-- the bytes of the stretches, one after the other
 abbrev pub joined : (source : List ℕ) → List Stretch → List ℕ
 joined source [] = []
 joined source (stretch ∷ stretches) = slice source stretch.start stretch.end ++ joined source stretches
 
--- where in the source a byte of them stands
+-- the offset in the source of a byte of the stretches
 abbrev pub place_in : List Stretch → ℕ → ℕ
 place_in [] at = at
 place_in (stretch ∷ stretches) at = if nat_lt at (stretch.at + size_of stretch) then stretch.start + (at - stretch.at) else place_in stretches at
 
--- where in the source a byte of the text of lines stands
+-- the offset in the source of a byte of the text of lines
 abbrev pub place_on : List LeafLine → ℕ → ℕ
 place_on [] at = at
 place_on (line ∷ lines) at = if nat_lt at (end_in_leaf line lines - line.start) then line.start + at else place_on lines (at - (end_in_leaf line lines - line.start))
 
--- the bytes of these stretches have the places that they have in the lines
+-- the bytes of these stretches have the same offsets in the source as the bytes of the lines
 abbrev pub StandAs : (source : List ℕ) → List LeafLine → List Stretch → Type 0
 StandAs source lines stretches = (k : ℕ) → k < length (joined source stretches) → place_in stretches k ≡ place_on lines k
 
--- so many bytes more stand behind those of the old stretches, from a place of the source on, and those stand where they stood
+-- `count` more bytes follow those of the old stretches, and are in the source from `start` on; the others keep their offsets
 pub record PlacesMore (source : List ℕ) (old : List Stretch) (start count : ℕ) (new : List Stretch) : Type 0 where
   pub same : (k : ℕ) → k < length (joined source old) → place_in new k ≡ place_in old k
   pub more : (k : ℕ) → k < count → place_in new (length (joined source old) + k) ≡ start + k
 
--- a stretch that may still be made longer stands behind these
+-- a stretch that may still be made longer follows these stretches
 pub record IsOpen (source : List ℕ) (stretches : List Stretch) (open_one : Stretch) : Type 0 where
   pub all : AreStretches source 0 0 (stretches ++ (open_one ∷ []))
   pub place : open_one.at ≤ open_one.start
 
--- this one of them begins at or before the byte of the text, and the next one behind it
+-- stretch `i` begins at or before the byte `at` of the text, and the next stretch after it
 pub record FindsStretch (stretches : List Stretch) (at i : ℕ) : Type 0 where
   pub stretch : Stretch
   pub is : slice_get stretches i ≡ Some stretch

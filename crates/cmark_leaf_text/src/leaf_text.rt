@@ -10,11 +10,11 @@ use crate::stretch::{LeafLine, Stretch};
 use std::alloc::{AllocError, Global};
 use std::ops::Range;
 
-/// The text of a leaf block (CommonMark 4): its lines one behind the other, without the prefixes of the containers, and with
-/// the line ends between them and the blanks in front of later lines as they stand in the source. A value is used for one leaf
-/// after the other. Places are byte offsets, of the text or of the source.
+/// The text of a leaf block (CommonMark 4): its lines one after the other, without the prefixes of the containers. The line ends between
+/// them and the blanks before later lines are those of the source. One value is used for one leaf after the other. Offsets are in bytes, of
+/// the text or of the source.
 ///
-/// Where the lines touch in the source the text is a part of it; else it is copied, into memory that is used again.
+/// If the lines are adjacent in the source, the text is a part of it; otherwise it is copied, into memory that is used again.
 #[derive(Drop)]
 pub struct LeafText<'a> {
     source: &'a str,
@@ -25,7 +25,7 @@ pub struct LeafText<'a> {
 }
 
 impl<'a> LeafText<'a> {
-    /// A text of no line.
+    /// The empty text.
     pub fn new(alloc: Global, source: &'a str) -> LeafText<'a>
         ensures read { IsRead result }
         ensures text { text_of result ≡ [] }
@@ -39,8 +39,9 @@ impl<'a> LeafText<'a> {
         }
     }
 
-    /// Takes these lines of the source, in its order, for its text, which may be that of a cell of a table (GFM 4.10). Where memory is
-    /// refused, there is no text until the next call succeeds. No lines, as those of an empty cell, take none.
+    /// Makes these lines the text. They have to be in the order of the source; they may be the content of a table cell (GFM 4.10).
+    ///
+    /// If memory is refused, there is no text until the next call succeeds. An empty slice of lines, as an empty cell has, takes no memory.
     pub fn read(&mut self, lines: &[LeafLine], is_cell: bool) -> Result<(), AllocError>
         requires { AreLines (source_of self.old) 0 lines.now }
         ensures read { OnOk result (IsRead self.new) }
@@ -71,8 +72,8 @@ impl<'a> LeafText<'a> {
         }
     }
 
-    /// The bytes from the first of the text on, as far as the memory goes in which they stand, so that a search may look at more of them than
-    /// the text has: the rest of the source, where the lines touch there, and else the copied text.
+    /// The bytes of the text, and the bytes after them in the same memory, so that a search may look at more bytes than the text has. They
+    /// are the rest of the source if the text is a part of it, and otherwise the copied text.
     #[inline(always)]
     pub fn ahead(&self) -> &[u8]
         requires { IsRead self.now }
@@ -93,7 +94,7 @@ impl<'a> LeafText<'a> {
         self.is_cell
     }
 
-    /// The text as a part of the source, where its lines touch there.
+    /// The text as a part of the source, if its lines are adjacent there.
     pub fn as_source(&self) -> Option<&'a str>
         requires { IsRead self.now }
         ensures text { IfSome result (λ text. text.now ≡ text_of self.now) }
@@ -106,7 +107,7 @@ impl<'a> LeafText<'a> {
         }
     }
 
-    /// Where a byte of the text stands in the source.
+    /// The offset in the source of a byte of the text.
     pub fn place(&self, at: usize) -> usize
         requires read { IsRead self.now }
         requires within { at < length (text_of self.now) }
@@ -117,7 +118,7 @@ impl<'a> LeafText<'a> {
         stretch.place(at)
     }
 
-    /// The bytes of the source from the first of these bytes of the text to behind the last.
+    /// The range of the source from the byte `from` of the text to the byte before `to`. It includes any gaps between lines.
     pub fn range(&self, from: usize, to: usize) -> Range<usize>
         requires read { IsRead self.now }
         requires part { IsPart (text_of self.now) from to }
@@ -130,7 +131,7 @@ impl<'a> LeafText<'a> {
         start..last + 1
     }
 
-    /// These bytes of the text as a part of the source, if they stand there without a gap.
+    /// The text from `from` up to `to` as a part of the source, if it has no gap there.
     pub fn slice(&self, from: usize, to: usize) -> Option<&'a str>
         requires read { IsRead self.now }
         requires part { IsPart (text_of self.now) from to }
@@ -142,7 +143,7 @@ impl<'a> LeafText<'a> {
         Some(&ahead[..to - from])
     }
 
-    /// The source from the first of these bytes of the text on, if they stand there without a gap: it begins with them.
+    /// The source from the byte `from` of the text on, if the text up to `to` has no gap there. The result begins with that text.
     #[inline(always)]
     pub fn slice_ahead(&self, from: usize, to: usize) -> Option<&'a str>
         requires read { IsRead self.now }
@@ -161,7 +162,7 @@ impl<'a> LeafText<'a> {
         }
     }
 
-    /// The bytes of the source from the first of these bytes of the text to behind the last, with what stands between the lines.
+    /// The source from the byte `from` of the text to the byte before `to`, with the gaps between lines.
     pub fn source_between(&self, from: usize, to: usize) -> &'a str
         requires read { IsRead self.now }
         requires part { IsPart (text_of self.now) from to }
@@ -171,8 +172,8 @@ impl<'a> LeafText<'a> {
         &self.source[bytes.start..bytes.end]
     }
 
-    /// The bytes of the source from the first of these bytes of the text to before a place that is behind it and cuts no
-    /// character; with another place, to behind the last of them.
+    /// The range of the source from the byte `from` of the text up to `end`, if `end` is a character boundary after it. Otherwise the range
+    /// ends as that of `range` does.
     pub fn range_up_to(&self, from: usize, to: usize, end: usize) -> Range<usize>
         requires read { IsRead self.now }
         requires part { IsPart (text_of self.now) from to }
@@ -187,7 +188,7 @@ impl<'a> LeafText<'a> {
         bytes
     }
 
-    /// These bytes of the source.
+    /// The source from `start` up to `end`.
     pub fn source_at(&self, start: usize, end: usize) -> &'a str
         requires { IsPart (source_of self.now) start end }
         ensures { result.now ≡ slice (source_of self.now) start end }
@@ -195,7 +196,7 @@ impl<'a> LeafText<'a> {
         &self.source[start..end]
     }
 
-    /// The source from this place on, which is inside no character.
+    /// The source from `start` on, which has to be a character boundary.
     #[inline(always)]
     pub fn source_ahead(&self, start: usize) -> &'a str
         requires { IsCharBoundary (source_of self.now) start }
@@ -204,7 +205,7 @@ impl<'a> LeafText<'a> {
         &self.source[start..]
     }
 
-    /// The first byte of the text that stands at or behind a place of the source; the text's length, where none does.
+    /// The first byte of the text that is at or after `place` in the source; the text's length if there is none.
     pub fn first_from(&self, place: usize) -> usize
         requires { IsRead self.now }
         ensures { IsFirstFrom self.now place result }
@@ -222,7 +223,7 @@ impl<'a> LeafText<'a> {
         low
     }
 
-    // The stretches of these lines: each line with its line end, but for the last.
+    // Appends the stretches of these lines: each line with its line end, but the last without it.
     fn push_lines(&mut self, lines: &[LeafLine]) -> Result<(), AllocError>
         requires none { self.old.stretches.items ≡ [] }
         requires lines { AreLines (source_of self.old) 0 lines.now }
@@ -250,7 +251,8 @@ impl<'a> LeafText<'a> {
         Ok(())
     }
 
-    // The stretch that a part of the source makes longer, or else ends.
+    // Adds a part of the source. It makes the stretch `opened` longer if it is adjacent; otherwise `opened` ends, and a new stretch begins.
+    // Returns the open stretch.
     fn push_part(
         &mut self,
         opened: Stretch,
@@ -273,7 +275,7 @@ impl<'a> LeafText<'a> {
         Ok(Stretch { at, start, end })
     }
 
-    // The place among the stretches of that in which a byte of the text stands.
+    // The index of the stretch that contains a byte of the text.
     fn stretch_at(&self, at: usize) -> usize
         requires read { IsRead self.now }
         requires within { at < length (text_of self.now) }
@@ -293,7 +295,7 @@ impl<'a> LeafText<'a> {
     }
 }
 
-// The place behind a line: with its line end, if others follow.
+// The end of a line in the text: with its line end, if others follow.
 fn end_in_leaf(line: &LeafLine, others: &[LeafLine]) -> usize
     ensures { result ≡ end_in_leaf line.now others.now }
 {

@@ -1,4 +1,4 @@
-//! The text of a leaf block, and where its bytes stand in the source.
+//! The text of a leaf block, and the offsets of its bytes in the source.
 #![tactic(auto)]
 
 mod leaf_text;

@@ -1,31 +1,31 @@
-//! Lines of a leaf, and the stretches of the source that they are.
+//! Lines of a leaf, and the stretches of the source that they form.
 
 ghost use Rattle.std.specs.Prelude.{◌≡◌, ◌<◌, ◌≤◌, ◌+◌, ◌-◌};
 
-/// A line of a leaf (CommonMark 2.1), or lines that touch, without the prefixes of its containers: byte offsets of the source.
+/// A line of a leaf (CommonMark 2.1), or adjacent lines, without the prefixes of its containers: byte offsets of the source.
 #[derive(Clone, Copy)]
 pub struct LeafLine {
-    /// The first byte of what stands in it.
+    /// The offset of the first byte of the content.
     pub start: usize,
-    /// The place behind that. Trailing blanks are in it, but for the last line of a leaf.
+    /// The end of the content, exclusive. It includes trailing blanks, except in the last line of a leaf.
     pub content_end: usize,
-    /// The place behind its line ending.
+    /// The end of the line ending, exclusive.
     pub line_end: usize,
 }
 
-/// A stretch of the source that stands in a leaf's text without a gap.
+/// A stretch of the source that is in a leaf's text without a gap.
 #[derive(Clone, Copy)]
 pub(crate) struct Stretch {
-    /// Its first byte in the leaf's text.
+    /// The offset of its first byte in the leaf's text.
     pub at: usize,
-    /// Its first byte in the source.
+    /// The offset of its first byte in the source.
     pub start: usize,
-    /// The place behind it in the source.
+    /// Its end in the source, exclusive.
     pub end: usize,
 }
 
 impl Stretch {
-    // Where a byte of the text stands in the source, if it stands in the stretch.
+    // The offset in the source of a byte of the text, if the byte is in the stretch.
     pub fn place(self, at: usize) -> usize
         requires before { self.at ≤ at }
         requires behind { at < self.at + (self.end - self.start) }

@@ -131,7 +131,7 @@ attributes-bytes true cs t =
     let left = before_braces (λ c. c.byte) cs in
     drop_end-bytes is_blank_byte left (front-tabbed left u.behind (subst AreTabbed u.is t)) ∙ ap (drop_end is_blank_byte) (before-bytes cs t)
 
--- bytes that end with a `}`, and hold no other brace
+-- bytes that end with a `}`, and contain no other brace
 closed-all : (bs : List ℕ) → closes (λ b. b) bs ≡ true → before_braces (λ b. b) bs ≡ bs
 closed-all [] e = refl
 closed-all (b ∷ []) e = ap (λ z. if z then [] else b ∷ []) (and-no (b == 123))
@@ -145,7 +145,7 @@ drop-nothing zero xs e = e
 drop-nothing (suc n) [] e = refl
 drop-nothing (suc n) (x ∷ xs) e = absurd (let z : x ∷ xs ≡ [] = e in cc)
 
--- a brace behind which they close
+-- a brace after which they close
 closes-before : (k : ℕ) (bs : List ℕ) (b : ℕ) (rest : List ℕ) → drop k bs ≡ b ∷ rest → is_brace (λ x. x) b ≡ true → closes (λ x. x) rest ≡ true → closes (λ x. x) bs ≡ false
 closes-before zero bs b [] d i e = absurd (true≢false (sym e))
 closes-before zero bs b (r ∷ rest) d i e = ap (closes (λ x. x)) d ∙ ap (λ z. not z && closes (λ x. x) (r ∷ rest)) i
@@ -170,7 +170,7 @@ unbraced-at (suc k) (x ∷ xs) b rest d i n e =
     ap (λ z. if (x == 123) && z then [] else x ∷ before_braces (λ y. y) xs) (closes-before k xs b rest d i e)
     ∙ ap (λ z. if z then [] else x ∷ before_braces (λ y. y) xs) (and-no (x == 123)) ∙ ap (λ l. x ∷ l) (unbraced-at k xs b rest d i n e)
 
--- where no `}` stands at the end
+-- if there is no `}` at the end
 closes-last : (k : ℕ) (bs : List ℕ) → suc k ≡ length bs → closes (λ b. b) bs ≡ true → get_or bs k 0 ≡ 125
 closes-last k [] l e = absurd (true≢false (sym e))
 closes-last zero (b ∷ []) l e = same b 125 e
@@ -297,7 +297,7 @@ stands-in text place content_end bs before size utf8 s b z some =
           ∙ ap (take (length inside)) behind ∙ take-front inside (125 ∷ more);
     }
 
--- how many bytes stand before braces, by where the last brace before the end stands
+-- the number of bytes before the braces, by the place of the last brace before the end
 pub drop-before : (at : ℕ) (bs : List ℕ) → 0 < at → at < length bs → drop (at - 1) bs ≡ get_or bs (at - 1) 0 ∷ drop at bs
 drop-before zero bs z l = absurd (omega (arith, z))
 drop-before (suc n) bs z l = let p : n ≡ suc n - 1 = omega arith in subst (λ k. drop k bs ≡ get_or bs k 0 ∷ drop (suc n) bs) p (drop-at n bs (omega (arith, l)))

@@ -68,7 +68,7 @@ piece_if-none text start end ps e = ap (λ z. if z then record { owned = false; 
 pub piece_if-some : (text : List ℕ) (next : Stretch) (ps : List Piece) → next.start ≢ next.end → piece_if text next.start next.end ps ≡ shown_stretch text next ∷ ps
 piece_if-some text next ps ne = ap (λ z. if z then shown_stretch text next ∷ ps else ps) (is-less next.start next.end next.ordered ne)
 
--- one more stretch
+-- another stretch
 pub goes-joined : (text : List ℕ) (b : Builder) (waits : Option Stretch) (both next : Stretch) → next.start ≢ next.end →
     add_to [] (shown_waits text waits) (shown_stretch text next) ≡ run_of text (Some both) → Goes text b b waits (Some both) (piece_if text next.start next.end [])
 goes-joined text b waits both next some is =
@@ -164,7 +164,7 @@ goes-spaces text old mid new waits n (suc count) place at e some p first second 
     is : add_to [] (shown_waits text waits) q ≡ record { done = rest_of (shown_waits text waits) ++ q ∷ []; waits = None }
     is = add-owned (shown_waits text waits) q refl
 
--- pieces behind others that are done
+-- pieces after others that are finished
 abbrev behind : List Piece → Run → Run
 behind ds run = record { done = ds ++ run.done; waits = run.waits }
 
@@ -188,7 +188,7 @@ pieces-append : (run : Run) (ps qs : List Piece) → add_pieces run (ps ++ qs) �
 pieces-append run [] qs = refl
 pieces-append run (p ∷ ps) qs = pieces-append (add_piece run p) ps qs
 
--- pieces one behind the other
+-- two lists of pieces in order
 pub goes-both : (text : List ℕ) (old mid new : Builder) (first second third : Option Stretch) (ps qs : List Piece) → Goes text old mid first second ps → Goes text mid new second third qs → Goes text old new first third (ps ++ qs)
 goes-both text old mid new first second third ps qs g h = record {
   left_is = h.left_is ∙ sym (ap (λ r. r.waits) all);
@@ -208,7 +208,7 @@ goes-both text old mid new first second third ps qs g h = record {
         ∙ ap (λ ds. add_pieces (record { done = ds; waits = shown_waits text second }) qs) (sym (append-nil a.done))
         ∙ pieces-more a.done (run_of text second) qs
 
--- a line as it is, in parts
+-- a line, in parts
 spaces-then : (n at : ℕ) (ps : List Piece) → spaces_if n at ps ≡ spaces_if n at [] ++ ps
 spaces-then zero at ps = refl
 spaces-then (suc n) at ps = refl

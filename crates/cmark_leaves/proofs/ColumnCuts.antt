@@ -16,7 +16,7 @@ abbrev pub goes_on : List Column → Bool
 goes_on [] = false
 goes_on (c ∷ cs) = not (c.part == 0)
 
--- columns in which no byte begins are of tabs, and stand behind the other columns of the same tab
+-- columns in which no byte begins are of tabs, and come after the other columns of the same tab
 abbrev pub AreTabbed : List Column → Type 0
 AreTabbed [] = Unit {0}
 AreTabbed (c ∷ cs) = ((c.part == 0) ≡ false → c.byte ≡ 9) × (goes_on cs ≡ true → c.byte ≡ 9) × AreTabbed cs
@@ -90,7 +90,7 @@ drop-in_text text zero cs t = t
 drop-in_text text (suc n) [] t = tt
 drop-in_text text (suc n) (c ∷ cs) t = drop-in_text text n cs t.1
 
--- where the place is that the bytes reach
+-- the end of the bytes' range
 pub bytes-end : (from : ℕ) (cs : List Column) → Runs from cs (end_place from cs) → end_place from cs ≡ from + length (bytes_of cs)
 bytes-end from [] h = omega arith
 bytes-end from (c ∷ cs) h = go (c.part == 0) refl (bytes-end (suc c.at) cs h.1)
@@ -99,7 +99,7 @@ bytes-end from (c ∷ cs) h = go (c.part == 0) refl (bytes-end (suc c.at) cs h.1
     go true e ih = let p : c.at ≡ from = sym (ap (λ z. if z then c.at else suc c.at) e) ∙ h.0 in omega (arith, ih, p)
     go false e ih = let p : suc c.at ≡ from = sym (ap (λ z. if z then c.at else suc c.at) e) ∙ h.0 in omega (arith, ih, p)
 
--- the bytes of the text stand in these columns
+-- the bytes of the text are in these columns
 pub bytes-slice : (text : List ℕ) (from : ℕ) (cs : List Column) (to : ℕ) → Runs from cs to → StandInText text cs → bytes_of cs ≡ slice text from to
 bytes-slice text from [] to h t = sym (ap (λ n. take n (drop from text)) (let e : from ≡ to = h in let z : to - from ≡ 0 = omega (arith, e) in z))
 bytes-slice text from (c ∷ cs) to h t = go (c.part == 0) refl (bytes-slice text (suc c.at) cs to h.1 t.1)
@@ -171,11 +171,11 @@ module _ (q : ℕ → Bool) where
       go es true is p e = by es (drop_end q (bytes_of cs)) (q c.byte) refl is p e
       go es false is p e = skip es (q c.byte) p ∙ e
 
--- the words of a line, whatever text it stands in
+-- the words of a line, whatever text it is part of
 pub words-runs : (rest : LineRest) → Runs (start_of (row_of rest)) (without_indent (row_of rest).columns) (row_of rest).content_end
 words-runs rest = (drop-Runs (indent (row_of rest).columns) (begin_of (row_of rest)) (row_of rest).columns (row_of rest).content_end (rest-runs rest)).0
 
--- where a line's words end
+-- the end of a line's words
 pub words-end : (rest : LineRest) (words trimmed : List ℕ) → words ≡ bytes_of (without_indent (row_of rest).columns) → trimmed ≡ drop_end is_blank_byte words →
     start_of (row_of rest) + length trimmed ≡ end_place (start_of (row_of rest)) (line_columns (row_of rest))
 words-end rest words trimmed w t =

@@ -1,4 +1,4 @@
--- Where the attributes of a setext heading begin in the text, by how many bytes of its content stand before them.
+-- The place in the text at which the attributes of a setext heading begin, by the number of bytes of its content before them.
 use Rattle.std.proofs.Common.{◌≡◌, ◌⊎◌, inl, inr, ℕ, zero, suc, ◌+◌, ◌-◌, ◌<◌, ◌≤◌, Bool, true, false, ◌==◌, List, [], ◌∷◌, ◌++◌, append_assoc, append-nil, length, length-append, drop, get_or, map, refl, sym, ap, ◌∙◌, subst, arith}
 use Rattle.std.specs.Prelude.{if◌then◌else◌, nat_le, nat_lt}
 use Rattle.cmark_grammar.specs.Attributes.{before_braces}
@@ -22,7 +22,7 @@ le-true a b l = grind (arith)
 le-false : (a b : ℕ) → b < a → nat_le a b ≡ false
 le-false a b l = grind (arith)
 
--- a column stands where the bytes before it end
+-- a column is at the end of the bytes before it
 runs-place : (from : ℕ) (left : List Column) (c : Column) (behind : List Column) (to : ℕ) → Runs from (left ++ c ∷ behind) to → from + length (bytes_of left) ≡ place c
 runs-place from [] c behind to h = let e : place c ≡ from = h.0 in omega (arith, e)
 runs-place from (d ∷ left) c behind to h = go (d.part == 0) refl (runs-place (suc d.at) left c behind to h.1)
@@ -31,7 +31,7 @@ runs-place from (d ∷ left) c behind to h = go (d.part == 0) refl (runs-place (
     go true e ih = let p : d.at ≡ from = sym (ap (λ z. if z then d.at else suc d.at) e) ∙ h.0 in omega (arith, ih, p)
     go false e ih = let p : suc d.at ≡ from = sym (ap (λ z. if z then d.at else suc d.at) e) ∙ h.0 in omega (arith, ih, p)
 
--- what stands behind a part of two lists, one behind the other, begins in the first or in the second
+-- the rest of a concatenation begins in the first list or in the second
 split : {A : Type 0} (a b left behind : List A) (c : A) → a ++ b ≡ left ++ c ∷ behind → ((e : List A) × (a ≡ left ++ c ∷ e)) ⊎ ((e : List A) × (left ≡ a ++ e) × (b ≡ e ++ c ∷ behind))
 split [] b left behind c e = inr (left, refl, e)
 split (x ∷ a) b [] behind c e = let h : x ≡ c = (let q : x ∷ (a ++ b) ≡ c ∷ behind = e in cc) in inl (a, ap (λ y. y ∷ a) h)
@@ -99,7 +99,7 @@ end-shorter q cs = let cut = drop_end-cut q cs in let e = ap length cut.is in le
 less-lt : (a b : ℕ) → nat_lt a b ≡ true → a < b
 less-lt a b e = grind (arith)
 
--- the attributes begin where so many bytes stand before them
+-- the place at which the attributes begin has this number of bytes before it
 pub found-place : (before : List LineRest) (last : LineRest) → let cs = content_columns before last in ends_in_braces cs ≡ true
     → place_in (map row_of before) (row_of last) (length (drop_end is_space_byte (before_braces (λ b. b) (bytes_of cs)))) ≡ attributes_place cs
 found-place before last e = go white.behind cut
@@ -143,7 +143,7 @@ nothing-behind zero (x ∷ xs) l = absurd (omega (arith, l))
 nothing-behind (suc n) [] l = refl
 nothing-behind (suc n) (x ∷ xs) l = nothing-behind n xs (omega (arith, l))
 
--- the byte stands in the line at hand
+-- the byte is in the current line
 pub place-first : (before : List LineRest) (last rest : LineRest) (i left len content_end : ℕ) → i < length before → rest ≡ get_or before i rest → content_end ≡ (row_of rest).content_end → len ≡ length (bytes_of (row_of rest).columns) → left ≤ len
     → (len - left ≤ content_end) × (content_end - (len - left) ≡ place_in (map row_of (drop i before)) (row_of last) left)
 place-first before last rest i left len content_end l e s n le =
@@ -152,7 +152,7 @@ place-first before last rest i left len content_end l e s n le =
     ap (λ xs. place_in (map row_of xs) (row_of last) left) (drop-get before i rest l e) ∙ in-first rest (map row_of (drop (suc i) before)) (row_of last) left (omega (arith, n, le)) in
     (omega (arith, b, s, n), (let q : content_end - (len - left) ≡ begin_of (row_of rest) + left = omega (arith, b, s, n, le) in q ∙ sym is))
 
--- it stands in the last one
+-- the byte is in the last line
 pub place-last : (before : List LineRest) (last : LineRest) (i left len content_end : ℕ) → length before ≤ i → content_end ≡ (row_of last).content_end → len ≡ length (bytes_of (row_of last).columns) → left ≤ length (gathered_bytes (map row_of (drop i before)) (row_of last))
     → (len - left ≤ content_end) × (content_end - (len - left) ≡ place_in (map row_of (drop i before)) (row_of last) left)
 place-last before last i left len content_end l s n le =

@@ -1,4 +1,4 @@
--- The columns of a setext heading's content, and its bytes: line endings stand between columns, so a tab may begin in the middle.
+-- The columns of a setext heading's content, and its bytes: line endings are between columns, so a tab may begin in the middle.
 use Rattle.std.proofs.Common.{◌≡◌, ℕ, suc, Bool, true, false, ◌==◌, ◌&&◌, ◌||◌, not, List, [], ◌∷◌, ◌++◌, length, map, refl, sym, ap, ◌∙◌, subst, arith, true≢false}
 use Rattle.std.specs.Prelude.{if◌then◌else◌, nat_lt}
 use Rattle.cmark_grammar.specs.Attributes.{is_brace, closes, before_braces, without_last, inside_braces}
@@ -117,7 +117,7 @@ less-suc a b = grind (arith)
 less-zero : (b : ℕ) → nat_lt 0 (suc b) ≡ true
 less-zero b = grind (arith)
 
--- braces stand at the end of the bytes
+-- the bytes end in braces
 abbrev pub ends_in_bytes : List ℕ → Bool
 ends_in_bytes bs = nat_lt (length (before_braces (λ b. b) bs)) (length bs)
 
@@ -180,7 +180,7 @@ module _ (q : ℕ → Bool) where
       go ds true e w ih = front (q c.byte) ds e w ∙ ap (put_before (q c.byte) c.byte) ih
       go ds false e w ih = skip (q c.byte) ds e (ap q (t.0 e) ∙ n) ∙ ih
 
-  -- what does not pass is left
+  -- an element that does not pass is kept
   end-behind : (xs : List ℕ) (b : ℕ) (ys : List ℕ) → q b ≡ false → drop_end q (xs ++ b ∷ ys) ≡ xs ++ b ∷ drop_end q ys
   end-behind [] b ys f = go (q b) (drop_end q ys) f
     where

@@ -1,4 +1,4 @@
--- Nodes drawn one behind the other.
+-- Nodes drawn in order.
 use Rattle.std.proofs.Common.{◌≡◌, List, [], ◌∷◌, ◌++◌, refl, sym, ap}
 use Rattle.cmark_grammar.specs.BlockDocument.{BlockDocument, Nil, Node, node, join}
 use Rattle.cmark_grammar.specs.Tokens.{Piece, text_kind_of}
@@ -16,7 +16,7 @@ join-assoc (Node n inside after) b c = ap (Node n inside) (join-assoc after b c)
 pub drawn-Nil : (d : Drawing) → drawn Nil d ≡ d
 drawn-Nil d = ap (λ here. record d { here = here }) (join-Nil d.here)
 
--- one document behind another
+-- one document after another
 pub drawn-join : (a b : BlockDocument) (d : Drawing) → drawn (join a b) d ≡ drawn b (drawn a d)
 drawn-join a b d = ap (λ here. record d { here = here }) (sym (join-assoc d.here a b))
 

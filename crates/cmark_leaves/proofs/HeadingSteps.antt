@@ -44,7 +44,7 @@ opening-bytes (suc n) (c ∷ cs) t w le =
         (ih.0 ∙ sym (ap (drop (suc n)) (whole-first c cs w)), (is-ascii c.byte 35 (omega arith) e, ih.1))
     go false e g f l ih = absurd (omega (arith, l))
 
--- the blanks in front
+-- the blanks at the beginning
 pub indent-bytes : (cs : List Column) → AreTabbed cs → (bytes_of (without_indent cs) ≡ drop (length (take_while is_blank_byte (bytes_of cs))) (bytes_of cs)) × (goes_on (without_indent cs) ≡ false)
 indent-bytes [] t = (refl, refl)
 indent-bytes (c ∷ cs) t = go (is_blank c) refl (c.part == 0) refl (indent-bytes cs t.2)
@@ -184,14 +184,14 @@ closing-cut cs = go (is_bare (drop_end is_hash cs) || nat_lt (length (without_tr
     go true = cut-cut (hashes-cut cs) (blanks-cut (drop_end is_hash cs))
     go false = record { behind = []; is = sym (append-nil cs) }
 
--- what stands behind the opening sequence and the blanks there
+-- the columns after the opening sequence and the blanks there
 abbrev pub behind_columns : Row → List Column
 behind_columns r = without_indent (drop (run 35 (words_of r)) (without_indent r.columns))
 
 abbrev pub heading_place : Row → ℕ
 heading_place r = first_place r.content_end (behind_columns r)
 
--- so many columns at the line's end have so many bytes
+-- a number of columns at the line's end have the same number of bytes
 pub behind-content_end : (rest : LineRest) → heading_place (row_of rest) + length (bytes_of (behind_columns (row_of rest))) ≡ (row_of rest).content_end
 behind-content_end rest =
     let r = row_of rest in
@@ -214,7 +214,7 @@ behind-bytes rest =
     let i = indent-bytes cs tc in
     (i.0 ∙ ap (λ bs. drop (length (take_while is_blank_byte bs)) bs) o.0, drop-tabbed (indent cs) cs tc, i.1)
 
--- the content of a heading, behind the opening sequence
+-- the content of a heading, after the opening sequence
 content-cut : (rest : LineRest) → let cs = behind_columns (row_of rest) in Cut cs (without_trailing_blanks cs)
 content-cut rest = blanks-cut (behind_columns (row_of rest))
 
@@ -261,7 +261,7 @@ heading-runs attributes rest =
     let cut = cut-cut (text-cut attributes rest) (closing-cut (without_attributes attributes (without_trailing_blanks (behind_columns r)))) in
     front-runs (heading_place r) (heading_columns attributes (run 35 (words_of r)) r) cut.behind r.content_end (subst (λ x. Runs (heading_place r) x r.content_end) cut.is (behind-runs rest))
 
--- the words between the braces stand in the text
+-- the words between the braces are part of the text
 pub words-stand : (rest : LineRest) (from before size content_end : ℕ) →
     let content = drop_end is_blank_byte (behind_opening (words_of (row_of rest))) in
     from ≡ heading_place (row_of rest) → before ≡ length (before_braces (λ b. b) content) → size ≡ length content → (before ≡ size → ⊥) →
@@ -276,7 +276,7 @@ words-stand rest from before size content_end f b s some text utf8 in_text =
     (subst (λ ws. StandsAt text (heading_place r + before + 1) (heading_place r + size - 1) ws) (sym (words-bytes rest))
     (stands-in text (heading_place r) r.content_end bs before size utf8 slice_is b s some))
 
--- where a heading's text begins and ends, by the lengths of bytes
+-- the beginning and the end of a heading's text, by the numbers of bytes
 pub heading-from : (rest : LineRest) (content_end size : ℕ) → content_end ≡ (row_of rest).content_end → size ≡ length (behind_opening (words_of (row_of rest))) → (size ≤ content_end) × (content_end - size ≡ heading_place (row_of rest))
 heading-from rest content_end size e f =
     let s = behind-content_end rest in

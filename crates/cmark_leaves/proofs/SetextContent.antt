@@ -25,7 +25,7 @@ take-all : (bs : List ℕ) → take (length bs) bs ≡ bs
 take-all [] = refl
 take-all (b ∷ bs) = ap (λ l. b ∷ l) (take-all bs)
 
--- the words between the braces stand in what was gathered
+-- the words between the braces are part of the gathered bytes
 pub words-in : (all content : List ℕ) (count : ℕ) → IsUtf8 all → content ≡ drop_end is_blank_byte all → count ≡ length (before_braces (λ b. b) content) → (count ≡ length content → ⊥)
     → StandsAt all (count + 1) (length content - 1) (inside_braces (λ b. b) content)
 words-in all content count utf8 h k some =

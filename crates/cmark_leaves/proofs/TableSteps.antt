@@ -12,12 +12,12 @@ use Rattle.cmark_block_model.specs.Drawing.{Drawing, drawn}
 use Rattle.cmark_leaves.proofs.ColumnCuts.{words-content_end}
 use Rattle.cmark_leaves.proofs.DrawSteps.{drawn-join}
 
--- one node in front of others
+-- one node before others
 pub drawn-node : (n : BlockNode) (inside after : BlockDocument) (d : Drawing) → drawn (Node n inside after) d ≡ drawn after (drawn (Node n inside Nil) d)
 drawn-node n inside after d = drawn-join (Node n inside Nil) after d
 
 module _ (text : List ℕ) where
-  -- where no cell is left, it does not matter where the next one would begin
+  -- if no cell is left, the place of the next one does not matter
   filled : (columns at other line_end : ℕ) → cells_then text columns at line_end [] ≡ cells_then text columns other line_end []
   filled zero at other line_end = refl
   filled (suc columns) at other line_end = ap (Node (node TableCell line_end line_end) Nil) (filled columns at other line_end)
@@ -28,7 +28,7 @@ module _ (text : List ℕ) where
       subst (λ (bs : List ℕ). cells_then text columns at line_end (cells_behind bs) ≡ cells_then text columns (content_end - length bs) line_end (cells_behind bs)) (sym none) (filled columns at (content_end - 0) line_end)
   behind-cell columns at content_end line_end behind (inr same) = ap (λ n. cells_then text columns n line_end (cells_behind behind)) same
 
-  -- the first cell of a row that goes on with these bytes up to a place, in front of the others
+  -- the first cell of a row that continues with these bytes up to a place, before the others
   pub cells-next : (cells behind cell : List ℕ) (size columns content_end line_end : ℕ) → cells_behind cells ≡ take size cells ∷ cells_behind behind → cell ≡ take size cells → length cell ≡ size → length cells ≤ content_end →
       (behind ≡ []) ⊎ (length behind + suc size ≡ length cells) → (d : Drawing) →
       let at = content_end - length cells in
@@ -45,7 +45,7 @@ module _ (text : List ℕ) where
       places (inl none) = inl none
       places (inr e) = inr (omega (arith, e, long, within))
 
-  -- where none is left, one is filled in
+  -- if no cell is left, one is filled in
   pub cells-missing : (cells : List ℕ) (columns at line_end : ℕ) → cells_behind cells ≡ [] → (d : Drawing) →
       drawn (cells_then text (suc columns) at line_end (cells_behind cells)) d
       ≡ drawn (cells_then text columns at line_end (cells_behind cells)) (drawn (Node (node TableCell line_end line_end) Nil Nil) d)
@@ -54,7 +54,7 @@ module _ (text : List ℕ) where
       ∙ drawn-node (node TableCell line_end line_end) Nil (cells_then text columns at line_end []) d
       ∙ ap (λ cs. drawn (cells_then text columns at line_end cs) (drawn (Node (node TableCell line_end line_end) Nil Nil) d)) (sym none)
 
--- where the first cell of a line begins
+-- the place at which the first cell of a line begins
 pub cells-begin : (rest : LineRest) (words cells : List ℕ) (content_end : ℕ) → words ≡ words_of (row_of rest) → cells ≡ without_first_pipe words → length cells ≤ length words → content_end ≡ (row_of rest).content_end →
     (length cells ≤ content_end) × (cells_start (row_of rest) ≡ content_end - length cells)
 cells-begin rest words cells content_end is cut fewer place =

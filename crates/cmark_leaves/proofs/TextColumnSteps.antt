@@ -39,11 +39,11 @@ row-in_text text at line more is =
     expand-in_text text 0 at (content line) (drop (length (content line)) line ++ joined more)
     (sym (lines-ended (drop at text)).1 ∙ ap joined is ∙ ap (λ l. l ++ joined more) (sym (content-cut line)) ∙ append_assoc (content line) (drop (length (content line)) line) (joined more))
 
--- without columns in front
+-- without columns at the beginning
 pub without-in_text : (text : List ℕ) (n : ℕ) (r : Row) → StandInText text r.columns → StandInText text (without n r).columns
 without-in_text text n r t = drop-in_text text n r.columns t
 
--- behind the prefix of a container that keeps the line, or that begins on it
+-- after the prefix of a container that keeps the line, or that begins on it
 pub keeps-in_text : (text : List ℕ) (k : Container) (bare : Bool) (r s : Row) → keeps k bare r ≡ Some s → StandInText text r.columns → StandInText text s.columns
 keeps-in_text text k bare r s is t =
     let w = kept-behind k bare r s is in

@@ -10,33 +10,33 @@ use Rattle.cmark_lines.specs.Rests.{row_of, IsIn}
 use Rattle.cmark_lines.specs.declared.line_rest.LineRest.{LineRest}
 use Rattle.cmark_leaves.specs.TextColumns.{StandInText}
 
--- what stands behind the `#` in front and the blanks there
+-- the bytes after the `#` at the beginning and the blanks there
 abbrev pub behind_opening : List ℕ → List ℕ
 behind_opening words = drop (length (take_while is_blank_byte (drop (run 35 words) words))) (drop (run 35 words) words)
 
--- without a closing sequence: `#` at the end, alone or behind a blank
+-- without a closing sequence: `#` at the end, alone or after a blank
 abbrev pub without_closing_bytes : List ℕ → List ℕ
 without_closing_bytes bs =
     if is_empty (drop_end (λ b. b == 35) bs) || nat_lt (length (drop_end is_blank_byte (drop_end (λ b. b == 35) bs))) (length (drop_end (λ b. b == 35) bs))
     then drop_end is_blank_byte (drop_end (λ b. b == 35) bs) else bs
 
--- without attributes at the end, where they are read, and what stands between their braces
+-- the bytes without the attributes at the end, if attributes are read, and the bytes between the attributes' braces
 abbrev pub without_attributes_bytes : (attributes : Bool) → List ℕ → List ℕ
 without_attributes_bytes false bs = bs
 without_attributes_bytes true bs = drop_end is_blank_byte (before_braces (λ b. b) bs)
 
--- these bytes stand in the text between two of its places, where no character is cut
+-- these are the bytes of the text between two places, which are character boundaries
 pub record StandsAt (text : List ℕ) (from to : ℕ) (bs : List ℕ) : Type 0 where
   pub within : from ≤ to
   pub from_uncut : IsCharBoundary text from
   pub to_uncut : IsCharBoundary text to
   pub is : slice_range text from to ≡ bs
 
--- what stands between the braces of a heading's attributes
+-- the bytes between the braces of a heading's attributes
 abbrev pub attribute_bytes : Row → List ℕ
 attribute_bytes r = bytes_of (attribute_columns true (content_columns (run 35 (words_of r)) r))
 
--- the words between braces were found, or there are none
+-- the range of the words between the braces was found, or there are no braces
 abbrev pub Finds : LineRest → Option (ℕ × ℕ) → Type 0
 Finds rest None = attribute_bytes (row_of rest) ≡ []
 Finds rest (Some found) =

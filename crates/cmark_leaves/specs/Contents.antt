@@ -9,7 +9,7 @@ use Rattle.cmark_lines.specs.declared.line_rest.LineRest.{LineRest}
 use Rattle.cmark_leaves.specs.TextColumns.{IsRead}
 use Rattle.cmark_leaves.specs.declared.setext.SetextAttributes.{SetextAttributes}
 
--- these lines are read in the text
+-- these lines are read from the text
 abbrev pub AreRead : List ℕ → List LineRest → Type 0
 AreRead text [] = Unit {0}
 AreRead text (rest ∷ lines) = IsRead text rest × AreRead text lines
@@ -18,12 +18,12 @@ AreRead text (rest ∷ lines) = IsRead text rest × AreRead text lines
 abbrev pub content_columns : (before : List LineRest) → (last : LineRest) → List Column
 content_columns before last = content_of (map row_of before ++ row_of last ∷ [])
 
--- the bytes of lines behind their prefixes, with a line feed for each line ending between them
+-- the bytes of lines without their prefixes, with a line feed for each line ending between them
 abbrev pub gathered_bytes : (before : List Row) → (last : Row) → List ℕ
 gathered_bytes [] last = bytes_of last.columns
 gathered_bytes (r ∷ rs) last = bytes_of r.columns ++ 10 ∷ gathered_bytes rs last
 
--- where that one of these bytes stands in the text before which so many stand
+-- the place in the text of the byte that comes after the first `n` of these bytes
 abbrev pub place_in : (before : List Row) → (last : Row) → ℕ → ℕ
 place_in [] last n = begin_of last + n
 place_in (r ∷ rs) last n = if nat_le n (length (bytes_of r.columns)) then begin_of r + n else place_in rs last (n - suc (length (bytes_of r.columns)))

@@ -1,5 +1,5 @@
-//! The lines of code blocks (CommonMark 4.4 and 4.5). Pieces of the text that touch are one node, so a stretch of it waits until
-//! it is seen what follows.
+//! The lines of code blocks (CommonMark 4.4 and 4.5). Touching pieces of the text are one node, so a stretch of the text waits until the
+//! next piece is known.
 
 ghost use Rattle.std.specs.Prelude.{◌≡◌, ℕ, List, [], Some, MatchOption, IfOk, OnOk};
 ghost use Rattle.cmark_tree.specs.Building.{IsPlaced};
@@ -18,7 +18,7 @@ use cmark_items::ItemBody;
 use cmark_lines::LineRest;
 use std::alloc::AllocError;
 
-/// The stretch that waits, if there is one, as a node behind the last sibling.
+/// Adds the stretch that waits, if there is one, as a node after the last sibling.
 pub fn draw_stretch(builder: &mut Builder<'_>, waits: Option<Stretch>) -> Result<(), AllocError>
     requires { IsPlaced builder.old.tree }
     ensures placed { IsPlaced builder.new.tree }
@@ -38,7 +38,7 @@ pub fn draw_stretch(builder: &mut Builder<'_>, waits: Option<Stretch>) -> Result
     }
 }
 
-/// The one stretch that the next makes with the one that waits, if they touch.
+/// The stretch that the waiting one and the next one form, if they touch.
 fn joined(waits: Option<Stretch>, next: Stretch) -> Option<Stretch>
     ensures { (text : List ℕ) → MatchOption result
         (add_to [] (shown_waits text waits) (shown_stretch text next) ≡ record { done = rest_of (shown_waits text waits); waits = Some (shown_stretch text next) })
@@ -54,8 +54,8 @@ fn joined(waits: Option<Stretch>, next: Stretch) -> Option<Stretch>
     })
 }
 
-/// One more stretch, which may be empty: it goes onto the one that waits, if they touch; else that becomes a node, and this one
-/// waits.
+/// Adds another stretch, which may be empty. If it touches the stretch that waits, it extends that one; else that one becomes a node, and
+/// the new one waits.
 fn add_stretch(
     builder: &mut Builder<'_>,
     waits: Option<Stretch>,
@@ -76,7 +76,7 @@ fn add_stretch(
     Ok(Some(next))
 }
 
-/// The columns in front that are left of a tab, as spaces: the stretch that waits becomes a node before them.
+/// Adds the columns at the beginning that are left of a tab, as spaces; before them the stretch that waits becomes a node.
 fn add_left_columns(
     builder: &mut Builder<'_>,
     waits: Option<Stretch>,
@@ -97,9 +97,9 @@ fn add_left_columns(
     Ok(None)
 }
 
-/// A line of code, of which `most` columns of indent are taken off at most, as nodes behind the last sibling. What waits of the
-/// lines before is handed in, and what waits then is answered: it is drawn with the next line, or by `draw_stretch`. Of a line
-/// ending of CR LF the CR is left out. Where memory is refused, a part of the nodes may stand there.
+/// Adds a line of code, without at most `most` columns of indent, as nodes after the last sibling. `waits` is the stretch that waits from
+/// the lines before. Returns the stretch that waits afterwards: the next line or `draw_stretch` draws it. If the line ends in CR LF, the CR
+/// is left out. If memory is refused, some of the nodes may have been added.
 pub fn draw_code_line(
     builder: &mut Builder<'_>,
     rest: LineRest<'_>,

@@ -1,4 +1,4 @@
-//! The text of ATX headings (CommonMark 4.2), and where their attributes stand.
+//! The text of ATX headings (CommonMark 4.2), and the places of their attributes.
 
 ghost use Rattle.std.specs.Prelude.{◌≡◌, ◌≤◌, ℕ, List, length, OnOk};
 ghost use Rattle.std.specs.List.{take_while};
@@ -20,7 +20,7 @@ use cmark_lines::LineRest;
 use cmark_scan_parts::bytes::{count_blanks, without_trailing, without_trailing_blanks};
 use std::alloc::AllocError;
 
-/// How many `#` stand in front.
+/// The number of `#` at the beginning.
 fn count_hashes(bytes: &[u8]) -> usize
     ensures value { result ≡ run 35 bytes.now }
     ensures within { result ≤ length bytes.now }
@@ -28,7 +28,7 @@ fn count_hashes(bytes: &[u8]) -> usize
     bytes.iter().take_while(|byte| **byte == b'#').count()
 }
 
-/// What stands behind an opening sequence and the blanks there.
+/// The bytes after an opening sequence and the blanks there.
 fn behind_opening(words: &[u8]) -> &[u8]
     ensures { result.now ≡ behind_opening words.now }
 {
@@ -36,7 +36,7 @@ fn behind_opening(words: &[u8]) -> &[u8]
     &behind[count_blanks(behind)..]
 }
 
-/// Without a closing sequence: `#` at the end, alone or behind a blank.
+/// The bytes without a closing sequence: `#` at the end, alone or after a blank.
 fn without_closing(bytes: &[u8]) -> &[u8]
     ensures value { result.now ≡ without_closing_bytes bytes.now }
     ensures within { length result.now ≤ length bytes.now }
@@ -50,7 +50,7 @@ fn without_closing(bytes: &[u8]) -> &[u8]
     }
 }
 
-/// How many bytes stand before braces at the end that hold no braces; all, where there are none.
+/// The number of bytes before the braces at the end, if these contain no braces; if there are none, of all bytes.
 pub(crate) fn count_before_braces(bytes: &[u8]) -> usize
     ensures value { result ≡ length (before_braces (λ b. b) bytes.now) }
     ensures within { result ≤ length bytes.now }
@@ -76,7 +76,7 @@ fn is_brace(byte: u8) -> bool
     byte == b'{' || byte == b'}'
 }
 
-/// Without attributes and the blanks before them, where attributes are read.
+/// The bytes without attributes and the blanks before them, if attributes are read.
 fn without_attributes(bytes: &[u8], attributes: bool) -> &[u8]
     ensures value { result.now ≡ without_attributes_bytes attributes bytes.now }
     ensures within { length result.now ≤ length bytes.now }
@@ -88,7 +88,7 @@ fn without_attributes(bytes: &[u8], attributes: bool) -> &[u8]
     }
 }
 
-/// Where the words between the braces of a heading's attributes begin and end, as byte offsets of the text; none, where it has no
+/// The byte offsets of the text at which the words between the braces of a heading's attributes begin and end; `None` if it has no
 /// attributes (this profile's own).
 pub fn find_attributes(rest: LineRest<'_>) -> Option<(usize, usize)>
     ensures { Finds rest.entry result }
@@ -103,8 +103,8 @@ pub fn find_attributes(rest: LineRest<'_>) -> Option<(usize, usize)>
     Some((from + before + 1, from + content.len() - 1))
 }
 
-/// The text of an ATX heading as it is, without the opening sequence, its attributes, where these are read, the closing sequence and
-/// the blanks at both ends, as a node behind the last sibling, unless it is empty.
+/// Adds the text of an ATX heading as a node after the last sibling, unless it is empty. It is without the opening and closing sequences,
+/// without attributes if these are read, and without the blanks at both ends.
 pub fn draw_heading(
     builder: &mut Builder<'_>,
     rest: LineRest<'_>,

@@ -16,7 +16,7 @@ use cmark_items::ItemBody;
 use cmark_lines::LineRest;
 use std::alloc::AllocError;
 
-/// A stretch of HTML as a node behind the last sibling, unless it is empty.
+/// Adds a stretch of HTML as a node after the last sibling, unless it is empty.
 fn draw_html(builder: &mut Builder<'_>, stretch: Stretch) -> Result<(), AllocError>
     requires { IsPlaced builder.old.tree }
     ensures placed { IsPlaced builder.new.tree }
@@ -30,7 +30,7 @@ fn draw_html(builder: &mut Builder<'_>, stretch: Stretch) -> Result<(), AllocErr
     builder.add(stretch.start, stretch.end, ItemBody::Html)
 }
 
-/// The columns in front that are left of a tab, as a node of spaces behind the last sibling.
+/// Adds the columns at the beginning that are left of a tab, as a node of spaces after the last sibling.
 fn draw_left_columns(builder: &mut Builder<'_>, rest: LineRest<'_>) -> Result<(), AllocError>
     requires { IsPlaced builder.old.tree }
     ensures placed { IsPlaced builder.new.tree }
@@ -45,9 +45,9 @@ fn draw_left_columns(builder: &mut Builder<'_>, rest: LineRest<'_>) -> Result<()
     draw_spaces(builder, count, rest.begin())
 }
 
-/// A line of an HTML block as it is, as a node behind the last sibling. Columns that are left of a tab are spaces, a node of
-/// their own before it; of CR LF the line feed is a node of its own behind it, and the CR is left out. Where memory is refused, a
-/// part of the nodes may stand there.
+/// Adds a line of an HTML block as a node after the last sibling. Columns that are left of a tab are spaces, in a node of their own before
+/// it. If the line ends in CR LF, the line feed is a node of its own after it, and the CR is left out. If memory is refused, some of the
+/// nodes may have been added.
 pub fn draw_html_line(builder: &mut Builder<'_>, rest: LineRest<'_>) -> Result<(), AllocError>
     requires { IsPlaced builder.old.tree }
     ensures placed { IsPlaced builder.new.tree }

@@ -1,4 +1,4 @@
-//! The lines of leaf blocks as nodes of a document's tree: texts as they are, code, HTML.
+//! The lines of leaf blocks as nodes of a document's tree: texts of the source, code, HTML.
 #![tactic(auto)]
 
 mod code;

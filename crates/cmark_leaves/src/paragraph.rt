@@ -1,5 +1,5 @@
-//! The lines of paragraphs and of setext headings (CommonMark 4.8). Lines that touch, each behind the line ending of the one before
-//! it, are one node.
+//! The lines of paragraphs and of setext headings (CommonMark 4.8). Touching lines, each of which begins after the line ending of the one
+//! before, are one node.
 
 ghost use Rattle.std.specs.Prelude.{◌≡◌, ℕ, List, OnOk};
 ghost use Rattle.cmark_tree.specs.Building.{IsPlaced};
@@ -16,7 +16,7 @@ use cmark_lines::LineRest;
 use cmark_scan_parts::bytes::without_trailing_blanks;
 use std::alloc::AllocError;
 
-/// Where the words of a line end, without the blanks behind them.
+/// The end of a line's words, without the blanks after them: a byte offset of the text.
 #[inline(always)]
 fn words_end(rest: LineRest<'_>) -> usize
     ensures { result ≡ words_end (row_of rest.entry) }
@@ -25,8 +25,8 @@ fn words_end(rest: LineRest<'_>) -> usize
     rest.content_end() - (words.len() - without_trailing_blanks(words).len())
 }
 
-/// The last lines of a paragraph that touch, from this byte offset to the end of the last one's words: as they are, as a node behind
-/// the last sibling, unless they are empty. Where memory is refused, the tree is as it was.
+/// Adds the last touching lines of a paragraph as a node after the last sibling, unless they are empty. They are the bytes from offset
+/// `from` to the end of the last line's words. If memory is refused, the tree is unchanged.
 #[inline(always)]
 pub fn draw_last_lines(
     builder: &mut Builder<'_>,
@@ -42,8 +42,8 @@ pub fn draw_last_lines(
     draw_words(builder, from, words_end(last))
 }
 
-/// Closes the open paragraph at the byte offset `end`, behind its last lines that touch, from the byte offset `from` to the end of the
-/// last one's words: where they are all of it, as one node with them. Where memory is refused, the tree is as it was.
+/// Closes the open paragraph at byte offset `end`, after its last touching lines, from byte offset `from` to the end of the last line's
+/// words. If they are all of it, the paragraph and they become one node. If memory is refused, the tree is unchanged.
 #[inline(always)]
 pub fn close_lines(
     builder: &mut Builder<'_>,
@@ -66,9 +66,8 @@ pub fn close_lines(
     Ok(())
 }
 
-/// Lines of a paragraph that touch, from this byte offset to behind the line ending of the last of them, where further lines follow
-/// that do not touch it: as they are, as a node behind the last sibling, unless they are empty. Where memory is refused, the tree is
-/// as it was.
+/// Adds touching lines of a paragraph, from byte offset `from` to the end of the last line's ending, as a node after the last sibling,
+/// unless they are empty. Further lines follow that do not touch them. If memory is refused, the tree is unchanged.
 pub fn draw_lines(
     builder: &mut Builder<'_>,
     from: usize,
@@ -83,8 +82,8 @@ pub fn draw_lines(
     draw_words(builder, from, last.line_end())
 }
 
-/// The texts inside the open node, as far as they stand before this byte offset, which is the end of the last one that is left. It takes
-/// time in proportion to how many there are. Where memory is refused, that last one may be missing.
+/// Cuts the texts inside the open node at this byte offset, which becomes the end of the last remaining text. The time is proportional to
+/// the number of texts. If memory is refused, that last text may be missing.
 pub fn cut_lines(builder: &mut Builder<'_>, at: usize) -> Result<(), AllocError>
     requires { IsPlaced builder.old.tree }
     ensures placed { IsPlaced builder.new.tree }

@@ -1,4 +1,4 @@
-//! The attributes of setext headings: braces at the end of their content, which may stand over several lines (this profile's own).
+//! The attributes of setext headings: braces at the end of their content, which may span several lines (this profile's own).
 
 ghost use Rattle.std.specs.Prelude.{◌≡◌, ◌≤◌, length, map, string_bytes, IfOk, OnOk};
 ghost use Rattle.cmark_grammar.specs.Columns.{bytes_of};
@@ -16,7 +16,7 @@ use std::alloc::{AllocError, Global};
 pub struct SetextAttributes {
     /// The words between the braces, with a line feed for each line ending.
     pub words: String,
-    /// Where the attributes begin, or the blanks and line endings before them: a byte offset of the text.
+    /// The byte offset of the text at which the attributes begin, or the blanks and line endings before them.
     pub place: usize,
 }
 
@@ -28,7 +28,7 @@ fn bytes_in<'a>(text: &'a str, rest: LineRest<'_>) -> &'a str
     &text[rest.begin()..rest.content_end()]
 }
 
-/// The bytes of these lines behind their prefixes, with a line feed for each line ending, in this memory.
+/// The bytes of these lines without their prefixes, with a line feed for each line ending. The string `room` is reused.
 fn gather_lines(
     room: &mut String,
     text: &str,
@@ -47,7 +47,7 @@ fn gather_lines(
     room.push_str(bytes_in(text, last))
 }
 
-/// Where that byte of these lines stands in the text before which so many of them stand.
+/// The byte offset in the text of the byte of these lines that has `size` of their bytes before it.
 fn place_of(before: &[LineRest<'_>], last: LineRest<'_>, size: usize) -> usize
     requires { size ≤ length (gathered_bytes (map row_of before.now) (row_of last)) }
     ensures { result ≡ place_in (map row_of before.now) (row_of last.entry) size }
@@ -63,7 +63,7 @@ fn place_of(before: &[LineRest<'_>], last: LineRest<'_>, size: usize) -> usize
     last.content_end() - (last.bytes().len() - left)
 }
 
-/// The attributes of a setext heading with these lines; none, where no braces stand at its end. All lines are read, in this memory.
+/// The attributes of a setext heading with these lines; `None` if there are no braces at its end. All lines are read into `room`.
 pub fn find_setext_attributes(
     room: &mut String,
     alloc: Global,

@@ -1,4 +1,4 @@
-//! Lines as they are in the text: stretches of it, and the spaces that are left of a tab.
+//! Lines of the text: stretches of it, and the spaces that are left of a tab.
 
 ghost use Rattle.std.specs.Prelude.{◌≡◌, ◌≤◌, ◌<◌, ℕ, List, [], replicate, OnOk};
 ghost use Rattle.cmark_tree.specs.Building.{IsPlaced};
@@ -16,17 +16,17 @@ use cmark_lines::LineRest;
 use cmark_text_parts::CowStr;
 use std::alloc::AllocError;
 
-/// A stretch of the text, from one byte offset to before another.
+/// A stretch of the text, from one byte offset up to another.
 #[derive(Clone, Copy)]
 pub struct Stretch {
-    /// Where it begins.
+    /// The byte offset at which it begins.
     pub start: usize,
-    /// Behind its last byte.
+    /// The byte offset after its last byte.
     pub end: usize,
     ghost ordered: { start ≤ end },
 }
 
-/// The bytes of a line as they are, in two stretches, either of which may be empty: of a line ending of CR LF the CR is in neither.
+/// The bytes of a line in two stretches, either of which may be empty. If the line ends in CR LF, the CR is in neither.
 pub(crate) fn stretches_of(rest: LineRest<'_>) -> (Stretch, Stretch)
     ensures { (text : List ℕ) → piece_if text result.0.start result.0.end (piece_if text result.1.start result.1.end [])
         ≡ plain_line text (begin_of (row_of rest.entry)) (row_of rest.entry) }
@@ -54,7 +54,7 @@ pub(crate) fn stretches_of(rest: LineRest<'_>) -> (Stretch, Stretch)
     (line, none)
 }
 
-/// So many spaces, 3 at most.
+/// `count` spaces, at most 3.
 fn spaces(count: usize) -> &'static str
     requires { count ≤ 3 }
     ensures { result.now ≡ replicate count 32 }
@@ -67,7 +67,7 @@ fn spaces(count: usize) -> &'static str
     }
 }
 
-/// Spaces that stand for the columns left of a tab, as a node behind the last sibling: 1 to 3 of them, at this place.
+/// Adds 1 to 3 spaces, for the columns left of a tab, as a node after the last sibling, at this place.
 pub(crate) fn draw_spaces(
     builder: &mut Builder<'_>,
     count: usize,

@@ -20,8 +20,8 @@ use cmark_scan_blocks::{cells_in_row, next_cell};
 use cmark_scan_parts::bytes::{count_blanks, without_trailing_blanks};
 use std::alloc::AllocError;
 
-/// A cell of these bytes, which stand at a byte offset of the text, as a node behind the last sibling. Its text is what stands in it
-/// without the spaces and tabs at both ends.
+/// Adds a cell of these bytes, which are at a byte offset of the text, as a node after the last sibling. Its text is without the spaces and
+/// tabs at both ends.
 fn draw_cell(builder: &mut Builder<'_>, at: usize, cell: &[u8]) -> Result<(), AllocError>
     requires placed { IsPlaced builder.old.tree }
     requires small { at + length cell.now ≤ 18446744073709551615 }
@@ -38,9 +38,9 @@ fn draw_cell(builder: &mut Builder<'_>, at: usize, cell: &[u8]) -> Result<(), Al
     Ok(())
 }
 
-/// The next cell of a row of which these bytes are left, up to the byte offset `content_end` of the text: as a node behind the last
-/// sibling. Where no cell is left an empty one is filled in at the row's end, `line_end`. Answers what is left behind it, and how many were
-/// filled in.
+/// Adds the next cell of a row as a node after the last sibling. `cells` are the bytes that are left of the row, up to byte offset
+/// `content_end` of the text. If no cell is left, an empty one is filled in at the row's end, `line_end`. Returns the bytes after the cell,
+/// and the number of cells filled in, 0 or 1.
 fn draw_next_cell<'a>(
     builder: &mut Builder<'_>,
     cells: &'a [u8],
@@ -69,8 +69,8 @@ fn draw_next_cell<'a>(
     }
 }
 
-/// So many cells of a line, as nodes behind the last sibling: further ones are left out, missing ones filled in. Answers how many were
-/// filled in.
+/// Adds `columns` cells of a line as nodes after the last sibling: further cells are left out, missing ones filled in. Returns the number
+/// of cells filled in.
 fn draw_cells(
     builder: &mut Builder<'_>,
     rest: LineRest<'_>,
@@ -97,7 +97,7 @@ fn draw_cells(
     Ok(filled)
 }
 
-/// The head of a table with so many columns, as a node behind the last sibling.
+/// Adds the head of a table with `columns` columns as a node after the last sibling.
 pub fn draw_head(
     builder: &mut Builder<'_>,
     rest: LineRest<'_>,
@@ -115,7 +115,7 @@ pub fn draw_head(
     Ok(())
 }
 
-/// A row of a table with so many columns, as a node behind the last sibling. Answers how many cells were filled in at its end.
+/// Adds a row of a table with `columns` columns as a node after the last sibling. Returns the number of cells filled in at its end.
 pub fn draw_row(
     builder: &mut Builder<'_>,
     rest: LineRest<'_>,

@@ -1,4 +1,4 @@
-//! Texts as they are, as nodes.
+//! Texts of the source as nodes.
 
 ghost use Rattle.std.specs.Prelude.{◌≡◌, [], List, ℕ, OnOk};
 ghost use Rattle.cmark_tree.specs.Building.{IsPlaced};
@@ -12,7 +12,7 @@ use cmark_builder::Builder;
 use cmark_items::ItemBody;
 use std::alloc::AllocError;
 
-/// The text from one byte offset to before another as it is, as a node behind the last sibling, unless it is empty.
+/// Adds the text from one byte offset up to another as a node after the last sibling, unless it is empty.
 #[inline(always)]
 pub(crate) fn draw_words(
     builder: &mut Builder<'_>,

@@ -1,4 +1,4 @@
--- The task marker of an item, as the calls on the front of a line find it.
+-- The task marker of an item, as the calls on the beginning of a line find it.
 use Rattle.std.proofs.Common.{◌≡◌, Bool, true, false, ◌&&◌, Some, None, refl, sym, ap}
 use Rattle.std.specs.Prelude.{if◌then◌else◌, is_some}
 use Rattle.cmark_grammar.specs.Options.{Options}
@@ -8,11 +8,11 @@ use Rattle.cmark_grammar.specs.TaskMarkers.{task_of}
 use Rattle.cmark_scan_blocks.specs.LineMarkers as scanned
 use Rattle.cmark_scan_blocks.specs.LineMarkers.{is_flush, behind_task}
 
--- the marker that was scanned counts where task markers are asked for
+-- the scanned marker counts if task markers are asked for
 pub scanned-task : (options : Options) (r : Row) → options.tasklists ≡ true → scanned.task_in r ≡ task_in options r
 scanned-task options r asked = ap (λ z. if z && is_flush r then task_of (words_of r) else None) (sym asked)
 
--- the line behind the box
+-- the line after the box
 pub box-behind : (r : Row) (is_checked : Bool) → Some is_checked ≡ scanned.task_in r → behind_task r ≡ without 3 r
 box-behind r is_checked e = ap (λ o. if is_some o then without 3 r else r) (sym e)
 

@@ -1,4 +1,4 @@
--- Which lines a container keeps, and the places of what it leaves of them.
+-- The lines that a container keeps, and the places of the rest of each.
 use Rattle.std.proofs.Common.{◌≡◌, ℕ, Bool, true, false, ◌&&◌, ◌||◌, List, [], ◌∷◌, Option, Some, None, refl, sym, ap, ◌∙◌, subst}
 use Rattle.std.specs.Prelude.{if◌then◌else◌, option_map, IfSome}
 use Rattle.std.specs.Str.{IsCharBoundary}
@@ -91,7 +91,7 @@ old-keeps label size r whole blank =
     ap (λ z. if false || (false && is_blank_line r) then None else (if z then None else Some (hold r))) (sym blank)
     ∙ ap (λ z. if z || (false && is_blank_line r) then None else (if is_blank_line r then None else Some (hold r))) (sym whole)
 
--- what a container leaves of a line of a text stands in the text
+-- the rest of a line of a text inside a container is part of the text
 pub kept-in : (text : List ℕ) (rest : LineRest) (k : grammar.Container) (o : Option LineRest) → option_map row_of o ≡ keeps k false (row_of rest) → IsIn text rest → IfSome o (IsIn text)
 kept-in text rest k None is h = tt
 kept-in text rest k (Some moved) is h =

@@ -1,4 +1,4 @@
--- The definition that a line begins, as the calls on the front of the line find it.
+-- The definition that a line begins, as the calls on the beginning of the line find it.
 use Rattle.std.proofs.Common.{◌≡◌, ℕ, ◌+◌, ◌≤◌, min, Bool, true, false, ◌&&◌, not, List, Option, Some, None, refl, sym, ap, ◌∙◌, arith, eq-eqb}
 use Rattle.std.specs.Prelude.{if◌then◌else◌, nat_le, option_map, unwrap_or}
 use Rattle.std.proofs.lemmas.Bool.{leb-true, leb-false}
@@ -19,7 +19,7 @@ use Rattle.cmark_scan_blocks.proofs.PrefixSteps.{shallow, taken-all, flat, same-
 use Rattle.cmark_lines.specs.Definitions.{definition_behind, width_of, EntersDefinition}
 use Rattle.cmark_lines.proofs.PrefixRows.{shallow-is, padding-few}
 
--- a definition's width behind up to three columns, with these, is that of the whole line: it is short
+-- a definition's width after up to three columns, plus these, is its width on the whole line: it is small
 module _ (r : Row) (le : indent_of r ≤ 3) where
   sum-short : sum_up_to_most (min 3 (indent_of r)) (width_with 1 (shallow r)) ≡ width_with 1 r
   sum-short =
@@ -47,7 +47,7 @@ definition-seen r = go (nat_le (indent_of r) 3) refl
         ap (λ z. option_map (sum_up_to_most (min 3 (indent_of r))) (if z then definition_width (shallow r) else None)) (deep r (leb-false (indent_of r) 3 e))
         ∙ ap (λ z. if z then definition_width r else None) (sym e)
 
--- what the call answers, where so many columns were taken before
+-- the result of the call, if this many columns were taken before
 pub definition-found : (r s : Row) (n : ℕ) → n ≡ min 3 (indent_of r) → s ≡ without n r → option_map (sum_up_to_most n) (definition_in s) ≡ definition_behind r
 definition-found r s n count is =
     ap (λ x. option_map (sum_up_to_most n) (definition_in x)) (shallow-is r s n count is) ∙ ap (λ m. option_map (sum_up_to_most m) (definition_in (shallow r))) count ∙ definition-seen r
@@ -78,7 +78,7 @@ definition-left r s n w count is found = ap behind_definition (shallow-is r s n 
 pub content_end-behind : (s : Row) → (behind_definition s).content_end ≡ s.content_end
 content_end-behind s = refl
 
--- what stands behind the marker stands in the text
+-- the line after the marker is part of the text
 pub begun-in : (text : List ℕ) (rest : LineRest) (o : Option (ℕ × LineRest)) → option_map width_of o ≡ definition_behind (row_of rest) → IfSome o (EntersDefinition (row_of rest)) → IsIn text rest → IfSome o (λ begun. IsIn text begun.1)
 unfolding enter
 begun-in text rest None e enters h = tt
@@ -89,6 +89,6 @@ begun-in text rest (Some begun) e enters h = go (nat_le (indent_of (row_of rest)
     go true false f q = absurd (let k : Some begun.0 ≡ None = q in cc)
     go false c f q = absurd (let k : Some begun.0 ≡ None = q in cc)
 
--- where definition lists are read, the marker of a line that lacks no prefix is a definition's
+-- if definition lists are read, the marker of a line that lacks no prefix is a definition's
 pub marker-read : (options : Options) (r : Row) → options.definition_list ≡ true → r.lazy ≡ false → definition_behind r ≡ definition_marker options r
 marker-read options r on whole = ap (λ l. if true && (not l && nat_le (indent_of r) 3) then definition_width r else None) (sym whole) ∙ ap (λ o. if o && (not r.lazy && nat_le (indent_of r) 3) then definition_width r else None) (sym on)

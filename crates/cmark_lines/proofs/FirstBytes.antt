@@ -1,4 +1,4 @@
--- What the first byte of a line's words tells: a letter begins no container, and a bracket no leaf but a link reference definition, a table or a
+-- The first byte of a line's words: a letter begins no container; a bracket begins no leaf except a link reference definition, a table or a
 -- paragraph.
 use Rattle.std.proofs.Common.{◌≡◌, ℕ, Bool, true, false, ◌==◌, ◌&&◌, ◌||◌, List, [], ◌∷◌, length, drop, take_while, Some, None, refl, sym, ap, ◌∙◌, cond, eqb-true, true≢false}
 use Rattle.std.specs.Prelude.{if◌then◌else◌, nat_lt, nat_le, count_by}
@@ -77,7 +77,7 @@ letter-container options r e =
     marker [] f = refl
     marker (b ∷ bs) f = unmarked b (letter-or b f)
 
--- nor does a bracket, where footnotes are not read
+-- nor does a bracket, if footnotes are not read
 pub label-container : (options : Options) (r : Row) → are_read (footnotes_in options) ≡ false → begins_with 91 (words_of r) ≡ true → begun_container options r ≡ None
 label-container options r off e =
     sym (begun-other options r None (sym (none (footnotes_in options) (nat_le (indent_of r) 3) off)) (sym (no-container options r (marker (words_of r) e))))
@@ -92,7 +92,7 @@ label-container options r off e =
     marker [] f = refl
     marker (b ∷ bs) f = ap begins_marker (eqb-true b 91 f)
 
--- what begins with a bracket is a text's beginning, and no other leaf's
+-- words with a bracket at the beginning begin a text, and no other leaf
 pub bracket-leaf : (options : Options) (r : Row) (ahead : List Row) → begins_with 91 (words_of r) ≡ true → leaf_of options r ahead ≡ text_of options r ahead
 bracket-leaf options r ahead e = by (words_of r) refl e
   where

@@ -1,4 +1,4 @@
--- The footnote definition that a line begins, as the calls on the front of the line find it.
+-- The footnote definition that a line begins, as the calls on the beginning of the line find it.
 use Rattle.std.proofs.Common.{◌≡◌, ℕ, suc, ◌+◌, ◌≤◌, Bool, true, false, List, length, drop, Option, Some, None, refl, sym, ap, subst, ◌∙◌, arith, eq-eqb, true≢false, drop-drop}
 use Rattle.std.specs.Prelude.{if◌then◌else◌, nat_le}
 use Rattle.std.proofs.lemmas.Bool.{leb-true, leb-false}
@@ -15,7 +15,7 @@ use Rattle.cmark_scan_blocks.proofs.FootnoteRows.{flush-of}
 use Rattle.cmark_scan_blocks.proofs.PrefixSteps.{shallow, taken-all, flat, same-words, deep}
 use Rattle.cmark_lines.specs.Starts.{shown_footnote, begun_footnote, begun_marked, begun_label, begun_container}
 
--- behind up to three columns the marker is the one that the grammar sees on the whole line
+-- after up to three columns the marker is the one that the grammar finds on the whole line
 pub label-seen : (r : Row) → footnote_at (shallow r) ≡ begun_label r
 label-seen r = go (nat_le (indent_of r) 3) refl
   where
@@ -32,7 +32,7 @@ found-shallow r found is = go (nat_le (indent_of r) 3) refl
     go true e = leb-true (indent_of r) 3 e
     go false e = absurd (true≢false (sym (flush-of (shallow r) found is) ∙ deep r (leb-false (indent_of r) 3 e)))
 
--- the marker and the blanks behind it, seen behind the indent and with it
+-- the marker and the blanks after it, read after the indent and with it
 enters : (r : Row) (le : indent_of r ≤ 3) (label : List ℕ) (old : Bool)
     → without (footnote_width (marker_columns label (shallow r).columns) (shallow r)) (shallow r) ≡ enter (Footnote label old (marker_columns label r.columns)) r
 unfolding enter
@@ -63,7 +63,7 @@ content_end-behind r = go (footnote_at r)
     go None = refl
     go (Some found) = refl
 
--- what was found behind the indent
+-- the marker that was found after the indent
 module _ (r s : Row) (size : ℕ) (is : s ≡ shallow r) (found : Some (marked (words_of s) size) ≡ footnote_at s) where
   at_shallow : Some (marked (words_of (shallow r)) size) ≡ footnote_at (shallow r)
   at_shallow = subst (λ x. Some (marked (words_of x) size) ≡ footnote_at x) is found

@@ -1,4 +1,4 @@
--- The info string of a code fence begins and ends where characters do: around it stand ASCII bytes, or the line's end.
+-- The info string of a code fence begins and ends at character boundaries: beside it are ASCII bytes, or the line's end.
 use Rattle.std.proofs.Common.{◌≡◌, ⊎_elim, ℕ, zero, suc, ◌+◌, ◌<◌, ◌≤◌, Bool, true, false, ◌==◌, ◌&&◌, List, [], ◌∷◌, length, drop, take_while, get_or, Some, None, refl, sym, ap, ◌∙◌, subst, arith, length-drop}
 use Rattle.std.proofs.Math.Nat.{eq-or-lt_of_le}
 use Rattle.std.proofs.lemmas.List.{get_or-drop}
@@ -29,7 +29,7 @@ drop_end-stops p (b ∷ bs) = go (drop_end p bs) (p b) refl (drop_end-stops p bs
     go (d ∷ ds) z e h = (omega (arith, h.0), λ lt. h.1 (omega (arith, lt)))
 
 module _ (E : ℕ → Type 0) where
-  -- behind ASCII bytes no character is cut, nor before one
+  -- both sides of an ASCII byte are character boundaries
   behind-edge : (k from : ℕ) (cs : List Column) (to : ℕ) → Runs from cs to → AreGood E cs → k ≤ length (bytes_of cs) → Front IsAsciiByte k (bytes_of cs) → E from → E (from + k)
   behind-edge k from [] to h g le f e = subst E (let s : from ≡ from + k = omega (arith, le) in s) e
   behind-edge k from (c ∷ cs) to h g le f e = go (c.part == 0) refl k le f (λ m. behind-edge m (suc c.at) cs to h.1 g.1)
@@ -72,7 +72,7 @@ fence-run indented bs fence is = go (nat_le 3 (run 96 bs) && (count_by (λ c. c 
     go false true e = of 126 (omega arith) (let q : shown_fence indented bs fence ≡ fence_with indented 126 bs = cc in q)
     go false false e = absurd (let q : Some (shown_fence indented bs fence) ≡ None = e in cc)
 
--- the info string of a line of a text stands in the text
+-- the info string of a line of a text is part of the text
 pub info-stands : (text : List ℕ) (indented : ℕ) (bs : List ℕ) (r : Row) (fence : CodeFence) → words_of r ≡ bs → Some (shown_fence indented bs fence) ≡ fence_of indented bs → HasPlace bs fence → CutsNoCharacter text r → InfoStands text r fence
 info-stands text indented bs r fence words is place g = (
   omega (arith, end),

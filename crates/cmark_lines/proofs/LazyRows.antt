@@ -1,5 +1,5 @@
--- Lines that lack a prefix (CommonMark 5.1), by what they are without looking at that: they begin a paragraph alone, and go
--- on with one where they do not interrupt one further in.
+-- Lines that lack a prefix (CommonMark 5.1), without regard to that: they begin only paragraphs, and continue a paragraph further inside
+-- unless they interrupt it.
 use Rattle.std.proofs.Common.{◌≡◌, Bool, true, false, ◌&&◌, ◌||◌, not, List, Option, Some, None, refl, ap, ◌∙◌}
 use Rattle.std.specs.Prelude.{nat_le, if◌then◌else◌}
 use Rattle.cmark_grammar.specs.Options.{Options}
@@ -64,7 +64,8 @@ module _ (options : Options) (r : Row) (ahead : List Row) where
   unfolding lazily
   lazily-is k = refl
 
-  -- a line that lacks none goes on with a paragraph where neither it nor a table or a definition that it begins interrupts one of the same container
+  -- a line that lacks no prefix continues a paragraph of the same container, unless it, or a table or a definition that it begins,
+  -- interrupts it
   pub whole-texts : r.lazy ≡ false → texts options r ahead ≡ not (interrupts options true r ahead || (table_interrupts options r ahead || begins_definition options r))
   unfolding texts
   whole-texts whole = ap (λ z. not (interrupts options (not z) r ahead || (table_interrupts options r ahead || begins_definition options r))) whole

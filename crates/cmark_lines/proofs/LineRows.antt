@@ -1,4 +1,4 @@
--- The first line of a text from a place on, as a row, and where its characters stand.
+-- The first line of a text from a place on, as a row, and its character boundaries.
 use Rattle.std.proofs.Common.{◌≡◌, ℕ, zero, suc, ◌+◌, ◌-◌, ◌≤◌, ◌<◌, Bool, true, false, ◌==◌, ◌&&◌, List, [], ◌∷◌, ◌++◌, length, drop, take, map, refl, sym, ap, ◌∙◌, subst, arith, drop_of_length-le, length-drop}
 use Rattle.std.specs.Prelude.{if◌then◌else◌}
 use Rattle.std.specs.Str.{IsCharBoundary, IsUtf8}
@@ -18,7 +18,7 @@ use Rattle.cmark_scan_blocks.specs.declared.line_start.LineStart.{LineStart}
 use Rattle.cmark_scan_parts.proofs.Lists.{rest_of}
 use Rattle.cmark_lines.specs.Rests.{no_row}
 
--- the front of the line that begins at a place of the text
+-- the beginning of the line that begins at a place of the text
 module _ (text : List ℕ) (start : ℕ) (front : LineStart) (is : (at line_end : ℕ) → row_from at line_end front ≡ line_of at line_end (take (length text - start) (drop start text))) where
   pub whole-line : (at line_end : ℕ) → row_from at line_end front ≡ line_of at line_end (drop start text)
   whole-line at line_end = is at line_end ∙ ap (line_of at line_end) (rest_of text start)
@@ -30,7 +30,7 @@ pub content-len : (bs : List ℕ) → length (content bs) ≤ length bs
 content-len bs = let e = length-prefix_len is_content bs in let le = prefix_len-le-length is_content bs in omega (arith, e, le)
 
 module _ (text : List ℕ) (at k e : ℕ) (is_k : k ≡ length (content (drop at text))) (is_e : e ≡ ending_len (drop k (drop at text))) where
-  -- the first line, and those behind it
+  -- the first line, and the lines after it
   pub rows-further : at < length text → rows_from at (lines (drop at text)) ≡ line_of at (at + k + e) (drop at text) ∷ rows_from (at + k + e) (lines (drop (at + k + e) text))
   rows-further lt =
       rows-first text at k e lt (is_k ∙ length-prefix_len is_content (drop at text)) is_e
@@ -77,7 +77,7 @@ module _ (text : List ℕ) (at k e : ℕ) (is_k : k ≡ length (content (drop at
           omega (arith, s, is_e)
       go (suc n) q = omega (arith, q)
 
--- columns of bytes that stand so many places further on
+-- columns of bytes that are this many places later
 abbrev shift : ℕ → Column → Column
 shift n c = record { byte = c.byte; at = n + c.at; part = c.part }
 
@@ -132,7 +132,7 @@ module _ (E F : ℕ → Type 0) (n : ℕ) (up : (k : ℕ) → E k → F (n + k))
       begins : begin_of (line_of n (n + line_end) bs) ≡ n
       begins = first_place-Runs n (expand 0 n (content bs)) (n + length (content bs)) (expand-Runs 0 n (content bs))
 
--- of a text, from a place on that cuts no character, the first line cuts none either
+-- if a place of a text is a character boundary, the first line from there has character boundaries as its places
 pub line-good : (text : List ℕ) (at k e : ℕ) → k ≡ length (content (drop at text)) → e ≡ ending_len (drop k (drop at text)) → at < length text → IsUtf8 text → IsCharBoundary text at → GoodRow (IsCharBoundary text) (line_of at (at + k + e) (drop at text))
 line-good text at k e is_k is_e lt utf8 edge =
     subst (λ p. GoodRow (IsCharBoundary text) (line_of at p (drop at text))) (let s : at + (0 + k + e) ≡ at + k + e = omega arith in s)

@@ -70,7 +70,7 @@ module _ (options : Options) (r : Row) (ahead : List Row) where
   pub no-bracket : begins_with 91 (words_of r) ≡ false → definition_of options r ahead ≡ Plain
   no-bracket e = no-link (ap (λ z. z && not (begins_no_link (footnotes_in options) (words_of r))) e)
 
-  -- where the bracket may be that of a link, a definition is read
+  -- if the bracket may belong to a link, a definition is read
   pub link-read : (begins_with 91 (words_of r) && not (begins_no_link (footnotes_in options) (words_of r))) ≡ true → text_of options r ahead ≡ bracket_of options r ahead
   link-read e = ap (λ z. or_else (unless_footnote z) (table_if options (table_head options r ahead) ahead)) (go (begins_with 91 (words_of r)) (begins_no_link (footnotes_in options) (words_of r)) e)
     where
@@ -112,7 +112,7 @@ module _ (options : Options) (r : Row) (ahead : List Row) where
   pub leaf-plain : html_kind (words_of r) ≡ None → is_thematic_break (words_of r) ≡ false → None ≡ atx_level (words_of r) → None ≡ fence_of (indent_of r) (words_of r) → definition_of options r ahead ≡ Plain → leaf_of options r ahead ≡ table_if options (table_head options r ahead) ahead
   leaf-plain kind broken level fence none = leaf-text kind broken level fence ∙ ap (λ o. or_else o (table_if options (table_head options r ahead) ahead)) none
 
-  -- what a line begins that lacks no prefix
+  -- the opening of a line that lacks no prefix
   module _ (whole : r.lazy ≡ false) where
     as_whole : opens options r ahead ≡ or_else (metadata_begun (metadata_kind options r) ahead) (whole_opens options r ahead)
     unfolding opens
@@ -143,12 +143,12 @@ module _ (options : Options) (r : Row) (ahead : List Row) where
         at_most : (n : ℕ) → n ≤ 3 → nat_le n 3 ≡ true
         at_most n le = grind (arith)
 
--- with no line ahead none begins metadata
+-- with no line ahead no line begins metadata
 pub none_ahead : (o : Option MetadataBlockKind) (other : Opening) → or_else (metadata_begun o []) other ≡ other
 none_ahead None other = refl
 none_ahead (Some kind) other = refl
 
--- the line inside a container that a line of a text begins stands in the text
+-- the line inside a container that a line of a text begins is part of the text
 pub begun-in : (options : Options) (text : List ℕ) (rest inside : LineRest) (k : Container) → opens options (row_of rest) [] ≡ Nests k → row_of inside ≡ without (marker_width k (row_of rest)) (row_of rest) → IsIn text rest → IsIn text inside
 begun-in options text rest inside k opened is h =
     in-moved text rest inside (without (marker_width k (row_of rest)) (row_of rest)) is refl (marker-good (IsCharBoundary text) options k (row_of rest) [] opened h.good) h
@@ -157,7 +157,7 @@ begun-in options text rest inside k opened is h =
 pub begun-shorter : (options : Options) (rest inside : LineRest) (k : Container) → opens options (row_of rest) [] ≡ Nests k → row_of inside ≡ without (marker_width k (row_of rest)) (row_of rest) → length (row_of inside).columns < length (row_of rest).columns
 begun-shorter options rest inside k opened is = subst (λ x. length x.columns < length (row_of rest).columns) (sym is) (marker_len options k (row_of rest) [] opened)
 
--- a line that begins no item, and shows a block quote's marker, begins a block quote: the line behind the marker tells whether it is an alert
+-- a line with a block quote's marker that begins no item begins a block quote: the line after the marker shows whether it is an alert
 pub block_quote-begun : (options : Options) (r s : Row) → None ≡ begun_item r → Some s ≡ block_quote_entered r → Some (BlockQuote (alert_in options s)) ≡ begun_marked options r
 block_quote-begun options r s none is = go (nat_le (indent_of r) 3) (begins_with 62 (words_of r)) none is
   where
@@ -179,7 +179,7 @@ block_quote-inside r s alert is = go (is_block_quote r) is
     go true e = cc
     go false e = absurd (let q : Some s ≡ None = e in cc)
 
--- an item of number 1, or a bullet, interrupts a paragraph of its own container where it is not blank behind its marker
+-- a bullet, or an item of number 1, interrupts a paragraph of its own container unless it is blank after its marker
 pub item-goes : (r s : Row) (same : Bool) (delimiter : ℕ) (number : Option ℕ) (width : ℕ) → same ≡ true → is_one number ≡ true → s ≡ without width r → not (is_blank_line s) ≡ item_interrupts same r (Some (Item delimiter number width None))
 item-goes r s same delimiter number width is_same one is =
     ap (λ x. not (is_blank_line x)) is ∙ ap (λ z. z && not (is_blank_line (without width r))) (sym one)

@@ -1,5 +1,5 @@
--- What the first byte of a line's words tells: a letter begins nothing but a paragraph's text, a pipe nothing but that and a table, and what is
--- neither a bullet, a digit nor `>` begins no container.
+-- The first byte of a line's words: a letter begins only the text of a paragraph, a pipe only that or a table. A byte that is neither a
+-- bullet, a digit nor `>` begins no container.
 use Rattle.std.proofs.Common.{◌≡◌, ℕ, Bool, true, false, ◌==◌, ◌&&◌, ◌||◌, List, [], ◌∷◌, length, drop, take_while, Option, Some, None, refl, sym, ap, ◌∙◌, arith, cond, true≢false}
 use Rattle.std.specs.Prelude.{if◌then◌else◌, nat_lt, nat_le, count_by}
 use Rattle.std.proofs.lemmas.Bool.{eqb-true}

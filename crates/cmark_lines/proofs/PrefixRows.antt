@@ -1,4 +1,4 @@
--- The prefixes of containers, as the calls on the front of a line find them.
+-- The prefixes of containers, as the calls on the beginning of a line find them.
 use Rattle.std.proofs.Common.{◌≡◌, ℕ, suc, ◌+◌, ◌-◌, ◌≤◌, min, Bool, true, false, ◌&&◌, ◌||◌, not, List, [], ◌∷◌, length, drop, Option, Some, None, refl, sym, ap, ◌∙◌, arith}
 use Rattle.std.specs.Prelude.{if◌then◌else◌, nat_le, nat_lt, ◌^◌}
 use Rattle.std.proofs.lemmas.Bool.{leb-true, leb-false}
@@ -10,7 +10,7 @@ use Rattle.cmark_scan_blocks.specs.LineMarkers.{begins_block_quote, behind_block
 use Rattle.cmark_scan_blocks.proofs.PrefixSteps.{shallow, block_quote-seen, block_quote-entered, item-seen, item-entered, item-unseen, item-kept}
 use Rattle.cmark_lines.specs.Starts.{block_quote_entered, begun_item}
 
--- what is left behind up to three columns, where so many were taken
+-- the rest after up to three columns, if this many were taken
 pub shallow-is : (r s : Row) (n : ℕ) → n ≡ min 3 (indent_of r) → s ≡ without n r → s ≡ shallow r
 shallow-is r s n count is = is ∙ ap (λ m. without m r) count
 
@@ -59,7 +59,7 @@ triple a x b y c z e = (ap (λ o. (all o).0) e, ap (λ o. (all o).1) e, ap (λ o
     all None = (a, b, c)
     all (Some t) = t
 
--- what the call answers tells the item
+-- the result of the call determines the item
 item-read : (r : Row) → indent_of r ≤ 3 → (delimiter : ℕ) (number : Option ℕ) (width : ℕ) → Some (delimiter, number, width) ≡ item_numbers 0 (item_of r) → item_of r ≡ Some (Item delimiter number width None)
 item-read r le delimiter number width is = go (marker_of (words_of r)) (marker-short (words_of r)) is
   where
@@ -154,7 +154,7 @@ content_end_entered r = go (item_in r)
     go None = refl
     go (Some k) = refl
 
--- an item keeps a line that has its width of blanks, or nothing behind fewer
+-- an item keeps a line that has its width of blanks, or nothing after fewer
 module _ (r s : Row) (width : ℕ) (whole : r.lazy ≡ false) (is : s ≡ without (min width (indent_of r)) r) where
   abbrev kept_if : Bool → Option Row
   kept_if z = if z then Some (without (min width (indent_of r)) r) else None

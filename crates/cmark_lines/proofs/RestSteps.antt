@@ -1,4 +1,4 @@
--- Places of what is left of a line, in order and between characters.
+-- The places of a line's rest, in order, at character boundaries.
 use Rattle.std.proofs.Common.{◌≡◌, ℕ, suc, ◌+◌, ◌≤◌, Bool, true, false, ◌==◌, List, [], ◌∷◌, length, refl, sym, ap, ◌∙◌, subst, arith}
 use Rattle.std.specs.Prelude.{if◌then◌else◌}
 use Rattle.std.specs.Str.{IsCharBoundary}
@@ -10,7 +10,7 @@ use Rattle.cmark_scan_blocks.specs.LineStart.{columns_taken}
 use Rattle.cmark_lines.specs.Rests.{row_of, IsIn}
 use Rattle.cmark_lines.specs.declared.line_rest.LineRest.{LineRest}
 
--- the columns that are left stand one behind the other
+-- the columns that are left are consecutive
 pub rest-runs : (rest : LineRest) → Runs (begin_of (row_of rest)) (row_of rest).columns (row_of rest).content_end
 unfolding row_of
 rest-runs rest =
@@ -39,7 +39,7 @@ pub whole : (rest : LineRest) → (row_of rest).lazy ≡ false
 unfolding row_of
 whole rest = refl
 
--- columns have as many bytes as there are places from the first to the last
+-- columns have a byte for each place from the first to the last
 pub runs-bytes : (from : ℕ) (cs : List Column) (to : ℕ) → Runs from cs to → from + length (bytes_of cs) ≡ to
 runs-bytes from [] to h = let e : from ≡ to = h in omega (arith, e)
 runs-bytes from (c ∷ cs) to h = go (c.part == 0) refl (runs-bytes (suc c.at) cs to h.1)
@@ -51,7 +51,7 @@ runs-bytes from (c ∷ cs) to h = go (c.part == 0) refl (runs-bytes (suc c.at) c
 pub bytes-content_end : (rest : LineRest) → begin_of (row_of rest) + length (bytes_of (row_of rest).columns) ≡ (row_of rest).content_end
 bytes-content_end rest = runs-bytes (begin_of (row_of rest)) (row_of rest).columns (row_of rest).content_end (rest-runs rest)
 
--- what is left behind blanks stands in the text, too
+-- the rest after blanks is part of the text, too
 pub in-moved : (text : List ℕ) (rest moved : LineRest) (r : Row) → row_of moved ≡ r → r.line_end ≡ (row_of rest).line_end → GoodRow (IsCharBoundary text) r → IsIn text rest → IsIn text moved
 in-moved text rest moved r is line_end good h = record {
   good = subst (GoodRow (IsCharBoundary text)) (sym is) good;

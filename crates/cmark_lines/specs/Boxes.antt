@@ -1,4 +1,4 @@
--- A task marker in front of what is left of a line (GFM 5.3).
+-- A task marker at the beginning of a line's rest (GFM 5.3).
 use Rattle.std.specs.Prelude.{◌≡◌, Bool}
 use Rattle.cmark_grammar.specs.Rows.{Row, without}
 use Rattle.cmark_lines.specs.Rests.{row_of}
@@ -8,6 +8,6 @@ use Rattle.cmark_lines.specs.declared.line_rest.LineRest.{LineRest}
 abbrev pub is_checked : Bool × LineRest → Bool
 is_checked marker = marker.0
 
--- the line behind the box, which has three columns
+-- the line after the box, which has three columns
 abbrev pub IsBehindBox : Row → Bool × LineRest → Type 0
 IsBehindBox r marker = row_of marker.1 ≡ without 3 r

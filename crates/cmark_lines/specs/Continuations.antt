@@ -1,4 +1,4 @@
--- Code and HTML blocks as this crate knows them, seen as those of the grammar.
+-- The code and HTML blocks of this crate, as those of the grammar.
 use Rattle.std.specs.Prelude.{ℕ, ◌&&◌, nat_le, if◌then◌else◌, List}
 use Rattle.cmark_grammar.specs.Rows.{Row, indent_of, words_of}
 use Rattle.cmark_grammar.specs.Leaves as grammar
@@ -22,6 +22,6 @@ shown_continuation Closes = grammar.Closes
 shown_continuation Waits = grammar.Waits
 shown_continuation Stops = grammar.Stops
 
--- what a line does to code in a fence of so many of this byte
+-- the effect of a line on code in a fence of `run_length` of this byte
 abbrev pub fenced_continuation : (delimiter run_length : ℕ) → Row → grammar.Continuation
 fenced_continuation delimiter run_length r = if nat_le (indent_of r) 3 && closes_with delimiter run_length (words_of r) then grammar.Closes else grammar.GoesOn

@@ -1,4 +1,4 @@
--- What begins a definition of a definition list, seen as in the grammar.
+-- The beginning of a definition in a definition list, as in the grammar.
 use Rattle.std.specs.Prelude.{◌≡◌, ℕ, nat_le, if◌then◌else◌, Option, None}
 use Rattle.cmark_grammar.specs.DefinitionLists.{definition_width}
 use Rattle.cmark_grammar.specs.Rows.{Row, indent_of, without}
@@ -12,6 +12,6 @@ width_of begun = begun.0
 abbrev pub definition_behind : Row → Option ℕ
 definition_behind r = if nat_le (indent_of r) 3 then definition_width r else None
 
--- the line is the one behind the marker
+-- the line is the one after the marker
 abbrev pub EntersDefinition : Row → ℕ × LineRest → Type 0
 EntersDefinition r begun = row_of begun.1 ≡ without begun.0 r

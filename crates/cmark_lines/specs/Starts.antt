@@ -1,4 +1,4 @@
--- Containers as this crate knows them, seen as those of the grammar.
+-- The containers of this crate, as those of the grammar.
 use Rattle.std.specs.Prelude.{◌≡◌, ℕ, Bool, ◌==◌, ◌||◌, nat_le, if◌then◌else◌, Option, Some, None}
 use Rattle.cmark_grammar.specs.Containers as grammar
 use Rattle.cmark_grammar.specs.Containers.{item_of, with_task, marker_width, container_of, container_with, footnote_of, is_block_quote, block_quote_width}
@@ -18,7 +18,8 @@ use Rattle.cmark_lines.specs.declared.container.ItemStart.{ItemStart}
 use Rattle.cmark_lines.specs.declared.container.ContainerStart.{ContainerStart}
 use Rattle.cmark_lines.specs.declared.container.ContainerStart.TheVariants as begun
 
--- a container of the grammar keeps the lines that this one keeps: what else an item or a footnote definition is does not matter to its later lines
+-- a container of the grammar keeps the same lines as this one: the other data of an item or a footnote definition do not matter to its
+-- later lines
 abbrev pub Shows : Container → grammar.Container → Type 0
 Shows kept.BlockQuote (grammar.BlockQuote alert) = Unit {0}
 Shows kept.BlockQuote (grammar.Item delimiter number width task) = ⊥
@@ -40,11 +41,11 @@ Shows (kept.Definition w) (grammar.ListDefinition width) = w ≡ width
 abbrev pub shown_item : ItemStart → grammar.Container
 shown_item item = grammar.Item item.delimiter item.number item.width None
 
--- the footnote definition whose label has so many bytes
+-- the footnote definition whose label has `label_size` bytes
 abbrev pub shown_footnote : Row → (label_size : ℕ) → (old : Bool) → grammar.Container
 shown_footnote r label_size old = let label = (marked (words_of r) label_size).bytes in grammar.Footnote label old (marker_columns label r.columns)
 
--- the container that begins, and the line behind its marker: that line tells whether a block quote is an alert, and whether an item has a
+-- the container that begins, and the line after its marker. That line shows whether a block quote is an alert, and whether an item has a
 -- task marker
 abbrev pub shown_start : Options → Row → ContainerStart → grammar.Container
 shown_start options r (begun.BlockQuote inside) = grammar.BlockQuote (alert_in options (row_of inside))
@@ -56,17 +57,17 @@ inside_of (begun.BlockQuote inside) = inside
 inside_of (begun.Item item inside) = inside
 inside_of (begun.Footnote footnote inside) = inside
 
--- the line is the one behind the container's own marker
+-- the line is the one after the container's own marker
 abbrev pub Enters : Row → ContainerStart → Type 0
 Enters r start = (options : Options) → row_of (inside_of start) ≡ without (marker_width (shown_start options r start) r) r
 
--- the label of a footnote definition stands between brackets
+-- the label of a footnote definition is between brackets
 abbrev pub HasMarker : Row → ContainerStart → Type 0
 HasMarker r (begun.BlockQuote inside) = Unit {0}
 HasMarker r (begun.Item item inside) = Unit {0}
 HasMarker r (begun.Footnote footnote inside) = IsClosed (words_of r) footnote.label_size
 
--- of a line that is indented by at most three columns, the item and the container that it begins
+-- the item and the container that a line begins which is indented by at most three columns
 abbrev pub begun_item : Row → Option grammar.Container
 begun_item r = if nat_le (indent_of r) 3 then item_of r else None
 
@@ -77,7 +78,7 @@ begun_footnote options r = if nat_le (indent_of r) 3 then footnote_of (footnotes
 abbrev pub begun_marked : Options → Row → Option grammar.Container
 begun_marked options r = if nat_le (indent_of r) 3 then container_with (with_task options r (item_of r)) (is_block_quote r) (alert_in options (without (block_quote_width r) r)) else None
 
--- the label of the footnote definition, and what stands behind its marker
+-- the label of the footnote definition, and the bytes after its marker
 abbrev pub begun_label : Row → Option Parsed
 begun_label r = if nat_le (indent_of r) 3 then footnote_in (words_of r) else None
 
@@ -97,7 +98,7 @@ begun_container options r = if nat_le (indent_of r) 3 then container_of options 
 abbrev pub begins_item : ℕ → Bool
 begins_item b = grammar.is_bullet b || grammar.is_digit b
 
--- an ASCII letter, or the pipe in front of a table's row
+-- an ASCII letter, or the pipe at the beginning of a table's row
 abbrev pub is_letter_or_pipe : ℕ → Bool
 is_letter_or_pipe b = is_letter b || (b == 124)
 
@@ -107,6 +108,6 @@ shown_begun begun = shown_item begun.0
 abbrev pub EntersItem : Row → ItemStart × LineRest → Type 0
 EntersItem r begun = row_of begun.1 ≡ without begun.0.width r
 
--- the first line of a block quote behind its marker
+-- the first line of a block quote after its marker
 abbrev pub block_quote_entered : Row → Option Row
 block_quote_entered r = if is_block_quote r then Some (without (block_quote_width r) r) else None

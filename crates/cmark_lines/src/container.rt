@@ -1,4 +1,4 @@
-//! Containers: which lines they keep, and which lines begin them (CommonMark 5).
+//! Containers: the lines that they keep, and the lines that begin them (CommonMark 5).
 
 ghost use Rattle.std.specs.Prelude.{◌≡◌, ℕ, List, true, false, option_map, IfSome};
 ghost use Rattle.cmark_grammar.specs.Containers as grammar;
@@ -14,65 +14,64 @@ use crate::footnotes::{reads_footnotes, reads_old_footnotes};
 use crate::line_rest::LineRest;
 use cmark_text_parts::Options;
 
-/// A container block, as far as it decides which later lines it keeps.
+/// A container block, with the data that decide which later lines it keeps.
 #[derive(Clone, Copy)]
 pub enum Container {
     /// A block quote (CommonMark 5.1).
     BlockQuote,
     /// A list item (CommonMark 5.2).
     Item {
-        /// How many columns the prefix of its later lines has.
+        /// The number of columns of the prefix of its later lines.
         width: usize,
     },
     /// A footnote definition (this profile's own).
     Footnote {
-        /// It is read as such definitions were before, and not as GitHub reads them.
+        /// Whether it is in the old style, and not in GitHub's.
         old: bool,
     },
     /// A definition of a definition list (this profile's own).
     Definition {
-        /// How many columns the prefix of its later lines has.
+        /// The number of columns of the prefix of its later lines.
         width: usize,
     },
 }
 
-/// A list item, as its first line shows it (CommonMark 5.2).
+/// A list item, by its first line (CommonMark 5.2).
 #[derive(Clone, Copy)]
 pub struct ItemStart {
-    /// The bullet, or what stands behind the number: `.` or `)`.
+    /// The bullet, or the byte after the number: `.` or `)`.
     pub delimiter: u8,
-    /// The number of an ordered item.
+    /// The number of an ordered item; `None` for a bullet.
     pub number: Option<u64>,
-    /// How many columns the prefix of its later lines has.
+    /// The number of columns of the prefix of its later lines.
     pub width: usize,
 }
 
-/// A footnote definition, as its first line shows it (this profile's own).
+/// A footnote definition, by its first line (this profile's own).
 #[derive(Clone, Copy)]
 pub struct FootnoteStart {
-    /// How many bytes the label has. It stands behind the first two bytes of the line's words, and a bracket behind it.
+    /// The number of bytes of the label. It begins after the first two bytes of the line's words, and a bracket follows it.
     pub label_size: usize,
-    /// It is read as such definitions were before, and not as GitHub reads them.
+    /// Whether it is in the old style, and not in GitHub's.
     pub old: bool,
 }
 
-/// A container that a line begins, and the line behind the container's marker.
+/// A container that a line begins, and the line after the container's marker.
 #[derive(Clone, Copy)]
 pub enum ContainerStart<'a> {
     /// A block quote; [`LineRest::alert_kind`] tells whether it is an alert.
     BlockQuote(LineRest<'a>),
     /// A list item.
     Item(ItemStart, LineRest<'a>),
-    /// A footnote definition (this profile's own), and the line behind the blanks that follow its marker.
+    /// A footnote definition (this profile's own), and the line after the blanks that follow its marker.
     Footnote(FootnoteStart, LineRest<'a>),
 }
 
 impl Container {
-    /// The line behind this container's prefix, if the container keeps the line. A block quote keeps the lines that have its
-    /// marker; an item those that are indented by its width, and blank lines; a footnote definition those that are indented by four
-    /// columns, and blank lines, or, as it was read before, all lines that are not blank; a definition keeps lines as an item does. `bare` says
-    /// that the line before was the first one of an item or of a definition, and blank behind the marker: then a blank line ends it
-    /// (CommonMark 5.2).
+    /// The line after this container's prefix, if the container keeps the line (CommonMark 5). A block quote keeps the lines with its
+    /// marker. An item and a definition keep blank lines and the lines that are indented by their width. A footnote definition keeps blank
+    /// lines and the lines that are indented by four columns; in the old style, all lines that are not blank. `bare`: the line before was
+    /// the first line of an item or a definition, and blank after the marker; then a blank line ends the container (CommonMark 5.2).
     #[inline(always)]
     pub fn keeps<'a>(self, bare: bool, rest: LineRest<'a>) -> Option<LineRest<'a>>
         ensures row { (k : grammar.Container) → Shows self k → option_map row_of result ≡ keeps k bare (row_of rest.entry) }
@@ -90,8 +89,8 @@ impl Container {
     }
 }
 
-/// The container that the line begins, indented by at most three columns, and the line behind its marker: where footnotes are read, the
-/// definition of one comes first. The line's words are handed in.
+/// The container that the line begins, indented by at most three columns, and the line after its marker. With footnotes on, a footnote
+/// definition comes first. `words` are the line's words.
 #[inline]
 pub(crate) fn container_start<'a>(
     rest: LineRest<'a>,
@@ -109,7 +108,7 @@ pub(crate) fn container_start<'a>(
     marker_start(rest, words)
 }
 
-/// The same, where footnotes are read.
+/// The container that the line begins, if footnotes are read.
 #[inline(never)]
 fn footnote_or_marker_start<'a>(
     rest: LineRest<'a>,
@@ -127,7 +126,7 @@ fn footnote_or_marker_start<'a>(
     marker_start(rest, words)
 }
 
-/// The footnote definition that the line begins, indented by at most three columns, and the line behind the blanks that follow its marker
+/// The footnote definition that the line begins, indented by at most three columns, and the line after the blanks that follow its marker
 /// (this profile's own).
 #[inline]
 fn footnote_start<'a>(rest: LineRest<'a>, options: Options) -> Option<ContainerStart<'a>>
@@ -143,7 +142,7 @@ fn footnote_start<'a>(rest: LineRest<'a>, options: Options) -> Option<ContainerS
     Some(ContainerStart::Footnote(FootnoteStart { label_size, old }, inside))
 }
 
-/// The list item or block quote that the line with these words begins, indented by at most three columns, and the line behind its marker.
+/// The list item or block quote that the line with these words begins, indented by at most three columns, and the line after its marker.
 #[inline(always)]
 fn marker_start<'a>(rest: LineRest<'a>, words: &[u8]) -> Option<ContainerStart<'a>>
     requires { words.now ≡ words_of (row_of rest) }
@@ -160,7 +159,7 @@ fn marker_start<'a>(rest: LineRest<'a>, words: &[u8]) -> Option<ContainerStart<'
     item_start(rest)
 }
 
-/// The block quote that a line whose words begin with its marker begins, indented by at most three columns, and the line behind the marker.
+/// The block quote that a line begins whose words begin with its marker, indented by at most three columns, and the line after the marker.
 #[inline(always)]
 fn block_quote_start<'a>(rest: LineRest<'a>) -> Option<ContainerStart<'a>>
     requires { begins_with 62 (words_of (row_of rest)) ≡ true }
@@ -172,8 +171,8 @@ fn block_quote_start<'a>(rest: LineRest<'a>) -> Option<ContainerStart<'a>>
     Some(ContainerStart::BlockQuote(inside))
 }
 
-/// The list item that a line begins whose words do not begin with the marker of a block quote, indented by at most three columns, and the line
-/// behind its marker.
+/// The list item that a line begins, indented by at most three columns, and the line after its marker. The line's words do not begin with
+/// the marker of a block quote.
 #[inline(always)]
 fn item_start<'a>(rest: LineRest<'a>) -> Option<ContainerStart<'a>>
     requires { begins_with 62 (words_of (row_of rest)) ≡ false }
@@ -196,7 +195,7 @@ pub(crate) fn begins_with_quote_mark(words: &[u8]) -> bool
     }
 }
 
-/// Whether the words of a line may begin with the marker of a list item, by their first byte alone.
+/// Whether the first byte of a line's words may begin the marker of a list item.
 #[inline]
 pub(crate) fn may_begin_item(words: &[u8]) -> bool
     ensures { result ≡ first_is begins_item words.now }

@@ -12,7 +12,7 @@ ghost use Rattle.cmark_lines.specs.Continuations.{shown_code_or_html, shown_cont
 use crate::line_rest::LineRest;
 use cmark_scan_blocks::{HtmlKind, holds_end, scan_closing_code_fence};
 
-/// An open leaf block whose lines are taken as they are.
+/// An open leaf block whose lines are literal.
 #[derive(Clone, Copy)]
 pub enum CodeOrHtml {
     /// An indented code block (CommonMark 4.4).
@@ -21,19 +21,19 @@ pub enum CodeOrHtml {
     Fenced {
         /// The fence's character, a backtick or a tilde.
         delimiter: u8,
-        /// How often it stands in the opening fence.
+        /// The length of the opening fence.
         run_length: usize,
-        /// How many columns the opening fence is indented.
+        /// The number of columns by which the opening fence is indented.
         indent: usize,
     },
     /// An HTML block (CommonMark 4.6).
     Html(HtmlKind),
 }
 
-/// What one more line does to an open code or HTML block.
+/// The effect of the next line on an open code or HTML block.
 #[derive(Clone, Copy, PartialEq, Eq)]
 pub enum Continuation {
-    /// It belongs to the block, which goes on.
+    /// It belongs to the block, which continues.
     GoesOn,
     /// It belongs to the block, and ends it.
     Closes,
@@ -44,8 +44,8 @@ pub enum Continuation {
 }
 
 impl CodeOrHtml {
-    /// What the line does to this block. It must have the prefixes of the containers around the block: a line that lacks one
-    /// ends each.
+    /// The effect of the line on this block. The line must have the prefixes of the containers around the block: a line that lacks one ends
+    /// the block.
     #[inline(always)]
     pub fn continuation(self, rest: LineRest<'_>) -> Continuation
         ensures { (info : List ℕ) → shown_continuation result ≡ continuation_in (shown_code_or_html info self) (row_of rest.entry) }
@@ -62,7 +62,7 @@ impl CodeOrHtml {
     }
 }
 
-/// What the line does to an indented code block: blank lines belong to it between indented ones (CommonMark 4.4).
+/// The effect of the line on an indented code block: blank lines belong to it only between indented ones (CommonMark 4.4).
 #[inline]
 fn code_continuation(rest: LineRest<'_>) -> Continuation
     ensures { shown_continuation result ≡ code_continuation (row_of rest.entry) }
@@ -76,7 +76,7 @@ fn code_continuation(rest: LineRest<'_>) -> Continuation
     }
 }
 
-/// What the line does to a code block that a fence of so many of this byte opened (CommonMark 4.5).
+/// The effect of the line on a code block whose fence has `run_length` of this byte (CommonMark 4.5).
 #[inline]
 fn fence_continuation(rest: LineRest<'_>, delimiter: u8, run_length: usize) -> Continuation
     ensures { shown_continuation result ≡ fenced_continuation delimiter run_length (row_of rest.entry) }
@@ -88,8 +88,8 @@ fn fence_continuation(rest: LineRest<'_>, delimiter: u8, run_length: usize) -> C
     }
 }
 
-/// What the line does to an HTML block of this kind: one of kinds 1 to 5 ends with a line that holds its end, one of kinds 6
-/// and 7 before a blank line (CommonMark 4.6).
+/// The effect of the line on an HTML block of this kind. A block of kinds 1 to 5 ends with a line that contains its end; one of kinds 6 and
+/// 7 ends before a blank line (CommonMark 4.6).
 #[inline]
 fn html_continuation(rest: LineRest<'_>, kind: HtmlKind) -> Continuation
     ensures { shown_continuation result ≡ html_continuation (kind_number kind) (row_of rest.entry) }
@@ -112,8 +112,8 @@ fn html_continuation(rest: LineRest<'_>, kind: HtmlKind) -> Continuation
     }
 }
 
-/// Whether an HTML block of this kind, which the line begins, ends with the same line: it holds the block's end. Kinds 6 and
-/// 7 end before a later line alone (CommonMark 4.6).
+/// Whether an HTML block of this kind ends on the line that begins it, because the line contains its end. Blocks of kinds 6 and 7 end only
+/// before a later line (CommonMark 4.6).
 #[inline]
 pub fn ends_at_once(kind: HtmlKind, rest: LineRest<'_>) -> bool
     ensures { result ≡ (nat_le (kind_number kind) 5 && holds_end (kind_number kind) (words_of (row_of rest.entry))) }

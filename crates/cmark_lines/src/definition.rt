@@ -18,9 +18,9 @@ pub fn reads_definition_lists(options: Options) -> bool
     options.contains(Options::ENABLE_DEFINITION_LIST)
 }
 
-/// The width of the prefix that the later lines of a definition have, in columns, and the line behind its marker, where the line, which
-/// lacks no prefix, begins with the marker of one behind at most three columns of indent, and definition lists are read. It begins a definition
-/// behind a paragraph or another definition alone.
+/// The width in columns of the prefix that a definition's later lines have, and the line after its marker. `None` unless definition lists
+/// are read, and the line lacks no prefix, is indented by at most three columns and begins with the marker. Such a line begins a definition
+/// only after a paragraph or another definition.
 #[inline]
 pub fn definition_start<'a>(rest: LineRest<'a>, options: Options) -> Option<(usize, LineRest<'a>)>
     ensures width { option_map width_of result ≡ definition_marker (shown_options options) (row_of rest.entry) }
@@ -33,7 +33,7 @@ pub fn definition_start<'a>(rest: LineRest<'a>, options: Options) -> Option<(usi
     rest.behind_definition()
 }
 
-/// Whether the line interrupts a paragraph by the marker of a definition, which the paragraph is the title of.
+/// Whether a definition's marker on the line interrupts a paragraph, which then is the definition's title.
 #[inline]
 pub fn begins_definition(rest: LineRest<'_>, options: Options) -> bool
     ensures { result ≡ begins_definition (shown_options options) (row_of rest.entry) }

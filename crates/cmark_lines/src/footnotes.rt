@@ -1,4 +1,4 @@
-//! Whether footnotes are read, and how (this profile's own).
+//! Whether footnotes are read, and in which style (this profile's own).
 
 ghost use Rattle.std.specs.Prelude.{◌≡◌};
 ghost use Rattle.cmark_grammar.specs.Footnotes.{footnotes_in, are_read, do_interrupt};
@@ -15,7 +15,7 @@ pub(crate) fn reads_footnotes(options: Options) -> bool
     options.contains(Options::ENABLE_FOOTNOTES)
 }
 
-/// Whether footnotes are read as GitHub reads them: then their definitions interrupt paragraphs.
+/// Whether footnotes are read in GitHub's style: then their definitions interrupt paragraphs.
 #[inline]
 pub(crate) fn reads_gfm_footnotes(options: Options) -> bool
     ensures { result ≡ do_interrupt (footnotes_in (shown_options options)) }
@@ -23,7 +23,7 @@ pub(crate) fn reads_gfm_footnotes(options: Options) -> bool
     options.has_gfm_footnotes()
 }
 
-/// Whether footnotes are asked for as they were read before.
+/// Whether the options ask for footnotes in the old style.
 #[inline]
 pub(crate) fn reads_old_footnotes(options: Options) -> bool
     ensures { result ≡ (shown_options options).old_footnotes }

@@ -1,4 +1,4 @@
-//! What ends a paragraph (CommonMark 4.3 and 4.8).
+//! The lines that end a paragraph (CommonMark 4.3 and 4.8).
 
 ghost use Rattle.std.specs.Prelude.{◌≡◌, ℕ, List, option_map};
 ghost use Rattle.cmark_grammar.specs.Footnotes.{footnotes_in};
@@ -20,10 +20,10 @@ use crate::opening::{fence_in, heading_in, html_in, is_break};
 use cmark_scan_blocks::{HtmlKind, scan_setext_heading};
 use cmark_text_parts::{HeadingLevel, Options};
 
-/// Whether the line interrupts a paragraph, which stands in the same container (`same`), or further in, so that the line
-/// lacks a prefix there (CommonMark 4.8). An HTML block of kind 7 never does; an item that is blank behind its marker, or
-/// is numbered other than 1, interrupts none in the same container; a footnote definition does as GitHub reads it. What the line begins may tell
-/// another thing: four columns of indent and kind 7 begin something, and interrupt nothing.
+/// Whether the line interrupts a paragraph (CommonMark 4.8). With `same` the paragraph is in the same container; else it is further inside,
+/// so that the line lacks a prefix there. An HTML block of kind 7 never interrupts. An item that is blank after its marker, or whose number
+/// is not 1, does not interrupt a paragraph of the same container. A footnote definition interrupts only in GitHub's style. The block that
+/// the line would begin can differ: lines with four columns of indent and HTML blocks of kind 7 begin blocks, but interrupt no paragraph.
 pub fn interrupts(rest: LineRest<'_>, same: bool, options: Options) -> bool
     ensures { (ahead : List Row) → result ≡ interrupts (shown_options options) same (row_of rest.entry) ahead }
 {
@@ -47,7 +47,7 @@ fn footnote_interrupts(rest: LineRest<'_>, options: Options) -> bool
     reads_gfm_footnotes(options) && rest.behind_footnote_marker().is_some()
 }
 
-/// Whether the words of a line begin with an ASCII letter: most lines of prose do, and what does begins nothing but text.
+/// Whether the words of a line begin with an ASCII letter. Most lines of prose do, and such a line is always text.
 #[inline]
 pub(crate) fn begins_with_letter(words: &[u8]) -> bool
     ensures { result ≡ first_is is_letter words.now }
@@ -58,8 +58,8 @@ pub(crate) fn begins_with_letter(words: &[u8]) -> bool
     }
 }
 
-/// Whether the words of a line begin with an ASCII letter or a pipe, as rows of a table do: what begins so interrupts no paragraph but as
-/// a table.
+/// Whether the words of a line begin with an ASCII letter or a pipe, as rows of a table do. Such a line can interrupt a paragraph only as a
+/// table.
 #[inline]
 fn begins_with_letter_or_pipe(words: &[u8]) -> bool
     ensures { result ≡ first_is is_letter_or_pipe words.now }
@@ -88,7 +88,7 @@ fn item_interrupts(rest: LineRest<'_>, words: &[u8], same: bool) -> bool
     may_begin_item(words) && marked_item_interrupts(rest, same)
 }
 
-/// The same, whatever the words begin with.
+/// Whether the line begins a list item that interrupts a paragraph, whatever the first byte of its words.
 #[inline]
 fn marked_item_interrupts(rest: LineRest<'_>, same: bool) -> bool
     ensures { result ≡ item_interrupts same (row_of rest.entry) (begun_item (row_of rest.entry)) }
@@ -144,9 +144,9 @@ fn html_interrupts(words: &[u8]) -> bool
     }
 }
 
-/// The level of the heading that the line makes of the paragraph before it, if it is a setext heading underline (CommonMark
-/// 4.3): a run of `=` or of `-` behind at most three columns of indent, and blanks. The line must stand in the same container as
-/// the paragraph: one that lacks a prefix underlines nothing.
+/// The level of the heading that the line makes of the paragraph before it, if it is a setext heading underline (CommonMark 4.3). An
+/// underline is a run of `=` or of `-`, indented by at most three columns, and then only blanks. The line must be in the same container as
+/// the paragraph: a line that lacks a prefix underlines nothing.
 #[inline]
 #[tactic(auto, unfolding(cmark_grammar::specs::Leaves::underlines, crate::specs::Rests::row_of))]
 pub fn underlines(rest: LineRest<'_>) -> Option<HeadingLevel>

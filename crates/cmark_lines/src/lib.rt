@@ -1,5 +1,5 @@
-//! What a line is behind the prefixes of the containers around it: which containers keep it, what it begins, whether it
-//! interrupts a paragraph, and what it does to a code, HTML or metadata block. Each answer is that of the grammar's definitions.
+//! Lines after the prefixes of the containers around them. The functions return the containers that keep a line, the block that it begins,
+//! whether it interrupts a paragraph, and its effect on a code, HTML or metadata block. Each result is that of the grammar's definitions.
 #![tactic(auto)]
 
 mod container;

@@ -1,4 +1,4 @@
-//! What is left of a line (CommonMark 2.1 and 2.2).
+//! The rest of a line (CommonMark 2.1 and 2.2).
 #![tactic(auto, unfolding(crate::specs::Rests::row_of))]
 
 ghost use Rattle.std.specs.Prelude.{◌≡◌, ◌≤◌, drop, length};
@@ -10,15 +10,15 @@ use crate::interrupt::begins_with_letter;
 use cmark_scan_blocks::LineStart;
 use cmark_scan_parts::bytes::ending_len;
 
-/// What is left of a line behind the prefixes of the containers around it. Places are byte offsets of the text; columns are
-/// those of the whole line, in which a tab reaches to the next tab stop, four columns apart.
+/// The rest of a line after the prefixes of the containers around it. Places are byte offsets of the text. Columns are those of the whole
+/// line, in which a tab reaches to the next tab stop, four columns apart.
 #[derive(Clone, Copy)]
 pub struct LineRest<'a> {
-    /// Where the whole line begins.
+    /// The byte offset at which the whole line begins.
     start: usize,
-    /// Where the next line begins.
+    /// The byte offset at which the next line begins.
     line_end: usize,
-    /// The line without its ending, of which the prefixes were taken.
+    /// The line without its ending, after the prefixes that were taken.
     front: LineStart<'a>,
     ghost ends: { (row_from start line_end front).content_end ≤ line_end },
 }
@@ -33,7 +33,7 @@ impl<'a> LineRest<'a> {
     ghost use Rattle.cmark_scan_blocks.specs.LineStart.{cut_columns};
     ghost use Rattle.cmark_lines.specs.Rests.{row_of, no_row, IsIn};
 
-    /// The whole line of the text that begins at `start`. At the text's end it is an empty one, which has no ending.
+    /// The whole line of the text that begins at byte offset `start`. At the text's end it is an empty line without an ending.
     #[inline(always)]
     pub fn new(text: &'a [u8], start: usize) -> LineRest<'a>
         requires { start ≤ length text.now }
@@ -55,7 +55,7 @@ impl<'a> LineRest<'a> {
         }
     }
 
-    /// The same line, of which this is left.
+    /// The same line with this rest.
     #[inline]
     fn with_front(self, front: LineStart<'a>) -> LineRest<'a>
         requires { (row_from self.start self.line_end front).content_end ≡ (row_of self).content_end }
@@ -73,7 +73,7 @@ impl<'a> LineRest<'a> {
         }
     }
 
-    /// The place at which the rest begins. Of a tab that was cut by a prefix, it is the place behind the tab.
+    /// The byte offset at which the rest begins. If a prefix took a part of a tab, it is the offset after the tab.
     #[inline]
     pub fn begin(&self) -> usize
         ensures place { result ≡ begin_of (row_of self.now) }
@@ -82,7 +82,7 @@ impl<'a> LineRest<'a> {
         self.start + self.front.bytes_scanned()
     }
 
-    /// Whether nothing was taken of the line, and no container without a prefix keeps it, so that it stands in no container.
+    /// Whether nothing was taken from the line, and no container without a prefix keeps it, so that it is in no container.
     #[inline]
     pub fn is_whole(&self) -> bool
         ensures { result ≡ is_whole_line (row_of self.now) }
@@ -90,7 +90,7 @@ impl<'a> LineRest<'a> {
         self.begin() == self.start && !self.front.is_held()
     }
 
-    /// The place behind the spaces and tabs in front: that of the words.
+    /// The byte offset after the spaces and tabs at the beginning: the offset of the words.
     #[inline]
     pub fn words_begin(&self) -> usize
         ensures place { result ≡ start_of (row_of self.now) }
@@ -100,7 +100,7 @@ impl<'a> LineRest<'a> {
         self.behind_indent().begin()
     }
 
-    /// The place at which the line's ending begins: the text's end, where the last line has none.
+    /// The byte offset at which the line's ending begins; the text's end, if the last line has no ending.
     #[inline]
     pub fn content_end(&self) -> usize
         ensures place { result ≡ (row_of self.now).content_end }
@@ -110,7 +110,7 @@ impl<'a> LineRest<'a> {
         self.begin() + self.bytes().len()
     }
 
-    /// The place at which the next line begins.
+    /// The byte offset at which the next line begins.
     #[inline]
     pub fn line_end(&self) -> usize
         ensures place { result ≡ (row_of self.now).line_end }
@@ -121,7 +121,7 @@ impl<'a> LineRest<'a> {
         self.line_end
     }
 
-    /// How many columns of spaces and tabs stand in front, `n` at most.
+    /// The number of columns of spaces and tabs at the beginning, at most `n`.
     #[inline]
     pub fn indent_upto(&self, n: usize) -> usize
         ensures { result ≡ min n (indent_of (row_of self.now)) }
@@ -130,7 +130,7 @@ impl<'a> LineRest<'a> {
         ahead.scan_space_upto(n)
     }
 
-    /// Whether nothing stands on the line but spaces and tabs.
+    /// Whether the line consists only of spaces and tabs.
     #[inline]
     pub fn is_blank(&self) -> bool
         ensures { result ≡ is_blank_line (row_of self.now) }
@@ -140,7 +140,7 @@ impl<'a> LineRest<'a> {
         ahead.is_at_eol()
     }
 
-    /// The bytes behind the spaces and tabs in front, up to the line's ending.
+    /// The bytes after the spaces and tabs at the beginning, up to the line's ending.
     #[inline]
     pub fn words(&self) -> &'a [u8]
         ensures { result.now ≡ words_of (row_of self.now) }
@@ -150,7 +150,7 @@ impl<'a> LineRest<'a> {
         ahead.remaining_bytes()
     }
 
-    /// The words, where the line has any: what `is_blank` and `words` say, of one look at the spaces and tabs in front.
+    /// The words, if the line is not blank: `is_blank` and `words` in one, with a single look at the spaces and tabs at the beginning.
     #[inline(always)]
     pub(crate) fn words_unless_blank(&self) -> Option<&'a [u8]>
         ensures blank { result ≡ None → is_blank_line (row_of self.now) ≡ true }
@@ -164,8 +164,8 @@ impl<'a> LineRest<'a> {
         Some(behind.remaining_bytes())
     }
 
-    /// Whether the words begin with an ASCII letter, as most lines of prose do: such a line neither interrupts a paragraph nor
-    /// underlines one.
+    /// Whether the words begin with an ASCII letter, as most lines of prose do. Such a line neither interrupts a paragraph nor underlines
+    /// one.
     #[inline]
     pub fn begins_with_letter(&self) -> bool
         ensures { result ≡ first_is is_letter (words_of (row_of self.now)) }
@@ -173,7 +173,7 @@ impl<'a> LineRest<'a> {
         begins_with_letter(self.words())
     }
 
-    /// The bytes up to the line's ending. A tab that was cut by a prefix is none of them.
+    /// The bytes up to the line's ending, without a tab of which a prefix took a part.
     #[inline]
     pub fn bytes(&self) -> &'a [u8]
         ensures { result.now ≡ bytes_of (row_of self.now).columns }
@@ -181,7 +181,7 @@ impl<'a> LineRest<'a> {
         self.front.remaining_bytes()
     }
 
-    /// How many columns in front are left of a tab that was cut by a prefix, 0 to 3. They count as spaces.
+    /// The number of columns at the beginning that are left of a tab of which a prefix took a part, 0 to 3. They count as spaces.
     #[inline]
     pub fn remaining_space(&self) -> usize
         ensures { result ≡ cut_columns (row_of self.now).columns }
@@ -189,7 +189,7 @@ impl<'a> LineRest<'a> {
         self.front.remaining_space()
     }
 
-    /// The line without the spaces and tabs in front, `n` columns of them at most.
+    /// The line without the spaces and tabs at the beginning, at most `n` columns of them.
     #[inline]
     pub fn without_indent_upto(self, n: usize) -> LineRest<'a>
         ensures row { row_of result ≡ without (min n (indent_of (row_of self.entry))) (row_of self.entry) }
@@ -200,7 +200,7 @@ impl<'a> LineRest<'a> {
         self.with_front(front)
     }
 
-    /// The line without the spaces and tabs in front.
+    /// The line without the spaces and tabs at the beginning.
     #[inline]
     pub fn behind_indent(self) -> LineRest<'a>
         ensures row { row_of result ≡ without (indent_of (row_of self.entry)) (row_of self.entry) }

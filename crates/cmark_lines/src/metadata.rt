@@ -11,8 +11,8 @@ use bitflags::Flags;
 use cmark_scan_blocks::{scan_closing_metadata_fence, scan_metadata_fence};
 use cmark_text_parts::{MetadataBlockKind, Options};
 
-/// The kind of the metadata block that the line begins, if the lines behind it are those of one: the option for it must be on, and
-/// the line must stand in no container and hold `---` or `+++` from its first column on, and blanks.
+/// The kind of the metadata block that the line begins, if the lines after it are those of a metadata block. The option for the kind must
+/// be on. The line is in no container, and consists of `---` or `+++` from its first column on, and then only blanks.
 #[inline]
 pub fn metadata_kind(rest: LineRest<'_>, options: Options) -> Option<MetadataBlockKind>
     ensures { option_map shown_metadata_block_kind result ≡ metadata_kind (shown_options options) (row_of rest.entry) }
@@ -28,7 +28,7 @@ pub fn metadata_kind(rest: LineRest<'_>, options: Options) -> Option<MetadataBlo
     }
 }
 
-/// Whether the line ends a metadata block of this kind: it holds the closing delimiter from its first column on, and blanks.
+/// Whether the line ends a metadata block of this kind: the closing delimiter from its first column on, and then only blanks.
 #[inline]
 pub fn ends_metadata(rest: LineRest<'_>, kind: MetadataBlockKind) -> bool
     ensures { result ≡ ends_metadata (shown_metadata_block_kind kind) (row_of rest.entry) }
@@ -36,7 +36,7 @@ pub fn ends_metadata(rest: LineRest<'_>, kind: MetadataBlockKind) -> bool
     scan_closing_metadata_fence(rest.bytes(), kind)
 }
 
-/// Whether metadata blocks of some kind are read.
+/// Whether metadata blocks of any kind are read.
 #[inline]
 fn reads_metadata(options: Options) -> bool
     ensures { (kind : Option grammar.MetadataBlockKind) → result ≡ false → metadata_if (shown_options options) kind ≡ None }

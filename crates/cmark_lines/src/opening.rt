@@ -1,4 +1,4 @@
-//! What a line begins (CommonMark 3 to 5).
+//! The opening of a line: the block that it begins (CommonMark 3 to 5).
 
 ghost use Rattle.std.specs.Prelude.{◌≡◌, ◌==◌, ◌&&◌, not, ℕ, List, IfSome, option_map};
 ghost use Rattle.cmark_grammar.specs.Footnotes.{are_read, footnotes_in, is_footnote_label};
@@ -24,10 +24,10 @@ use cmark_scan_blocks::{
 };
 use cmark_text_parts::{HeadingLevel, Options};
 
-/// What a line begins that lacks no prefix of the containers around it, metadata aside.
+/// The opening of a line that lacks no prefix of the containers around it, except metadata.
 #[derive(Clone, Copy)]
 pub enum Opening<'a> {
-    /// Nothing: the line is blank.
+    /// A blank line.
     Blank,
     /// A container (CommonMark 5).
     Nests(ContainerStart<'a>),
@@ -41,20 +41,20 @@ pub enum Opening<'a> {
     AtxHeading(HeadingLevel),
     /// A fenced code block (CommonMark 4.5).
     FencedCode {
-        /// How many columns the fence is indented, 0 to 3.
+        /// The number of columns by which the fence is indented, 0 to 3.
         indent: usize,
-        /// The fence; its places count from the line's words on.
+        /// The fence; its places are byte offsets from the line's words.
         fence: CodeFence,
     },
-    /// None of the above, and the words begin with `[`: a link reference definition (CommonMark 4.7), if one can be read from
-    /// this line and those ahead, and else a table or a paragraph.
+    /// No other kind of opening, and the words begin with `[`. It is a link reference definition (CommonMark 4.7), if this line and those
+    /// ahead form one, and else a table or a paragraph.
     Bracket,
-    /// A table (GFM 4.10), if this line is the head of one, and else a paragraph (CommonMark 4.8).
+    /// A table (GFM 4.10), if this line is its head, and else a paragraph (CommonMark 4.8).
     Plain,
 }
 
-/// What the line begins, where it begins no metadata. A line that is indented by four columns or more begins an indented code
-/// block, unless it is blank; behind up to three columns a container's marker comes first, then the leaf blocks.
+/// The opening of the line, if it begins no metadata. A line that is indented by four columns or more begins an indented code block,
+/// unless it is blank. With less indent, a container's marker comes first, then the leaf blocks.
 pub fn what_opens<'a>(rest: LineRest<'a>, options: Options) -> Opening<'a>
     ensures opens { (ahead : List Row) → opens (shown_options options) (row_of rest.entry) ahead
         ≡ or_else (metadata_begun (metadata_kind (shown_options options) (row_of rest.entry)) ahead) (opened (shown_options options) result (row_of rest.entry) ahead) }
@@ -82,7 +82,7 @@ pub fn what_opens<'a>(rest: LineRest<'a>, options: Options) -> Opening<'a>
     leaf_opening(words, indent, options)
 }
 
-/// What the words of a line begin, indented by so many columns, where they begin no container.
+/// The leaf that the words of a line with this indent begin, if they begin no container.
 fn leaf_opening<'a>(words: &[u8], indent: usize, options: Options) -> Opening<'a>
     ensures opens { (r : Row) (ahead : List Row) → words_of r ≡ words.now → indent_of r ≡ indent
         → leaf_of (shown_options options) r ahead ≡ opened (shown_options options) result r ahead }
@@ -156,8 +156,8 @@ pub(crate) fn fence_in(words: &[u8]) -> Option<CodeFence>
     }
 }
 
-/// Whether the words of a line begin with an opening bracket, which may be that of a link's label: where footnotes are read, none begins with
-/// `[^` and goes on.
+/// Whether the words of a line begin with an opening bracket that may belong to a link's label. With footnotes on, a label that begins with
+/// `^` and has more bytes is not a link's.
 #[inline]
 fn may_begin_link(words: &[u8], options: Options) -> bool
     ensures { result ≡ (begins_with 91 words.now && not (begins_no_link (footnotes_in (shown_options options)) words.now)) }
@@ -176,7 +176,7 @@ fn begins_with_bracket(words: &[u8]) -> bool
     }
 }
 
-/// Whether the words of a line begin with `[^`, behind which a label goes on.
+/// Whether the words of a line begin with `[^`, and the label continues after that.
 fn begins_footnote_label(words: &[u8]) -> bool
     ensures { result ≡ is_footnote_label words.now }
 {
@@ -187,8 +187,7 @@ fn begins_footnote_label(words: &[u8]) -> bool
     }
 }
 
-/// Whether an ASCII letter stands in front of a line, with no indent: where no definition may begin, such a line begins a table or a
-/// paragraph.
+/// Whether a line begins with an ASCII letter, without indent. If no definition may begin, such a line begins a table or a paragraph.
 #[inline]
 pub fn begins_with_text(rest: LineRest<'_>) -> bool
     ensures { result ≡ ((indent_of (row_of rest.entry) == 0) && first_is is_letter (words_of (row_of rest.entry))) }
@@ -196,8 +195,8 @@ pub fn begins_with_text(rest: LineRest<'_>) -> bool
     rest.indent_upto(1) == 0 && rest.begins_with_letter()
 }
 
-/// Whether an opening bracket stands in front of a line, with no indent, where footnotes are not read: such a line begins a link reference
-/// definition, a table or a paragraph.
+/// Whether a line begins with an opening bracket, without indent, and footnotes are off. Such a line begins a link reference definition, a
+/// table or a paragraph.
 #[inline]
 pub fn begins_with_label(rest: LineRest<'_>, options: Options) -> bool
     ensures { result ≡ ((indent_of (row_of rest.entry) == 0) && (begins_with 91 (words_of (row_of rest.entry)) && not (are_read (footnotes_in (shown_options options))))) }

@@ -9,7 +9,7 @@ ghost use Rattle.cmark_lines.specs.Rests.{row_of};
 use crate::line_rest::LineRest;
 use cmark_scan_blocks::{count_cells, count_delimiter_cells, holds_pipe};
 
-/// How many cells the line has, where it may be a table's head: a pipe parts them.
+/// The number of cells of the line, if it may be a table's head: if it contains a pipe that separates cells.
 pub fn head_cells(rest: LineRest<'_>) -> Option<usize>
     ensures { result ≡ (if holds_pipe (words_of (row_of rest.entry)) then Some (count_cells (row_of rest.entry)) else None) }
 {
@@ -21,7 +21,7 @@ pub fn head_cells(rest: LineRest<'_>) -> Option<usize>
     }
 }
 
-/// Whether the line is the delimiter row of a table with so many columns, behind at most three columns of indent.
+/// Whether the line is the delimiter row of a table with `columns` columns, indented by at most three columns.
 pub fn is_delimiter_row(rest: LineRest<'_>, columns: usize) -> bool
     ensures { (ahead : List Row) → result ≡ is_some_head (delimited_ahead columns (row_of rest.entry ∷ ahead)) }
 {
@@ -34,14 +34,14 @@ pub fn is_delimiter_row(rest: LineRest<'_>, columns: usize) -> bool
     }
 }
 
-/// Whether the line begins with a pipe, behind at most three columns of indent, so that a table whose head it is interrupts a paragraph.
+/// Whether the line begins with a pipe, indented by at most three columns, so that a table with this head interrupts a paragraph.
 pub fn begins_with_pipe(rest: LineRest<'_>) -> bool
     ensures { result ≡ (nat_le (indent_of (row_of rest.entry)) 3 && grammar.begins_with_pipe (words_of (row_of rest.entry))) }
 {
     rest.indent_upto(4) < 4 && matches!(rest.words(), [b'|', ..])
 }
 
-/// How many cells are filled in at the line's end, where it is a row of a table with so many columns.
+/// The number of cells that are filled in at the line's end, if it is a row of a table with `columns` columns.
 pub fn count_missing(rest: LineRest<'_>, columns: usize) -> usize
     ensures { result ≡ grammar.count_missing columns (row_of rest.entry) }
 {

@@ -18,7 +18,7 @@ put_is : (b : ℕ) (o : Option Parsed) (found : Parsed) → put b o ≡ Some fou
 put_is b None found e = cc
 put_is b (Some inner) found e = (inner, refl, let same : found ≡ found_at (b ∷ inner.bytes) inner.behind = cc in same)
 
--- a closed part, its closer and what stands behind it are the bytes
+-- a closed part, its closer and the bytes after it are the bytes
 up_to-cut : (escaped : Bool) (closer refused : ℕ) (over : Bool) (bs : List ℕ) (found : Parsed) → up_to escaped closer refused over bs ≡ Some found → bs ≡ found.bytes ++ closer ∷ found.behind
 up_to-cut escaped closer refused over [] found e = cc
 up_to-cut escaped closer refused over (b ∷ bs) found e = first (not escaped && (b == closer)) refl e (λ f. up_to-cut (escapes_next escaped b) closer refused over bs f)
@@ -42,7 +42,7 @@ up_to-cut escaped closer refused over (b ∷ bs) found e = first (not escaped &&
         ap (λ c. c ∷ bs) (eqb-true b closer (and_parts (not escaped) (b == closer) t).1) ∙ ap (λ (f : Parsed). f.bytes ++ closer ∷ f.behind) same
     first false t q ih = second ((not escaped && (b == refused)) || (not over && ((b == 10) || (b == 13)))) q ih
 
--- a bare part and what stands behind it are the bytes; an ASCII byte ends it, or the end
+-- a bare part and the bytes after it are the bytes; an ASCII byte ends it, or the end
 abbrev pub IsEnd : List ℕ → Type 0
 IsEnd [] = Unit {0}
 IsEnd (b ∷ bs) = b < 128
@@ -83,7 +83,7 @@ bare_in-cut escaped depth (b ∷ bs) found e =
     first true t q ih = subst (Cuts (b ∷ bs)) (at_once (depth == 0) found (b ∷ bs) q) (record { is = refl; ends = ends_ascii escaped depth b t })
     first false t q ih = second (not escaped && ((b == 40) && nat_le 32 depth)) q ih
 
--- the place behind a destination
+-- the place after a destination
 pub record Ends (text : List ℕ) (found : Parsed) : Type 0 where
   pub rest : drop (length text - length found.behind) text ≡ found.behind
   pub place : IsCharBoundary text (length text - length found.behind)
@@ -135,7 +135,7 @@ destination_ends (b ∷ bs) found utf8 e = by_case (b == 60) refl e
     by_case true t q = pointed_ends (b ∷ bs) found utf8 (ap (λ c. c ∷ bs) (eqb-true b 60 t) ∙ ap (λ l. 60 ∷ l) (up_to-cut false 62 60 false bs found q))
     by_case false t q = bare_ends (b ∷ bs) found (bare_in-cut false 0 (b ∷ bs) found q)
 
--- what was cut out
+-- the part that was found
 pub record Cut (text : List ℕ) (end : ℕ) (part : List ℕ) : Type 0 where
   pub found : Parsed
   pub is : link_destination_in text ≡ Some found
@@ -183,7 +183,7 @@ cut_value text part behind end utf8 c is how =
     ap (λ l. Some (found_at l behind)) c.part_is ∙ ap (λ l. Some (found_at c.found.bytes l)) rest
     ∙ destination_is text c.found c.is (⊎_elim (λ s. inl (ap is_empty (sym c.part_is) ∙ s)) (λ o. inr o) how)
 
--- the same from the code's test
+-- the same fact for the code's test
 empty_is : (bs : List ℕ) → (length bs == 0) ≡ is_empty bs
 empty_is [] = refl
 empty_is (b ∷ bs) = ne_eqb (suc (length bs)) 0 (λ e. absurd (omega arith))

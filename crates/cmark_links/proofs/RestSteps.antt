@@ -27,7 +27,7 @@ further bs rest next one two = record {
   is = two.is ∙ ap (drop two.skipped) one.is ∙ drop-drop two.skipped one.skipped bs;
 }
 
--- where it begins
+-- the place at which it begins
 size_before : (bs rest : List ℕ) (r : IsRest bs rest) → r.skipped ≡ length bs - length rest
 size_before bs rest r = let l = length-drop r.skipped bs in let n = ap length r.is in let a = r.within in omega (arith, l, n, a)
 
@@ -37,7 +37,7 @@ rest_at bs rest r = ap (λ n. drop n bs) (sym (size_before bs rest r)) ∙ sym r
 pub rest_starts : (bs rest : List ℕ) → IsUtf8 rest → IsRest bs rest → IsCharBoundary bs (length bs - length rest)
 rest_starts bs rest utf8 r = IsCharBoundary-from_drop bs (length bs - length rest) (omega arith) (subst IsUtf8 (sym (rest_at bs rest r)) utf8)
 
--- behind blanks
+-- after blanks
 pub blanks_value : (bs : List ℕ) (n : ℕ) → n ≡ prefix_len is_blank_byte bs → drop n bs ≡ behind_blanks bs
 blanks_value bs n is = ap (λ k. drop k bs) (is ∙ sym (length-prefix_len is_blank_byte bs))
 
@@ -48,7 +48,7 @@ blanks_end bs (suc n) utf8 is =
     let blank : is_blank_byte (get_or bs n 0) ≡ true = prefix_len_passes is_blank_byte bs n 0 (omega arith) in
     subst (IsCharBoundary bs) (let e : n + 1 ≡ suc n = omega arith in e) (IsCharBoundary-after_ascii bs n utf8 (omega arith) (blank-ascii (get_or bs n 0) blank))
 
--- behind ASCII bytes in front
+-- after ASCII bytes at the beginning
 pub after_first : (text bytes : List ℕ) → bytes ≡ text → IsUtf8 text → 1 ≤ length bytes → get_or bytes 0 0 < 128 → IsCharBoundary text 1
 after_first text bytes e utf8 some ascii =
     IsCharBoundary-after_ascii text 0 utf8 (let n = ap length e in omega arith) (subst (λ (l : List ℕ). get_or l 0 0 < 128) e ascii)
@@ -63,7 +63,7 @@ after_blanks text bytes n e utf8 is = blanks_end text n utf8 (is ∙ ap (prefix_
 pub behind_is : (text bytes rest : List ℕ) (n : ℕ) → bytes ≡ text → n ≡ prefix_len is_blank_byte bytes → rest ≡ drop n text → rest ≡ behind_blanks text
 behind_is text bytes rest n e is cut = cut ∙ blanks_value text n (is ∙ ap (prefix_len is_blank_byte) e)
 
--- behind a line ending in front
+-- after a line ending at the beginning
 pub record EndsAt (bs r : List ℕ) : Type 0 where
   pub size : ℕ
   pub boundary : IsCharBoundary bs size

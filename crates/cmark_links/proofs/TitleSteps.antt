@@ -17,7 +17,7 @@ title_step feed return another front blank b bs =
     else if return then title_lines false bs
     else b ∷ title_lines false bs
 
--- in front of a line
+-- at the beginning of a line
 blank_falls : (b : ℕ) (bs : List ℕ) → is_blank_byte b ≡ true → title_lines true (b ∷ bs) ≡ title_lines true bs
 blank_falls b bs e = ⊎_elim (λ h. at b (eqb-true b 32 h)) (λ h. tab b (eqb-true b 9 h)) (or_cases (b == 32) (b == 9) e)
   where
@@ -99,7 +99,7 @@ line_pushed at out one two bytes rest front behind next all same first first_pus
     ∙ ap (λ l. out ++ l) (sym (plain_bytes at rest (let h = found.0.high in omega arith) (λ k lt. false_from_ne_true _ (found.0.before k (omega arith) lt))))
     ∙ e
 
--- a title of one line stands as it is
+-- a title of one line is unchanged
 pub one_line : (bytes rest : List ℕ) → bytes ≡ rest → IsFirstByte (is_byte2 10 13) bytes None → title_lines false rest ≡ rest
 one_line bytes rest same none = plain rest (λ k lt. false_from_ne_true _ (found k (omega arith) lt))
   where

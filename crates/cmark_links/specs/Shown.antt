@@ -1,4 +1,4 @@
--- What the values of structs mean.
+-- The meaning of structs.
 use Rattle.std.specs.Prelude.{◌<◌, ◌≤◌, ◌-◌, ℕ, List, drop, option_copied}
 use Rattle.std.specs.Str.{IsCharBoundary}
 use Rattle.cmark_grammar.specs.LinkDefinitions.{Parsed}
@@ -29,7 +29,7 @@ shown_parting parting = record { is_hard = parting.is_hard; before = parting.bef
 abbrev pub shown_break : (text : List ℕ) → (at : ℕ) → LineBreak → breaks.LineBreak
 shown_break text at break = record { is_hard = break.is_hard; before = break.start - at; behind = drop break.end text }
 
--- a break from this place on: where it begins and ends no character is cut
+-- a break from this place on; its ends are character boundaries
 pub record IsBreakAt (text : List ℕ) (at : ℕ) (break : LineBreak) : Type 0 where
   pub behind : at ≤ break.start
   pub ordered : break.start < break.end

@@ -1,4 +1,4 @@
-//! Blanks and line endings in front of a text.
+//! Blanks and line endings at the beginning of a text.
 
 ghost use Rattle.std.specs.Prelude.{◌≡◌, ◌<◌, ◌==◌, length, IfSome, option_copied};
 ghost use Rattle.cmark_grammar.specs.Letters.{behind_if};
@@ -8,7 +8,7 @@ ghost use Rattle.cmark_links.specs.Rests.{IsRest};
 
 use cmark_scan_parts::bytes;
 
-/// The text behind the blanks in front.
+/// The text after the blanks at its beginning.
 pub fn behind_blanks(text: &str) -> &str
     ensures value { result.now ≡ behind_blanks text.entry.now }
     ensures rest { IsRest text.entry.now result.now }
@@ -16,8 +16,8 @@ pub fn behind_blanks(text: &str) -> &str
     &text[bytes::count_blanks(text.as_bytes())..]
 }
 
-/// The text behind the line ending in front, if one stands there: a line feed, a carriage return, or both in this order
-/// (CommonMark 2.1).
+/// The text after the line ending at its beginning, if there is one: a line feed, a carriage return, or both in this order (CommonMark
+/// 2.1).
 pub fn behind_ending(text: &str) -> Option<&str>
     ensures value { option_copied result ≡ behind_ending text.entry.now }
     ensures rest { IfSome result (λ rest. IsRest text.entry.now rest.now) }
@@ -27,7 +27,7 @@ pub fn behind_ending(text: &str) -> Option<&str>
     Some(&text[text.len() - rest.len()..])
 }
 
-/// The text behind blanks with at most one line ending.
+/// The text after blanks with at most one line ending.
 pub fn behind_separator(text: &str) -> &str
     ensures value { result.now ≡ behind_separator text.entry.now }
     ensures rest { IsRest text.entry.now result.now }
@@ -39,7 +39,7 @@ pub fn behind_separator(text: &str) -> &str
     }
 }
 
-/// Whether only blanks stand in front of the line end, or of the end of the text.
+/// Whether only blanks come before the next line ending, or before the end of the text.
 pub fn is_line_done(text: &str) -> bool
     ensures { result ≡ is_line_done text.now }
 {
@@ -49,7 +49,7 @@ pub fn is_line_done(text: &str) -> bool
     )
 }
 
-/// The text behind this byte of ASCII, if it stands in front.
+/// The text after this ASCII byte, if the text begins with it.
 pub fn behind_byte(byte: u8, text: &str) -> Option<&str>
     requires { byte < 128 }
     ensures value { option_copied result ≡ behind_if (λ b. b == byte) text.entry.now }

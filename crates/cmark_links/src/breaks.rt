@@ -16,23 +16,23 @@ use crate::place::place_of;
 pub struct LineBreak {
     /// Whether it is hard.
     pub is_hard: bool,
-    /// Where it begins: a hard break with its blanks or its backslash, a soft one with its line ending.
+    /// The byte offset at which it begins: a hard break with its blanks or its backslash, a soft break with its line ending.
     pub start: usize,
-    /// The place behind its line ending.
+    /// The byte offset after its line ending.
     pub end: usize,
 }
 
-/// A break in front of a text.
+/// A break at the beginning of a text.
 #[derive(Clone, Copy)]
 struct Parting<'t> {
     is_hard: bool,
-    /// How many bytes in front lie before the break.
+    /// The number of bytes before the break.
     before: usize,
-    /// The text behind its line ending.
+    /// The text after its line ending.
     behind: &'t str,
 }
 
-/// The break that begins with a backslash in front.
+/// The break that begins with a backslash at the beginning of the text.
 fn backslash_break_in(text: &str) -> Option<Parting<'_>>
     ensures value { option_map shown_parting result ≡ backslash_break_in text.entry.now }
     ensures rest { IfSome result (λ parting. IsRest text.entry.now parting.behind.now) }
@@ -54,7 +54,7 @@ fn ends_with_two_spaces(bytes: &[u8]) -> bool
     bytes.ends_with(b"  ")
 }
 
-/// The blanks in front of a rest that stands behind them.
+/// The blanks before `here`, which is the rest of the text after them.
 fn blanks_before<'t>(text: &'t str, here: &str) -> &'t [u8]
     requires { here.now ≡ behind_blanks text.now }
     ensures { result.now ≡ take_while is_blank_byte text.entry.now }
@@ -62,7 +62,7 @@ fn blanks_before<'t>(text: &'t str, here: &str) -> &'t [u8]
     &text.as_bytes()[..text.len() - here.len()]
 }
 
-/// The break behind the blanks in front, if there are any.
+/// The break after the blanks at the beginning, if there are any.
 fn blank_break_in(text: &str) -> Option<Parting<'_>>
     ensures value { option_map shown_parting result ≡ blank_break_in text.entry.now }
     ensures rest { IfSome result (λ parting. IsRest text.entry.now parting.behind.now) }
@@ -80,7 +80,7 @@ fn blank_break_in(text: &str) -> Option<Parting<'_>>
     })
 }
 
-/// The break in front, if a line ends there.
+/// The break at the beginning, if a line ends there.
 #[inline(always)]
 fn parting_in(text: &str) -> Option<Parting<'_>>
     ensures value { option_map shown_parting result ≡ line_break_in text.entry.now }
@@ -94,10 +94,9 @@ fn parting_in(text: &str) -> Option<Parting<'_>>
     blank_break_in(text)
 }
 
-/// The break of the line that ends at this place of the text (CommonMark 6.7 and 6.8): from the first blank at the end of the
-/// line on, or from a backslash on that stands directly before the line ending and that no backslash escapes. A break is hard
-/// where it begins with such a backslash, and where two spaces stand directly before the line ending. `None` where no line
-/// ends there, as at the end of the text.
+/// The break of the line that ends at this byte offset of the text (CommonMark 6.7 and 6.8). It begins with the first blank at the end of
+/// the line, or with an unescaped backslash directly before the line ending. A break is hard if it begins with such a backslash, or if two
+/// spaces come directly before the line ending. `None` if no line ends there, for example at the end of the text.
 #[inline(always)]
 pub fn line_break(text: &str, at: usize) -> Option<LineBreak>
     requires { IsCharBoundary text.now at }

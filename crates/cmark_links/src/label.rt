@@ -13,7 +13,7 @@ use crate::place::place_of;
 use cmark_scan_parts::bytes::escapes_next;
 use cmark_scan_parts::is_label;
 
-/// The label behind its opening bracket, up to the next bracket, which no backslash escapes and which closes it.
+/// The label after its opening bracket, up to the next unescaped bracket, which closes it.
 pub fn label_in(text: &str) -> Option<Part<'_>>
     ensures value { option_map shown_part result ≡ label_in text.entry.now }
     ensures rest { IfSome result (λ label. IsRest text.entry.now label.behind.now) }
@@ -29,14 +29,14 @@ pub fn label_in(text: &str) -> Option<Part<'_>>
 /// The label of a full reference.
 #[derive(Clone, Copy)]
 pub struct ReferenceLabel<'t> {
-    /// What is written between its brackets.
+    /// The text between its brackets, as written.
     pub label: &'t str,
-    /// The place in the text behind its closing bracket.
+    /// The byte offset after its closing bracket.
     pub end: usize,
 }
 
-/// The label in brackets at this place of the text, which stands right behind a closing bracket: that of a full reference
-/// (CommonMark 6.3). A label has 1 to 999 characters, at least one of them no white space, and no bracket but escaped ones.
+/// The label in brackets at this byte offset of the text, directly after a closing bracket: the label of a full reference (CommonMark 6.3).
+/// A label has 1 to 999 characters, not only white space, and no unescaped bracket.
 pub fn reference_label(text: &str, at: usize) -> Option<ReferenceLabel<'_>>
     requires { IsCharBoundary text.now at }
     ensures value { option_map (shown_label text.entry.now) result ≡ reference_label_in (drop at text.entry.now) }
@@ -50,8 +50,8 @@ pub fn reference_label(text: &str, at: usize) -> Option<ReferenceLabel<'_>>
     })
 }
 
-/// The place behind `[]` at this place of the text, which stands right behind a closing bracket: the end of a collapsed
-/// reference (CommonMark 6.3).
+/// The byte offset after a `[]` at this byte offset of the text, directly after a closing bracket: the end of a collapsed reference
+/// (CommonMark 6.3).
 pub fn collapsed_end(text: &str, at: usize) -> Option<usize>
     requires { IsCharBoundary text.now at }
     ensures value { option_map (λ end. drop end text.now) result ≡ behind_collapsed (drop at text.now) }
@@ -64,14 +64,14 @@ pub fn collapsed_end(text: &str, at: usize) -> Option<usize>
     }
 }
 
-/// Whether a byte is a bracket that no backslash escapes.
+/// Whether a byte is an unescaped bracket.
 fn is_bracket(escaped: bool, byte: u8) -> bool
     ensures { result ≡ (not escaped && ((byte == 91) || (byte == 93))) }
 {
     !escaped && (byte == b'[' || byte == b']')
 }
 
-/// Whether a bracket stands in these bytes that no backslash escapes.
+/// Whether these bytes contain an unescaped bracket.
 fn has_bracket(bytes: &[u8]) -> bool
     ensures { result ≡ has_bracket false bytes.now }
 {
@@ -87,8 +87,8 @@ fn has_bracket(bytes: &[u8]) -> bool
     false
 }
 
-/// Whether the text between two brackets is a label, by which a collapsed or a shortcut reference asks (CommonMark 6.3): it
-/// has 1 to 999 characters, at least one of them no white space, and no bracket but escaped ones.
+/// Whether the text between two brackets can be the label of a collapsed or shortcut reference (CommonMark 6.3). It has 1 to 999
+/// characters, not only white space, and no unescaped bracket.
 pub fn is_bracketed_label(text: &str) -> bool
     ensures { result ≡ is_bracketed_label text.now }
 {

@@ -1,8 +1,7 @@
-//! What links and link reference definitions are written with (CommonMark 4.7 and 6.3): labels, destinations, titles, and what
-//! stands behind the brackets of a link; and the breaks between lines (CommonMark 6.7 and 6.8), which are read with the same
-//! functions.
+//! The parts of links and of link reference definitions (CommonMark 4.7 and 6.3): labels, destinations, titles, and the part of a link
+//! after its brackets. Also the breaks between lines (CommonMark 6.7 and 6.8), which are read with the same functions.
 //!
-//! Places are byte offsets of the text that is handed in. What is read in front of a text is given with the rest of it.
+//! Places are byte offsets of the text that is passed. A function that reads a part at the beginning of a text also returns the rest of it.
 #![tactic(auto)]
 
 mod blank;

@@ -13,18 +13,18 @@ use crate::part::{Part, title_in};
 use crate::place::place_of;
 use cmark_scan_parts::scan_link_dest;
 
-/// What stands in the parentheses of an inline link, as it is written.
+/// The content of the parentheses of an inline link, as written.
 #[derive(Clone, Copy)]
 pub struct LinkTail<'t> {
-    /// The destination, without pointed brackets; it may be empty.
+    /// The destination, without angle brackets; it may be empty.
     pub destination: &'t str,
-    /// The title without what encloses it, if there is one.
+    /// The title without its quotes or parentheses, if there is one.
     pub title: Option<&'t str>,
-    /// The place in the text behind the closing parenthesis.
+    /// The byte offset after the closing parenthesis.
     pub end: usize,
 }
 
-/// The same, with the text behind it.
+/// The content of the parentheses, and the text after it.
 #[derive(Clone, Copy)]
 struct Inside<'t> {
     destination: &'t str,
@@ -32,7 +32,7 @@ struct Inside<'t> {
     behind: &'t str,
 }
 
-/// The destination in front, which may be empty.
+/// The destination at the beginning, which may be empty.
 fn destination_in(text: &str) -> Option<Part<'_>>
     ensures value { option_map shown_part result ≡ link_destination_in text.entry.now }
     ensures rest { IfSome result (λ destination. IsRest text.entry.now destination.behind.now) }
@@ -44,7 +44,7 @@ fn destination_in(text: &str) -> Option<Part<'_>>
     })
 }
 
-/// What stands in the parentheses, if they are closed behind a separator.
+/// The content of the parentheses, if they are closed after a separator.
 fn closed_tail<'t>(
     destination: &'t str,
     title: Option<&'t str>,
@@ -61,7 +61,7 @@ fn closed_tail<'t>(
     })
 }
 
-/// What stands in the parentheses behind a destination, with the title, if one follows.
+/// The content of the parentheses after a destination, with the title, if one follows.
 fn with_title(destination: Part<'_>) -> Option<Inside<'_>>
     ensures value { option_map shown_inside result ≡ with_title (Some (shown_part destination.entry)) (title_in (behind_separator destination.entry.behind.now)) }
     ensures rest { IfSome result (λ inside. IsRest destination.entry.behind.now inside.behind.now) }
@@ -72,7 +72,7 @@ fn with_title(destination: Part<'_>) -> Option<Inside<'_>>
     }
 }
 
-/// What stands in the parentheses behind the opening one.
+/// The content of the parentheses, after the opening one.
 fn tail_inside(text: &str) -> Option<Inside<'_>>
     ensures value { option_map shown_inside result ≡ tail_inside text.entry.now }
     ensures rest { IfSome result (λ inside. IsRest text.entry.now inside.behind.now) }
@@ -81,9 +81,9 @@ fn tail_inside(text: &str) -> Option<Inside<'_>>
     with_title(destination)
 }
 
-/// The destination and the title of an inline link at this place of the text, which stands right behind the closing bracket
-/// (CommonMark 6.3): in parentheses a destination, which may be empty, and a title, if it has one. Between them stand blanks
-/// with at most one line ending each; a title may also follow its destination at once (this profile's own).
+/// The destination and the title of an inline link at this byte offset of the text, directly after the closing bracket (CommonMark 6.3).
+/// They are in parentheses: a destination, which may be empty, and perhaps a title. Blanks with at most one line ending may separate them;
+/// a title may also follow its destination directly (this profile's own).
 pub fn link_tail(text: &str, at: usize) -> Option<LinkTail<'_>>
     requires { IsCharBoundary text.now at }
     ensures value { option_map (shown_tail text.entry.now) result ≡ link_tail_in (drop at text.entry.now) }

@@ -9,17 +9,16 @@ ghost use Rattle.cmark_links.specs.Shown.{shown_part};
 
 use cmark_scan_parts::{closed_size, scan_link_dest};
 
-/// A part of a text, and the text behind it and its closer.
+/// A part of a text, and the text after it and its closer.
 #[derive(Clone, Copy)]
 pub struct Part<'t> {
-    /// The part, without what encloses it.
+    /// The part, without its quotes, brackets or parentheses.
     pub part: &'t str,
-    /// The text behind it.
+    /// The text after it.
     pub behind: &'t str,
 }
 
-/// The part up to a closer of ASCII, which no backslash escapes, if no unescaped refused byte comes before it. It may take
-/// several lines.
+/// The part up to an unescaped ASCII closer, if no unescaped refused byte comes before the closer. It may span several lines.
 pub fn closed_part(text: &str, closer: u8, refused: u8) -> Option<Part<'_>>
     requires { closer < 128 }
     ensures value { option_map shown_part result ≡ up_to false closer refused true text.entry.now }
@@ -32,7 +31,7 @@ pub fn closed_part(text: &str, closer: u8, refused: u8) -> Option<Part<'_>>
     })
 }
 
-/// Whether a part is a destination of this text: one in pointed brackets, or one that is not empty.
+/// Whether a part is a destination of this text: it is in angle brackets, or not empty.
 fn is_destination(text: &str, part: &str) -> bool
     ensures { result ≡ (first_is (λ b. b == 60) text.now || not (is_empty part.now)) }
 {
@@ -42,7 +41,7 @@ fn is_destination(text: &str, part: &str) -> bool
     }
 }
 
-/// The destination in front: in pointed brackets on one line, or bare and not empty.
+/// The destination at the beginning: in angle brackets on one line, or bare and not empty.
 pub fn destination_in(text: &str) -> Option<Part<'_>>
     ensures value { option_map shown_part result ≡ destination_in text.entry.now }
     ensures rest { IfSome result (λ destination. IsRest text.entry.now destination.behind.now) }
@@ -57,7 +56,7 @@ pub fn destination_in(text: &str) -> Option<Part<'_>>
     })
 }
 
-/// The title in front: in double or single quotes, or in parentheses.
+/// The title at the beginning: in double or single quotes, or in parentheses.
 pub fn title_in(text: &str) -> Option<Part<'_>>
     ensures value { option_map shown_part result ≡ title_in text.entry.now }
     ensures rest { IfSome result (λ title. IsRest text.entry.now title.behind.now) }

@@ -4,7 +4,7 @@ ghost use Rattle.std.specs.Prelude.{◌≡◌, ◌+◌, length, drop};
 ghost use Rattle.std.specs.Str.{IsCharBoundary};
 ghost use Rattle.cmark_links.specs.Rests.{IsRest};
 
-/// Where a rest of a text begins in it.
+/// The byte offset at which a rest of a text begins in it.
 pub fn place_of(text: &str, rest: &str) -> usize
     requires { IsRest text.now rest.now }
     ensures rest { drop result text.now ≡ rest.now }

@@ -12,7 +12,7 @@ use cmark_text_parts::{CowStr, EntityLookup};
 use memchr::memchr2;
 use std::alloc::{AllocError, Global};
 
-/// The lines of a title: each line ending and the blanks behind it are one line feed (this profile's own). Fails only where memory is
+/// The lines of a title: each line ending, with the blanks after it, becomes one line feed (this profile's own). Fails only if memory is
 /// refused.
 pub fn title_lines(alloc: Global, title: &str) -> Result<String, AllocError>
     ensures { IfOk result (λ lines. string_bytes lines ≡ title_lines false title.now) }
@@ -28,8 +28,8 @@ pub fn title_lines(alloc: Global, title: &str) -> Result<String, AllocError>
     Ok(lines)
 }
 
-/// The text of a title as it is written (CommonMark 6.3): each line ending and the blanks behind it are one line feed, and
-/// escapes and entities are resolved; in a table `\\|` is `|`. It is borrowed where none of these is in it; fails only where memory is
+/// The text of a title as written (CommonMark 6.3): each line ending, with the blanks after it, becomes one line feed, and escapes and
+/// entities are resolved. In a table cell `\\|` becomes `|`. The text is borrowed if it contains none of these. Fails only if memory is
 /// refused.
 pub fn title_text<'t, E: EntityLookup>(
     alloc: Global,

@@ -1,4 +1,4 @@
--- Merged texts have the HTML of the texts.
+-- Merged texts have the same HTML as the texts.
 use Rattle.std.proofs.Common.{◌≡◌, ℕ, ◌-◌, suc, Bool, true, false, List, [], ◌∷◌, ◌++◌, length, drop, map, Option, Some, None, nat_eq, refl, sym, ap, ap₂, ◌∙◌, append_assoc, append-nil, arith}
 use Rattle.std.proofs.lemmas.Grind.{flat_map-append}
 use Rattle.std.proofs.lemmas.List.{map-append}
@@ -8,7 +8,7 @@ use Rattle.cmark_grammar.specs.Event.{Event, Text}
 use Rattle.cmark_grammar.specs.Html.{OpenImage, TableState, Writing, at_line_start, ends_in_line_feed, html, last_piece, moved, moved_all, piece, pieces_from}
 use Rattle.cmark_grammar.specs.Merge.{TextAt, event_of, merge_behind, merge_events, merged_run, text_of_event, texts, unless_empty, IsNoEmptyText, NoEmptyTexts}
 
--- the last byte of a text is that of what is behind its first byte, if there is any
+-- the last byte of a text is the last byte after its first one, if there are more
 last-behind : (x c : ℕ) (cs : List ℕ) → ends_in_line_feed (x ∷ c ∷ cs) ≡ ends_in_line_feed (c ∷ cs)
 last-behind x c cs =
     let less : length (x ∷ c ∷ cs) - 1 ≡ suc (length (c ∷ cs) - 1) = omega arith in
@@ -19,7 +19,7 @@ line_feed-append [] c cs = refl
 line_feed-append (x ∷ []) c cs = last-behind x c cs
 line_feed-append (x ∷ y ∷ a) c cs = last-behind x y (a ++ c ∷ cs) ∙ line_feed-append (y ∷ a) c cs
 
--- what is written from a state on
+-- the HTML that is written from a state on
 abbrev html_from : Writing → List Event → List ℕ
 html_from w es = pieces_from w es ++ last_piece (moved_all w es).image
 
@@ -52,7 +52,7 @@ html_from-two w a c cs es =
     ∙ ap₂ (λ p v. p ++ html_from v es) (two-pieces w.line_start w.table w.names a c cs w.image w.in_metadata) (two-moved w.line_start w.table w.names a c cs w.image w.in_metadata)
     ∙ sym (html_from-step w (Text (a ++ c ∷ cs)) es)
 
--- what follows may be put in the place of another that has the same HTML
+-- the events that follow may be replaced by others with the same HTML
 html_from-behind : (w : Writing) (xs ys zs : List Event) → ((v : Writing) → html_from v ys ≡ html_from v zs) → html_from w (xs ++ ys) ≡ html_from w (xs ++ zs)
 html_from-behind w [] ys zs same = same w
 html_from-behind w (x ∷ xs) ys zs same =

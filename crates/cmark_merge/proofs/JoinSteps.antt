@@ -1,4 +1,4 @@
--- Texts that are read in turn, and what they become.
+-- Texts that are read one by one, and the text that they are joined into.
 use Rattle.std.proofs.Common.{◌≡◌, ◌≢◌, inl, inr, ℕ, ◌==◌, T, Bool, true, false, List, [], ◌∷◌, ◌++◌, length, map, Option, Some, None, option_to_list, Result, Ok, Err, OnErr, refl, sym, ap, subst, ◌∙◌, true≢false}
 use Rattle.std.proofs.Math.Facts.{eqb_yes}
 use Rattle.std.proofs.lemmas.List.{map-append, nil_from_length}
@@ -30,7 +30,7 @@ module _ {S : Type 0} (steps : S → Option RangedItem → S → Type 0) where
   pub reads-held : (old new : Ahead S RangedItem) (x y : RangedItem) → ReadsOne steps old (Some x) new → y ≡ x → Reads steps old (y ∷ []) new
   reads-held old new x y r e = reads-yields steps old new (y ∷ []) r.0 r.2 (new.iter, subst (λ z. steps old.iter (Some z) new.iter) (sym e) r.1, refl)
 
-  -- one text more
+  -- one more text
   abbrev pub texts-then : (old mid new : Ahead S RangedItem) (t : CowStr × Range ℕ) → ReadsTexts steps old mid → ReadsText steps mid (Some t) new → ReadsTexts steps old new
   texts-then old mid new t run r = record {
     texts = run.texts ++ t ∷ [];

@@ -3,28 +3,28 @@ use Rattle.std.proofs.Common.{◌≡◌, ℕ, List, [], ◌∷◌, ◌++◌, map
 use Rattle.cmark_grammar.specs.Merge.{TextAt, joined, last_end, merge, merge_behind, merged_run, run_with, texts}
 
 module _ {A : Type 0} (text_of : A → Option TextAt) (item_of : TextAt → A) where
-  -- behind a run comes a text
+  -- a text follows a run
   pub behind-text : (run : List TextAt) (x : A) (xs : List A) (t : TextAt) → text_of x ≡ Some t
       → merge_behind text_of item_of run (x ∷ xs) ≡ merge_behind text_of item_of (run ++ t ∷ []) xs
   behind-text run x xs t e = ap (λ o. run_with item_of run o x (λ longer. merge_behind text_of item_of longer xs)) e
 
-  -- behind a run comes another item
+  -- another item follows a run
   pub behind-other : (run : List TextAt) (x : A) (xs : List A) → text_of x ≡ None
       → merge_behind text_of item_of run (x ∷ xs) ≡ merged_run item_of run ++ x ∷ merge text_of item_of xs
   behind-other run x xs e = ap (λ o. run_with item_of run o x (λ longer. merge_behind text_of item_of longer xs)) e
 
-  -- what is no text is in front of what others become
+  -- an item that is not a text stays before the merged form of the others
   pub merge-other : (x : A) (xs : List A) → text_of x ≡ None → merge text_of item_of (x ∷ xs) ≡ x ∷ merge text_of item_of xs
   merge-other x xs e = behind-other [] x xs e
 
-  -- a run ends in front of what is no text, or of nothing
+  -- a run ends before an item that is not a text, or at the end
   pub behind-end : (run : List TextAt) (behind : Option A) (rest : List A) → IfSome behind (λ x. text_of x ≡ None) → IfNone behind (rest ≡ [])
       → merge_behind text_of item_of run (option_to_list behind ++ rest) ≡ merged_run item_of run ++ merge text_of item_of (option_to_list behind ++ rest)
   behind-end run None rest h e =
       subst (λ l. merge_behind text_of item_of run l ≡ merged_run item_of run ++ merge text_of item_of l) (sym e) (sym (append-nil (merged_run item_of run)))
   behind-end run (Some x) rest h e = behind-other run x rest h ∙ ap (λ l. merged_run item_of run ++ l) (sym (merge-other x rest h))
 
-  -- texts behind a run
+  -- texts after a run
   module _ {T : Type 0} (item : T → A) (at : T → TextAt) (is : (t : T) → text_of (item t) ≡ Some (at t)) where
     pub behind-texts : (run : List TextAt) (ts : List T) (xs : List A)
         → merge_behind text_of item_of run (map item ts ++ xs) ≡ merge_behind text_of item_of (run ++ map at ts) xs
@@ -33,7 +33,7 @@ module _ {A : Type 0} (text_of : A → Option TextAt) (item_of : TextAt → A) w
         behind-text run (item t) (map item ts ++ xs) (at t) (is t) ∙ behind-texts (run ++ at t ∷ []) ts xs
         ∙ ap (λ l. merge_behind text_of item_of l xs) (append_assoc run (at t ∷ []) (map at ts))
 
--- one text more
+-- one more text
 pub texts-more : (ts : List TextAt) (u : TextAt) → texts (ts ++ u ∷ []) ≡ texts ts ++ u.text
 texts-more [] u = append-nil u.text
 texts-more (t ∷ ts) u = ap (λ l. t.text ++ l) (texts-more ts u) ∙ sym (append_assoc t.text (texts ts) u.text)
@@ -46,7 +46,7 @@ joined-more : (t : TextAt) (ts : List TextAt) (u : TextAt) → joined t (ts ++ u
 joined-more t ts u =
     ap₂ (λ text end. record { text = text; start = t.start; end = end }) (ap (λ l. t.text ++ l) (texts-more ts u) ∙ sym (append_assoc t.text (texts ts) u.text)) (last_end-more t ts u)
 
--- one text more behind those that are joined
+-- one more text after those that are joined
 pub joined-then : (first second : TextAt) (ts : List TextAt) (u : TextAt) (text more : List ℕ) (start end : ℕ)
     → record { text = text; start = start; end = end } ≡ joined first (second ∷ ts) → more ≡ text ++ u.text
     → record { text = more; start = start; end = u.end } ≡ joined first (second ∷ (ts ++ u ∷ []))

@@ -1,4 +1,4 @@
--- Readings one behind the other.
+-- Readings one after the other.
 use Rattle.std.proofs.Common.{◌≡◌, Bool, true, false, List, [], ◌∷◌, ◌++◌, Option, Some, None, MatchBool, option_to_list, refl, sym, ap, subst, ◌∙◌, append-nil, true≢false}
 use Rattle.std.specs.Iterator.{Yields}
 use Rattle.cmark_merge.specs.Reading.{Ahead, ReadsTo, Reads}
@@ -24,7 +24,7 @@ module _ {S X : Type 0} (steps : S → Option X → S → Type 0) where
       )
   to-append false false c s t u xs ys h k = (k.0, yields-append s xs t ys k.0 (subst (Yields steps s xs) h.2 h.1) k.1, k.2)
 
-  -- the iterator was open where it is open
+  -- an iterator that is open now was open before
   pub to-open : (a b : Bool) (s t : S) (xs : List X) → ReadsTo steps a s xs b t → b ≡ false → (a ≡ false) × Yields steps s xs t
   to-open true b s t xs h e = absurd (true≢false (sym h.1 ∙ e))
   to-open false true s t xs h e = absurd (true≢false e)
@@ -35,7 +35,7 @@ module _ {S X : Type 0} (steps : S → Option X → S → Type 0) where
   to-yields false true s t xs e k h = absurd (true≢false k)
   to-yields false false s t xs e k h = (t, h, refl)
 
-  -- the same of what is read ahead
+  -- two readings ahead, one after the other
   pub reads-append : (r s t : Ahead S X) (xs ys : List X) → Reads steps r xs s → Reads steps s ys t → Reads steps r (xs ++ ys) t
   reads-append r s t xs ys h k = to-append r.is_over s.is_over t.is_over r.iter s.iter t.iter xs ys h k
 
@@ -45,7 +45,7 @@ module _ {S X : Type 0} (steps : S → Option X → S → Type 0) where
   pub reads-open : (s t : Ahead S X) (xs : List X) → Reads steps s xs t → t.is_over ≡ false → (s.is_over ≡ false) × Yields steps s.iter xs t.iter
   reads-open s t xs h e = to-open s.is_over t.is_over s.iter t.iter xs h e
 
--- what comes where nothing was held
+-- the next item if none was held
 module _ {S : Type 0} (steps : S → Option RangedItem → S → Type 0) (iter : S) (is_over : Bool) (held others : Option RangedItem) (new : Ahead S RangedItem) where
   abbrev old : Option RangedItem → Ahead S RangedItem
   old o = record { iter = iter; held = o; is_over = is_over }

@@ -8,7 +8,7 @@ unless_empty-map : {A B : Type 0} (f : A → B) (text : List ℕ) (x : A) → ma
 unless_empty-map f [] x = refl
 unless_empty-map f (b ∷ bs) x = refl
 
--- f takes items of one kind to those of another, and g their texts
+-- f maps items of one kind to items of another, and g their texts
 module _ {A B : Type 0} (text_a : A → Option TextAt) (item_a : TextAt → A) (text_b : B → Option TextAt) (item_b : TextAt → B) (f : A → B) (g : TextAt → TextAt)
     (text_same : (x : A) → text_b (f x) ≡ option_map g (text_a x)) (item_same : (t : TextAt) → f (item_a t) ≡ item_b (g t)) (bytes_same : (t : TextAt) → t.text ≡ (g t).text)
     (joined_same : (t : TextAt) (ts : List TextAt) → item_b (g (joined t ts)) ≡ item_b (joined (g t) (map g ts))) where
@@ -53,12 +53,12 @@ between-unplaced e start end = refl
 joined-unplaced : (t : TextAt) (ts : List TextAt) → event_of (unplaced (joined t ts)) ≡ event_of (joined (unplaced t) (map unplaced ts))
 joined-unplaced t ts = ap (λ l. Text (t.text ++ l)) (texts-unplaced ts)
 
--- without their ranges events are merged as with them
+-- events without ranges are merged as they are with ranges
 pub merge-events : (rs : List Ranged) → map Ranged.event (merge_ranged rs) ≡ merge_events (map Ranged.event rs)
 merge-events rs =
     merge_same text_of_ranged ranged_of text_of_event event_of Ranged.event unplaced (λ r. between-unplaced r.event r.start r.end) (λ t. refl) (λ t. refl) joined-unplaced rs
 
--- and as items
+-- the same for items
 option-same : {A : Type 0} (o : Option A) → o ≡ option_map (λ x. x) o
 option-same None = refl
 option-same (Some x) = refl

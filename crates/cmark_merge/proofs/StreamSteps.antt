@@ -1,4 +1,4 @@
--- What a call gives, from what was read in it.
+-- The result of a call, from the items that it read.
 use Rattle.std.proofs.Common.{◌≡◌, ◌≢◌, ◌⊎◌, inl, inr, ℕ, ◌&&◌, Bool, true, false, List, [], ◌∷◌, ◌++◌, map, is_some, Option, Some, None, option_map, option_to_list, IfNone, IfSome, MatchBool, Result, Ok, Err, refl, sym, ap, ap₂, subst, ◌∙◌, append_assoc, append-nil}
 use Rattle.std.proofs.lemmas.List.{map-append}
 use Rattle.std.specs.declared.alloc.AllocError.{AllocError}
@@ -14,7 +14,7 @@ use Rattle.cmark_merge.specs.Streams.{IsOwnedRanged, RangedItem, shown_ranged, t
 use Rattle.cmark_merge.proofs.MergeSteps.{behind-end, behind-text, behind-texts, merge-other}
 use Rattle.cmark_merge.proofs.ReadSteps.{reads-append, reads-open, reads-yields, yields-append}
 
--- these items merged, and behind a run
+-- these items merged, also after a run
 abbrev Shown : Type 0
 Shown = Result Ranged AllocError
 
@@ -33,7 +33,7 @@ all_merged xs = merged text_of_ranged ranged_of shown_ranged xs
 abbrev behind : List TextAt → List RangedItem → List Shown
 behind run xs = merge_behind text_of item_of run (map show xs)
 
--- an item that is no text, as shown
+-- an item that is not a text, as shown
 not-some : (o : Option TextAt) → is_some o ≡ false → o ≡ None
 not-some None e = refl
 not-some (Some t) e = absurd (some-is-not e)
@@ -44,13 +44,13 @@ not-some (Some t) e = absurd (some-is-not e)
 no-text : (x : RangedItem) → IsNoText x → text_of (show x) ≡ None
 no-text x e = not-some (text_of (show x)) e
 
--- a run ends in front of what is no text, or of the end
+-- a run ends before an item that is not a text, or at the end
 run-ends : (run : List TextAt) (next : Option RangedItem) (rest : List RangedItem) → IfSome next IsNoText → IfNone next (rest ≡ [])
     → behind run (option_to_list next ++ rest) ≡ merged_run item_of run ++ all_merged (option_to_list next ++ rest)
 run-ends run None rest h e = behind-end text_of item_of run None (map show rest) tt (ap (λ l. map show l) e)
 run-ends run (Some x) rest h e = behind-end text_of item_of run (Some (show x)) (map show rest) (no-text x h) tt
 
--- some texts and what is behind them
+-- some texts and the items after them
 texts-behind : (t : CowStr × Range ℕ) (ts : List (CowStr × Range ℕ)) (xs : List RangedItem) → all_merged (text_item t ∷ (map text_item ts ++ xs)) ≡ behind (text_at t ∷ map text_at ts) xs
 texts-behind t ts xs =
     ap (λ l. merge_behind text_of item_of (text_at t ∷ []) l) (map-append show (map text_item ts) xs ∙ ap (λ l. l ++ map show xs) (map-map ts))
@@ -73,15 +73,15 @@ several t u ts next rest h e all is =
     texts-behind t (u ∷ ts) (option_to_list next ++ rest) ∙ run-ends (text_at t ∷ text_at u ∷ map text_at ts) next rest h e
     ∙ ap (λ a. unless_empty (TextAt.text a) (item_of a) ++ all_merged (option_to_list next ++ rest)) (sym is)
 
--- what was left, where some was read
+-- the items that were left, of which some were read
 split : (held : Option RangedItem) (read items rest : List RangedItem) → option_to_list held ++ read ≡ items → all_merged (option_to_list held ++ (read ++ rest)) ≡ all_merged (items ++ rest)
 split held read items rest e = ap all_merged (sym (append_assoc (option_to_list held) read rest) ∙ ap (λ l. l ++ rest) e)
 
--- what is held behind the call
+-- the item that is held after the call
 kept : (held : Option RangedItem) (next : Option RangedItem) (rest : List RangedItem) → held ≡ next → all_merged (option_to_list next ++ rest) ≡ all_merged (option_to_list held ++ rest)
 kept held next rest e = ap (λ o. all_merged (option_to_list o ++ rest)) (sym e)
 
--- of a list that is one of two
+-- None as a list
 nothing-in : {A : Type 0} (o : Option A) → o ≡ None → option_to_list o ≡ []
 nothing-in o e = ap option_to_list e
 
@@ -105,7 +105,7 @@ module _ {S : Type 0} (steps : S → Option RangedItem → S → Type 0) (old : 
   abbrev Gives : Type 0
   Gives = GivesFirst steps text_of_ranged ranged_of shown_ranged IsOwnedRanged old given new
 
-  -- from what the call read and gave
+  -- from the items that the call read and gave
   gives-by : (read items : List RangedItem) → Reads steps old read new → option_to_list old.held ++ read ≡ items
       → ((rest : List RangedItem) → (new.is_over ≡ true → rest ≡ []) → all_merged (items ++ rest) ≡ then_given (option_map show given) (all_merged (option_to_list new.held ++ rest)))
       → IfSome given (HandsOn text_of_ranged shown_ranged IsOwnedRanged items) → IfNone given ((new.is_over ≡ true) × (new.held ≡ None)) → Gives
@@ -123,18 +123,18 @@ module _ {S : Type 0} (steps : S → Option RangedItem → S → Type 0) (old ne
   gives-none k =
       gives-by steps old None new k.read [] k.reads k.items (λ rest over. ap all_merged (over k.ends)) tt (k.ends, k.nothing_held)
 
-  -- an item that is no text
+  -- an item that is not a text
   pub gives-other : (x : RangedItem) → Takes steps old (Some x) new → IsNoText x → Gives steps old (Some x) new
   gives-other x k h =
       gives-by steps old (Some x) new k.read (x ∷ []) k.reads k.items
       (λ rest over. merge-other text_of item_of (show x) (map show rest) (no-text x h) ∙ ap (λ l. show x ∷ l) (kept new.held None rest k.nothing_held)) refl tt
 
   module _ (mid : Ahead S RangedItem) (t : CowStr × Range ℕ) (k : Takes steps old (Some (text_item t)) mid) where
-    -- what is behind a text, which was read in front of it
+    -- the items after a text that was read first
     behind-first : (more : List RangedItem) → option_to_list old.held ++ (k.read ++ more) ≡ text_item t ∷ more
     behind-first more = sym (append_assoc (option_to_list old.held) k.read more) ∙ ap (λ l. l ++ more) k.items
 
-    -- a text that no other follows
+    -- a text that no other text follows
     pub gives-alone : ReadsText steps mid None new → Gives steps old (Some (text_item t)) new
     gives-alone h =
         gives-by steps old (Some (text_item t)) new (k.read ++ option_to_list new.held) (text_item t ∷ option_to_list new.held)
@@ -145,7 +145,7 @@ unless-not : {A : Type 0} (text : List ℕ) (x : A) → text ≢ [] → unless_e
 unless-not [] x h = absurd (h refl)
 unless-not (b ∷ bs) x h = refl
 
--- what is behind texts that are empty is the first of what is left
+-- the item after empty texts is the first of those that are left
 behind-empty : (next held : Option RangedItem) (rest : List RangedItem) → held ≡ None → IfSome next IsNoText → IfNone next (rest ≡ [])
     → all_merged (option_to_list next ++ rest) ≡ then_given (option_map show next) (all_merged (option_to_list held ++ rest))
 behind-empty None held rest e h over = ap all_merged over

@@ -1,4 +1,4 @@
--- The stream of events alone gives what the one with ranges gives, without them.
+-- The stream of events alone gives the items of the stream with ranges, without their ranges.
 use Rattle.std.proofs.Common.{◌≡◌, ◌⊎◌, inl, inr, ℕ, ◌&&◌, Bool, true, false, List, [], ◌∷◌, ◌++◌, map, is_some, Option, Some, None, option_map, option_to_list, IfNone, IfSome, MatchBool, Result, Ok, Err, refl, sym, ap, ap₂, subst, subst₂, ◌∙◌}
 use Rattle.std.proofs.lemmas.List.{map-append}
 use Rattle.std.specs.declared.alloc.AllocError.{AllocError}
@@ -27,7 +27,7 @@ list-without : (o : Option RangedItem) → forget (option_to_list o) ≡ option_
 list-without None = refl
 list-without (Some x) = refl
 
--- what is shown
+-- the shown items
 show-without : (x : RangedItem) → shown_item shown (without_range x) ≡ without (shown_item shown_ranged x)
 show-without (Ok p) = refl
 show-without (Err e) = refl
@@ -116,7 +116,7 @@ ends-without : (P : Type 0) (given held : Option RangedItem) → IfNone given (P
 ends-without P None held h = (h.0, ap (option_map without_range) h.1)
 ends-without P (Some x) held h = tt
 
--- what is read ahead of an iterator that was given ranges, without them
+-- a reader ahead of an iterator with added ranges, without these ranges
 abbrev pub plain : {S : Type 0} → Ahead (DummyOffsets S) RangedItem → Ahead S Item
 plain s = record { iter = s.iter.iter; held = option_map without_range s.held; is_over = s.is_over }
 

@@ -1,4 +1,4 @@
--- The two streams as readers ahead of their iterators, and what their calls give.
+-- The two streams as readers ahead of their iterators, and the effects of their calls.
 use Rattle.std.specs.Prelude.{◌≡◌, ◌⊎◌, ℕ, false, Bool, List, [], ◌∷◌, ◌++◌, map, string_bytes, option_map, option_to_list, IfSome, Option, Some, None, String, Result, Ok, Err}
 use Rattle.std.specs.declared.alloc.AllocError.{AllocError}
 use Rattle.std.specs.declared.ops.Range.{Range}
@@ -15,14 +15,14 @@ use Rattle.cmark_merge.specs.declared.stream.TextMergeStream.{TextMergeStream}
 use Rattle.cmark_merge.specs.Merging.{GivesMerged}
 use Rattle.cmark_merge.specs.Reading.{Ahead}
 
--- what the iterators give
+-- an item of the iterators
 abbrev pub Item : Type 0
 Item = Result Event AllocError
 
 abbrev pub RangedItem : Type 0
 RangedItem = Result (Event × Range ℕ) AllocError
 
--- an event that is a text of its own
+-- an event that is an owned text
 abbrev pub IsOwnedText : Event → Type 0
 IsOwnedText (Text text) = IsBoxed text
 IsOwnedText _ = ⊥
@@ -61,7 +61,7 @@ module _ {S : Type 0} where
   abbrev pub GivesRanged : (S → Option RangedItem → S → Type 0) → TextMergeWithOffset S → Option RangedItem → TextMergeWithOffset S → Type 0
   GivesRanged steps old given new = GivesMerged steps text_of_ranged ranged_of shown_ranged IsOwnedRanged (ranged_ahead old) given (ranged_ahead new)
 
-  -- the stream of events alone, which is the other one over events at no place
+  -- the stream of events alone: it is the other stream over events with empty ranges
   abbrev pub ahead : TextMergeStream S → Ahead S Item
   ahead s = record { iter = s.inner.iter.iter; held = option_map without_range s.inner.held; is_over = s.inner.is_over }
 

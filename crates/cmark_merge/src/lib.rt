@@ -1,4 +1,4 @@
-//! Texts of events that stand side by side, merged.
+//! Merges text events that follow each other.
 #![tactic(auto)]
 
 pub mod laws;

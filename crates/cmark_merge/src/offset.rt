@@ -1,4 +1,4 @@
-//! Texts merged, with their ranges.
+//! Text events merged, with their ranges.
 
 ghost use Rattle.std.specs.Prelude.{◌≡◌, ◌<◌, ◌≤◌, ◌++◌, false, IfErr, IfOk, None, OnErr, OnOk, OnSome, string_bytes};
 ghost use Rattle.std.specs.Iterator.{size};
@@ -11,12 +11,13 @@ use cmark_text::{CowStr, Event};
 use std::alloc::{AllocError, Global};
 use std::ops::Range;
 
-/// The events of an iterator with their ranges, in which each longest run of two or more [`Event::Text`] is one: its text
-/// is owned, and its range goes from the start of the first to the end of the last. Where all of them are empty, they give
-/// no event. All other items, and a text that stands alone, are handed on as they are; an error item parts two runs.
+/// The events of an iterator with their ranges, in which each longest run of two or more [`Event::Text`] becomes one event. Its text is
+/// owned, and its range goes from the start of the first to the end of the last. If all texts of a run are empty, the run gives no event.
 ///
-/// Where memory is refused for a text that is put together, that is an error item, and there is `None` alone behind it.
-/// The iterator is asked no more behind its `None`.
+/// All other items, and a single text, are passed on as they are. An error item ends a run.
+///
+/// If memory for a merged text is refused, the next item is an error item, and only `None` follows. The iterator is not called again after
+/// its `None`.
 ///
 /// ```text
 /// for item in TextMergeWithOffset::new(alloc, parser.into_offset_iter()) {
@@ -27,13 +28,13 @@ use std::ops::Range;
 pub struct TextMergeWithOffset<'a, I> {
     alloc: Global,
     iter: I,
-    /// What was read behind a text and is not given yet.
+    /// The item that was read after a text and has not been returned yet.
     held: Option<Result<(Event<'a>, Range<usize>), AllocError>>,
-    /// Whether the iterator is asked no more.
+    /// Whether the iterator is not called any more.
     is_over: bool,
 }
 
-/// The text of an item with its range, or else the item itself.
+/// The text of an item with its range, or `Err` with the item itself if it is not a text.
 fn text_of<'a>(
     item: Result<(Event<'a>, Range<usize>), AllocError>,
 ) -> Result<(CowStr<'a>, Range<usize>), Result<(Event<'a>, Range<usize>), AllocError>>
@@ -52,7 +53,7 @@ fn text_of<'a>(
     }
 }
 
-/// Appends a text, which a call lets go then: a drop that the compiler adds is written out at each way out.
+/// Appends a text and drops it. The drop is in this call because the compiler repeats an implicit drop at each exit.
 fn push_text(text: &mut String, more: CowStr<'_>) -> Result<(), AllocError>
     ensures { OnOk result (string_bytes text.new ≡ string_bytes text.old ++ text_bytes more.entry) }
 {
@@ -65,7 +66,7 @@ impl<'a, I> TextMergeWithOffset<'a, I>
 where
     I: Iterator<Item = Result<(Event<'a>, Range<usize>), AllocError>>,
 {
-    /// The merged events of an iterator, of which nothing is read yet. `alloc` is asked for the texts that are put together.
+    /// The merged events of an iterator, of which nothing is read yet. `alloc` provides the memory of merged texts.
     pub fn new(alloc: Global, iter: I) -> TextMergeWithOffset<'a, I>
         ensures iter { (ranged_ahead result).iter ≡ iter }
         ensures nothing_held { (ranged_ahead result).held ≡ None }
@@ -79,7 +80,7 @@ where
         }
     }
 
-    /// The next item of the iterator, which is asked no more behind its `None`.
+    /// The next item of the iterator. After its `None` the iterator is not called again.
     fn read(&mut self) -> Option<Result<(Event<'a>, Range<usize>), AllocError>>
         requires { CanGo I.can_next I.remaining (ranged_ahead self.old) }
         ensures reads { ReadsOne I.next_gives (ranged_ahead self.old) result (ranged_ahead self.new) }
@@ -100,7 +101,7 @@ where
         }
     }
 
-    /// The next item: what is held, or else the next of the iterator.
+    /// The next item: the held one, or else the next of the iterator.
     fn take(&mut self) -> Option<Result<(Event<'a>, Range<usize>), AllocError>>
         requires { CanGo I.can_next I.remaining (ranged_ahead self.old) }
         ensures takes { Takes I.next_gives (ranged_ahead self.old) result (ranged_ahead self.new) }
@@ -114,7 +115,7 @@ where
         }
     }
 
-    /// The next item of the iterator if it is a text; another is held.
+    /// The next item of the iterator if it is a text. Any other item is held, and the result is `None`.
     fn read_text(&mut self) -> Option<(CowStr<'a>, Range<usize>)>
         requires goes { CanGo I.can_next I.remaining (ranged_ahead self.old) }
         requires nothing_held { (ranged_ahead self.old).held ≡ None }
@@ -136,7 +137,7 @@ where
         }
     }
 
-    /// These two texts and those that follow them, as one.
+    /// These two texts and the texts that follow them, joined.
     fn join(
         &mut self,
         first: (CowStr<'a>, Range<usize>),
@@ -161,7 +162,7 @@ where
         Ok((text, first.1.start..end))
     }
 
-    /// The item that these two texts and those that follow them become; where they are empty, the one behind them.
+    /// The item for these two texts and the texts that follow them; if all are empty, the item after them.
     fn merge(
         &mut self,
         first: (CowStr<'a>, Range<usize>),

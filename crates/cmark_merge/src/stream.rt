@@ -1,4 +1,4 @@
-//! Texts merged, of events alone.
+//! Text events merged, without ranges.
 
 ghost use Rattle.std.specs.Prelude.{◌≡◌, false, None};
 ghost use Rattle.cmark_merge.specs.Reading.{CanGo, items_left};
@@ -9,12 +9,13 @@ use cmark_text::Event;
 use std::alloc::{AllocError, Global};
 use std::ops::Range;
 
-/// The events of an iterator, in which each longest run of two or more [`Event::Text`] is one, whose text is owned. Where
-/// all of them are empty, they give no event. All other items, and a text that stands alone, are handed on as they are; an
-/// error item parts two runs.
+/// The events of an iterator, in which each longest run of two or more [`Event::Text`] becomes one event, whose text is owned. If all texts
+/// of a run are empty, the run gives no event.
 ///
-/// Where memory is refused for a text that is put together, that is an error item, and there is `None` alone behind it.
-/// The iterator is asked no more behind its `None`.
+/// All other items, and a single text, are passed on as they are. An error item ends a run.
+///
+/// If memory for a merged text is refused, the next item is an error item, and only `None` follows. The iterator is not called again after
+/// its `None`.
 ///
 /// ```text
 /// for event in TextMergeStream::new(alloc, Parser::new(alloc, "a&b", &BasicEntities)?) {
@@ -30,7 +31,7 @@ impl<'a, I> TextMergeStream<'a, I>
 where
     I: Iterator<Item = Result<Event<'a>, AllocError>>,
 {
-    /// The merged events of an iterator, of which nothing is read yet. `alloc` is asked for the texts that are put together.
+    /// The merged events of an iterator, of which nothing is read yet. `alloc` provides the memory of merged texts.
     pub fn new(alloc: Global, iter: I) -> TextMergeStream<'a, I>
         ensures iter { (ahead result).iter ≡ iter }
         ensures nothing_held { (ahead result).held ≡ None }
@@ -92,7 +93,7 @@ impl<'a> WithDummyOffset for Result<Event<'a>, AllocError> {
     }
 }
 
-/// An iterator of events as one of events with empty ranges.
+/// An iterator of events, with an empty range for each event.
 #[derive(Drop)]
 struct DummyOffsets<I> {
     iter: I,

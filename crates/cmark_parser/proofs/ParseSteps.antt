@@ -224,9 +224,19 @@ module _ {E F : Type 0} (Says : F → BrokenLink → Option (CowStr × CowStr) �
   }
 
   pub gives-error : (old new : Parser E F) (error : AllocError) → old.is_over ≡ false → new.is_over ≡ true → ((reader : Reader) → walking.NoEndIsNext replacement reader old.spans)
-      → walking.HasAsked (SaysIfAny Says) old.spans.callback new.spans.callback → text_of new ≡ text_of old → definitions new ≡ definitions old → SameFootnotes (footnotes old) (footnotes new) → IsCounted new → GivesStep Says replacement old (Some (Err error)) new
-  gives-error old new error e n ends asked text same known counted = record {
-    next = record { taken = asked.0; first = (asked-of Says asked.0 old.spans.callback new.spans.callback asked.1, λ exchanges events m. ends (reader_for replacement old) exchanges events (subst (λ b. Left replacement b old exchanges events) e m), n); goes_on = inl n; over = λ over. absurd (let q : true ≡ false = sym over ∙ e in cc) };
+      → walking.Stops (SaysIfAny Says) replacement (reader_for replacement old) old.spans new.spans → text_of new ≡ text_of old → definitions new ≡ definitions old → SameFootnotes (footnotes old) (footnotes new) → IsCounted new → GivesStep Says replacement old (Some (Err error)) new
+  gives-error old new error e n ends stops text same known counted = record {
+    next = record {
+      taken = stops.taken;
+      first = (
+        asked-of Says stops.taken old.spans.callback new.spans.callback stops.answered,
+        λ exchanges events m. ends (reader_for replacement old) exchanges events (subst (λ b. Left replacement b old exchanges events) e m),
+        n,
+        λ plan. (let l = stops.left plan in (l.0, l.1, l.2, subst (λ b. Left replacement b old (stops.taken ++ l.0) l.1) (sym e) l.3)),
+      );
+      goes_on = inl n;
+      over = λ over. absurd (let q : true ≡ false = sym over ∙ e in cc);
+    };
     text = text;
     definitions = same;
     footnotes = known;
@@ -309,9 +319,9 @@ module _ {E F : Type 0} (Says : F → BrokenLink → Option (CowStr × CowStr) �
 
     pub gives-or-err : (o : Result Coming AllocError) → new.is_over ≡ is_last o → IfOk o (λ coming. walking.GivesNext (SaysIfAny Says) replacement (reader_for replacement old) old.spans (walking.as_next coming) new.spans)
         → IfOk o (λ coming. walking.LeavesFewer old.spans (walking.as_next coming) new.spans)
-        → OnErr o ((reader : Reader) → walking.NoEndIsNext replacement reader old.spans) → OnErr o (walking.HasAsked (SaysIfAny Says) old.spans.callback new.spans.callback) → GivesOrErr Says replacement old o new
-    gives-or-err (Ok coming) n h less ends asked = gives-coming coming n h less
-    gives-or-err (Err error) n h less ends asked = gives-error old new error e n ends asked text same known counted
+        → OnErr o ((reader : Reader) → walking.NoEndIsNext replacement reader old.spans) → OnErr o (walking.Stops (SaysIfAny Says) replacement (reader_for replacement old) old.spans new.spans) → GivesOrErr Says replacement old o new
+    gives-or-err (Ok coming) n h less ends stops = gives-coming coming n h less
+    gives-or-err (Err error) n h less ends stops = gives-error old new error e n ends stops text same known counted
 
 -- ## A parser at the start
 

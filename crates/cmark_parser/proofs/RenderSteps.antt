@@ -4,6 +4,7 @@ use Rattle.std.proofs.lemmas.List.{map-append}
 use Rattle.std.specs.Prelude.{is_some}
 use Rattle.cmark_grammar.specs.Answers.{Lookup}
 use Rattle.cmark_grammar.specs.Event.{Event, Ranged, Start}
+use Rattle.cmark_grammar.specs.Headline.{IsHtmlWithin, profile_within}
 use Rattle.cmark_grammar.specs.Html.{Writing, at_line_start, piece, piece_in, piece_outside, pieces_from, moved, moved_all, moved_in, moved_outside, opened_by, opened_image, last_piece}
 use Rattle.cmark_grammar.specs.Options.{Options}
 use Rattle.cmark_grammar.specs.Questions.{Exchange}
@@ -31,8 +32,7 @@ use Rattle.cmark_text_parts.specs.Shown.{shown_link_type, text_bytes}
 use Rattle.cmark_text.specs.declared.ranged.Ranged.{Ranged as Item}
 use Rattle.cmark_parser.specs.declared.parse.Parser.{Parser}
 use Rattle.cmark_parser.specs.Parsing.{Asks, CanGo, GivesAs, GivesStart, GivesStep, Passes, ReadsWithin, Remains, callback_of}
-use Rattle.cmark_parser.specs.Rendering.{IsHtmlBy, IsHtmlOfRest, IsHtmlWithin, WritesSome, WritesWhole, Written, filtered_of, leads_to, written}
-use Rattle.cmark_parser.specs.Walking.{profile_within}
+use Rattle.cmark_parser.specs.Rendering.{IsHtmlBy, IsHtmlOfRest, WritesSome, WritesWhole, Written, filtered_of, leads_to, written}
 use Rattle.cmark_parser.proofs.ParseSteps.{none-answered}
 
 -- what a filter that keeps each event makes of a reading is the reading

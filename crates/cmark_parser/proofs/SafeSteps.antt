@@ -2,13 +2,13 @@
 use Rattle.std.proofs.Common.{◌≡◌, ℕ, List, [], ◌∷◌, map, refl, sym, ap, ◌∙◌, subst}
 use Rattle.cmark_grammar.specs.Answers.{Lookup}
 use Rattle.cmark_grammar.specs.Event.{Event, Ranged}
+use Rattle.cmark_grammar.specs.Headline.{events_of, usual_limit}
 use Rattle.cmark_grammar.specs.Html.{html}
 use Rattle.cmark_grammar.specs.Options.{Options}
 use Rattle.cmark_safe.proofs.SafeLaw.{safe_events_are_safe}
 use Rattle.cmark_safe.specs.SafeEvents.{safe}
 use Rattle.cmark_safe.specs.SafeHtml.{IsSafe}
-use Rattle.cmark_parser.specs.Rendering.{IsHtmlBy, IsSafeHtmlOf, events_of, filtered_of}
-use Rattle.cmark_parser.specs.Walking.{usual_limit}
+use Rattle.cmark_parser.specs.Rendering.{IsHtmlBy, IsSafeHtmlOf, filtered_of}
 
 each_filtered : (filtered : Event → Event) (rs : List Ranged) → filtered_of filtered rs ≡ map filtered (events_of rs)
 each_filtered filtered [] = refl

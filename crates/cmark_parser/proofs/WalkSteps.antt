@@ -9,6 +9,7 @@ use Rattle.cmark_grammar.specs.Answers.{Lookup}
 use Rattle.cmark_grammar.specs.BlockDocument.{BlockDocument}
 use Rattle.cmark_grammar.specs.Derivation.{Derives}
 use Rattle.cmark_grammar.specs.Event.{Ranged}
+use Rattle.cmark_grammar.specs.Headline.{profile_within}
 use Rattle.cmark_grammar.specs.LeafSpans.{IsRange}
 use Rattle.cmark_grammar.specs.Options.{Options}
 use Rattle.cmark_grammar.specs.Questions.{Exchange, Plan}
@@ -28,7 +29,7 @@ use Rattle.cmark_parser.specs.declared.parse.OffsetIter.{OffsetIter}
 use Rattle.cmark_parser.specs.Parsing.{Left as LeftOf}
 use Rattle.cmark_parser.specs.Parsing.{AreZeroCopy, Asks, AsksRanged, CutNone, Remains, IsOver, Gives, Shows, RemainsRanged, IsRangedOver, GivesRanged, ReadsWithin, ShowsRanged, callback_of, ranged_text, shown_item, text_of, walk_of}
 use Rattle.cmark_parser.specs.Walked.{IsBegun, IsBegunRanged, IsCutShort, IsCutShortRanged, IsDrained, IsDrainedRanged}
-use Rattle.cmark_parser.specs.Walking.{GivesNext, GoesOn, NoEndIsNext, SomeLeft, profile_within}
+use Rattle.cmark_parser.specs.Walking.{GivesNext, GoesOn, NoEndIsNext, SomeLeft, SomeLeftFrom}
 use Rattle.cmark_parser.proofs.ParseSteps.{none-answered}
 use Rattle.cmark_parser.proofs.RenderSteps.{asks-on}
 
@@ -78,6 +79,9 @@ module _ {S T : Type 0} (Remains : S → List Exchange → List Ranged → Type 
     pub begun : Begun text s t items
     pub left : (plan : Plan) → SomeLeft Remains plan t
     pub no_end : NoEndIsNext Remains t
+    pub asked : List Exchange
+    pub asks : Asks t asked u
+    pub stops : (plan : Plan) → SomeLeftFrom Remains asked plan t
     pub over : IsOver u
 
   begun_none : (text : List ℕ) (s : S) → Begun text s s []
@@ -119,7 +123,7 @@ module _ {S T : Type 0} (Remains : S → List Exchange → List Ranged → Type 
     pub refused_left : (s t u : S) (items : List T) (e : AllocError) → GoesOn Remains IsOver s → Yields steps s (map Ok items) t → steps t (Some (Err e)) u → RefusedLeft (text_of s) s t u items
     refused_left s t u items e goes run call =
         let g = step t (Some (Err e)) u call in
-        record { begun = begun_all (text_of s) s t items refl run; left = some (goes_all s t items goes run) g; no_end = g.first.1; over = g.first.2 }
+        record { begun = begun_all (text_of s) s t items refl run; left = some (goes_all s t items goes run) g; no_end = g.first.1; asked = g.taken; asks = g.first.0; stops = g.first.3; over = g.first.2 }
       where
         some : GoesOn Remains IsOver t → GivesOf (text_of t) t (Some (Err e)) u → (plan : Plan) → SomeLeft Remains plan t
         some (inl over) g = absurd (let n = (g.over over).0 in let q : true ≡ false = ap is_some n in cc)
@@ -218,6 +222,20 @@ module _ {E F : Type 0} (Says : F → BrokenLink → Option (CowStr × CowStr) �
               begin = record { rest = some.0; events = some.1; planned = some.2; reading = reads.reads (l.begun.taken ++ some.0) (l.begun.given ++ some.1) (l.begun.back some.0 some.1 some.3) };
               no_end = l.no_end some.0 some.1 some.3;
             };
+        asked = l.asked;
+        asks_last = l.asks;
+        stops = λ plan.
+            let some = l.stops plan in
+            let rest = l.asked ++ some.0 in
+            record {
+              begin = record {
+                rest = some.0;
+                events = some.1;
+                planned = some.2;
+                reading = subst (λ xs. IsReading text (profile_within limit options lookup true) xs (l.begun.given ++ some.1)) (sym (append_assoc l.begun.taken l.asked some.0)) (reads.reads (l.begun.taken ++ rest) (l.begun.given ++ some.1) (l.begun.back rest some.1 some.3));
+              };
+              no_end = l.no_end rest some.1 some.3;
+            };
         over = l.over;
       }
 
@@ -309,6 +327,21 @@ module _ {E F : Type 0} (Says : F → BrokenLink → Option (CowStr × CowStr) �
                 reading = subst (λ rs. IsReading text (profile_within limit options lookup true) (l.begun.taken ++ some.0) (rs ++ some.1)) given (begun.reads (l.begun.taken ++ some.0) (l.begun.given ++ some.1) (l.begun.back some.0 some.1 some.3));
               };
               no_end = l.no_end some.0 some.1 some.3;
+            };
+        asked = l.asked;
+        asks_last = l.asks;
+        stops = λ plan.
+            let some = l.stops plan in
+            let rest = l.asked ++ some.0 in
+            record {
+              begin = record {
+                rest = some.0;
+                events = some.1;
+                planned = some.2;
+                reading = subst (λ xs. IsReading text (profile_within limit options lookup true) xs (map shown_item items ++ some.1)) (sym (append_assoc l.begun.taken l.asked some.0))
+                    (subst (λ rs. IsReading text (profile_within limit options lookup true) (l.begun.taken ++ rest) (rs ++ some.1)) given (begun.reads (l.begun.taken ++ rest) (l.begun.given ++ some.1) (l.begun.back rest some.1 some.3)));
+              };
+              no_end = l.no_end rest some.1 some.3;
             };
         over = l.over;
       }

@@ -8,6 +8,7 @@ use Rattle.cmark_grammar.specs.Answers.{Lookup}
 use Rattle.cmark_grammar.specs.BlockDocument.{BlockDocument}
 use Rattle.cmark_grammar.specs.Derivation.{Derives}
 use Rattle.cmark_grammar.specs.Event.{Ranged, Start}
+use Rattle.cmark_grammar.specs.Headline.{usual_limit}
 use Rattle.cmark_grammar.specs.Labels.{fold}
 use Rattle.cmark_grammar.specs.LeafSpans.{IsRange}
 use Rattle.cmark_grammar.specs.Options.{Options}
@@ -42,7 +43,7 @@ use Rattle.cmark_text.specs.declared.ranged.Ranged.{Ranged as Given}
 use Rattle.cmark_text.specs.Ranged.{shown_ranged}
 use Rattle.cmark_parser.specs.declared.parse.Parser.{Parser}
 use Rattle.cmark_parser.specs.declared.parse.OffsetIter.{OffsetIter}
-use Rattle.cmark_parser.specs.Walking.{GoesOn, GivesNext, ReadsFrom, reader_by, usual_limit}
+use Rattle.cmark_parser.specs.Walking.{GoesOn, GivesNext, ReadsFrom, reader_by}
 
 -- an item is the event, or the event with its range, which cuts no character, and its text is borrowed as the zero-copy law says
 pub record Shows (text : List ℕ) (event : Event) (r : Ranged) : Type 0 where

@@ -2,6 +2,7 @@
 use Rattle.std.specs.Prelude.{◌≡◌, ◌<◌, ℕ, Bool, true, false, List, [], ◌++◌, map, Option, None, Some, Ok}
 use Rattle.cmark_grammar.specs.Answers.{Lookup}
 use Rattle.cmark_grammar.specs.Event.{Event, Ranged}
+use Rattle.cmark_grammar.specs.Headline.{events_of, profile, profile_within}
 use Rattle.cmark_grammar.specs.Html.{Writing, html, moved, moved_all, piece, pieces_from}
 use Rattle.cmark_grammar.specs.Options.{Options}
 use Rattle.cmark_grammar.specs.Questions.{Exchange}
@@ -14,21 +15,6 @@ use Rattle.cmark_text_parts.specs.declared.text.CowStr.{CowStr}
 use Rattle.cmark_text.specs.declared.ranged.Ranged.{Ranged as Given}
 use Rattle.cmark_parser.specs.declared.parse.Parser.{Parser}
 use Rattle.cmark_parser.specs.Parsing.{Asks, CanGo, GivesStep, Passes, Remains, events_left}
-use Rattle.cmark_parser.specs.Walking.{profile, profile_within, usual_limit}
-
--- the events without their ranges
-abbrev pub events_of : List Ranged → List Event
-events_of rs = map (λ ranged. ranged.event) rs
-
--- the output is the HTML of the reading of the text within this reference expansion limit, without a callback
-pub record IsHtmlWithin (limit : ℕ) (text : List ℕ) (options : Options) (lookup : Lookup) (output : List ℕ) : Type 0 where
-  pub events : List Ranged
-  pub reading : IsReading text (profile_within limit options lookup false) [] events
-  pub output_is : output ≡ html (events_of events)
-
--- the limit is as many bytes as the text has, or 100,000 where it has fewer
-abbrev pub IsHtmlOf : (text : List ℕ) → Options → Lookup → (output : List ℕ) → Type 0
-IsHtmlOf text options lookup output = IsHtmlWithin (usual_limit text) text options lookup output
 
 -- the output is the HTML of the safe forms of these events, with these further schemes
 pub record IsSafeHtmlOf (text : List ℕ) (options : Options) (lookup : Lookup) (further output : List ℕ) : Type 0 where

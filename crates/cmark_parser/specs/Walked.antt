@@ -3,6 +3,7 @@ use Rattle.std.specs.Prelude.{◌≡◌, ℕ, true, List, [], ◌++◌, map, Opt
 use Rattle.std.specs.declared.ops.Range.{Range}
 use Rattle.cmark_grammar.specs.Answers.{Lookup}
 use Rattle.cmark_grammar.specs.Event.{Ranged}
+use Rattle.cmark_grammar.specs.Headline.{profile_within}
 use Rattle.cmark_grammar.specs.Options.{Options}
 use Rattle.cmark_grammar.specs.Questions.{Exchange, Plan}
 use Rattle.cmark_grammar.specs.SpanDocuments.{IsReading}
@@ -15,7 +16,6 @@ use Rattle.cmark_text_parts.specs.declared.text.CowStr.{CowStr}
 use Rattle.cmark_parser.specs.declared.parse.Parser.{Parser}
 use Rattle.cmark_parser.specs.declared.parse.OffsetIter.{OffsetIter}
 use Rattle.cmark_parser.specs.Parsing.{Asks, AsksRanged, IsOver, IsRangedOver, shown_item}
-use Rattle.cmark_parser.specs.Walking.{profile_within}
 
 -- these events are the first of the reading of the text whose further questions the plan answers, behind these that were put
 pub record Begin (limit : ℕ) (text : List ℕ) (options : Options) (lookup : Lookup) (taken : List Exchange) (given : List Ranged) (plan : Plan) : Type 0 where
@@ -59,8 +59,9 @@ module _ {E F : Type 0} (Says : F → BrokenLink → Option (CowStr × CowStr) �
     pub asks : AsksRanged Says first taken last
     pub begin : (plan : Plan) → Begin limit text options lookup taken (map shown_item items) plan
 
-  -- the events that it gave before memory was refused are the first ones of a reading, however the callback would answer what it is asked behind
-  -- the questions before that call, and nothing is given any more
+  -- the events that it gave before memory was refused are the first ones of a reading, however the callback would answer the questions of the
+  -- refused call and later ones. With the questions that the refused call put (`asked`), they are so too, however the callback would
+  -- answer later ones. Nothing is given any more
   pub record IsCutShort (first last : Parser E F) (events : List Event) : Type 0 where
     pub before : Parser E F
     pub taken : List Exchange
@@ -68,6 +69,9 @@ module _ {E F : Type 0} (Says : F → BrokenLink → Option (CowStr × CowStr) �
     pub asks : Asks Says first taken before
     pub are : map shown events ≡ map (λ r. r.event) given
     pub begin : (plan : Plan) → BeginBeforeNoEnd limit text options lookup taken given plan
+    pub asked : List Exchange
+    pub asks_last : Asks Says before asked last
+    pub stops : (plan : Plan) → BeginBeforeNoEnd limit text options lookup (taken ++ asked) given plan
     pub over : IsOver last
 
   pub record IsCutShortRanged (first last : OffsetIter E F) (items : List (Event × Range ℕ)) : Type 0 where
@@ -75,4 +79,7 @@ module _ {E F : Type 0} (Says : F → BrokenLink → Option (CowStr × CowStr) �
     pub taken : List Exchange
     pub asks : AsksRanged Says first taken before
     pub begin : (plan : Plan) → BeginBeforeNoEnd limit text options lookup taken (map shown_item items) plan
+    pub asked : List Exchange
+    pub asks_last : AsksRanged Says before asked last
+    pub stops : (plan : Plan) → BeginBeforeNoEnd limit text options lookup (taken ++ asked) (map shown_item items) plan
     pub over : IsRangedOver last

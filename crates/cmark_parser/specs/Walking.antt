@@ -1,26 +1,16 @@
 -- What a walk over a document still has to give, and what one call of it gives.
-use Rattle.std.specs.Prelude.{◌≡◌, ◌⊎◌, ℕ, Bool, true, List, [], ◌∷◌, ◌++◌, length, max, Option, Some, None, Result, Ok, Err}
+use Rattle.std.specs.Prelude.{◌≡◌, ◌⊎◌, ℕ, Bool, true, List, [], ◌∷◌, ◌++◌, Option, Some, None, Result, Ok, Err}
 use Rattle.std.specs.declared.alloc.AllocError.{AllocError}
 use Rattle.cmark_grammar.specs.Answers.{Lookup}
 use Rattle.cmark_grammar.specs.Derivation.{document}
 use Rattle.cmark_grammar.specs.Event.{Ranged}
+use Rattle.cmark_grammar.specs.Headline.{profile, profile_within}
 use Rattle.cmark_grammar.specs.Options.{Options}
 use Rattle.cmark_grammar.specs.Questions.{Exchange, Plan}
 use Rattle.cmark_grammar.specs.Readers.{Reader}
-use Rattle.cmark_grammar.specs.SpanDocuments.{IsReading, Profile, reader_of}
+use Rattle.cmark_grammar.specs.SpanDocuments.{IsReading, reader_of}
 use Rattle.cmark_inline_model.specs.FirstEvents.{BeginWithEnd}
 use Rattle.cmark_inline_model.specs.PlannedAnswers.{AreByPlan}
-
--- what a text is read with, where references take so many bytes of destinations and titles
-abbrev pub profile_within : (limit : ℕ) → Options → Lookup → (has_callback : Bool) → Profile
-profile_within limit options lookup has_callback = record { options = options; lookup = lookup; reference_expansion_limit = limit; has_callback = has_callback }
-
--- they take as many as the text has, or 100,000 where it has fewer, if it is not said how many
-abbrev pub usual_limit : (text : List ℕ) → ℕ
-usual_limit text = max (length text) 100000
-
-abbrev pub profile : (text : List ℕ) → Options → Lookup → (has_callback : Bool) → Profile
-profile text options lookup has_callback = profile_within (usual_limit text) options lookup has_callback
 
 -- what the leaves of its document are read with, where there is a callback
 abbrev pub reader_by : (text : List ℕ) → Options → Lookup → Reader
@@ -32,6 +22,10 @@ module _ {S : Type 0} (Remains : S → List Exchange → List Ranged → Type 0)
   -- with a plan's answers some events are left
   abbrev pub SomeLeft : Plan → S → Type 0
   SomeLeft plan s = (exchanges : List Exchange) × (events : List Ranged) × AreByPlan plan [] exchanges × Remains s exchanges events
+
+  -- with these questions first, and a plan's answers to the further ones, some events are left
+  abbrev pub SomeLeftFrom : (taken : List Exchange) → Plan → S → Type 0
+  SomeLeftFrom taken plan s = (rest : List Exchange) × (events : List Ranged) × AreByPlan plan [] rest × Remains s (taken ++ rest) events
 
   -- whatever is answered, the next event is not the end of an element
   abbrev pub NoEndIsNext : S → Type 0
@@ -50,13 +44,13 @@ module _ {S : Type 0} (Remains : S → List Exchange → List Ranged → Type 0)
 
 -- Asks says that a callback was asked these questions from one state to another, and answered so; Shows, that an item shows an event
 module _ {S T : Type 0} (Remains : S → List Exchange → List Ranged → Type 0) (IsOver : S → Type 0) (Asks : S → List Exchange → S → Type 0) (Shows : T → Ranged → Type 0) where
-  -- None only where no event was left; the error item only where the next event is no end, and behind it nothing is given; else the first
-  -- event of what was left, however the walk goes on from there
+  -- None: no event was left. The error item: the next event is no end; the questions of this call come first among those of what was left,
+  -- however further ones are answered; nothing is given any more. Else: the first event of what was left, however the walk continues
   abbrev pub GivesFirst : S → (taken : List Exchange) → Option (Result T AllocError) → S → Type 0
   GivesFirst old taken None new = Asks old taken new × Remains old taken [] × IsOver new
   GivesFirst old taken (Some (Ok x)) new =
       Asks old taken new × ((r : Ranged) × Shows x r × ((rest : List Exchange) (events : List Ranged) → Remains new rest events → Remains old (taken ++ rest) (r ∷ events)))
-  GivesFirst old taken (Some (Err e)) new = Asks old taken new × NoEndIsNext Remains old × IsOver new
+  GivesFirst old taken (Some (Err e)) new = Asks old taken new × NoEndIsNext Remains old × IsOver new × ((plan : Plan) → SomeLeftFrom Remains taken plan old)
 
   -- one call, in which these questions were put; behind the end nothing is asked or given
   pub record GivesNext (old : S) (given : Option (Result T AllocError)) (new : S) : Type 0 where

@@ -1,12 +1,12 @@
 //! The HTML of a text.
 
 ghost use Rattle.std.specs.Prelude.{◌≡◌, [], IfOk, OnOk, string_bytes};
+ghost use Rattle.cmark_grammar.specs.Headline.{IsHtmlOf, IsHtmlWithin, usual_limit};
 ghost use Rattle.cmark_grammar.specs.Html.{at_line_start};
 ghost use Rattle.cmark_html.specs.Writer.{writing};
 ghost use Rattle.cmark_text_parts.specs.Shown.{shown_options};
 ghost use Rattle.cmark_parser.specs.Parsing.{CanGo, IsReady};
-ghost use Rattle.cmark_parser.specs.Rendering.{IsHtmlBy, IsHtmlOf, IsHtmlOfRest, IsHtmlWithin, IsSafeHtmlOf, WritesLink, WritesLong, WritesNext, written};
-ghost use Rattle.cmark_parser.specs.Walking.{usual_limit};
+ghost use Rattle.cmark_parser.specs.Rendering.{IsHtmlBy, IsHtmlOfRest, IsSafeHtmlOf, WritesLink, WritesLong, WritesNext, written};
 ghost use Rattle.cmark_safe.specs.SafeHtml.{IsSafe};
 
 use crate::filter::{Filter, Filtering};

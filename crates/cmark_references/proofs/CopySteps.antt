@@ -1,4 +1,4 @@
--- A copy of a table of definitions, entry by entry. sh: what a definition shows.
+-- A copy of a table of definitions, entry by entry. `sh`: the data of a definition.
 use Rattle.std.proofs.Common.{◌≡◌, refl, sym, ap, ap₂, ◌∙◌, ℕ, List, ◌∷◌, [], Bool, true, false, Option, Some, None, bytes_eq, if◌then◌else◌, option_map}
 use Rattle.std.specs.Ordering.{is_eq, nat_cmp}
 use Rattle.std.specs.Cmp.Lexicographic.{slice_cmp}
@@ -9,7 +9,7 @@ use Rattle.cmark_references.specs.Definitions.{entry_of, first_of, at_label, lab
 use Rattle.cmark_references.specs.declared.definitions.LinkDef.{LinkDef}
 use Rattle.cmark_references.specs.declared.definitions.RefDefs.{RefDefs}
 
--- what the copy has and what is left to copy are all of a table
+-- the copied entries and those left to copy are all of a table
 abbrev pub AreAllOf : (copy rest all : RefDefs) → Type 0
 AreAllOf copy rest all = (folded : List ℕ) → first_of (reference_at copy folded) (reference_at rest folded) ≡ reference_at all folded
 
@@ -19,7 +19,7 @@ moved sh (Some found) b def new rest e = refl
 moved sh None true def new rest e = ap Some e
 moved sh None false def new rest e = refl
 
--- one more entry is copied
+-- another entry is copied
 pub copied : (copy next rest all : RefDefs) (label made : LinkLabel) (def new : LinkDef) → AreAllOf copy ((label, def) ∷ rest) all
     → link_text made ≡ link_text label → link_key made ≡ link_key label → shown_definition new ≡ shown_definition def
     → ((folded : List ℕ) → entry_of next folded ≡ first_of (entry_of copy folded) (at_label (link_key made) (made, new) folded)) → AreAllOf next rest all

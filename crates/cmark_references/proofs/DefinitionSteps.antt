@@ -1,4 +1,5 @@
--- What a table of definitions has at a folded label after one was kept. L: its labels; key: what they are compared by; D: its definitions.
+-- The content of a table of definitions at a folded label after a definition was added. L: its labels; key: their folded form; D: its
+-- definitions.
 use Rattle.std.proofs.Common.{◌≡◌, refl, sym, ap, subst, ◌∙◌, ℕ, List, Bool, true, false, Option, Some, None, bytes_eq, ⊎_elim, if◌then◌else◌, is_some, option_map}
 use Rattle.std.proofs.lemmas.Bool.{false≢true}
 use Rattle.std.specs.Ordering.{is_eq, nat_cmp}
@@ -21,7 +22,7 @@ module _ {L : Type 0} (key : L → List ℕ) where
   apart : (bs cs ks : List ℕ) → bytes_eq bs cs ≡ false → is_eq (slice_cmp nat_cmp bs ks) ≡ true → is_eq (slice_cmp nat_cmp cs ks) ≡ false
   apart bs cs ks n y = is_eq-slice_cmp cs ks ∙ (nat_list_eq_equiv.symm cs ks ∙ sym (nat_list_eq_equiv.congr bs ks cs (sym (is_eq-slice_cmp bs ks) ∙ y)) ∙ n)
 
--- whatever there is, none more changes nothing
+-- a definition of a label that has one changes nothing
 none_more : {D : Type 0} (found : Option D) → found ≡ first_of found None
 none_more None = refl
 none_more (Some def) = refl

@@ -1,4 +1,4 @@
--- Each entry of a table is the one that its label finds. L: its labels; key: what they are compared by; D: its definitions.
+-- Each entry of a table is the one that its label finds. L: its labels; key: their folded form; D: its definitions.
 use Rattle.std.proofs.Common.{◌≡◌, refl, sym, ap, ◌∙◌, ℕ, List, [], ◌∷◌, Bool, true, false, Option, Some, None, All, bytes_eq, if◌then◌else◌, option_map}
 use Rattle.std.specs.List.{AllByRecursion, IsDistinct}
 use Rattle.std.specs.List.Sorted.{IsStrictlySortedBy}
@@ -11,7 +11,7 @@ use Rattle.std.specs.Ordering.{eq_by_cmp, nat_cmp}
 use Rattle.cmark_references.proofs.DefinitionSteps.{label_cmp}
 use Rattle.cmark_references.proofs.SpellingSteps.{at}
 
--- what is looked up is the definition of the entry
+-- a look-up gives the definition of the entry
 pub looked_up : {L D : Type 0} (test : L → Bool) (es : List (L × D)) → lookup test es ≡ option_map (λ e. e.1) (lookup_entry test es)
 looked_up test [] = refl
 looked_up test (e ∷ es) = go (test e.0) (looked_up test es)
@@ -26,7 +26,7 @@ module _ {L D : Type 0} (key : L → List ℕ) where
   abbrev Finds : List (L × D) → L × D → Type 0
   Finds es e = lookup_entry (at key (key e.0)) es ≡ Some e
 
-  -- behind an entry of another label the same ones are found
+  -- after an entry of another label the same entries are found
   behind : (x : L × D) (es found : List (L × D)) → AllByRecursion (λ k. eq_by_cmp (label_cmp key) x.0 k ≡ false) (keys_of found) → AllByRecursion (Finds es) found
       → AllByRecursion (Finds (x ∷ es)) found
   behind x es [] apart h = tt

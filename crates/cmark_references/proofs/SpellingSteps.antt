@@ -1,4 +1,5 @@
--- How a table of definitions spells the label of an entry after one was kept. L: its labels; key: what they are compared by; D: its definitions.
+-- The spelling of an entry's label in a table of definitions after a definition was added. L: its labels; key: their folded form; D: its
+-- definitions.
 use Rattle.std.proofs.Common.{◌≡◌, refl, sym, ap, subst, ◌∙◌, ℕ, List, [], ◌∷◌, Bool, true, false, Option, Some, None, bytes_eq, if◌then◌else◌, is_some, true≢false}
 use Rattle.std.specs.BTreeMap.{insert_entry}
 use Rattle.std.specs.Cmp.Lexicographic.{bytes_decides, slice_cmp}
@@ -9,7 +10,7 @@ use Rattle.std.specs.declared.cmp.Ordering.TheVariants.{Less, Equal, Greater}
 use Rattle.std.proofs.lemmas.Map.Text.{is_eq-slice_cmp}
 use Rattle.cmark_references.specs.Definitions.{at_label, first_of}
 
--- what is looked up nowhere has no entry
+-- a label that is not found has no entry
 pub no_entry : {L D : Type 0} (test : L → Bool) (es : List (L × D)) → lookup test es ≡ None → lookup_entry test es ≡ None
 no_entry test [] none = refl
 no_entry test (e ∷ es) none = go (test e.0) (no_entry test es) none
@@ -18,7 +19,7 @@ no_entry test (e ∷ es) none = go (test e.0) (no_entry test es) none
     go true ih none = cc
     go false ih none = ih none
 
--- what has no entry is looked up nowhere
+-- a label without an entry is not found
 pub none_looked_up : {L D : Type 0} (test : L → Bool) (es : List (L × D)) → lookup_entry test es ≡ None → lookup test es ≡ None
 none_looked_up test [] none = refl
 none_looked_up test (e ∷ es) none = go (test e.0) (none_looked_up test es) none

@@ -1,4 +1,4 @@
--- What a table of link reference definitions contains (CommonMark 4.7), and one of footnote definitions.
+-- The contents of a table of link reference definitions (CommonMark 4.7), and of a table of footnote definitions.
 use Rattle.std.specs.Prelude.{ℕ, List, map, bytes_eq, if◌then◌else◌, Option, Some, None, option_map}
 use Rattle.std.specs.Borrow.{Bor}
 use Rattle.std.specs.BTreeMap.{is_at}
@@ -25,28 +25,28 @@ entry_of table folded = lookup_entry (is_at (λ label. slice_cmp nat_cmp folded 
 abbrev pub entry : LinkLabel × LinkDef → List ℕ × LinkDef
 entry e = (link_text e.0, e.1)
 
--- all of them
+-- all definitions, each with its label
 abbrev pub definitions : RefDefs → List (List ℕ × LinkDef)
 definitions table = map entry table
 
--- what there is, or else this one
+-- the first definition if there is one, else the second
 abbrev pub first_of : {D : Type 0} → Option D → Option D → Option D
 first_of (Some def) other = Some def
 first_of None other = other
 
--- the definition, if the folded labels are the same
+-- the definition, if the folded labels are equal
 abbrev pub at_label : {D : Type 0} → (label : List ℕ) → D → (folded : List ℕ) → Option D
 at_label label def folded = if bytes_eq folded label then Some def else None
 
--- what is left of an iterator over them
+-- the definitions that an iterator has not returned yet
 abbrev pub left : RefDefsIter → List (List ℕ × LinkDef)
 left iter = map entry iter.entries
 
--- what it gives
+-- the label and the definition that an iterator returns
 abbrev pub seen : Bor (List ℕ) × Bor LinkDef → List ℕ × LinkDef
 seen given = (given.0.now, given.1.now)
 
--- a definition by its destination, its title and where it stands
+-- a definition by its destination, its title and its range
 pub record ShownDefinition : Type 0 where
   pub destination : List ℕ
   pub title : Option (List ℕ)
@@ -56,13 +56,13 @@ pub record ShownDefinition : Type 0 where
 abbrev pub shown_definition : LinkDef → ShownDefinition
 shown_definition def = record { destination = text_bytes def.dest; title = option_map text_bytes def.title; start = def.span.start; end = def.span.end }
 
--- an entry as a document has it: the label's normal form, beside what the definition shows
+-- an entry as in a document: the label's normal form, with the destination, the title and the range of the definition
 abbrev pub labelled : List ℕ → ShownDefinition → Reference
 labelled label d = record { label = label; destination = d.destination; title = d.title; start = d.start; end = d.end }
 
 abbrev pub shown_entry : LinkLabel × LinkDef → Reference
 shown_entry e = labelled (link_text e.0) (shown_definition e.1)
 
--- the entry of a folded label as a document has it
+-- the entry of a folded label, as in a document
 abbrev pub reference_at : RefDefs → List ℕ → Option Reference
 reference_at table folded = option_map shown_entry (entry_of table folded)

@@ -1,4 +1,4 @@
--- What a table of footnote definitions contains.
+-- The contents of a table of footnote definitions.
 use Rattle.std.specs.Prelude.{◌≡◌, ℕ, ◌+◌, min, List, bytes_eq, if◌then◌else◌, Option, option_map}
 use Rattle.std.specs.BTreeMap.{is_at}
 use Rattle.std.specs.Map.{lookup}
@@ -12,11 +12,11 @@ use Rattle.cmark_references.specs.declared.footnotes.FootnoteDefs.{FootnoteDefs}
 abbrev pub footnote : FootnoteDefs → List ℕ → Option FootnoteDef
 footnote table folded = lookup (is_at (λ label. slice_cmp nat_cmp folded (footnote_key label))) table
 
--- a definition with one use more, up to the greatest number
+-- a definition with one further use, up to the largest number
 abbrev pub with_use : FootnoteDef → FootnoteDef
 with_use def = record { use_count = min (def.use_count + 1) 18446744073709551615 }
 
--- one use more at a label, if it is defined, and the others as they were
+-- a label, if it is defined, gets one further use, and the other definitions are unchanged
 abbrev pub Counts : (label : List ℕ) → (old new : FootnoteDefs) → Type 0
 Counts label old new = (folded : List ℕ) → footnote new folded ≡ (if bytes_eq folded label then option_map with_use (footnote old folded) else footnote old folded)
 

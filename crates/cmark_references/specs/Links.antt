@@ -1,4 +1,4 @@
--- A link or an image as one of the definitions.
+-- A link or an image of the definitions.
 use Rattle.std.specs.Prelude.{◌≡◌, []}
 use Rattle.cmark_grammar.specs.Tag.{Linked}
 use Rattle.cmark_text_parts.specs.Shown.{shown_linked, text_bytes}

@@ -15,16 +15,15 @@ use std::ops::Range;
 /// A link reference definition, without its label.
 #[derive(Debug, Drop)]
 pub struct LinkDef<'a> {
-    /// Where the link leads, with escapes and entities resolved.
+    /// The destination, with escapes and entities resolved.
     pub dest: CowStr<'a>,
     /// The title, with escapes and entities resolved, if there is one.
     pub title: Option<CowStr<'a>>,
-    /// The definition's bytes in the text, from its opening bracket to before its last line ending.
+    /// The definition's range in the text, in bytes, from its opening bracket up to its last line ending.
     pub span: Range<usize>,
 }
 
-/// The link reference definitions of a text: for each label the first one. Two labels are the same where they are equal
-/// as a `LinkLabel`.
+/// The link reference definitions of a text: the first definition of each label. Two labels are equal if they are equal as a `LinkLabel`.
 #[derive(Drop)]
 pub struct RefDefs<'a> {
     defs: BTreeMap<LinkLabel, LinkDef<'a>>,
@@ -43,7 +42,7 @@ impl<'a> Model for RefDefs<'a> {
 }
 
 impl<'a> RefDefs<'a> {
-    /// No definitions.
+    /// An empty table.
     pub fn new(alloc: Global) -> RefDefs<'a>
         ensures { (folded : List ℕ) → definition result folded ≡ None }
     {
@@ -53,7 +52,7 @@ impl<'a> RefDefs<'a> {
         }
     }
 
-    /// The definition of the label that this text spells. Refused where there is no memory for the label's normal form.
+    /// The definition of the label in this text, if there is one. Fails if there is no memory for the label's normal form.
     pub fn get(&self, label: &str) -> Result<Option<&LinkDef<'a>>, AllocError>
         ensures { IfOk result (λ found. option_copied found ≡ definition self.now (fold label.now)) }
     {
@@ -68,7 +67,8 @@ impl<'a> RefDefs<'a> {
         self.defs.get(label)
     }
 
-    /// Keeps a definition, unless there is one of its label. A label stays as its first definition spells it.
+    /// Adds a definition, unless the label has one already. The spelling of a label is that of its first definition. If memory is refused
+    /// nothing changes, and the definition is dropped.
     pub fn insert(&mut self, label: LinkLabel, def: LinkDef<'a>) -> Result<(), AllocError>
         ensures first_stays { OnOk result ((folded : List ℕ) → definition self.new folded
             ≡ first_of (definition self.old folded) (at_label (link_key label) def.entry folded)) }
@@ -85,7 +85,7 @@ impl<'a> RefDefs<'a> {
         Ok(())
     }
 
-    /// The same definitions once more, their labels spelled alike.
+    /// A copy of the table, with the same spelling of each label. Fails only if memory is refused.
     pub fn clone(&self, alloc: Global) -> Result<RefDefs<'a>, AllocError>
         ensures { IfOk result (λ copy. (folded : List ℕ) → reference_at copy folded ≡ reference_at self.now folded) }
     {
@@ -99,7 +99,7 @@ impl<'a> RefDefs<'a> {
         Ok(copy)
     }
 
-    /// All definitions, each with its label's normal form as its first definition spells it, in no order that is promised.
+    /// All definitions, each with the normal form of its label in the spelling of its first definition. The order is unspecified.
     pub fn iter(&self) -> RefDefsIter<'_, 'a>
         ensures all { left result ≡ definitions self.now }
         ensures found { All (λ e. entry_of self.now (link_key e.0) ≡ Some e) self.now }
@@ -111,7 +111,7 @@ impl<'a> RefDefs<'a> {
 }
 
 impl<'a> LinkDef<'a> {
-    /// The same definition once more.
+    /// A copy of the definition. Fails only if memory is refused.
     pub fn clone(&self, alloc: Global) -> Result<LinkDef<'a>, AllocError>
         ensures { IfOk result (λ copy. shown_definition copy ≡ shown_definition self.now) }
     {
@@ -126,7 +126,7 @@ impl<'a> LinkDef<'a> {
         })
     }
 
-    /// The same definition in a value that borrows nothing.
+    /// The same definition in a value that borrows nothing. Fails only if memory is refused.
     pub fn into_static(self, alloc: Global) -> Result<LinkDef<'static>, AllocError>
         ensures { IfOk result (λ made. shown_definition made ≡ shown_definition self.entry) }
     {
@@ -140,7 +140,7 @@ impl<'a> LinkDef<'a> {
     }
 }
 
-/// The definitions of a text, one after the other: the label's normal form, and the definition.
+/// An iterator over the definitions of a text: the label's normal form, and the definition.
 #[derive(Drop)]
 pub struct RefDefsIter<'s, 'a> {
     entries: btree_map::Iter<'s, LinkLabel, LinkDef<'a>>,

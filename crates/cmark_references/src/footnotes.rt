@@ -1,4 +1,4 @@
-//! Definitions of footnotes (this profile's own).
+//! Footnote definitions (this profile's own).
 
 ghost use Rattle.std.specs.Prelude.{◌≡◌, IfOk, OnOk, OnErr, List, ℕ, None, is_some};
 ghost use Rattle.std.specs.Option.{option_copied_mut};
@@ -12,15 +12,15 @@ use std::alloc::{AllocError, Global};
 use std::collections::BTreeMap;
 use std::marker::Model;
 
-/// What is known of a footnote that is defined.
+/// The data of a footnote that is defined.
 #[derive(Clone, Copy)]
 pub struct FootnoteDef {
-    /// How many references to it were read; 0 before the text is read for spans.
+    /// The number of references to it that were read; 0 before the text is read for spans.
     pub use_count: usize,
 }
 
 impl FootnoteDef {
-    /// The definition with one use more.
+    /// The definition with one further use.
     fn used(&self) -> FootnoteDef
         ensures { result ≡ with_use self.now }
     {
@@ -30,8 +30,7 @@ impl FootnoteDef {
     }
 }
 
-/// The footnotes that a text defines: for each label the first definition. Two labels are the same where they are equal as
-/// a `FootnoteLabel`.
+/// The footnotes that a text defines: the first definition of each label. Two labels are equal if they are equal as a `FootnoteLabel`.
 #[derive(Drop)]
 pub struct FootnoteDefs {
     defs: BTreeMap<FootnoteLabel, FootnoteDef>,
@@ -50,7 +49,7 @@ impl Model for FootnoteDefs {
 }
 
 impl FootnoteDefs {
-    /// No definitions.
+    /// An empty table.
     pub fn new(alloc: Global) -> FootnoteDefs
         ensures { (folded : List ℕ) → footnote result folded ≡ None }
     {
@@ -60,7 +59,7 @@ impl FootnoteDefs {
         }
     }
 
-    /// Whether the label that this text spells is defined. Refused where there is no memory for the label's normal form.
+    /// Whether the label in this text is defined. Fails if there is no memory for the label's normal form.
     pub fn contains(&self, label: &str) -> Result<bool, AllocError>
         ensures { IfOk result (λ found. found ≡ is_some (footnote self.now (fold label.now))) }
     {
@@ -68,8 +67,8 @@ impl FootnoteDefs {
         Ok(self.defs.contains_key(&label))
     }
 
-    /// The definition of the label that this text spells, to be written to; no clause says what a write through it leaves
-    /// (`count_use` has one). Refused, with nothing changed, where there is no memory for the label's normal form.
+    /// The definition of the label in this text, for writing, if there is one. No clause states the effect of a write; for the number of
+    /// uses `count_use` has a clause. If there is no memory for the label's normal form it fails, and nothing changes.
     pub fn get_mut(&mut self, label: &str) -> Result<Option<&mut FootnoteDef>, AllocError>
         ensures { IfOk result (λ found. option_copied_mut found ≡ footnote self.old (fold label.now)) }
     {
@@ -77,8 +76,8 @@ impl FootnoteDefs {
         Ok(self.defs.get_mut(&label))
     }
 
-    /// Counts a reference to the footnote of the label that this text spells, up to the greatest `usize`, and says whether
-    /// it is defined. Refused, with nothing changed, where there is no memory for the label's normal form.
+    /// Counts a reference to the footnote of the label in this text, up to the largest `usize`, and returns whether the footnote is
+    /// defined. If there is no memory for the label's normal form it fails, and nothing changes.
     pub fn count_use(&mut self, label: &str) -> Result<bool, AllocError>
         ensures found { IfOk result (λ found. found ≡ is_some (footnote self.old (fold label.now))) }
         ensures counted { OnOk result (Counts (fold label.now) self.old self.new) }
@@ -94,7 +93,7 @@ impl FootnoteDefs {
         }
     }
 
-    /// Keeps a definition, unless there is one of its label.
+    /// Adds a definition, unless the label has one already. If memory is refused nothing changes.
     pub fn insert(&mut self, label: FootnoteLabel, def: FootnoteDef) -> Result<(), AllocError>
         ensures first_stays { OnOk result ((folded : List ℕ) → footnote self.new folded
             ≡ first_of (footnote self.old folded) (at_label (footnote_key label) def folded)) }

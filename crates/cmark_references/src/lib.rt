@@ -1,4 +1,4 @@
-//! Links, and the tables of what they refer to: link reference definitions and footnotes.
+//! Links, and the tables that they refer to: link reference definitions and footnotes.
 #![tactic(auto)]
 
 mod definitions;

@@ -1,15 +1,15 @@
-//! What a link or an image says of itself.
+//! The data of a link or an image.
 
 ghost use Rattle.cmark_references.specs.Links.{IsUnknown};
 
 use cmark_text_parts::{CowStr, LinkType};
 
-/// What a link or an image says of itself (CommonMark 6.3, 6.4).
+/// The data of a link or an image (CommonMark 6.3, 6.4).
 #[derive(Drop)]
 pub struct Link<'a> {
-    /// How it is written.
+    /// Its written form.
     pub link_type: LinkType,
-    /// Where it leads.
+    /// Its destination.
     pub dest_url: CowStr<'a>,
     /// Its title; empty if it has none.
     pub title: CowStr<'a>,
@@ -18,7 +18,7 @@ pub struct Link<'a> {
 }
 
 impl<'a> Link<'a> {
-    /// An unknown shortcut without texts, which stands where a link was taken.
+    /// An unknown shortcut without texts: the value at the index of a link that was taken.
     pub fn none() -> Link<'a>
         ensures { IsUnknown result }
     {

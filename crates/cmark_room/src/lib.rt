@@ -1,4 +1,4 @@
-//! What a call from C answers: a caller's room with the answer in it, and a status that tells of both.
+//! The result of a call from C: an output in the caller's room, and a status.
 #![tactic(auto)]
 
 ghost use Rattle.std.specs.Prelude.{◌≡◌, ◌<◌, ◌≤◌, ◌++◌, ◌⊎◌, drop, length};
@@ -7,16 +7,16 @@ ghost use Rattle.cmark_room.specs.Statuses.{Answers};
 use mdhtml_parts::Render;
 use std::alloc::Global;
 
-/// The answer was written.
+/// The output was written.
 pub const DONE: u32 = 0;
-/// The room is too small for the answer.
+/// The room is too small for the output.
 pub const TOO_LONG: u32 = 1;
 /// The text is not UTF-8.
 pub const NOT_UTF8: u32 = 2;
 /// Memory was refused.
 pub const NO_MEMORY: u32 = 3;
 
-/// Writes an answer at the beginning of the room, if it is large enough for all of it, and its size in any case.
+/// Writes an output to the beginning of `room`, if it fits, and its size in bytes to `size` in any case. Returns `DONE` or `TOO_LONG`.
 fn hand_over(answer: &str, room: &mut [u8], size: &mut usize) -> u32
     ensures either { (result ≡ 0) ⊎ (result ≡ 1) }
     ensures size { size.new ≡ length answer.now }
@@ -32,10 +32,10 @@ fn hand_over(answer: &str, room: &mut [u8], size: &mut usize) -> u32
     DONE
 }
 
-/// Answers a call from C: writes what a text is rendered as at the beginning of `room`, and into `size` how many bytes it has,
-/// also where the room is too small. Where there is no answer, `size` is 0.
+/// Renders a text for a call from C: writes the output to the beginning of `room`, if it fits, and its size in bytes to `size` in any case.
+/// If there is no output, `size` is 0.
 ///
-/// The status is [`DONE`] or [`TOO_LONG`], or [`NOT_UTF8`] where the bytes are no text, or [`NO_MEMORY`].
+/// The status is [`DONE`] or [`TOO_LONG`], or [`NOT_UTF8`] if the bytes are not UTF-8, or [`NO_MEMORY`].
 pub fn answer<P: Render>(
     alloc: Global,
     renderer: &P,

@@ -16,11 +16,11 @@ use Rattle.cmark_safe.proofs.SafePieces.{destination_address, title_is, piece_sa
 abbrev state : Bool → Option OpenImage → Bool → TableState → List (List ℕ) → Writing
 state l o m t n = record { line_start = l; image = o; in_metadata = m; table = t; names = n }
 
--- what is written of events, with what closes an image behind them
+-- the HTML of events, and of the end of an image that they leave open
 abbrev rest : Writing → List Event → List ℕ
 rest w es = pieces_from w es ++ last_piece (moved_all w es).image
 
--- what is written inside of an image: the end of its alternative text, of its tag, and what is safe
+-- the rest of the HTML inside an image: the end of its alternative text, the end of its tag, and safe HTML
 record IsRest (further bytes : List ℕ) : Type 0 where
   alternative : List ℕ
   title : List ℕ
@@ -52,7 +52,7 @@ closed title more s = record {
   is = ap (λ b. codes "\"" ++ b) (append_assoc (title_attribute title) (codes " />") more);
 }
 
--- an image's tag with what is written behind its start
+-- an image's tag with the HTML after its start
 opened : (further destination bytes : List ℕ) → IsRest further bytes → IsSafe further (image_start (safe_destination further destination) ++ bytes)
 opened further destination bytes r =
     let h : List ℕ = escaped_href (safe_destination further destination) in

@@ -74,7 +74,7 @@ none_of_four q x y z p e r s = rw e (rw r (rw s (rw p refl)))
 pub html_value : (text : List ℕ) → IsValue (escaped_html text)
 html_value text = each_value html_byte (λ b. value_choice (b == 34) (b == 39) (b == 38) (b == 60) (b == 62) b (none_of_four (b == 34) (b == 38) (b == 60) (b == 62))) text
 
--- a byte that a URL keeps is none of these signs
+-- a byte that is kept in a URL differs from each sign that is not kept
 kept_differs : (sign b : ℕ) → is_url_byte sign ≡ false → is_url_byte b ≡ true → (b == sign) ≡ false
 kept_differs sign b is_not is = ne_eqb b sign (λ e. grind (arith, sym is ∙ ap is_url_byte e ∙ is_not))
 

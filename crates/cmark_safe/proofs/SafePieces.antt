@@ -1,4 +1,4 @@
--- What is written for a safe event outside of images is safe.
+-- The HTML of a safe event outside images is safe.
 use Rattle.std.proofs.Common.{◌≡◌, ℕ, Bool, true, false, ◌==◌, if◌then◌else◌, List, [], ◌∷◌, ◌++◌, refl, sym, subst}
 use Rattle.std.specs.Prelude.{codes, decimal, take_while, Option, Some, None, option_map}
 use Rattle.std.specs.List.{slice_get}

@@ -1,4 +1,4 @@
--- The scheme of a destination, before it is written and after.
+-- The scheme of a destination, before it is escaped and after.
 use Rattle.std.proofs.Common.{◌≡◌, ◌≢◌, ℕ, suc, ◌+◌, ◌/◌, ◌%◌, ◌<◌, Bool, true, false, not, cond, ◌==◌, ◌||◌, ◌&&◌, nat_lt, if◌then◌else◌, true≢false, List, [], ◌∷◌, ◌++◌, take, drop, refl, ap, sym, ◌∙◌, subst, arith, ne_eqb, inl, inr}
 use Rattle.std.specs.Prelude.{codes, Option, Some, None, option_map}
 use Rattle.std.specs.Char.{is_ascii_alphanumeric}
@@ -8,7 +8,7 @@ use Rattle.std.proofs.lemmas.Bool.Decides.{eqb_tells}
 use Rattle.cmark_grammar.specs.Escapes.{is_url_byte, href_byte, hexadecimal_digit, percent_encoded, escaped_href}
 use Rattle.cmark_safe.specs.Schemes.{is_among, is_allowed, is_allowed_if_any, is_allowed_scheme, is_before_sign, is_scheme_byte, if_colon, scheme_of, unwritten_scheme}
 
--- the scheme goes on
+-- the scheme continues
 scheme_off : (b : ℕ) (rest : List ℕ) → (b == 58) ≡ false → is_among (codes "/?#&") b ≡ false → scheme_of (b ∷ rest) ≡ option_map (λ name. b ∷ name) (scheme_of rest)
 scheme_off b rest h k = rw h (rw k refl)
 
@@ -33,7 +33,7 @@ none_of_four x y z q e f g h = rw e (rw f (rw g (rw h refl)))
 none_of_six : (x y z q a p : Bool) → x ≡ false → y ≡ false → z ≡ false → q ≡ false → a ≡ false → p ≡ false → not (x || (y || (z || (q || (a || (p || false)))))) ≡ true
 none_of_six x y z q a p e f g h i j = rw e (rw f (rw g (rw h (rw i (rw j refl)))))
 
--- no digit of percent-encoding ends a scheme
+-- a byte that does not end a scheme; all bytes of percent-encoding are such bytes
 record IsPlain (b : ℕ) : Type 0 where
   no_colon : (b == 58) ≡ false
   no_sign : is_among (codes "/?#&") b ≡ false
@@ -116,7 +116,7 @@ scheme_written (b ∷ bs) =
       ]
     ]
 
--- a byte of a scheme is written as it is
+-- a byte of a scheme is kept
 kept : (b : ℕ) → is_scheme_byte b ≡ true → is_url_byte b ≡ true
 kept b h =
     elim (eqb_tells b 43) [
@@ -151,7 +151,7 @@ plain_all (b ∷ bs) h =
     ap (λ l. l ++ escaped_href bs) (kept_byte b (and_first (is_scheme_byte b) (list_all is_scheme_byte bs) h))
     ∙ ap (λ l. b ∷ l) (plain_all bs (and_second (is_scheme_byte b) (list_all is_scheme_byte bs) h))
 
--- one that is none has no written form of such bytes alone
+-- a byte that is not a scheme byte has an escape with a byte that is not a scheme byte
 other_choice : (k x y : Bool) (b : ℕ) (rest : List ℕ) → is_scheme_byte b ≡ false
     → list_all is_scheme_byte ((if k then b ∷ [] else if x then codes "&amp;" else if y then codes "&#x27;" else percent_encoded b) ++ rest) ≡ false
 other_choice true x y b rest h = ap (λ z. z && list_all is_scheme_byte rest) h
@@ -184,6 +184,6 @@ if_any : (further : List ℕ) (o : Option (List ℕ)) → is_allowed_if_any furt
 if_any further None = refl
 if_any further (Some name) = allowed_written further name
 
--- whether a destination is allowed can be told before it is written
+-- a destination is allowed exactly if its scheme before escaping is
 pub allowed_unwritten : (further d : List ℕ) → is_allowed further (escaped_href d) ≡ is_allowed_if_any further (unwritten_scheme d)
 allowed_unwritten further d = ap (is_allowed_if_any further) (scheme_written d) ∙ if_any further (unwritten_scheme d)

@@ -1,4 +1,4 @@
--- The words of a caller's list, as they come off its front.
+-- The words of a caller's list, taken from its start one by one.
 use Rattle.std.proofs.Common.{◌≡◌, ℕ, suc, ◌<◌, ◌≤◌, ◌||◌, false, List, [], ◌∷◌, ◌++◌, length, get_or, filter, All, refl, sym, ap, subst, ◌∙◌, inl, inr, arith, append-nil}
 use Rattle.std.specs.Char.{is_ascii_whitespace}
 use Rattle.std.specs.List.{slice_split, AllPass}
@@ -16,7 +16,7 @@ use Rattle.cmark_safe.specs.Schemes.{is_one_of}
 not_white : (b : ℕ) → 128 ≤ b → is_ascii_whitespace b ≡ false
 not_white b high = grind (arith, nat_tests)
 
--- no byte of a text without white space is one
+-- no byte of a text without white space is white space
 no_white : (x : List ℕ) → NoCharPasses is_ascii_whitespace x → All (λ b. is_ascii_whitespace b ≡ false) x
 no_white x none =
     All-from_get_or (λ b. is_ascii_whitespace b ≡ false) x 0 (λ k below.
@@ -25,7 +25,7 @@ no_white x none =
       | inr high ↦ not_white (get_or x k 0) high
     ])
 
--- white space in front
+-- white space at the start
 words_past_gap : (gap bs : List ℕ) → AllPass is_ascii_whitespace gap → words (gap ++ bs) ≡ words bs
 words_past_gap [] bs white = refl
 words_past_gap (b ∷ gap) bs white =
@@ -47,7 +47,7 @@ words_at_word x (y ∷ []) rest some none after =
     ∙ kept_word x (slice_split is_ascii_whitespace rest) some
 words_at_word x (y ∷ (z ∷ zs)) rest some none after = absurd (omega (arith, after.1))
 
--- a list has the name where its first word is it or the rest has it
+-- the name is in a list if it is the first word, or is in the rest
 pub word_off : (bs gap x sep rest name : List ℕ) → bs ≡ gap ++ (x ++ (sep ++ rest)) → AllPass is_ascii_whitespace gap → 0 < length x → NoCharPasses is_ascii_whitespace x → IsAsciiSeparator sep rest
     → is_one_of (words bs) name ≡ (str_eq_ignore_ascii_case name x || is_one_of (words rest) name)
 word_off bs gap x sep rest name cut white some none after =

@@ -1,4 +1,4 @@
--- The safe events of a text: one for each of its own.
+-- The safe events of a text: one for each event of the text.
 use Rattle.std.specs.Prelude.{ℕ, if◌then◌else◌, List, [], ◌++◌, Option, option_map, IfSome, ◌≡◌, false, true, map}
 use Rattle.cmark_grammar.specs.Attributes.{Attributes}
 use Rattle.cmark_grammar.specs.Escapes.{escaped_href}
@@ -23,7 +23,7 @@ anchored id = record { id = option_map own_name id; classes = []; others = [] }
 abbrev pub safe_level : ℕ → ℕ
 safe_level level = if is_level level then level else 6
 
--- a destination whose written form is no allowed address is left out
+-- a destination is replaced by an empty one if its escaped form is not an allowed address
 abbrev pub safe_destination : (further : List ℕ) → List ℕ → List ℕ
 safe_destination further destination = if is_allowed further (escaped_href destination) then destination else []
 

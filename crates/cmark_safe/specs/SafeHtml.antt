@@ -66,8 +66,8 @@ pub data IsTag (further : List ℕ) : List ℕ → Type 0 where
   Footnote : (name : List ℕ) → IsValue name → IsTag further (codes "<div class=\"footnote-definition\" id=\"" ++ (own_prefix ++ (name ++ codes "\">")))
   ToFootnote : (name : List ℕ) → IsValue name → IsTag further (codes "<a href=\"#" ++ (own_prefix ++ (name ++ codes "\">")))
 
--- text in which only these tags stand. A browser that reads it sees these elements with these attributes and no other: none of the tags
--- lets it read the rest otherwise than as text and tags
+-- text with these tags only. A browser that reads it sees these elements with these attributes and no others: each of these tags lets it
+-- read the rest only as text and tags
 pub data IsSafe (further : List ℕ) : List ℕ → Type 0 where
   Nothing : IsSafe further []
   Sign : (b : ℕ) (more : List ℕ) → is_among (codes "&<>") b ≡ false → IsSafe further more → IsSafe further (b ∷ more)

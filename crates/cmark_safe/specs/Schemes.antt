@@ -12,8 +12,8 @@ is_among signs b = list_any (λ sign. b == sign) signs
 abbrev pub is_one_of : List (List ℕ) → List ℕ → Bool
 is_one_of names name = list_any (str_eq_ignore_ascii_case name) names
 
--- the scheme of an address (RFC 3986 3.1): the bytes before its first colon, if no `/`, `?`, `#` or `&` stands among them. `&` begins an
--- entity, and no entity stands for a byte of a scheme
+-- the scheme of an address (RFC 3986 3.1): the bytes before its first colon, unless `/`, `?`, `#` or `&` is among them. `&` begins an
+-- entity, and no entity is the escape of a byte of a scheme
 abbrev pub scheme_of : List ℕ → Option (List ℕ)
 scheme_of [] = None
 scheme_of (b ∷ bs) =
@@ -44,7 +44,7 @@ is_allowed_if_any further (Some name) = is_allowed_scheme further name
 abbrev pub is_allowed : (further address : List ℕ) → Bool
 is_allowed further address = is_allowed_if_any further (scheme_of address)
 
--- the same before the destination is written: `'` is written as an entity
+-- a byte before the end of a scheme in a destination that is not escaped yet: `'` ends it too, since its escape is an entity
 abbrev pub is_before_sign : ℕ → Bool
 is_before_sign b = not (is_among (codes ":/?#&'") b)
 

@@ -1,4 +1,4 @@
--- What a stream of safe events gives.
+-- The items of a stream of safe events.
 use Rattle.std.specs.Prelude.{◌≡◌, ℕ, Bool, true, false, List, MatchBool, Option, Some, None, Result, Ok, Err}
 use Rattle.std.specs.declared.alloc.AllocError.{AllocError}
 use Rattle.std.specs.declared.ops.Range.{Range}
@@ -13,15 +13,15 @@ use Rattle.cmark_safe.specs.SafeEvents.{safe}
 abbrev pub IsSafeForm : (further : List ℕ) → (event made : Event) → Type 0
 IsSafeForm further event made = shown made ≡ safe further (shown event)
 
--- so it is with ranges, which are the same
+-- an event with its range is the safe form of another with the same range
 abbrev pub IsSafeRanged : (further : List ℕ) → (item made : Event × Range ℕ) → Type 0
 IsSafeRanged further item made = IsSafeForm further item.0 made.0 × (made.1 ≡ item.1)
 
 abbrev pub RangedHasName : Event × Range ℕ → Type 0
 RangedHasName item = HasName item.0
 
--- the iterator gave an item, and this is given for it: the safe form, or the same error item. Where memory is refused for a name, it is an
--- error item, and the stream is over
+-- the item that is given for an item of the iterator: its safe form, or the same error item. If memory for a name is refused, an error item
+-- is given, and the stream is over
 abbrev pub GivesFor : {T : Type 0} → (IsMade : T → T → Type 0) → (HasName : T → Type 0) → (item given : Option (Result T AllocError)) → (is_over : Bool) → Type 0
 GivesFor IsMade HasName None given is_over = (given ≡ None) × (is_over ≡ false)
 GivesFor IsMade HasName (Some (Err e)) given is_over = (given ≡ Some (Err e)) × (is_over ≡ false)
@@ -41,7 +41,7 @@ module _ {S T : Type 0} (IsMade : List ℕ → T → T → Type 0) (HasName : T 
   abbrev pub Gives : (S → Option (Result T AllocError) → S → Type 0) → SafeEvents S → Option (Result T AllocError) → SafeEvents S → Type 0
   Gives steps old given new = MatchBool old.is_over ((given ≡ None) × (new ≡ old)) (GivesOne steps old given new)
 
--- the iterator may be asked, unless the stream is over
+-- unless the stream is over, the iterator may be called
 abbrev pub CanGo : {S : Type 0} → (S → Type 0) → SafeEvents S → Type 0
 CanGo can s = s.is_over ≡ false → can s.iter
 

@@ -12,12 +12,12 @@ use crate::scheme::is_allowed;
 use cmark_text::{CowStr, Event, Excerpt, HeadingLevel, PlainTag, Short, Tag, TagEnd};
 use std::alloc::{AllocError, Global};
 
-/// The safe form of an event: the HTML of safe forms is safe, whatever events they are. `further` names further schemes that addresses may
-/// have, with white space between them; `javascript`, `vbscript`, `data` and `file` are never taken from it.
+/// The safe form of an event. The HTML of safe forms is safe, whatever the events are. `further` is a list of further schemes that
+/// addresses may have, separated by white space; `javascript`, `vbscript`, `data` and `file` are never taken from it.
 ///
 /// Raw HTML becomes text, and an HTML block a paragraph. A heading keeps its level and its anchor, and no other attribute. An anchor and
-/// the name of a footnote get the prefix `user-content-`; memory is asked for that alone. A destination becomes empty unless its address is
-/// relative or has an allowed scheme.
+/// the name of a footnote get the prefix `user-content-`, the only step that takes memory. A destination becomes empty unless its address
+/// is relative or has an allowed scheme.
 pub fn safe_event<'a>(
     alloc: Global,
     further: &str,
@@ -50,7 +50,7 @@ pub fn safe_short(short: Short<'_>) -> Short<'_>
     }
 }
 
-/// The safe form of a destination: the same, or an empty one where it is not allowed.
+/// The safe form of a destination: the destination itself, or an empty one if it is not allowed.
 pub fn safe_destination<'x>(further: &str, destination: &'x str) -> &'x str
     ensures { result.now ≡ safe_destination further.now destination.entry.now }
 {
@@ -136,7 +136,7 @@ fn safe_heading<'a>(
     })
 }
 
-/// The destination, or an empty one where it is not allowed.
+/// The destination, or an empty one if it is not allowed.
 fn kept_if_allowed<'a>(further: &str, destination: CowStr<'a>) -> CowStr<'a>
     ensures { text_bytes result ≡ safe_destination further.now (text_bytes destination.entry) }
 {
@@ -147,7 +147,7 @@ fn kept_if_allowed<'a>(further: &str, destination: CowStr<'a>) -> CowStr<'a>
     CowStr::Borrowed("")
 }
 
-/// A name of the text's own, with a prefix.
+/// A name that the text chose, with a prefix.
 fn own_name<'a>(alloc: Global, name: CowStr<'a>) -> Result<CowStr<'a>, AllocError>
     ensures { IfOk result (λ made. text_bytes made ≡ own_name (text_bytes name.entry)) }
 {

@@ -13,7 +13,7 @@ const USUAL_SCHEMES: &[&[u8]; 3] = &[b"http", b"https", b"mailto"];
 /// The schemes that an address never has.
 const REFUSED_SCHEMES: &[&[u8]; 4] = &[b"javascript", b"vbscript", b"data", b"file"];
 
-/// Whether a link may have this destination: its written form, with its escapes, is a relative address, or has an allowed scheme.
+/// Whether a link may have this destination: its escaped form is a relative address, or has an allowed scheme.
 pub fn is_allowed(further: &str, destination: &str) -> bool
     ensures { result ≡ is_allowed further.now (escaped_href destination.now) }
 {
@@ -34,7 +34,7 @@ fn scheme_of(destination: &[u8]) -> Option<&[u8]>
     }
 }
 
-/// How many bytes stand before the first sign that ends a scheme, or ends that there can be one.
+/// The number of bytes before the first sign that ends a scheme or shows that there is none.
 fn count_before_sign(destination: &[u8]) -> usize
     ensures { result ≡ prefix_len is_before_sign destination.now }
 {

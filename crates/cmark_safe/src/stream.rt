@@ -9,7 +9,7 @@ use cmark_text::Event;
 use std::alloc::{AllocError, Global};
 use std::ops::Range;
 
-/// What an iterator of events gives where memory is not refused: an event, or one with its range.
+/// An item of an iterator of events if memory is not refused: an event, or an event with its range.
 pub trait SafeItem: Drop {
     /// One is the safe form of another, with these further schemes.
     ghost is_safe_form: { List ℕ → Self → Self → Type 0 };
@@ -47,9 +47,9 @@ impl SafeItem for (Event<'_>, Range<usize>) {
     }
 }
 
-/// The safe forms of an iterator's events, one for each, with their ranges where it gives ranges. An error item is handed on as it is.
+/// The safe forms of an iterator's events, one for each, with their ranges if it gives ranges. An error item is passed on as it is.
 ///
-/// Where memory is refused for a name, that is an error item, and there is `None` alone after it.
+/// If memory for a name is refused, the next item is an error item, and only `None` follows.
 ///
 /// ```text
 /// for event in SafeEvents::new(alloc, "", Parser::new(alloc, "<b>", &BasicEntities)?) {
@@ -61,12 +61,12 @@ pub struct SafeEvents<'s, I> {
     alloc: Global,
     further: &'s str,
     iter: I,
-    /// Whether nothing is given any more.
+    /// Whether no more items are given.
     is_over: bool,
 }
 
 impl<'s, I> SafeEvents<'s, I> {
-    /// The safe events of an iterator. `further` names further schemes that addresses may have, with white space between them.
+    /// The safe events of an iterator. `further` is a list of further schemes that addresses may have, separated by white space.
     pub fn new(alloc: Global, further: &'s str, iter: I) -> SafeEvents<'s, I>
         ensures iter { result.iter ≡ iter }
         ensures further { result.further.now ≡ further.entry.now }

@@ -1,6 +1,6 @@
-//! What a document is read with: the columns of a line and the scanners of leaf blocks (`cmark_scan_blocks`), the scanners of what
-//! stands inside a line (`cmark_scan_parts`) or takes several (`cmark_scan_over_lines`), and the tree (`cmark_tree`). It has no code of
-//! its own.
+//! The scanners and the tree of a document, in one name. They are the columns of a line and the scanners of leaf blocks
+//! (`cmark_scan_blocks`), the scanners of constructs inside a line (`cmark_scan_parts`) or over several lines (`cmark_scan_over_lines`),
+//! and the tree (`cmark_tree`). This crate has no code of its own.
 #![tactic(auto)]
 
 pub use cmark_scan_blocks::{

@@ -6,7 +6,7 @@ use Rattle.std.proofs.lemmas.Slice.Eq.{bytes_eq-Decides}
 use Rattle.cmark_grammar.specs.Leaves.{all_pass}
 use Rattle.cmark_grammar.specs.HtmlBlocks.{starts}
 
--- all bytes pass where all of them pass in front
+-- all bytes pass if as many pass at the beginning
 pub all_pass-prefix : (p : ℕ → Bool) (bs : List ℕ) → nat_eq (prefix_len p bs) (length bs) ≡ all_pass p bs
 all_pass-prefix p [] = refl
 all_pass-prefix p (b ∷ bs) = go (p b) (all_pass-prefix p bs)
@@ -18,7 +18,7 @@ all_pass-prefix p (b ∷ bs) = go (p b) (all_pass-prefix p bs)
         same m n = grind (arith)
     go false ih = ne_eqb 0 (suc (length bs)) (omega arith)
 
--- one byte more is the same
+-- one further byte is equal
 pub same_more : (f : ℕ → ℕ) (bs cs : List ℕ) (n : ℕ) → n < length bs → n < length cs → f (get_or bs n 0) ≡ get_or cs n 0 → take n (map f bs) ≡ take n cs → take (n + 1) (map f bs) ≡ take (n + 1) cs
 same_more f bs cs n lt lt' same h =
     let l = length-map f bs in

@@ -16,7 +16,7 @@ not_true : (t : Bool) → (t ≡ true → ⊥) → not t ≡ true
 not_true true never = absurd (never refl)
 not_true false never = refl
 
--- the first line ending is where the content ends
+-- the content ends at the first line ending
 pub first_ending : (bs : List ℕ) (found : Option ℕ) → IsFirstByte (is_byte2 10 13) bs found → take (unwrap_or found (length bs)) bs ≡ content bs
 first_ending bs None none =
     ap (λ n. take n bs) (sym (prefix_len_is is_content bs (length bs) 0 (omega arith) (λ k lt. content_or_ending (get_or bs k 0) ∙ not_true _ (none k (omega arith) lt)) (λ lt. absurd (omega arith))))

@@ -21,7 +21,7 @@ module _ (mark : ℕ) (bs : List ℕ) where
   pub none-at-all : IsFirstByte (is_byte mark) bs None → (k : ℕ) → k < length bs → (get_or bs k 0 == mark) ≡ false
   none-at-all none k lt = false_of _ (none k (omega arith) lt)
 
--- a pipe stands somewhere
+-- there is a pipe
 pipe-none : (bs : List ℕ) → ((k : ℕ) → k < length bs → (get_or bs k 0 == 124) ≡ false) → false ≡ holds (codes "|") bs
 pipe-none [] each = refl
 pipe-none (b ∷ bs) each = pipe-none bs (λ k lt. each (suc k) (omega arith)) ∙ ap (λ t. (t && true) || holds (codes "|") bs) (sym (each 0 (omega arith)))

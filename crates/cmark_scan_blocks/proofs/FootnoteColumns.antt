@@ -13,7 +13,7 @@ over-none : (cs : List Column) → columns_over 0 cs ≡ 0
 over-none [] = refl
 over-none (c ∷ cs) = refl
 
--- a further part of a tab is no byte more
+-- a further part of a tab is not a further byte
 over-tab : (at part w m : ℕ) (cs : List Column) → columns_over (suc m) (tab_columns at (suc part) w ++ cs) ≡ w + columns_over (suc m) cs
 over-tab at part zero m cs = omega arith
 over-tab at part (suc w) m cs =
@@ -26,7 +26,7 @@ take-none : (bs : List ℕ) → take 0 bs ≡ []
 take-none [] = refl
 take-none (b ∷ bs) = refl
 
--- the columns of the first bytes, where the last of them is no tab
+-- the columns of the first bytes, if the last of them is not a tab
 pub over-expand : (n column at : ℕ) (bs : List ℕ) → suc n ≤ length bs → get_or bs n 0 ≢ tab → column + columns_over (suc n) (expand column at bs) ≡ column_behind column (take (suc n) bs)
 over-expand n column at [] le last = absurd (omega (arith, le))
 over-expand n column at (b ∷ bs) le last = go (b == tab) refl n (λ m k a. over-expand m k a bs) le last
@@ -60,7 +60,7 @@ over-expand n column at (b ∷ bs) le last = go (b == tab) refl n (λ m k a. ove
         let h = ih m (suc column) (suc at) (omega (arith, le)) last in
         omega (arith, one, behind, h)
 
--- behind one byte more, which is no tab, the last tab stop is as far away as before, and a column
+-- after one further byte, which is not a tab, the last tab stop is one column further away
 pub aligned-other : (bs : List ℕ) (n behind : ℕ) → n < length bs → behind ≤ n → get_or bs n 0 ≢ 9 → (n - behind) % 4 ≡ column_behind 0 (take n bs) % 4 → (n + 1 - behind) % 4 ≡ column_behind 0 (take (n + 1) bs) % 4
 aligned-other bs n behind lt le other aligned =
     let k : ℕ = column_behind 0 (take n bs) in
@@ -68,11 +68,11 @@ aligned-other bs n behind lt le other aligned =
     let one : width_at k (get_or bs n 0) ≡ 1 = ap (λ t. if t then to_tab_stop k else 1) (ne_eqb (get_or bs n 0) 9 other) in
     omega (arith, more, one)
 
--- the column behind so many bytes more
+-- the column after `m` further bytes
 pub behind-more : (bs : List ℕ) (n m : ℕ) → column_behind 0 (take (n + m) bs) ≡ column_behind (column_behind 0 (take n bs)) (take m (drop n bs))
 behind-more bs n m = ap (column_behind 0) (take-add n m bs) ∙ column_behind-append 0 (take n bs) (take m (drop n bs))
 
--- what a marker of so many bytes takes
+-- the columns that a marker of `n` bytes takes
 pub marker-taken : (at n : ℕ) (line line' : LineStart) → line.pending ≡ 0 → line'.pending ≡ 0 → line'.bytes ≡ line.bytes → line'.taken ≡ line.taken + n → 0 < n → n ≤ length (drop line.taken line.bytes.now)
     → get_or (drop line.taken line.bytes.now) (n - 1) 0 ≢ tab → columns_taken line' ≡ columns_taken line + columns_over n (columns_from at line)
 marker-taken at n line line' whole whole' same further some within last =

@@ -1,4 +1,4 @@
--- The line behind the marker of a footnote definition.
+-- The line after the marker of a footnote definition.
 use Rattle.std.proofs.Common.{◌≡◌, ℕ, suc, ◌+◌, ◌≤◌, Bool, true, false, List, length, take, drop, Some, None, refl, sym, ap, ◌∙◌, arith, eqb-true, drop-drop, length-drop}
 use Rattle.std.specs.Prelude.{if◌then◌else◌}
 use Rattle.std.proofs.lemmas.List.{length-take-le}
@@ -15,7 +15,7 @@ use Rattle.cmark_scan_blocks.proofs.RowSteps.{parted_none, found-is}
 footnote-none : (bs : List ℕ) → is_parted bs ≡ true → footnote_in bs ≡ None
 footnote-none = parted_none footnote_in refl (λ bs. refl) (λ bs. refl)
 
--- what stands in front is what the bytes to come begin with
+-- the marker at the beginning of the row is at the beginning of the bytes that are left
 pub found-at : (r : Row) (bs : List ℕ) → (is_flush r ≡ true → words_of r ≡ bs) → (is_flush r ≡ false → is_parted bs ≡ true) → footnote_at r ≡ footnote_in bs
 found-at r bs words blank = found-is r bs words blank footnote_in footnote-none
 
@@ -46,7 +46,7 @@ behind-is r r1 r2 n label none size first second =
         ∙ ap (λ k. 0 + (m + indent (drop k r.columns))) (let s : 0 + m ≡ m = omega arith in s)
         ∙ (let s : 0 + (m + indent (drop m r.columns)) ≡ m + indent (drop m r.columns) = omega arith in s)
 
--- the marker and the blanks behind it were taken
+-- the marker and the blanks after it were taken
 pub behind-taken : (r r1 r2 : Row) (bs : List ℕ) (size : ℕ) → Some (marked bs size) ≡ footnote_at r → size + 4 ≤ length bs → r1 ≡ without (columns_over (size + 4) r.columns) r → r2 ≡ without (indent_of r1) r1
     → r2 ≡ behind_footnote (footnote_at r) r
 behind-taken r r1 r2 bs size is within first second =

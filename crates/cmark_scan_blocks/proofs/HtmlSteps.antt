@@ -1,4 +1,4 @@
--- Names of tags, and what begins with them.
+-- Names of tags, and the bytes that begin with them.
 use Rattle.std.proofs.Common.{◌≡◌, ◌⊎◌, inl, inr, ⊎_elim, ℕ, zero, suc, ◌+◌, ◌<◌, ◌≤◌, Bool, true, false, cond, ◌==◌, ◌&&◌, ◌||◌, List, [], ◌∷◌, length, take, drop, map, get_or, refl, sym, ap, ◌∙◌, subst, arith, eqb-true, ne_eqb, Option, Some, None}
 use Rattle.std.specs.Prelude.{if◌then◌else◌, nat_le, codes, is_some}
 use Rattle.std.proofs.Math.ListN.{drop_of_length-le}
@@ -107,7 +107,7 @@ block-is bs n is =
     (ap ends_block_name (rest-lower bs n is) ∙ ap (λ t. t || (first_is (λ b. b == 62) (map lower (drop n bs)) || starts (codes "/>") (map lower (drop n bs)))) (parted-lower (drop n bs))
     ∙ ap (λ t. is_parted (drop n bs) || (t || starts (codes "/>") (map lower (drop n bs)))) (first-lower (drop n bs)) ∙ ap (λ t. is_parted (drop n bs) || (first_is (λ b. b == 62) (drop n bs) || t)) (slash-lower (drop n bs))))
 
--- what stands somewhere stands in front, or behind the first byte
+-- a word that occurs is at the beginning, or occurs after the first byte
 or-swap : (a b c d : Bool) → ((a || b) || (c || d)) ≡ ((a || c) || (b || d))
 or-swap true b c d = refl
 or-swap false true true d = refl
@@ -144,7 +144,7 @@ pub ends-next : (bs : List ℕ) → 0 < length bs → closes_raw (map lower bs) 
 ends-next [] some e = absurd (omega arith)
 ends-next (b ∷ bs) some e = sym (holds-cons (lower b) (map lower bs) ∙ ap (λ t. t || ends_raw (map lower bs)) e)
 
--- a word stands somewhere where it is found
+-- a word occurs if it is found
 holds-first : (word : List ℕ) → 0 < length word → (bs : List ℕ) → is_some (behind_first word bs) ≡ holds word bs
 holds-first [] some bs = absurd (omega arith)
 holds-first (w ∷ word) some [] = refl

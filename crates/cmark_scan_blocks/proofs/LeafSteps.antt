@@ -43,7 +43,7 @@ break-passes character bs n is each =
 count_by-cons : (p : ℕ → Bool) (b : ℕ) (bs : List ℕ) → count_by p (b ∷ bs) ≡ cond (p b) 1 0 + count_by p bs
 count_by-cons p b bs = sum_by-cons (λ x. cond (p x) 1 0) b bs
 
--- blanks in front change nothing
+-- blanks at the beginning change nothing
 break-blank : (character b : ℕ) (bs : List ℕ) → is_blank_byte character ≡ false → is_blank_byte b ≡ true → is_break_of character (b ∷ bs) ≡ is_break_of character bs
 break-blank character b bs no_blank blank =
     let other : (b == character) ≡ false = ne_eqb b character (λ same. true≢false (sym blank ∙ ap is_blank_byte same ∙ no_blank)) in
@@ -97,7 +97,7 @@ break-first b bs no_blank = go (b == 42) refl (b == 45) refl (b == 95) refl
     go false e false f false g =
         sym (ap (λ t. t || (is_break_of 45 (b ∷ bs) || is_break_of 95 (b ∷ bs))) (break-other 42 b bs no_blank (apart b 42 e)) ∙ ap (λ t. t || is_break_of 95 (b ∷ bs)) (break-other 45 b bs no_blank (apart b 45 f)) ∙ break-other 95 b bs no_blank (apart b 95 g))
 
--- behind the blanks in front stands no blank
+-- after the blanks at the beginning comes no blank
 no_blank-behind : (bs : List ℕ) (b : ℕ) (cs : List ℕ) → drop (prefix_len is_blank_byte bs) bs ≡ b ∷ cs → is_blank_byte b ≡ false
 no_blank-behind [] b cs e = let q : [] ≡ b ∷ cs = e in absurd (cc)
 no_blank-behind (a ∷ bs) b cs e = go (is_blank_byte a) refl e (no_blank-behind bs b cs)
@@ -120,7 +120,7 @@ break-yes bs rest is some holds = ap (λ t. t && is_break_of (get_or rest 0 0) r
 pub break-no : (bs rest : List ℕ) → rest ≡ drop (prefix_len is_blank_byte bs) bs → 1 ≤ length rest → false ≡ is_break_character (get_or rest 0 0) → false ≡ is_thematic_break bs
 break-no bs rest is some fails = ap (λ t. t && is_break_of (get_or rest 0 0) rest) fails ∙ break-some bs rest is some
 
--- a byte that is not found stands nowhere
+-- a byte that is not found does not occur
 count-none : (p : ℕ → Bool) (bs : List ℕ) → ((k : ℕ) → k < length bs → p (get_or bs k 0) ≡ true → ⊥) → count_by p bs ≡ 0
 count-none p [] none = refl
 count-none p (b ∷ bs) none = count_by-cons p b bs ∙ go (p b) refl (count-none p bs (λ k lt e. none (suc k) (omega arith) e))
@@ -192,7 +192,7 @@ stop-found character bs n is =
     neither false true e = absurd (true≢false (sym e))
     neither false false e = (refl, refl)
 
--- behind some bytes, where no blank stands in front
+-- after some bytes, if no blank comes first
 pub break-here : (bs : List ℕ) (taken character : ℕ) → taken < length bs → character ≡ get_or bs taken 0 → is_blank_byte (get_or (drop taken bs) 0 0) ≡ false → (is_break_character character && is_break_of character (drop taken bs)) ≡ is_thematic_break (drop taken bs)
 break-here bs taken character lt is no_blank =
     first (drop taken bs) (let l = length-drop taken bs in omega arith) (is ∙ sym (get_or-drop taken bs 0 0 ∙ ap (λ n. get_or bs n 0) (let e : taken + 0 ≡ taken = omega arith in e))) no_blank
@@ -210,7 +210,7 @@ none-passes p bs is k below =
     let line_end : length bs ≤ position_or_len p bs = ltb-false (position_or_len p bs) (length bs) (cond-none (nat_lt (position_or_len p bs) (length bs)) (position_or_len p bs) (sym is)) in
     fails_before_first p bs k 0 (omega arith)
 
--- where none stands, all bytes are the character or blanks
+-- if there is no stop, all bytes are the character or blanks
 pub no-stop : (character : ℕ) (bs : List ℕ) → None ≡ position (stops_break character) bs → all_pass (λ c. (c == character) || is_blank_byte c) bs ≡ true
 no-stop character bs is = all_pass-each (λ c. (c == character) || is_blank_byte c) bs (λ k lt. on _ (none-passes (stops_break character) bs is k lt))
   where

@@ -32,7 +32,7 @@ pending-within line = go line.pending line.cut
     go zero cut = omega arith
     go (suc p) cut = let h = cut (omega arith) in omega arith
 
--- more blanks stand behind the first ones
+-- more blanks follow the first ones
 pub more-blank : (at count part width : ℕ) (line line' : LineStart) → line'.bytes ≡ line.bytes → columns_taken line' ≡ columns_taken line + count → count ≤ indent (columns_from at line) → part ≤ width → width ≤ indent (columns_from at line') → count + part ≤ indent (columns_from at line)
 more-blank at count part width line line' same more blank le blank' =
     let e = ap indent (columns-further at count line line' same more) in
@@ -44,7 +44,7 @@ all-blank at n count line line' same more le blank none =
     let e = ap indent (columns-further at count line line' same more) in
     let d = indent-drop count (columns_from at line) blank in omega arith
 
--- the columns behind the blanks are the same behind some of these
+-- the columns after the blanks are the same after some of the blanks were taken
 pub same-behind : (at k : ℕ) (line line' : LineStart) → line'.bytes ≡ line.bytes → columns_taken line' ≡ columns_taken line + k → k ≤ indent (columns_from at line) → without_indent (columns_from at line') ≡ without_indent (columns_from at line)
 same-behind at k line line' same more blank =
     let cs = columns_from at line in
@@ -58,7 +58,7 @@ row-behind at line_end line line' same held behind none =
     ∙ ap (λ bytes. record { columns = without_indent (columns_from at line); at = at; content_end = at + length bytes.now; line_end = line_end; lazy = false; held = not (line'.held == 0) }) same
     ∙ ap (λ h. record (without (indent (columns_from at line)) (row_from at line_end line)) { held = not (h == 0) }) held
 
--- columns left of a tab are in front of the others
+-- columns left of a tab come before the others
 pub whole-behind : (at : ℕ) (line : LineStart) → without_indent (left at line.bytes.now line.taken 0) ≡ without_indent (columns_from at line)
 whole-behind at line =
     let p : ℕ = line.pending in
@@ -73,7 +73,7 @@ pub row-on : (at line_end k : ℕ) (line : LineStart) (taken pending : ℕ) → 
 row-on at line_end k line taken pending more =
     ap (λ cs. record { columns = cs; at = at; content_end = at + length line.bytes.now; line_end = line_end; lazy = false; held = not (line.held == 0) }) (ap (λ n. drop n (expand 0 at line.bytes.now)) more ∙ sym (drop-drop k (columns_taken line) (expand 0 at line.bytes.now)))
 
--- where the bytes behind the first ones are blank, and the blanks are taken, nothing is left
+-- if the bytes after the first ones are blank, and the blanks are taken, nothing is left
 pub row-emptied : (at line_end : ℕ) (line line1 line2 : LineStart) (size : ℕ) (bs : List ℕ) → line1.bytes ≡ line.bytes → not (line1.held == 0) ≡ not (line.held == 0) → line1.taken ≡ line.taken + size → line1.pending ≡ 0 → bs ≡ drop line.taken line.bytes.now → are_blank (drop size bs) ≡ true
     → row_from at line_end line2 ≡ without (indent (columns_from at line1)) (row_from at line_end line1) → row_from at line_end line2 ≡ record (row_from at line_end line) { columns = [] }
 row-emptied at line_end line line1 line2 size bs same held further none is blank taken =

@@ -20,7 +20,7 @@ width-some column b = go (b == tab)
     go true = omega arith
     go false = omega arith
 
--- the columns of a byte, and those behind it
+-- the columns of a byte, and the columns after them
 abbrev byte_columns : ℕ → ℕ → ℕ → List Column
 byte_columns column at b = if b == tab then tab_columns at 0 (to_tab_stop column) else record { byte = b; at = at; part = 0 } ∷ []
 
@@ -98,7 +98,7 @@ left at bs n p = drop (column_behind 0 (take n bs) - p) (expand 0 at bs)
 pub left-whole : (at : ℕ) (bs : List ℕ) (n : ℕ) → n ≤ length bs → left at bs n 0 ≡ expand (column_behind 0 (take n bs)) (at + n) (drop n bs)
 left-whole at bs n le = ap (λ k. drop k (expand 0 at bs)) (let e : column_behind 0 (take n bs) - 0 ≡ column_behind 0 (take n bs) = omega arith in e) ∙ columns_behind at bs n le
 
--- where no column is left over, the first ones are those of the next byte
+-- if no column is left over, the first ones are those of the next byte
 pub left-next : (at : ℕ) (bs : List ℕ) (n : ℕ) → n < length bs
     → left at bs n 0 ≡ byte_columns (column_behind 0 (take n bs)) (at + n) (get_or bs n 0) ++ expand (column_behind 0 (take n bs) + width_at (column_behind 0 (take n bs)) (get_or bs n 0)) (suc (at + n)) (drop (suc n) bs)
 left-next at bs n lt =
@@ -108,7 +108,7 @@ left-next at bs n lt =
 pub left-none : (at : ℕ) (bs : List ℕ) (n : ℕ) → n ≡ length bs → left at bs n 0 ≡ []
 left-none at bs n is = left-whole at bs n (omega arith) ∙ ap (expand (column_behind 0 (take n bs)) (at + n)) (drop_of_length-le bs (omega arith))
 
--- where columns are left over, the last byte is a tab, of which a part was taken
+-- if columns are left over, the last byte is a tab, of which a part was taken
 cut_byte : (column b p : ℕ) → 0 < p → p < width_at column b → b == tab ≡ true
 cut_byte column b p some cut = go (b == tab) refl
   where
@@ -149,7 +149,7 @@ left-cut at bs (suc m) p le some cut =
           (sym (left-whole at bs (suc m) le ∙ ap (λ c. expand c (at + suc m) (drop (suc m) bs)) next ∙ ap (λ a. expand (k + w) a (drop (suc m) bs)) (let e : at + suc m ≡ suc (at + m) = omega arith in e))),
     )
 
--- the blank columns in front
+-- the blank columns at the beginning
 indent-cons : (c : Column) (cs : List Column) → indent (c ∷ cs) ≡ cond (is_blank c) (suc (indent cs)) 0
 indent-cons c cs = ap length (take_while-cons is_blank c cs) ∙ go (is_blank c)
   where
@@ -170,7 +170,7 @@ indent-drop (suc k) (c ∷ cs) le = go (is_blank c) (indent-cons c cs) (indent-d
     go true e ih = let h = ih (omega (arith, le, e)) in omega (arith, h, e)
     go false e ih = absurd (omega (arith, le, e))
 
--- a blank byte in front has all its columns blank, and another byte none
+-- a blank byte at the beginning has only blank columns, and another byte has none
 pub indent-byte : (column at b : ℕ) (cs : List Column) → indent (byte_columns column at b ++ cs) ≡ cond (is_blank_byte b) (width_at column b + indent cs) 0
 indent-byte column at b cs = go (b == tab) refl
   where
@@ -297,7 +297,7 @@ module _ (at : ℕ) (bs : List ℕ) (n p : ℕ) (le : n ≤ length bs) (cut : 0 
       go (End none end is) = none ∙ sym (ap cut_columns is)
       go (Next none lt column w is) = none ∙ sym (ap cut_columns (ap (left at bs n) none) ∙ whole-cut)
 
--- the bytes that are left, where no blank stands in front
+-- the bytes that are left, if no blank comes first
 pub flush-words : (at : ℕ) (bs : List ℕ) (n p : ℕ) → n ≤ length bs → p ≡ 0 → indent (left at bs n p) ≡ 0 → bytes_of (without_indent (left at bs n p)) ≡ drop n bs
 flush-words at bs n p le none flat =
     ap (λ k. bytes_of (drop k (left at bs n p))) flat ∙ ap bytes_of (ap (left at bs n) none ∙ left-whole at bs n le) ∙ bytes_of-expand (column_behind 0 (take n bs)) (at + n) (drop n bs)

@@ -1,5 +1,5 @@
--- The calls on the front of a line, one after the other, as the prefixes of containers: up to three columns of blanks and
--- a marker, or an item's width of blanks.
+-- The calls on the beginning of a line, in the order of containers' prefixes: up to three columns of blanks and a marker, or an item's
+-- width of blanks.
 use Rattle.std.proofs.Common.{◌≡◌, ℕ, zero, suc, ◌+◌, ◌-◌, ◌<◌, ◌≤◌, min, Bool, true, false, ◌&&◌, ◌||◌, not, List, [], ◌∷◌, drop, Option, Some, None, refl, sym, ap, ◌∙◌, arith, eq-eqb, ne_eqb, true≢false}
 use Rattle.std.specs.Prelude.{if◌then◌else◌, nat_le, ◌^◌}
 use Rattle.std.proofs.lemmas.Bool.{leb-true, leb-false}
@@ -12,7 +12,7 @@ use Rattle.cmark_grammar.specs.Containers.{Container, BlockQuote, Item, Footnote
 use Rattle.cmark_scan_blocks.specs.LineMarkers.{is_flush, begins_block_quote, behind_block_quote, item_in, item_numbers, entered}
 use Rattle.cmark_scan_blocks.proofs.PlaceSteps.{indent-drop}
 
--- the row behind up to three columns of blanks
+-- the row after up to three columns of blanks
 abbrev pub shallow : Row → Row
 shallow r = without (min 3 (indent_of r)) r
 
@@ -29,7 +29,7 @@ module _ (r : Row) (le : indent_of r ≤ 3) where
 pub deep : (r : Row) → 3 < indent_of r → is_flush (shallow r) ≡ false
 deep r lt = ne_eqb (indent_of (shallow r)) 0 (λ e. let d = indent-drop (min 3 (indent_of r)) r.columns (omega arith) in absurd (omega (arith, d, e, lt)))
 
--- a block quote's marker behind up to three columns is the one that the grammar sees on the whole row
+-- a block quote's marker after up to three columns is the one that the grammar finds on the whole row
 pub block_quote-seen : (r : Row) → begins_block_quote (shallow r) ≡ is_block_quote r
 block_quote-seen r = go (nat_le (indent_of r) 3) refl
   where
@@ -59,7 +59,7 @@ block_quote-left r e =
     ∙ ap (λ n. without (k + suc (0 + one_blank (drop n r.columns))) r) (let s : k + 1 ≡ suc k = omega arith in s)
     ∙ ap (λ n. without n r) (let s : k + suc (0 + one_blank (drop (suc k) r.columns)) ≡ suc (k + one_blank (drop (suc k) r.columns)) = omega arith in s)
 
--- a later line of a block quote: behind up to three columns and the marker stands what the grammar keeps of it
+-- a later line of a block quote: after up to three columns and the marker, the rest is the one that the grammar keeps
 pub block_quote-kept : (alert : Option BlockQuoteKind) (r : Row) → r.lazy ≡ false → keeps (BlockQuote alert) false r ≡ (if begins_block_quote (shallow r) then Some (behind_block_quote (shallow r)) else None)
 unfolding keeps
 block_quote-kept alert r whole =
@@ -107,7 +107,7 @@ module _ (r : Row) (le : indent_of r ≤ 3) where
           test true = refl
           test false = refl
 
-  -- what the call answers behind so many columns is what the grammar says of the whole row
+  -- the result of the call after this many columns is that of the grammar for the whole row
   pub item-seen : item_numbers (min 3 (indent_of r)) (item_in (shallow r)) ≡ item_numbers 0 (item_of r)
   item-seen = ap (λ n. item_numbers n (item_in (shallow r))) (taken-all r le) ∙ by (item_in (shallow r)) ∙ ap (item_numbers 0) (sym item-widened)
     where
@@ -154,7 +154,7 @@ module _ (r : Row) (le : indent_of r ≤ 3) where
       go true (Some m) q = test (is_parted (drop m.size (words_of (shallow r))) && not (is_thematic_break (words_of (shallow r)))) m.delimiter m.number (width_with m.size (shallow r)) q
       go false o q = cc
 
-  -- and what it leaves is the item's first line
+  -- and its rest is the item's first line
   pub item-entered : (k : Container) → item_of r ≡ Some k → entered (item_in (shallow r)) (shallow r) ≡ enter k r
   unfolding enter
   item-entered k is = by (item_in (shallow r)) refl (sym item-widened ∙ is)
@@ -172,11 +172,11 @@ module _ (r : Row) (le : indent_of r ≤ 3) where
           ap (λ cs. record r { columns = cs }) (drop-drop (width + 3) (min 3 (indent_of r)) r.columns) ∙ ap (λ n. without (n + (width + 3)) r) (taken-all r le)
           ∙ ap (λ n. without n r) (let s : indent_of r + (width + 3) ≡ indent_of r + width + 3 = omega arith in s) ∙ ap (λ c. enter c r) z
 
--- where four columns or more of blanks stand in front, no item is seen
+-- if four or more blank columns come first, no item is found
 pub item-unseen : (r : Row) → 3 < indent_of r → item_in (shallow r) ≡ None
 item-unseen r lt = ap (λ t. if t then item_of (shallow r) else None) (deep r lt)
 
--- a later line of an item: its width of blanks, or nothing behind fewer
+-- a later line of an item: its width of blanks, or nothing after fewer
 pub item-kept : (r : Row) (delimiter : ℕ) (number : Option ℕ) (width : ℕ) (task : Option Bool) → r.lazy ≡ false
     → keeps (Item delimiter number width task) false r
     ≡ (if nat_le width (indent_of r) || is_bare (without (min width (indent_of r)) r).columns then Some (without (min width (indent_of r)) r) else None)

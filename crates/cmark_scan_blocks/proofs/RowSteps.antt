@@ -1,4 +1,4 @@
--- What begins in front of a line, and the line behind it.
+-- The markers at the beginning of a line, and the line after them.
 use Rattle.std.proofs.Common.{◌≡◌, ◌≢◌, ◌⊎◌, inl, inr, ⊎_elim, ℕ, zero, suc, ◌+◌, ◌<◌, ◌≤◌, min, Bool, true, false, ◌==◌, ◌&&◌, ◌||◌, not, List, [], ◌∷◌, length, drop, get_or, Option, Some, None, refl, sym, ap, ◌∙◌, arith, eqb-true, ne_eqb, true≢false}
 use Rattle.std.specs.Prelude.{if◌then◌else◌, take_while, nat_le, option_map, unwrap_or}
 use Rattle.std.specs.List.{prefix_len}
@@ -23,7 +23,7 @@ blank_cases b e = go (b == 32) refl e
     go true f e = inl (eqb-true b 32 f)
     go false f e = inr (eqb-true b 9 e)
 
--- a function of bytes finds nothing where a blank stands in front
+-- a function of bytes finds nothing if a blank comes first
 pub parted_none : {A : Type 0} (f : List ℕ → Option A) → f [] ≡ None → ((bs : List ℕ) → f (32 ∷ bs) ≡ None) → ((bs : List ℕ) → f (9 ∷ bs) ≡ None) → (bs : List ℕ) → is_parted bs ≡ true → f bs ≡ None
 parted_none f none space tab [] e = none
 parted_none f none space tab (b ∷ bs) e = ⊎_elim (λ q. ap (λ c. f (c ∷ bs)) q ∙ space bs) (λ q. ap (λ c. f (c ∷ bs)) q ∙ tab bs) (blank_cases b e)
@@ -44,7 +44,7 @@ begun_in bs = begun (marker_of bs) bs
 pub marker-none : (bs : List ℕ) → is_parted bs ≡ true → begun_in bs ≡ None
 marker-none = parted_none begun_in refl (λ bs. refl) (λ bs. refl)
 
--- no marker begins an item where a thematic break stands
+-- a marker begins no item if the line is a thematic break
 pub begun-break : (bs : List ℕ) → true ≡ is_thematic_break bs → None ≡ begun_in bs
 begun-break bs e = go (marker_of bs)
   where
@@ -92,7 +92,7 @@ marker-front (b ∷ bs) m e = go (is_blank_byte b) refl
     go true f = let none = parted_none (λ cs. parted (marker_of cs) cs) refl (λ cs. refl) (λ cs. refl) (b ∷ bs) f in let q : Some m ≡ None = e ∙ none in absurd (cc)
     go false f = refl
 
--- the item that a marker in front begins
+-- the item that a marker at the beginning begins
 abbrev pub item_at : Row → Marker → Container
 item_at r m = Item m.delimiter m.number (m.size + padding (drop m.size r.columns)) None
 
@@ -136,7 +136,7 @@ module _ (r : Row) (bs : List ℕ) (words : is_flush r ≡ true → words_of r �
       go true e = by e (marker_of (words_of r)) ∙ ap (λ l. option_map (item_at r) (begun_in l)) (words e)
       go false e = ap (option_map (item_at r)) (sym (marker-none bs (blank e)))
 
--- the line behind a container's marker
+-- the line after a container's marker
 pub entered-is : (r r1 r2 : Row) (delimiter : ℕ) (number : Option ℕ) (size p : ℕ) → r1 ≡ without size r → p ≡ padding r1.columns → r2 ≡ without p r1
     → r2 ≡ entered (Some (Item delimiter number (size + padding (drop size r.columns)) None)) r
 unfolding enter
@@ -199,7 +199,7 @@ definition-behind r r1 r2 p is first pad second =
     second ∙ ap (without p) first ∙ ap (λ cs. record r { columns = cs }) (drop-drop p 1 r.columns) ∙ ap (λ n. without (1 + n) r) (pad ∙ ap (λ x. padding x.columns) first)
     ∙ ap (λ o. without (unwrap_or o 0) r) (sym is)
 
--- the blanks behind a marker that count
+-- the blanks after a marker that count
 pub pad-wide : (cs : List Column) (n : ℕ) → n ≡ min 5 (indent cs) → n ≡ 5 → 1 ≡ padding cs
 pad-wide cs n is five = sym (ap (λ t. if t then 1 else indent cs) (ap (λ t. is_bare (without_indent cs) || t) (le-leb 5 (indent cs) (omega arith)) ∙ or-true _))
   where
@@ -217,7 +217,7 @@ pad-some cs n is few some =
     let same : n ≡ indent cs = omega arith in
     same ∙ sym (ap (λ t. if t || nat_le 5 (indent cs) then 1 else indent cs) (ap (λ k. is_bare (drop k cs)) (sym same) ∙ some) ∙ ap (λ t. if t then 1 else indent cs) (lt-leb 5 (indent cs) (omega arith)))
 
--- where one column counts, one is taken, if any is left
+-- if one column counts, one is taken, if any is left
 pub pad-one : (cs : List Column) (n : ℕ) → n ≡ min 5 (indent cs) → (n ≡ 5) ⊎ (is_bare (drop n cs) ≡ true) → drop (min 1 (indent cs)) cs ≡ drop 1 cs
 pad-one cs zero is why = ⊎_elim (λ e. absurd (omega arith)) (λ bare. none cs bare) why
   where
@@ -226,7 +226,7 @@ pad-one cs zero is why = ⊎_elim (λ e. absurd (omega arith)) (λ bare. none cs
     none (d ∷ ds) e = absurd (true≢false (sym e))
 pad-one cs (suc n) is why = ap (λ k. drop k cs) (let e : min 1 (indent cs) ≡ 1 = omega arith in e)
 
--- behind blank bytes nothing is left
+-- after blank bytes nothing is left
 pub blank-rest : (column at : ℕ) (bs : List ℕ) → are_blank bs ≡ true → without_indent (expand column at bs) ≡ []
 blank-rest column at bs e =
     let h = drop-prefix is_blank_byte column at bs in

@@ -14,7 +14,7 @@ use Rattle.cmark_scan_blocks.proofs.FirstSteps.{none-before, first-within, first
 use Rattle.cmark_scan_blocks.proofs.TableSteps.{cells-alone, cells-more}
 use Rattle.cmark_scan_blocks.specs.TableCells.{cells_behind, parts_at}
 
--- bytes in front of the first of these parts
+-- bytes before the first of these parts
 abbrev pub glue : List ℕ → List (List ℕ) → List (List ℕ)
 glue front [] = front ∷ []
 glue front (part ∷ more) = (front ++ part) ∷ more
@@ -93,7 +93,7 @@ module _ (bytes : List ℕ) (at : ℕ) (escaped : Bool) (so : Passed bytes at es
       take-all zero (x ∷ xs) l = absurd (omega (arith, l))
       take-all (suc n) (x ∷ xs) l = ap (λ t. x ∷ t) (take-all n xs (omega (arith, l)))
 
--- whether the byte is escaped that stands so many behind a place, whose own is not
+-- whether the byte that is this many places after `from` is escaped, if that at `from` is not
 abbrev pub escaped_behind : (bytes : List ℕ) → (from : ℕ) → ℕ → Bool
 escaped_behind bytes from zero = false
 escaped_behind bytes from (suc n) = get_or bytes (from + n) 0 == 92
@@ -116,7 +116,7 @@ escaped-there bytes from (suc n) some is =
 and-false : (y z : Bool) → y ≡ false → (y && z) ≡ false
 and-false y z e = ap (λ x. x && z) e
 
--- a search goes on at a place that is not escaped
+-- a search continues at a place that is not escaped
 module _ (bytes : List ℕ) (from : ℕ) (so : Passed bytes from false) where
   -- and passes bytes that are no pipe
   walked : (n : ℕ) → from + n ≤ length bytes → ((k : ℕ) → k < n → (get_or bytes (from + k) 0 == 124) ≡ false) → Passed bytes (from + n) (escaped_behind bytes from n)
@@ -138,11 +138,11 @@ module _ (bytes : List ℕ) (from : ℕ) (so : Passed bytes from false) where
     pub is-pipe : (get_or bytes (from + n) 0 == 124) ≡ true
     is-pipe = ap (λ b. b == 124) (sym (at-rest n)) ∙ first-is 124 rest n first
 
-    -- to a pipe that parts cells
+    -- up to a pipe that separates cells
     pub pipe-found : escaped_behind bytes from n ≡ false → parts false bytes ≡ parts_at bytes (Some (from + n))
     pipe-found plain = passed-found bytes (from + n) (escaped_behind bytes from n) to-pipe pipe-within (ap (λ b. b && not (escaped_behind bytes from n)) is-pipe ∙ ap not plain)
 
-    -- and past one that parts none
+    -- and past a pipe that does not
     pub pipe-passed : escaped_behind bytes from n ≡ true → (now : ℕ) → now ≡ from + n + 1 → Passed bytes now false
     pipe-passed escaped now at =
         passed-more bytes (from + n) (escaped_behind bytes from n) to-pipe pipe-within (ap (λ b. b && not (escaped_behind bytes from n)) is-pipe ∙ ap not escaped) now at false (no-backslash (get_or bytes (from + n) 0) is-pipe)
@@ -157,7 +157,7 @@ module _ (bytes : List ℕ) (from : ℕ) (so : Passed bytes from false) where
       passed-all bytes (from + n) (escaped_behind bytes from n)
       (walked n (omega (arith, le)) (λ k lt. ap (λ b. b == 124) (sym (ap (λ l. get_or l k 0) is ∙ get_or-drop from bytes k 0)) ∙ none-at-all 124 rest none k (omega (arith, ap length is, length-drop from bytes, lt)))) (omega (arith, all))
 
--- there is a part at least
+-- there is at least one part
 pub some-parts : (escaped : Bool) (bs : List ℕ) → 0 < length (parts escaped bs)
 some-parts escaped [] = omega arith
 some-parts escaped (b ∷ bs) = go ((b == 124) && not escaped)
@@ -170,7 +170,7 @@ some-parts escaped (b ∷ bs) = go ((b == 124) && not escaped)
     go true = omega arith
     go false = some_onto (parts (b == 92) bs)
 
--- a part with others behind it is a cell
+-- a part with others after it is a cell
 pub cell-first : (cell : List ℕ) (ps : List (List ℕ)) → 0 < length ps → without_blank_end (cell ∷ ps) ≡ cell ∷ without_blank_end ps
 cell-first cell [] lt = absurd (omega (arith, lt))
 cell-first cell (p ∷ ps) lt = refl

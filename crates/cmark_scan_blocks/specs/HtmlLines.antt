@@ -14,7 +14,7 @@ kind_number Cdata = 5
 kind_number Block = 6
 kind_number Tag = 7
 
--- a name may end before a blank, `>` or the line's end, and that of a block before `/>`, too
+-- a name may end before a blank, `>` or the line's end, and the name of a block also before `/>`
 abbrev pub ends_name : List ℕ → Bool
 ends_name bs = is_parted bs || first_is (λ b. b == 62) bs
 
@@ -45,7 +45,7 @@ names_from b =
     else if b == 117 then codes "ul" ∷ []
     else []
 
--- one of the closing tags of names whose content is taken as it is stands somewhere, or in front
+-- the bytes contain, or begin with, a closing tag of a name whose content is taken literally
 abbrev pub ends_raw : List ℕ → Bool
 ends_raw bs = holds (codes "</pre>") bs || (holds (codes "</script>") bs || (holds (codes "</style>") bs || holds (codes "</textarea>") bs))
 

@@ -1,4 +1,4 @@
-//! Tests and cuts of bytes that the scanners of lines share.
+//! Tests and slices of bytes that the scanners of lines share.
 
 ghost use Rattle.std.specs.Prelude.{◌≡◌, ℕ, ◌+◌, ◌<◌, ◌≤◌, ◌==◌, ◌&&◌, ◌||◌, not, length, take, drop, map, IsTrue};
 ghost use Rattle.cmark_grammar.specs.Leaves.{are_blank, is_parted, run, trimmed};
@@ -6,7 +6,7 @@ ghost use Rattle.cmark_grammar.specs.HtmlBlocks.{lower, is_alphanumeric, starts}
 
 use cmark_scan_parts::bytes::{count_blanks, is_blank, is_letter, without_trailing_blanks};
 
-/// How many times this byte stands in front.
+/// The number of times that this byte is repeated at the beginning.
 #[inline]
 pub(crate) fn count_leading(bytes: &[u8], one: u8) -> usize
     ensures value { result ≡ run one bytes.now }
@@ -15,7 +15,7 @@ pub(crate) fn count_leading(bytes: &[u8], one: u8) -> usize
     bytes.iter().take_while(|byte| **byte == one).count()
 }
 
-/// Whether nothing but blanks stands there.
+/// Whether all bytes are blanks.
 #[inline]
 pub(crate) fn are_blank(bytes: &[u8]) -> bool
     ensures { result ≡ are_blank bytes.now }
@@ -23,7 +23,7 @@ pub(crate) fn are_blank(bytes: &[u8]) -> bool
     count_blanks(bytes) == bytes.len()
 }
 
-/// Whether nothing stands there, or a blank in front.
+/// Whether the bytes are empty or begin with a blank.
 #[inline]
 pub(crate) fn is_parted(bytes: &[u8]) -> bool
     ensures { result ≡ is_parted bytes.now }
@@ -63,7 +63,7 @@ pub(crate) fn is_alphanumeric(byte: u8) -> bool
     is_letter(byte) || (byte >= b'0' && byte <= b'9')
 }
 
-/// Whether these bytes stand in front.
+/// Whether the bytes begin with this prefix.
 #[inline]
 pub(crate) fn starts(bytes: &[u8], prefix: &[u8]) -> bool
     ensures value { result ≡ starts prefix.now bytes.now }
@@ -72,7 +72,7 @@ pub(crate) fn starts(bytes: &[u8], prefix: &[u8]) -> bool
     bytes.starts_with(prefix)
 }
 
-/// Whether these bytes stand in front, which have no capital letters, in any case of their letters.
+/// Whether the bytes begin with this prefix, in any case of the letters. The prefix has no capital letters.
 #[inline]
 pub(crate) fn starts_lower(bytes: &[u8], prefix: &[u8]) -> bool
     ensures value { result ≡ starts prefix.now (map lower bytes.now) }

@@ -1,4 +1,4 @@
-//! HTML blocks: which kind a line begins, and whether it holds the end of one (CommonMark 4.6).
+//! HTML blocks: the kind that a line begins, and whether a line contains the end of one (CommonMark 4.6).
 
 ghost use Rattle.std.specs.Prelude.{◌≡◌, ◌<◌, ◌≤◌, ◌==◌, ◌∷◌, length, drop, map, take_while, option_map, bytes_eq, false};
 ghost use Rattle.std.specs.List.{prefix_len};
@@ -11,7 +11,7 @@ use cmark_scan_parts::bytes::is_letter;
 use cmark_scan_parts::scan_tag;
 use memchr::{memchr, memmem};
 
-/// The kind of an HTML block, by what it begins with.
+/// The kind of an HTML block, by its beginning.
 #[derive(Clone, Copy, PartialEq, Eq)]
 pub enum HtmlKind {
     /// Kind 1: `<pre`, `<script`, `<style` or `<textarea`.
@@ -24,14 +24,13 @@ pub enum HtmlKind {
     Declaration,
     /// Kind 5: `<![CDATA[`.
     Cdata,
-    /// Kind 6: a tag of a block's name.
+    /// Kind 6: a tag with a block's name.
     Block,
-    /// Kind 7: a whole tag of another name, alone on its line.
+    /// Kind 7: a complete tag of another name, alone on its line.
     Tag,
 }
 
-/// The kind of the HTML block that the line begins, if it begins one. The line is handed in behind its indent and before its
-/// ending.
+/// The kind of the HTML block that the line begins, if it begins one. The line is passed without its indent and its ending.
 pub fn html_kind(line: &[u8]) -> Option<HtmlKind>
     ensures { option_map kind_number result ≡ html_kind line.now }
 {
@@ -41,7 +40,7 @@ pub fn html_kind(line: &[u8]) -> Option<HtmlKind>
     }
 }
 
-/// The kind of the HTML block that begins with `line`, which is `<` and the bytes `behind` it.
+/// The kind of the HTML block that begins with `line`, which is `<` and then `behind`.
 fn kind_behind(line: &[u8], behind: &[u8]) -> Option<HtmlKind>
     requires { line.now ≡ 60 ∷ behind.now }
     ensures { option_map kind_number result ≡ kind_behind behind.now }
@@ -66,7 +65,7 @@ fn kind_behind(line: &[u8], behind: &[u8]) -> Option<HtmlKind>
     }
 }
 
-/// Whether a declaration begins behind `<`: with `!` and a letter.
+/// Whether a declaration begins after `<`: with `!` and a letter.
 #[inline]
 fn begins_declaration(behind: &[u8]) -> bool
     ensures { result ≡ begins_declaration behind.now }
@@ -77,7 +76,7 @@ fn begins_declaration(behind: &[u8]) -> bool
     }
 }
 
-/// The bytes behind a slash, if one stands in front.
+/// The bytes after a slash, if they begin with one.
 #[inline]
 fn behind_slash(bytes: &[u8]) -> &[u8]
     ensures { result.now ≡ behind_slash bytes.now }
@@ -88,8 +87,8 @@ fn behind_slash(bytes: &[u8]) -> &[u8]
     }
 }
 
-/// Whether a tag begins behind `<` whose content is taken as it is: one of those names in any case, and a blank, `>` or the
-/// line's end. So many letters and digits stand in front.
+/// Whether, after `<`, a tag begins whose content is taken literally: such a name in any case, and then a blank, `>` or the line's end. The
+/// bytes begin with `size` letters and digits.
 fn begins_raw(behind: &[u8], size: usize) -> bool
     requires count { size ≡ prefix_len is_alphanumeric behind.now }
     requires within { size ≤ length behind.now }
@@ -98,7 +97,7 @@ fn begins_raw(behind: &[u8], size: usize) -> bool
     is_raw_name(&behind[..size]) && ends_name(&behind[size..])
 }
 
-/// Whether an open or a closing tag of a block's name begins behind `<`, where so many letters and digits stand in front.
+/// Whether, after `<`, an open or closing tag with a block's name begins. The bytes begin with `size` letters and digits.
 fn begins_block_tag(behind: &[u8], size: usize) -> bool
     requires count { size ≡ prefix_len is_alphanumeric behind.now }
     requires within { size ≤ length behind.now }
@@ -110,8 +109,8 @@ fn begins_block_tag(behind: &[u8], size: usize) -> bool
     }
 }
 
-/// Whether a tag of a block's name begins behind `<` or `</`: one of those names in any case, and a blank, `>`, `/>` or the
-/// line's end. So many letters and digits stand in front.
+/// Whether, after `<` or `</`, a tag with a block's name begins: such a name in any case, and then a blank, `>`, `/>` or the line's end.
+/// The bytes begin with `size` letters and digits.
 fn begins_block(behind: &[u8], size: usize) -> bool
     requires count { size ≡ prefix_len is_alphanumeric behind.now }
     requires within { size ≤ length behind.now }
@@ -120,7 +119,7 @@ fn begins_block(behind: &[u8], size: usize) -> bool
     is_html_tag(&behind[..size]) && ends_block_name(&behind[size..])
 }
 
-/// How many letters and digits stand in front.
+/// The number of letters and digits at the beginning.
 #[inline]
 fn count_alphanumeric(bytes: &[u8]) -> usize
     ensures value { result ≡ prefix_len is_alphanumeric bytes.now }
@@ -148,7 +147,7 @@ fn ends_block_name(rest: &[u8]) -> bool
     is_parted(rest) || first_is(rest, b'>') || starts(rest, b"/>")
 }
 
-/// Whether this byte stands in front.
+/// Whether the bytes begin with this one.
 #[inline]
 fn first_is(bytes: &[u8], byte: u8) -> bool
     ensures { result ≡ first_is (λ b. b == byte) bytes.now }
@@ -159,8 +158,8 @@ fn first_is(bytes: &[u8], byte: u8) -> bool
     }
 }
 
-/// Whether the line is one whole open or closing tag and blanks (CommonMark 6.6), of a name whose content is not taken as
-/// it is. The line begins with `<`.
+/// Whether the line is one complete open or closing tag and then only blanks (CommonMark 6.6), and the content of its name is not taken
+/// literally. The line begins with `<`.
 fn scan_html_type_7(line: &[u8]) -> bool
     requires { 0 < length line.now }
     ensures { line.now ≡ 60 ∷ drop 1 line.now → result ≡ is_lone_tag (drop 1 line.now) }
@@ -171,14 +170,14 @@ fn scan_html_type_7(line: &[u8]) -> bool
     }
 }
 
-/// The name of a tag: the letters, digits and hyphens in front.
+/// The name of a tag: the letters, digits and hyphens at the beginning.
 fn tag_name(bytes: &[u8]) -> &[u8]
     ensures { result.now ≡ take_while is_name_byte bytes.now }
 {
     &bytes[..count_name(bytes)]
 }
 
-/// How many letters, digits and hyphens stand in front.
+/// The number of letters, digits and hyphens at the beginning.
 #[inline]
 fn count_name(bytes: &[u8]) -> usize
     ensures value { result ≡ prefix_len is_name_byte bytes.now }
@@ -187,7 +186,7 @@ fn count_name(bytes: &[u8]) -> usize
     bytes.iter().take_while(|byte| is_name_byte(**byte)).count()
 }
 
-/// Whether a byte may stand in a tag's name.
+/// Whether a byte may be part of a tag's name.
 #[inline]
 fn is_name_byte(byte: u8) -> bool
     ensures { result ≡ is_name_byte byte }
@@ -195,7 +194,7 @@ fn is_name_byte(byte: u8) -> bool
     is_alphanumeric(byte) || byte == b'-'
 }
 
-/// Whether the name is that of a block (CommonMark 4.6), in any case.
+/// Whether this is the name of a block (CommonMark 4.6), in any case.
 fn is_html_tag(name: &[u8]) -> bool
     ensures { result ≡ is_among (map lower name.now) block_names }
 {
@@ -205,7 +204,7 @@ fn is_html_tag(name: &[u8]) -> bool
     }
 }
 
-/// Whether the name is among those whose content is taken as it is, in any case.
+/// Whether this is a name whose content is taken literally, in any case.
 fn is_raw_name(name: &[u8]) -> bool
     ensures { result ≡ is_among (map lower name.now) raw_names }
 {
@@ -259,7 +258,7 @@ fn names_from(first: u8) -> &'static [&'static [u8]]
     }
 }
 
-/// Whether the name is one of these words in any case.
+/// Whether the name is among these words, in any case.
 fn is_one_of(name: &[u8], words: &[&[u8]]) -> bool
     ensures { result ≡ is_among (map lower name.now) (map (λ word. word.now) words.now) }
 {
@@ -271,8 +270,8 @@ fn is_one_of(name: &[u8], words: &[&[u8]]) -> bool
     false
 }
 
-/// Whether the line holds the end of a block of this kind (CommonMark 4.6): one of the closing tags of kind 1, `-->`, `?>`,
-/// `>` or `]]>`. No line holds an end of the last two kinds, which end before a blank line.
+/// Whether the line contains the end of a block of this kind (CommonMark 4.6): a closing tag of kind 1, `-->`, `?>`, `>` or `]]>`. No line
+/// contains an end of the last two kinds, which end before a blank line.
 pub fn holds_end(line: &[u8], kind: HtmlKind) -> bool
     ensures held { kind_number kind ≤ 5 → result ≡ holds_end (kind_number kind) line.now }
     ensures none { 6 ≤ kind_number kind → result ≡ false }
@@ -287,7 +286,7 @@ pub fn holds_end(line: &[u8], kind: HtmlKind) -> bool
     }
 }
 
-/// Whether this word stands somewhere.
+/// Whether the line contains this word.
 fn holds(line: &[u8], word: &[u8]) -> bool
     requires { 0 < length word.now }
     ensures { result ≡ holds word.now line.now }
@@ -295,7 +294,7 @@ fn holds(line: &[u8], word: &[u8]) -> bool
     memmem::find(line, word).is_some()
 }
 
-/// Whether one of the closing tags of kind 1 stands somewhere, in any case.
+/// Whether the line contains a closing tag of kind 1, in any case.
 fn ends_raw(line: &[u8]) -> bool
     ensures { result ≡ ends_raw (map lower line.now) }
 {
@@ -310,7 +309,7 @@ fn ends_raw(line: &[u8]) -> bool
     false
 }
 
-/// Whether one of the closing tags of kind 1 stands in front, in any case.
+/// Whether the bytes begin with a closing tag of kind 1, in any case.
 fn closes_raw(bytes: &[u8]) -> bool
     ensures { result ≡ closes_raw (map lower bytes.now) }
 {

@@ -1,5 +1,4 @@
-//! Scanners of leaf blocks that take one line (CommonMark 4.1 to 4.5). They are handed a line behind its indent and
-//! before its ending.
+//! Scanners of leaf blocks of one line (CommonMark 4.1 to 4.5). Each gets a line without its indent and its ending.
 
 ghost use Rattle.std.specs.Prelude.{◌≡◌, ℕ, IfSome, option_map};
 ghost use Rattle.std.specs.List.{position};
@@ -17,16 +16,16 @@ use memchr::memchr;
 pub struct CodeFence {
     /// The fence's character, a backtick or a tilde.
     pub delimiter: u8,
-    /// How often it stands there, three times at least.
+    /// The length of the fence, at least three.
     pub run_length: usize,
-    /// Where the info string begins in the line handed in, without the blanks around it.
+    /// The byte offset in the passed line at which the info string begins, without the blanks around it.
     pub info_start: usize,
-    /// Where it ends.
+    /// The byte offset at which it ends.
     pub info_end: usize,
 }
 
-/// Whether the line is a thematic break (CommonMark 4.1): three or more of one of `*`, `-` and `_`, with blanks between
-/// and behind.
+/// Whether the line is a thematic break (CommonMark 4.1): three or more of `*`, `-` or `_`, all the same, with blanks between and after
+/// them.
 #[inline]
 pub fn scan_hrule(line: &[u8]) -> bool
     ensures { result ≡ is_thematic_break line.now }
@@ -38,7 +37,7 @@ pub fn scan_hrule(line: &[u8]) -> bool
     }
 }
 
-/// Whether thematic breaks are made of this byte.
+/// Whether a thematic break may consist of this byte.
 #[inline]
 pub(crate) fn is_break_character(byte: u8) -> bool
     ensures { result ≡ is_break_character byte }
@@ -46,7 +45,7 @@ pub(crate) fn is_break_character(byte: u8) -> bool
     byte == b'*' || byte == b'-' || byte == b'_'
 }
 
-/// Where the first byte stands that is neither this one nor a blank.
+/// The place of the first byte that is neither this one nor a blank.
 #[inline]
 pub(crate) fn break_stop(line: &[u8], character: u8) -> Option<usize>
     ensures { result ≡ position (stops_break character) line.now }
@@ -55,7 +54,7 @@ pub(crate) fn break_stop(line: &[u8], character: u8) -> Option<usize>
         .position(|byte| *byte != character && !is_blank(*byte))
 }
 
-/// Whether the byte stands there three times at least, and else blanks alone.
+/// Whether the byte occurs at least three times, and all other bytes are blanks.
 pub(crate) fn is_break_of(line: &[u8], character: u8) -> bool
     ensures { result ≡ is_break_of character line.now }
 {
@@ -82,7 +81,7 @@ pub fn scan_atx_heading(line: &[u8]) -> Option<HeadingLevel>
     heading_level(hashes)
 }
 
-/// The level that so many `#` open, if they open a heading.
+/// The level of the heading that `#` repeated this many times opens, if it opens one.
 #[inline]
 fn heading_level(hashes: usize) -> Option<HeadingLevel>
     ensures { option_map level_number result ≡ level_at hashes }
@@ -98,8 +97,8 @@ fn heading_level(hashes: usize) -> Option<HeadingLevel>
     }
 }
 
-/// The level of the heading that the line makes of a paragraph before it, if it is a setext heading underline (CommonMark
-/// 4.3): one run of `=` or of `-`, then blanks alone.
+/// The level of the heading that the line makes of the paragraph before it, if it is a setext heading underline (CommonMark 4.3). An
+/// underline is one run of `=` or of `-`, then only blanks.
 #[inline]
 pub fn scan_setext_heading(line: &[u8]) -> Option<HeadingLevel>
     ensures { option_map level_number result ≡ underline_of line.now }
@@ -113,7 +112,7 @@ pub fn scan_setext_heading(line: &[u8]) -> Option<HeadingLevel>
     }
 }
 
-/// Whether the line is one run of this byte and blanks behind it.
+/// Whether the line is one run of this byte, and then only blanks.
 #[inline]
 fn is_run_of(line: &[u8], character: u8) -> bool
     ensures { result ≡ is_run_of character line.now }
@@ -122,8 +121,8 @@ fn is_run_of(line: &[u8], character: u8) -> bool
     run_length > 0 && are_blank(&line[run_length..])
 }
 
-/// The code fence that the line is, if it opens a code block (CommonMark 4.5): three or more backticks with none behind
-/// them, or three or more tildes.
+/// The code fence that the line is, if it opens a code block (CommonMark 4.5): three or more backticks without backticks after them, or
+/// three or more tildes.
 #[inline]
 pub fn scan_code_fence(line: &[u8]) -> Option<CodeFence>
     ensures fence { (indent : ℕ) → option_map (shown_fence indent line.now) result ≡ fence_of indent line.now }
@@ -136,7 +135,7 @@ pub fn scan_code_fence(line: &[u8]) -> Option<CodeFence>
     }
 }
 
-/// A fence of three or more backticks, with none behind them.
+/// A fence of three or more backticks, without backticks after them.
 #[inline]
 fn backtick_fence(line: &[u8]) -> Option<CodeFence>
     ensures fence { (indent : ℕ) → option_map (shown_fence indent line.now) result ≡ backtick_fence indent line.now }
@@ -149,7 +148,7 @@ fn backtick_fence(line: &[u8]) -> Option<CodeFence>
     Some(fence)
 }
 
-/// A fence of this byte, three times at least, whatever stands behind.
+/// A fence of three or more of this byte, whatever follows.
 #[inline]
 fn fence_of(line: &[u8], delimiter: u8) -> Option<CodeFence>
     ensures fence { (indent : ℕ) → option_map (shown_fence indent line.now) result ≡ long_fence indent delimiter line.now }
@@ -170,8 +169,8 @@ fn fence_of(line: &[u8], delimiter: u8) -> Option<CodeFence>
     })
 }
 
-/// Whether the line ends a code block that a fence of so many of this byte opened (CommonMark 4.5): as many at least, then
-/// blanks alone.
+/// Whether the line closes a code block whose fence has `run_length` of this byte (CommonMark 4.5): at least as long a run of it, then only
+/// blanks.
 #[inline]
 pub fn scan_closing_code_fence(line: &[u8], delimiter: u8, run_length: usize) -> bool
     ensures { result ≡ closes_with delimiter run_length line.now }

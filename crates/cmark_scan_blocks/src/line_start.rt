@@ -1,4 +1,4 @@
-//! The front of a line, as the prefixes of containers are read off it (CommonMark 2.2 and 5).
+//! The beginning of a line, from which the prefixes of containers are taken (CommonMark 2.2 and 5).
 
 ghost use Rattle.std.specs.Prelude.{◌≡◌, ◌+◌, ◌-◌, ◌%◌, ◌<◌, ◌≤◌, false, length, take, slice_index};
 ghost use Rattle.cmark_grammar.specs.Columns.{is_blank_byte};
@@ -10,21 +10,22 @@ mod markers;
 use crate::leaf::{break_stop, is_break_character, is_break_of};
 use cmark_search::find_line_end;
 
-/// A line, of which some columns in front were taken. A tab stands for the columns up to the next tab stop, four columns
-/// apart; it is never written out, and a part of it may be taken.
+/// A line, from which some columns at the beginning were taken. A tab is the columns up to the next tab stop; tab stops are four columns
+/// apart. Tabs are never expanded, and a part of a tab may be taken.
 #[derive(Clone, Copy)]
 pub struct LineStart<'a> {
     /// The line without its ending.
     bytes: &'a [u8],
-    /// How many of its bytes were taken; of the last one, a tab, columns may be left.
+    /// The number of its bytes that were taken; columns may be left of the last one, if it is a tab.
     taken: usize,
-    /// The place behind the last tab that was taken, or 0: a tab stop.
+    /// The byte offset after the last tab that was taken, or 0: a tab stop.
     behind_tab: usize,
-    /// How many columns are left of the tab that was taken last.
+    /// The number of columns that are left of the tab that was taken last.
     pending: usize,
-    /// The place of a byte that is no blank, or the line's length: where the last search for a thematic break stopped.
+    /// The byte offset of a byte that is not a blank, or the line's length: the last search for a thematic break stopped there.
     break_stop: usize,
-    /// 1 where a container that has no prefix keeps the line (this profile's own), and 0 elsewhere: a whole word, since a line is moved word by word.
+    /// 1 if a container without a prefix keeps the line (this profile's own), else 0. It is a whole word, because a line is moved word by
+    /// word.
     held: usize,
     ghost plain: { content bytes.now ≡ bytes.now },
     ghost inside: { taken ≤ length bytes.now },
@@ -45,7 +46,7 @@ impl<'a> LineStart<'a> {
     ghost use Rattle.cmark_scan_blocks.specs.LeafLines.{is_break_character};
     ghost use Rattle.cmark_scan_blocks.specs.LineStart.{columns_taken, columns_from, row_from, line_of, cut_columns, knows_stop};
 
-    /// The line that the bytes begin with, of which nothing was taken: the bytes up to the first LF or CR, or all.
+    /// The line at the beginning of the bytes: up to the first LF or CR, or all bytes. Nothing is taken from it yet.
     #[inline(always)]
     pub fn new(bytes: &'a [u8]) -> LineStart<'a>
         ensures { (at line_end : ℕ) → row_from at line_end result ≡ line_of at line_end bytes.entry.now }
@@ -73,7 +74,7 @@ impl<'a> LineStart<'a> {
         }
     }
 
-    /// The bytes to come, or none where columns of a tab are left.
+    /// The bytes that are left; empty if columns of a tab are left.
     #[inline]
     fn ahead(&self) -> &'a [u8]
         ensures words { (at line_end : ℕ) → is_flush (row_from at line_end self.now) ≡ true → words_of (row_from at line_end self.now) ≡ result.now }
@@ -88,7 +89,7 @@ impl<'a> LineStart<'a> {
         }
     }
 
-    /// Whether a byte still to come is known, by an earlier search, that stops a thematic break of this character.
+    /// Whether an earlier search has found a later byte that stops a thematic break of this character.
     #[inline]
     fn has_stop(&self, character: u8) -> bool
         ensures known { result ≡ knows_stop character self.now }
@@ -99,11 +100,11 @@ impl<'a> LineStart<'a> {
             && self.bytes[self.break_stop] != character
     }
 
-    /// Whether a thematic break stands from here on (CommonMark 4.1), where the byte in front is no blank.
+    /// Whether the rest of the line is a thematic break (CommonMark 4.1), if its first byte is not a blank.
     ///
-    /// A search that fails leaves its stop behind. In `- - - x` the one at the first `-` reads up to `x`, and at the next
-    /// two the known stop answers. A new search begins at the last stop or behind it, so that each byte is read a few times
-    /// at most, however many markers the line has.
+    /// A search that fails records the byte at which it stopped. In `- - - x` the search at the first `-` reads up to `x`; at the next two
+    /// the recorded stop decides. A new search begins at the last stop or after it. So each byte is read only a few times, however many
+    /// markers the line has.
     fn is_break(&mut self) -> bool
         requires { is_blank_byte (slice_index (drop self.old.taken self.old.bytes.now) 0) ≡ false }
         ensures found { result ≡ is_thematic_break (drop self.old.taken self.old.bytes.now) }
@@ -128,7 +129,7 @@ impl<'a> LineStart<'a> {
         false
     }
 
-    /// Takes this many bytes, none of which is a tab.
+    /// Takes `n` bytes, which contain no tab.
     #[inline]
     fn take_bytes(&mut self, n: usize)
         requires whole { self.old.pending ≡ 0 }
@@ -160,7 +161,7 @@ impl<'a> LineStart<'a> {
         }
     }
 
-    /// Takes this many bytes, among which tabs may stand, but not as the last one.
+    /// Takes `n` bytes. Tabs may be among them, but the last byte is not a tab.
     fn take_marker(&mut self, n: usize)
         requires whole { self.old.pending ≡ 0 }
         requires some { 0 < n }
@@ -176,7 +177,7 @@ impl<'a> LineStart<'a> {
         }
     }
 
-    /// Whether the line goes on with this byte, which is no blank, and nothing is left of a tab.
+    /// Whether the line continues with this byte, which is not a blank, and no column of a tab is left.
     #[inline]
     fn goes_on_with(&self, byte: u8) -> bool
         requires { is_blank_byte byte ≡ false }
@@ -191,7 +192,7 @@ impl<'a> LineStart<'a> {
         }
     }
 
-    /// Takes the byte in front, if it is a blank, and answers how many columns it has, or 0.
+    /// Takes the byte at the beginning, if it is a blank, and returns its number of columns, or 0.
     #[inline]
     fn take_blank(&mut self) -> usize
         requires { self.old.pending ≡ 0 }
@@ -220,8 +221,8 @@ impl<'a> LineStart<'a> {
         }
     }
 
-    /// Takes up to `n` columns of spaces and tabs, and answers how many. Of a tab in the line's first column, which has four,
-    /// `scan_space_upto(1)` takes one, and three are left as spaces.
+    /// Takes up to `n` columns of spaces and tabs, and returns their number. A tab in the line's first column has four columns:
+    /// `scan_space_upto(1)` takes the first, and three are left as spaces.
     #[inline]
     pub fn scan_space_upto(&mut self, n: usize) -> usize
         ensures count { (at : ℕ) → result ≡ min n (indent (columns_from at self.old)) }
@@ -241,8 +242,7 @@ impl<'a> LineStart<'a> {
         count
     }
 
-    /// Takes up to `n` columns of spaces and tabs, and answers whether so many stand there. Where fewer do, they are taken
-    /// all the same.
+    /// Takes up to `n` columns of spaces and tabs, and returns whether there were `n`. If there are fewer, they are taken too.
     #[inline]
     pub fn scan_space(&mut self, n: usize) -> bool
         ensures enough { (at line_end : ℕ) → result ≡ nat_le n (indent_of (row_from at line_end self.old)) }
@@ -251,7 +251,7 @@ impl<'a> LineStart<'a> {
         self.scan_space_upto(n) == n
     }
 
-    /// Takes all spaces and tabs in front.
+    /// Takes all spaces and tabs at the beginning.
     #[inline]
     pub fn scan_all_space(&mut self)
         ensures { (at line_end : ℕ) → row_from at line_end self.new ≡ without (indent_of (row_from at line_end self.old)) (row_from at line_end self.old) }
@@ -260,7 +260,7 @@ impl<'a> LineStart<'a> {
         while self.take_blank() > 0 {}
     }
 
-    /// Notes that a container which has no prefix keeps the line (this profile's own). Nothing is taken.
+    /// Records that a container without a prefix keeps the line (this profile's own). Nothing is taken.
     #[inline]
     pub fn hold(&mut self)
         ensures { (at line_end : ℕ) → row_from at line_end self.new ≡ hold (row_from at line_end self.old) }
@@ -268,7 +268,7 @@ impl<'a> LineStart<'a> {
         self.held = 1;
     }
 
-    /// Whether a container which has no prefix keeps the line (this profile's own).
+    /// Whether a container without a prefix keeps the line (this profile's own).
     #[inline]
     pub fn is_held(&self) -> bool
         ensures { (at line_end : ℕ) → result ≡ (row_from at line_end self.now).held }
@@ -276,7 +276,7 @@ impl<'a> LineStart<'a> {
         self.held != 0
     }
 
-    /// How many columns are left of a tab of which a part was taken, 0 to 3.
+    /// The number of columns that are left of a partly taken tab, 0 to 3.
     #[inline]
     pub fn remaining_space(&self) -> usize
         ensures { (at : ℕ) → result ≡ cut_columns (columns_from at self.now) }
@@ -292,7 +292,7 @@ impl<'a> LineStart<'a> {
         self.pending == 0 && self.taken == self.bytes.len()
     }
 
-    /// The bytes to come: those behind the ones that were taken.
+    /// The bytes that are left, after those that were taken.
     #[inline]
     pub fn remaining_bytes(&self) -> &'a [u8]
         ensures { (at : ℕ) → bytes_of (columns_from at self.now) ≡ result.now }
@@ -301,7 +301,7 @@ impl<'a> LineStart<'a> {
         &bytes[taken..]
     }
 
-    /// How many bytes of the line were taken, a tab of which a part was taken among them.
+    /// The number of bytes of the line that were taken; a partly taken tab counts.
     #[inline]
     pub fn bytes_scanned(&self) -> usize
         ensures { (at line_end : ℕ) → begin_of (row_from at line_end self.now) ≡ at + result }
@@ -310,7 +310,8 @@ impl<'a> LineStart<'a> {
     }
 }
 
-/// How many bytes stand before the first LF or CR, or how many there are. Of an empty line, of which texts have many, its first byte tells it.
+/// The number of bytes before the first LF or CR, or of all bytes. For an empty line, of which texts have many, it looks only at the first
+/// byte.
 #[inline(always)]
 fn content_len(bytes: &[u8]) -> usize
     ensures content { take result bytes.now ≡ content bytes.now }

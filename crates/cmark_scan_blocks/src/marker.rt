@@ -17,16 +17,16 @@ use cmark_text_parts::BlockQuoteKind;
 /// The marker of a list item.
 #[derive(Clone, Copy)]
 pub(crate) struct ListMarker {
-    /// The bullet, or what stands behind the number: `.` or `)`.
+    /// The bullet, or the byte after the number: `.` or `)`.
     pub delimiter: u8,
-    /// The number of an ordered item.
+    /// The number of an ordered item; `None` for a bullet.
     pub number: Option<u64>,
-    /// How many bytes it has, which are as many columns.
+    /// The number of its bytes, which is also its number of columns.
     pub size: usize,
 }
 
-/// The marker of the list item that begins in front, if one does where the line is no thematic break: a bullet, or one to
-/// nine digits and `.` or `)`, then a blank or the line's end.
+/// The marker of the list item at the beginning, if there is one and the line is not a thematic break. It is a bullet, or one to nine
+/// digits and `.` or `)`; then a blank or the line's end follows.
 #[inline]
 pub(crate) fn scan_listitem(line: &[u8]) -> Option<ListMarker>
     ensures value { option_map shown_marker result ≡ parted (marker_of line.now) line.now }
@@ -41,7 +41,7 @@ pub(crate) fn scan_listitem(line: &[u8]) -> Option<ListMarker>
     }
 }
 
-/// A bullet, or else a number and what stands behind it.
+/// A bullet, or else a number and the byte after it.
 #[inline]
 fn scan_marker(line: &[u8]) -> Option<ListMarker>
     ensures value { option_map shown_marker result ≡ marker_of line.now }
@@ -82,7 +82,7 @@ fn scan_number(line: &[u8]) -> Option<ListMarker>
     })
 }
 
-/// Whether a byte may stand behind the number of an ordered item.
+/// Whether a byte may follow the number of an ordered item.
 #[inline]
 fn is_delimiter(byte: u8) -> bool
     ensures { result ≡ is_delimiter byte }
@@ -90,7 +90,7 @@ fn is_delimiter(byte: u8) -> bool
     byte == b'.' || byte == b')'
 }
 
-/// How many digits stand in front.
+/// The number of digits at the beginning.
 #[inline]
 fn count_digits(line: &[u8]) -> usize
     ensures value { result ≡ prefix_len is_digit line.now }
@@ -107,7 +107,7 @@ fn is_digit(byte: u8) -> bool
     byte >= b'0' && byte <= b'9'
 }
 
-/// The number that at most nine digits spell.
+/// The number that at most nine digits represent.
 fn number_of(digits: &[u8]) -> u64
     requires few { length digits.now ≤ 9 }
     requires digits { (k : ℕ) → k < length digits.now → is_digit (slice_index digits.now k) ≡ true }
@@ -120,8 +120,8 @@ fn number_of(digits: &[u8]) -> u64
     number
 }
 
-/// Whether the box of the task marker in front is checked, if there is one (GFM 5.3): `[ ]`, `[x]` or `[X]`, a blank, and
-/// text somewhere behind it.
+/// Whether the box of the task marker at the beginning is checked, if there is a task marker (GFM 5.3): `[ ]`, `[x]` or `[X]`, a blank, and
+/// text somewhere after it.
 #[inline]
 pub(crate) fn scan_task(line: &[u8]) -> Option<bool>
     ensures value { result ≡ task_of line.now }
@@ -135,7 +135,7 @@ pub(crate) fn scan_task(line: &[u8]) -> Option<bool>
     }
 }
 
-/// Whether a blank stands in front, and text somewhere behind it.
+/// Whether the bytes begin with a blank, and text comes somewhere after it.
 #[inline]
 fn is_parted_text(bytes: &[u8]) -> bool
     ensures { result ≡ is_parted_text bytes.now }
@@ -146,7 +146,7 @@ fn is_parted_text(bytes: &[u8]) -> bool
     }
 }
 
-/// The kind of the alert whose tag the line is, if it is one (this profile's own), and how many bytes the tag has.
+/// The kind of the alert whose tag the line is, if it is one (this profile's own), and the number of bytes of the tag.
 pub(crate) fn scan_alert(line: &[u8]) -> Option<(BlockQuoteKind, usize)>
     ensures value { option_map (λ found. shown_block_quote_kind found.0) result ≡ alert_of line.now }
     ensures some { IfSome result (λ found. 0 < found.1) }
@@ -169,7 +169,7 @@ pub(crate) fn scan_alert(line: &[u8]) -> Option<(BlockQuoteKind, usize)>
     }
 }
 
-/// Whether the line is this tag with its letters in any case, and blanks behind it. The tag has no capital letters.
+/// Whether the line is this tag in any case of its letters, and then only blanks. The tag has no capital letters.
 fn is_tag(line: &[u8], tag: &[u8]) -> bool
     ensures value { result ≡ is_tag tag.now line.now }
     ensures within { IsTrue result → length tag.now ≤ length line.now }

@@ -1,4 +1,4 @@
-//! The lines that metadata blocks begin and end with (this profile's own). They are handed in whole, without their ending.
+//! The lines at the beginning and the end of metadata blocks (this profile's own). They are passed whole, without their ending.
 
 ghost use Rattle.std.specs.Prelude.{◌≡◌, option_map};
 ghost use Rattle.cmark_grammar.specs.Metadata.{is_line_of, metadata_of, closes_metadata};
@@ -7,7 +7,7 @@ ghost use Rattle.cmark_text_parts.specs.Shown.{shown_metadata_block_kind};
 use crate::bytes::{are_blank, starts};
 use cmark_text_parts::MetadataBlockKind;
 
-/// The kind of the metadata block that the line begins, if lines behind it end one: `---` or `+++`, and blanks.
+/// The kind of the metadata block that the line begins, if a later line ends it: `---` or `+++`, and blanks.
 #[inline]
 pub fn scan_metadata_fence(line: &[u8]) -> Option<MetadataBlockKind>
     ensures { option_map shown_metadata_block_kind result ≡ metadata_of line.now }
@@ -32,7 +32,7 @@ pub fn scan_closing_metadata_fence(line: &[u8], kind: MetadataBlockKind) -> bool
     }
 }
 
-/// Whether the line is exactly these bytes and blanks behind them.
+/// Whether the line is exactly these bytes, and then only blanks.
 #[inline]
 fn is_line_of(line: &[u8], delimiter: &[u8]) -> bool
     ensures { result ≡ is_line_of delimiter.now line.now }

@@ -9,9 +9,9 @@ use cmark_text_parts::Alignment;
 use memchr::memchr;
 use std::alloc::{AllocError, Global};
 
-/// How a table's columns are aligned, where the line is a delimiter row: cells of hyphens, each with an optional colon
-/// before and behind them and blanks around it, parted by pipes. One pipe at least must stand there (this profile's own);
-/// one may stand in front and one at the end. The line is handed in without its ending.
+/// The alignments of a table's columns, if the line is a delimiter row. Its cells are hyphens, each with an optional colon before and after
+/// them and with blanks around it; pipes separate them. There must be at least one pipe (this profile's own); a pipe may also precede and
+/// follow the cells. The line is passed without its ending. Fails only if memory is refused.
 pub fn scan_table_head(alloc: Global, line: &[u8]) -> Result<Option<Vec<Alignment>>, AllocError>
     ensures { IfOk result (λ row. option_map (λ columns. map shown_alignment columns.items) row ≡ delimiter_row line.now) }
 {
@@ -21,7 +21,7 @@ pub fn scan_table_head(alloc: Global, line: &[u8]) -> Result<Option<Vec<Alignmen
     scan_cells(alloc, without_last_pipe(without_first_pipe(trimmed(line))))
 }
 
-/// How many columns the table has, where the line is a delimiter row. The line is handed in without its ending.
+/// The number of columns of the table, if the line is a delimiter row. The line is passed without its ending.
 pub fn count_delimiter_cells(line: &[u8]) -> Option<usize>
     ensures { result ≡ option_map length (delimiter_row line.now) }
 {
@@ -29,7 +29,7 @@ pub fn count_delimiter_cells(line: &[u8]) -> Option<usize>
     count_columns(without_last_pipe(without_first_pipe(trimmed(line))))
 }
 
-/// How many cells stand between pipes, where each is a delimiter cell.
+/// The number of cells between pipes, if each is a delimiter cell.
 fn count_columns(row: &[u8]) -> Option<usize>
     ensures { result ≡ option_map length (alignments (cells row.now)) }
 {
@@ -45,7 +45,7 @@ fn count_columns(row: &[u8]) -> Option<usize>
     Some(columns + 1)
 }
 
-/// What the cells between pipes say, where each is a delimiter cell.
+/// The alignments of the cells between pipes, if each is a delimiter cell.
 fn scan_cells(alloc: Global, row: &[u8]) -> Result<Option<Vec<Alignment>>, AllocError>
     ensures { IfOk result (λ found. option_map (λ columns. map shown_alignment columns.items) found ≡ alignments (cells row.now)) }
 {
@@ -66,7 +66,7 @@ fn scan_cells(alloc: Global, row: &[u8]) -> Result<Option<Vec<Alignment>>, Alloc
     Ok(Some(columns))
 }
 
-/// The bytes behind a pipe in front, if there is one.
+/// The bytes after a pipe at the beginning; if there is no pipe, all bytes.
 #[inline]
 pub(crate) fn without_first_pipe(bytes: &[u8]) -> &[u8]
     ensures value { result.now ≡ without_first_pipe bytes.now }
@@ -78,7 +78,7 @@ pub(crate) fn without_first_pipe(bytes: &[u8]) -> &[u8]
     }
 }
 
-/// The bytes before a pipe at the end, if there is one.
+/// The bytes before a pipe at the end; if there is no pipe, all bytes.
 #[inline]
 fn without_last_pipe(bytes: &[u8]) -> &[u8]
     ensures { result.now ≡ without_last_pipe bytes.now }
@@ -91,7 +91,7 @@ fn without_last_pipe(bytes: &[u8]) -> &[u8]
     }
 }
 
-/// What a delimiter cell without blanks at its ends says.
+/// The alignment of a delimiter cell without blanks at its ends.
 fn scan_cell(cell: &[u8]) -> Option<Alignment>
     ensures { option_map shown_alignment result ≡ alignment_of cell.now }
 {
@@ -101,7 +101,7 @@ fn scan_cell(cell: &[u8]) -> Option<Alignment>
     }
 }
 
-/// What a delimiter cell says that goes on with these bytes: one or more hyphens, and a colon or the end.
+/// The alignment of a delimiter cell that continues with these bytes: one or more hyphens, and a colon or the end.
 fn scan_hyphens(before: bool, bytes: &[u8]) -> Option<Alignment>
     ensures { option_map shown_alignment result ≡ hyphens before bytes.now }
 {
@@ -116,7 +116,7 @@ fn scan_hyphens(before: bool, bytes: &[u8]) -> Option<Alignment>
     }
 }
 
-/// What a colon before the hyphens and one behind them say.
+/// The alignment by a colon before the hyphens and one after them.
 #[inline]
 fn aligned(before: bool, behind: bool) -> Alignment
     ensures { shown_alignment result ≡ aligned before behind }

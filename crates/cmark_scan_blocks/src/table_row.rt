@@ -1,4 +1,4 @@
-//! The rows of a table, cell by cell (GFM 4.10). Lines are handed in behind their indent and without their ending.
+//! The rows of a table, cell by cell (GFM 4.10). Lines are passed without their indent and their ending.
 
 ghost use Rattle.std.specs.Prelude.{◌≡◌, ◌≤◌, ◌<◌, ◌+◌, ◌⊎◌, ℕ, suc, List, [], false, length, IfSome, option_map};
 ghost use Rattle.cmark_grammar.specs.TableRows.{parts, cells_of, holds_pipe};
@@ -9,7 +9,7 @@ use crate::bytes::are_blank;
 use crate::table::without_first_pipe;
 use cmark_search::find_pipe as next_pipe;
 
-/// How many bytes stand before the first pipe that parts cells: one directly behind a backslash parts none.
+/// The number of bytes before the first pipe that separates cells. A pipe directly after a backslash does not.
 fn find_pipe(bytes: &[u8]) -> Option<usize>
     ensures value { parts false bytes.now ≡ parts_at bytes.now result }
     ensures within { IfSome result (λ at. at < length bytes.now) }
@@ -25,14 +25,14 @@ fn find_pipe(bytes: &[u8]) -> Option<usize>
     None
 }
 
-/// Whether a pipe that parts cells stands in the line.
+/// Whether the line contains a pipe that separates cells.
 pub fn holds_pipe(words: &[u8]) -> bool
     ensures { result ≡ holds_pipe words.now }
 {
     find_pipe(words).is_some()
 }
 
-/// What the cells of a row stand in: the line without a pipe in front.
+/// The line from its first cell on: without a pipe at its beginning.
 #[inline]
 pub fn cells_in_row(words: &[u8]) -> &[u8]
     ensures cells { cells_behind result.now ≡ cells_of words.now }
@@ -42,8 +42,8 @@ pub fn cells_in_row(words: &[u8]) -> &[u8]
     without_first_pipe(words)
 }
 
-/// How many bytes the first cell of a row has that goes on with these bytes, and the bytes behind the pipe behind it. None, where
-/// nothing but spaces and tabs is left.
+/// The number of bytes of the first cell of a row that continues with these bytes, and the bytes after the pipe that follows the cell.
+/// `None` if only spaces and tabs are left.
 pub fn next_cell(bytes: &[u8]) -> Option<(usize, &[u8])>
     ensures cells { cells_behind bytes.now ≡ cells_cut bytes.now (option_map (λ cut. (cut.0, cut.1.now)) result) }
     ensures within { IfSome result (λ cut. cut.0 ≤ length bytes.now) }
@@ -56,7 +56,7 @@ pub fn next_cell(bytes: &[u8]) -> Option<(usize, &[u8])>
     }
 }
 
-/// How many cells a line has as a row of a table.
+/// The number of cells of a line, as a row of a table.
 pub fn count_cells(words: &[u8]) -> usize
     ensures { result ≡ length (cells_of words.now) }
 {

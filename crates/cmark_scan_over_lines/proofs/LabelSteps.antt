@@ -102,7 +102,7 @@ too_long all (Some found) text n reads count lt =
     ∙ ap (λ t. if t && has_words (text ++ found.bytes) then Some (let f : Parsed = record { bytes = text ++ found.bytes; behind = found.behind } in f) else None)
     (lt-leb (characters (text ++ found.bytes)) 999 (let m = longer text found.bytes in omega arith)))
 
--- what was read of a text up to a place: the stretches that were copied, and the bytes behind a mark
+-- the text read up to a place: the stretches that were copied, and the bytes after a mark
 abbrev pub so_far : (copied text : List ℕ) (mark at : ℕ) → List ℕ
 so_far copied text mark at = copied ++ slice_range text mark at
 
@@ -114,7 +114,7 @@ so_far-more copied text mark at le lt =
     ∙ ap (λ b. copied ++ (take (at - mark) (drop mark text) ++ b ∷ [])) (get_or-drop mark text (at - mark) 0 ∙ ap (λ n. get_or text n 0) (let e : mark + (at - mark) ≡ at = omega arith in e))
     ∙ sym (append_assoc copied (slice_range text mark at) (get_or text at 0 ∷ []))
 
--- where all that was read was copied
+-- if all that was read was copied
 pub so_far-copied : (copied read text : List ℕ) (at : ℕ) → copied ≡ read → so_far copied text at at ≡ read
 so_far-copied copied read text at is = ap (λ n. copied ++ take n (drop at text)) (let e : at - at ≡ 0 = omega arith in e) ∙ append-nil copied ∙ is
 
@@ -122,7 +122,7 @@ so_far-copied copied read text at is = ap (λ n. copied ++ take n (drop at text)
 pub byte-cut : (bytes text : List ℕ) (at : ℕ) → bytes ≡ text → at < length text → drop at text ≡ get_or bytes at 0 ∷ drop (at + 1) text
 byte-cut bytes text at same lt = drop-cons text at 0 lt ∙ ap (λ (l : List ℕ). get_or l at 0 ∷ drop (suc at) text) (sym same) ∙ ap (λ n. get_or bytes at 0 ∷ drop n text) (let e : suc at ≡ at + 1 = omega arith in e)
 
--- a label that stands in no table
+-- a label that is not in a table
 in_no_cell : (o : Option Parsed) → option_map (as_in_cell false) o ≡ o
 in_no_cell None = refl
 in_no_cell (Some found) = refl
@@ -137,7 +137,7 @@ module _ (prefix : List ℕ → Option ℕ) (text : List ℕ) where
       ap (λ n. let part : Part = record { end = n; bytes = bytes } in Some part) (let l = length-drop (at + 1) text in let s : at + 1 ≡ length text - length (drop (at + 1) text) = omega arith in s)
       ∙ ap (option_map (cut_behind text)) (sym e ∙ sym (in_no_cell _))
 
--- one byte more of a label, and the prefixes behind it
+-- one further byte of a label, and the prefixes after it
 pub label_onward : (prefix : List ℕ → Option ℕ) (all : Option Parsed) (text : List ℕ) (at size b : ℕ) (e e' : Bool) (read read' : List ℕ) → all ≡ puts read (up_to_bracket prefix e 0 (drop at text)) → drop at text ≡ b ∷ drop (at + 1) text
     → ((bs : List ℕ) (found : Option Parsed) → up_to_byte e 93 91 true b bs found ≡ put b found) → Some size ≡ label_prefix prefix b (drop (at + 1) text) → read' ≡ read ++ b ∷ [] → e' ≡ escapes_next e b
     → all ≡ puts read' (up_to_bracket prefix e' 0 (drop (at + 1 + size) text))

@@ -25,7 +25,7 @@ boundary_in_rest bs i j le h =
     (omega arith, λ lt high. let at = get_or-drop i bs j 0 in let lead = h.1 (omega arith) (omega arith) in omega arith)
 
 module _ (prefix : List ℕ → ℕ) (whole : CutsNoCharacter prefix) where
-  -- some bytes that are kept, and those behind them without their prefixes
+  -- some bytes that are kept, and the bytes after them without their prefixes
   kept : (fuel n m size : ℕ) (bs : List ℕ) → n ≤ fuel → m + n ≡ size → IsUtf8 bs → IsCharBoundary bs size → IsUtf8 (take m bs ++ without_prefixes prefix n 0 (drop m bs))
   kept fuel zero m size bs le is utf8 end = subst IsUtf8 (sym (append-nil (take m bs))) (IsUtf8-take bs m utf8 (subst (IsCharBoundary bs) (let e : size ≡ m = omega arith in e) end))
   kept zero (suc n) m size bs le is utf8 end = absurd (omega arith)

@@ -1,4 +1,4 @@
--- What the values of structs mean.
+-- The meaning of structs.
 use Rattle.std.specs.Prelude.{◌≡◌, suc, length}
 use Rattle.cmark_grammar.specs.InlineHtml.{OwnedTag}
 use Rattle.cmark_text_parts.specs.Shown.{text_bytes}
@@ -12,6 +12,6 @@ shown_tag tag = record { end = tag.end; buffer = tag.buffer.items }
 abbrev pub shown_label : LinkLabelRest → Part
 shown_label label = record { end = label.end; bytes = text_bytes label.text }
 
--- a label of as many bytes as stand up to its closing bracket, so that none is left out
+-- a label with all bytes up to its closing bracket, so that no byte is left out
 abbrev pub IsWhole : LinkLabelRest → Type 0
 IsWhole label = suc (length (text_bytes label.text)) ≡ label.end

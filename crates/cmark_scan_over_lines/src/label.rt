@@ -1,4 +1,4 @@
-//! Labels of links behind their opening bracket (CommonMark 4.7).
+//! Labels of links after their opening bracket (CommonMark 4.7).
 
 ghost use Rattle.std.specs.Prelude.{◌≡◌, ◌<◌, ◌≤◌, ◌&&◌, ◌||◌, ◌++◌, [], Ok, true, false, ℕ, length, List, Option, not, nat_lt, nat_le, IfOk, IfSome, option_map, if◌then◌else◌, string_bytes};
 ghost use Rattle.std.specs.Char.{is_ascii_whitespace};
@@ -17,12 +17,12 @@ use cmark_scan_parts::{Step, begins_character, closed_step, with_literal_pipes};
 use cmark_text_parts::CowStr;
 use std::alloc::{AllocError, Global};
 
-/// A label of a link behind its opening bracket.
+/// A label of a link, after its opening bracket.
 #[derive(Drop)]
 pub struct LinkLabelRest<'t> {
-    /// How many bytes it takes, to behind its closing bracket.
+    /// The number of bytes up to the end of its closing bracket.
     pub end: usize,
-    /// What is written in it, without the prefixes of its later lines.
+    /// The text of the label, without the prefixes of its later lines.
     pub text: CowStr<'t>,
 }
 
@@ -34,22 +34,21 @@ fn begun(byte: u8) -> usize
     if begins_character(byte) { 1 } else { 0 }
 }
 
-/// Whether one of the bytes before is no white space, or this one is none.
+/// Whether this byte or an earlier one is not white space.
 fn finds_word(has_words: bool, byte: u8) -> bool
     ensures { result ≡ (has_words || not (is_ascii_whitespace byte)) }
 {
     has_words || !byte.is_ascii_whitespace()
 }
 
-/// Whether a label has this number of characters, of which some are no white space, or none.
+/// Whether a label with this number of characters is valid; `has_words` tells whether any of them is not white space.
 fn is_label(count: usize, has_words: bool) -> bool
     ensures { result ≡ (nat_le count 999 && has_words) }
 {
     count <= 999 && has_words
 }
 
-/// How many bytes of prefixes stand behind this byte, in front of `rest`: none where no line ends, and `None` where the label
-/// ends there.
+/// The number of prefix bytes after this byte, at the beginning of `rest`: 0 if no line ends here, and `None` if the label ends here.
 fn prefix_size<H: Fn(&[u8]) -> Option<usize>>(byte: u8, rest: &[u8], handler: &H) -> Option<usize>
     requires callable { H.IsAlwaysCallable handler.now }
     requires within { LabelsWithin H.Fn handler.now }
@@ -64,7 +63,7 @@ fn prefix_size<H: Fn(&[u8]) -> Option<usize>>(byte: u8, rest: &[u8], handler: &H
     }
 }
 
-/// The stretches that were copied, and the last one behind them; the last one as it stands where none was copied.
+/// The copied stretches and the last one after them; only the last one, borrowed, if no stretch was copied.
 fn joined<'t>(copied: String, last: &'t str) -> Result<CowStr<'t>, AllocError>
     ensures value { IfOk result (λ text. text_bytes text ≡ string_bytes copied ++ last.now) }
     ensures kept { string_bytes copied ≡ [] → result ≡ Ok (Borrowed last.entry) }
@@ -77,7 +76,7 @@ fn joined<'t>(copied: String, last: &'t str) -> Result<CowStr<'t>, AllocError>
     CowStr::from_string(text)
 }
 
-/// The label behind its opening bracket, which stands in no table.
+/// The label after its opening bracket, outside of tables.
 fn read_label<'t, H: Fn(&[u8]) -> Option<usize>>(
     alloc: Global,
     text: &'t str,
@@ -131,14 +130,12 @@ fn read_label<'t, H: Fn(&[u8]) -> Option<usize>>(
     Ok(None)
 }
 
-/// The label of a link whose `[` stands before `text`, if it is one (CommonMark 4.7): up to the first `]` that no backslash
-/// escapes, 1 to 999 characters, at least one of them no white space, and without unescaped brackets. In a table `\|` and
-/// `\\|` stand for `|` in it (GFM 4.10).
+/// The label of a link whose `[` precedes `text`, if it is valid (CommonMark 4.7). It ends at the first unescaped `]`. It has 1 to 999
+/// characters, not only white space, and no unescaped brackets. In a table cell `\|` and `\\|` become `|` in it (GFM 4.10).
 ///
-/// `linebreak_handler` is asked about the bytes behind each line ending in the label, and answers how many of them are
-/// prefixes of containers, whole characters, or `None` where the label ends there; it answers the same each
-/// time it is asked about the same bytes. No more than 1000 characters are read. Where nothing is left out, the text is
-/// borrowed; memory is taken for others.
+/// `linebreak_handler` gets the bytes after each line ending in the label. It returns the number of them that are prefixes of containers,
+/// in whole characters, or `None` if the label ends there. It must return the same for the same bytes. At most 1000 characters are read. If
+/// no byte is left out, the text is borrowed; else memory is needed.
 pub fn scan_link_label_rest<'t, H: Fn(&[u8]) -> Option<usize>>(
     alloc: Global,
     text: &'t str,

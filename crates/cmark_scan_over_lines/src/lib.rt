@@ -1,5 +1,5 @@
-//! Scanners of what takes several lines in the source: a label of a link and a tag of HTML, whose later lines stand behind the
-//! prefixes of containers. Whoever calls them says how many bytes behind a line ending are such prefixes.
+//! Scanners of constructs that may span several lines of the source: the label of a link, and an HTML tag. Their later lines begin after
+//! the prefixes of containers. The caller's handler returns the number of prefix bytes after a line ending.
 #![tactic(auto)]
 
 mod label;

@@ -1,4 +1,4 @@
-//! The text of a tag that takes several lines.
+//! The text of a tag that spans several lines.
 
 ghost use Rattle.std.specs.Prelude.{◌≡◌, ◌<◌, ◌≤◌, ◌-◌, ◌++◌, length, drop, IfOk, OnOk, IfSome, option_map};
 ghost use Rattle.std.specs.Str.{IsUtf8, IsCharBoundary};
@@ -16,13 +16,13 @@ use std::alloc::{AllocError, Global};
 /// An open or a closing tag.
 #[derive(Drop)]
 pub struct HtmlTag {
-    /// How many bytes it takes, from its `<` to behind its `>`.
+    /// The number of bytes from its `<` to the end of its `>`.
     pub end: usize,
-    /// Its bytes without the prefixes of its later lines; empty where it stands on one line.
+    /// Its bytes without the prefixes of its later lines; empty if it is on one line.
     pub buffer: Vec<u8>,
 }
 
-/// Whether a line ends behind this byte, which `rest` follows: a line feed, or a carriage return that no line feed follows.
+/// Whether a line ends after this byte, if `rest` follows it: a line feed, or a carriage return without a line feed after it.
 pub fn ends_line(byte: u8, rest: &[u8]) -> bool
     ensures { result ≡ ends_line byte rest.now }
 {
@@ -33,7 +33,7 @@ pub fn ends_line(byte: u8, rest: &[u8]) -> bool
     }
 }
 
-/// The bytes behind this one, without the prefixes that stand there where a line ends.
+/// The bytes after this one, without the prefix at their beginning if a line ends here.
 fn behind_prefix<'a, H: Fn(&[u8]) -> usize>(byte: u8, rest: &'a [u8], handler: &H) -> &'a [u8]
     requires callable { H.IsAlwaysCallable handler.now }
     requires within { AnswersWithin H.Fn handler.now }
@@ -47,7 +47,7 @@ fn behind_prefix<'a, H: Fn(&[u8]) -> usize>(byte: u8, rest: &'a [u8], handler: &
     }
 }
 
-/// Appends the bytes but for the last `behind` and for those in prefixes.
+/// Appends the bytes, except the last `behind` ones and those of prefixes.
 fn push_without_prefixes<H: Fn(&[u8]) -> usize>(
     buffer: &mut Vec<u8>,
     bytes: &[u8],
@@ -76,7 +76,7 @@ fn takes_lines(bytes: &[u8]) -> bool
     memchr2(b'\n', b'\r', bytes).is_some()
 }
 
-/// The text that a tag owns: all but the last `behind` bytes, without prefixes; none where they stand on one line.
+/// The text that a tag owns: all bytes except the last `behind` ones, without prefixes; empty if they are on one line.
 fn own_text<H: Fn(&[u8]) -> usize>(
     alloc: Global,
     bytes: &[u8],
@@ -96,10 +96,10 @@ fn own_text<H: Fn(&[u8]) -> usize>(
     Ok(buffer)
 }
 
-/// The open or closing tag in front, if one stands there (CommonMark 6.6). White space in it has at most one line ending.
-/// `newline_handler` is asked about the bytes behind each line ending in the tag, and answers how many of them are prefixes
-/// of containers; it answers the same each time it is asked about the same bytes. Where the bytes are UTF-8, `end` is a
-/// character boundary, and where the answers cut no character either, `buffer` is UTF-8.
+/// The open or closing tag at the beginning, if there is one (CommonMark 6.6). White space in it has at most one line ending.
+/// `newline_handler` gets the bytes after each line ending in the tag and returns the number of them that are prefixes of containers. It
+/// must return the same for the same bytes. If the bytes are UTF-8, `end` is a character boundary; if the handler's results are
+/// boundaries too, `buffer` is UTF-8.
 pub fn scan_html_block_inner<H: Fn(&[u8]) -> usize>(
     alloc: Global,
     bytes: &[u8],

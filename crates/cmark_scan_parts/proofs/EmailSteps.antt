@@ -34,7 +34,7 @@ first-label (b ∷ bs) = go (first-label bs) (b == 46) refl
         ∙ ap (onto_first b) inner
         ∙ sym (ap (λ n. take n (b ∷ bs) ∷ labels_after n (b ∷ bs)) (size false e))
 
--- the labels of what is behind a period
+-- the labels after a period
 abbrev others : Option (List ℕ) → List (List ℕ)
 others None = []
 others (Some rest) = between_periods rest
@@ -61,7 +61,7 @@ module _ (bs : List ℕ) (size : ℕ) (is : size ≡ label_size bs) where
   by-size : is_domain bs ≡ (is_domain_label (take size bs) && are_domain_labels (others (behind_if is_period (drop size bs))))
   by-size = by-label bs ∙ ap (λ n. is_domain_label (take n bs) && are_domain_labels (others (behind_if is_period (drop n bs)))) (sym is)
 
-  -- a first label that is none
+  -- a first label that is not valid
   pub no-label : is_domain_label (take size bs) ≡ false → is_domain bs ≡ false
   no-label e = by-size ∙ ap (λ z. z && are_domain_labels (others (behind_if is_period (drop size bs)))) e
 
@@ -70,7 +70,7 @@ module _ (bs : List ℕ) (size : ℕ) (is : size ≡ label_size bs) where
     pub last-label : None ≡ behind_if is_period (drop size bs) → is_domain bs ≡ true
     last-label e = by-size ∙ ap (λ z. z && are_domain_labels (others (behind_if is_period (drop size bs)))) label ∙ ap (λ f. are_domain_labels (others f)) (sym e)
 
-    -- a label with others behind it
+    -- a label with others after it
     pub more-labels : (rest : List ℕ) → Some rest ≡ behind_if is_period (drop size bs) → is_domain bs ≡ is_domain rest
     more-labels rest e = by-size ∙ ap (λ z. z && are_domain_labels (others (behind_if is_period (drop size bs)))) label ∙ ap (λ f. are_domain_labels (others f)) (sym e)
 

@@ -1,4 +1,4 @@
--- Tags and other pieces of inline HTML end behind a `>`, so that no character is cut there.
+-- Tags and other pieces of inline HTML end after a `>`, which is a character boundary.
 use Rattle.std.proofs.Common.{◌≡◌, ◌⊎◌, inl, inr, ⊎_elim, ℕ, zero, suc, ◌+◌, ◌-◌, ◌<◌, ◌≤◌, Bool, true, false, ◌==◌, ◌||◌, if◌then◌else◌, List, [], ◌∷◌, length, drop, get_or, Option, None, Some, refl, sym, ap, subst, ◌∙◌, arith, eqb-true, length-drop, drop-drop}
 use denote.Ref.{Bor}
 use Rattle.std.specs.Prelude.{codes, option_map, option_copied}
@@ -12,7 +12,7 @@ use Rattle.cmark_grammar.specs.Tags.{is_name_byte, is_attribute_start, is_attrib
 use Rattle.cmark_grammar.specs.InlineHtml.{behind_comment, declaration_in, cdata_in, opened_in, find_with}
 use Rattle.cmark_scan_parts.proofs.Closers.{here_starts}
 
--- what stands behind some bytes
+-- the bytes after some others
 abbrev pub IsRest : (bs r : List ℕ) → Type 0
 IsRest bs r = (k : ℕ) × (r ≡ drop k bs)
 
@@ -40,7 +40,7 @@ behind-boundary b bs r small utf8 h =
     let inside = h.inside in let byte = h.byte in let n = ap length h.rest in let l = length-drop (suc h.place) bs in
     subst (IsCharBoundary bs) (let e : h.place + 1 ≡ length bs - length r = omega arith in e) (IsCharBoundary-after_ascii bs h.place utf8 inside (omega (arith, small, byte)))
 
--- what was answered came from one of the branches, or from the part in front
+-- the result came from one of the branches, or from the first part
 branch : {A : Type 0} (z : Bool) (x y : Option A) (r : A) → (if z then x else y) ≡ Some r → (x ≡ Some r) ⊎ (y ≡ Some r)
 branch true x y r e = inl e
 branch false x y r e = inr e
@@ -234,7 +234,7 @@ opened-behind bs r e =
 pub processing-behind : (bs r : List ℕ) → behind_first (codes "?>") bs ≡ Some r → IsBehind 62 bs r
 processing-behind bs r e = first_closer-behind (codes "?>") (omega arith) 62 refl bs r e
 
--- where a find ends
+-- the end of a search
 pub find-boundary : (bytes : List ℕ) (at : ℕ) (o : Option (Option (List ℕ))) (end : Option ℕ) → end ≡ (find_with bytes at o).end → IsUtf8 bytes → ((r : List ℕ) → o ≡ Some (Some r) → IsBehind 62 (drop at bytes) r) → IfSome end (IsCharBoundary bytes)
 find-boundary bytes at o end is utf8 h = subst (λ (e : Option ℕ). IfSome e (IsCharBoundary bytes)) (sym is) (go o h)
   where
@@ -243,7 +243,7 @@ find-boundary bytes at o end is utf8 h = subst (λ (e : Option ℕ). IfSome e (I
     go (Some None) h = tt
     go (Some (Some r)) h = behind-boundary 62 bytes r (omega arith) utf8 (behind-rest 62 bytes (drop at bytes) r (at, refl) (h r refl))
 
--- where a tag ends
+-- the end of a tag
 pub tag-boundary : (prefix : List ℕ → ℕ) (bs : List ℕ) (r : Option (Bor (List ℕ))) → option_copied r ≡ behind_tag prefix bs → IsUtf8 bs → IfSome r (λ rest. IsCharBoundary bs (length bs - length rest.now))
 tag-boundary prefix bs None is utf8 = tt
 tag-boundary prefix bs (Some rest) is utf8 = behind-boundary 62 bs rest.now (omega arith) utf8 (tag-behind prefix bs rest.now (sym is))

@@ -15,7 +15,7 @@ use Rattle.cmark_grammar.specs.Letters.{behind_if, lower, is_letter, is_number, 
 use Rattle.cmark_grammar.specs.Tokens.{is_hexadecimal, is_character, character}
 use Rattle.std.proofs.Common.{◌-◌, ◌==◌, Option, None, Some, ◌≡◌, ℕ, zero, suc, ◌+◌, ◌*◌, ◌<◌, ◌≤◌, Bool, true, false, ◌||◌, ◌&&◌, List, [], ◌∷◌, length, take, drop, get_or, refl, sym, ap, subst, ◌∙◌, arith, ⊎_elim, if◌then◌else◌}
 
--- how many numbers so many hexadecimal digits spell
+-- the number of values of this many hexadecimal digits
 abbrev pub room : ℕ → ℕ
 room zero = 1
 room (suc n) = 16 * room n
@@ -29,7 +29,7 @@ room_le zero m le = one_le m
 room_le (suc n) zero le = absurd (omega arith)
 room_le (suc n) (suc m) le = let h = room_le n m (omega arith) in omega arith
 
--- digits in front
+-- digits at the beginning
 decimal_is_hexadecimal : (b : ℕ) → is_number b ≡ true → is_hexadecimal b ≡ true
 decimal_is_hexadecimal b e = ap (λ t. t || (nat_le 97 (lower b) && nat_le (lower b) 102)) e
 
@@ -88,7 +88,7 @@ out_of_range n h = off n (and_right (nat_lt 0 n) _ (⊎_elim surrogate above h))
     above : 1114112 ≤ n → (nat_le n 1114111 && not (nat_le 55296 n && nat_le n 57343)) ≡ false
     above lt = and_left (nat_le n 1114111) (not (nat_le 55296 n && nat_le n 57343)) (lt-leb n 1114111 (omega arith))
 
--- a numeric reference behind its `&#`
+-- a numeric reference after its `&#`
 behind_some : (p : ℕ → Bool) (bs rest : List ℕ) → behind_if p bs ≡ Some rest → (b : ℕ) × (bs ≡ b ∷ rest)
 behind_some p [] rest e = cc
 behind_some p (b ∷ bs) rest e = (b, at (p b) e)

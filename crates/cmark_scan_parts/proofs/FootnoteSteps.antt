@@ -16,7 +16,7 @@ colon-is : (label bs : List ℕ) → colon_behind label bs ≡ (if has_colon bs 
 colon-is label [] = refl
 colon-is label (b ∷ bs) = refl
 
--- a label in front that is closed, and what stands behind it
+-- a label at the beginning that is closed, and the bytes after it
 label-is : (bytes : List ℕ) (size : ℕ) → Some (closed bytes size) ≡ up_to false 93 91 false bytes
     → label_then_colon (label_if (up_to false 93 91 false bytes)) ≡ (if is_label (take size bytes) then (if has_colon (drop (suc size) bytes) then Some (labelled bytes size) else None) else None)
 label-is bytes size is = ap (λ o. label_then_colon (label_if o)) (sym is) ∙ go (is_label (take size bytes))

@@ -7,7 +7,7 @@ use Rattle.cmark_grammar.specs.Autolinks.{closed_by, piped_name_in}
 use Rattle.cmark_scan_parts.specs.Shown.{Part, cut_at}
 use Rattle.cmark_scan_parts.proofs.Lists.{first_some, first_none}
 
--- a byte stands at that place
+-- a byte is at that place
 pub byte_at : (c n : ℕ) (bs : List ℕ) → first_is (λ b. b == c) (drop n bs) ≡ true → (n < length bs) × (get_or bs n 0 ≡ c)
 byte_at c zero [] e = absurd (true≢false (sym e))
 byte_at c (suc n) [] e = absurd (true≢false (sym e))
@@ -23,7 +23,7 @@ nothing_there : (p : ℕ → Bool) (bs : List ℕ) → first_is p (drop (length 
 nothing_there p [] = refl
 nothing_there p (b ∷ bs) = nothing_there p bs
 
--- such a part, as it is cut out of a text
+-- a part, as a slice of a text
 pub part_is : (from cut behind : List ℕ) (start size : ℕ) → cut ≡ take size from → size < length from
     → Some (let part : Part = record { end = start + size + 1; bytes = cut } in part) ≡ cut_at start (Some (record { bytes = take size from; behind = behind }))
 part_is from cut behind start size is lt =

@@ -1,4 +1,4 @@
--- Facts about lists of bytes, and where bytes stand in them.
+-- Facts about lists of bytes, and about the places of bytes in them.
 use Rattle.std.proofs.Common.{◌≡◌, ℕ, zero, suc, ◌+◌, ◌-◌, ◌<◌, ◌≤◌, Bool, true, false, ◌||◌, ◌&&◌, not, cond, List, [], ◌∷◌, length, take, drop, get_or, None, Some, refl, sym, ap, ◌∙◌, arith, true≢false, length-drop, take_all}
 use Rattle.std.specs.List.{prefix_len}
 use Rattle.std.proofs.lemmas.Bool.{false_from_ne_true}
@@ -17,7 +17,7 @@ pub and_true : (x y : Bool) → (x && y) ≡ true → (x ≡ true) × (y ≡ tru
 and_true true y e = (refl, e)
 and_true false y e = absurd (true≢false (sym e))
 
--- bytes in front that pass
+-- bytes at the beginning that pass
 pub behind_all-on : (p : ℕ → Bool) (b : ℕ) (bs : List ℕ) → p b ≡ true → behind_all p (b ∷ bs) ≡ behind_all p bs
 behind_all-on p b bs e = ap (λ t. drop (cond t (1 + prefix_len p bs) 0) (b ∷ bs)) e ∙ ap (λ n. drop n (b ∷ bs)) (let s : 1 + prefix_len p bs ≡ suc (prefix_len p bs) = omega arith in s)
 

@@ -10,7 +10,7 @@ use Rattle.cmark_scan_parts.specs.declared.inline_html.HtmlScanGuard.{HtmlScanGu
 use Rattle.cmark_scan_parts.specs.declared.inline_html.MarkupKind.{MarkupKind}
 use Rattle.cmark_scan_parts.specs.declared.inline_html.MarkupKind.TheVariants as kind
 
--- where no closer stands, none stands further on
+-- if there is no closer, there is none later
 none-drop : (closer : List ℕ) (k : ℕ) (bs : List ℕ) → behind_first closer bs ≡ None → behind_first closer (drop k bs) ≡ None
 none-drop closer zero bs e = e
 none-drop closer (suc k) [] e = refl
@@ -47,7 +47,7 @@ no-letter : (letter : ℕ) (t : Bool) → (letter == 62) ≡ t → is_letter let
 no-letter letter true h e = absurd (true≢false (sym e ∙ ap is_letter (eqb-true letter 62 h)))
 no-letter letter false h e = refl
 
--- what opened is not closed: no closer of its kind stands from its begin on
+-- opened markup is not closed: there is no closer of its kind from its beginning on
 pub none-closes : (k : MarkupKind) (bs inside : List ℕ) → OpensWith k bs inside → closed_by k inside ≡ None → behind_first (closer_of k) bs ≡ None
 none-closes kind.Comment bs inside opens none = ap (behind_first (codes "-->")) opens ∙ go (starts (codes ">") inside) (starts (codes "->") inside) (drop 1 inside) (drop 2 inside) (behind_first (codes "-->") inside) none
   where

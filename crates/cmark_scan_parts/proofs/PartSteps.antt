@@ -2,12 +2,12 @@
 use Rattle.std.proofs.Common.{◌≡◌, ℕ, suc, ◌-◌, ◌<◌, List, [], ◌∷◌, ◌++◌, length, take, drop, get_or, Option, None, Some, refl, sym, ap, ◌∙◌, arith, append_assoc, length-append}
 use Rattle.cmark_grammar.specs.LinkDefinitions.{Parsed, put}
 
--- bytes that were read in front of what is read behind them
+-- bytes that were read before the part that is read after them
 abbrev pub puts : List ℕ → Option Parsed → Option Parsed
 puts [] found = found
 puts (b ∷ bs) found = put b (puts bs found)
 
--- what is read of all bytes is a first part of them, and then what is read of this rest
+-- the part read from all bytes is a first part of them, and then the part read from this rest
 pub record Reads (all here : Option Parsed) (bytes rest : List ℕ) : Type 0 where
   pub front : List ℕ
   pub cut : bytes ≡ front ++ rest
@@ -66,7 +66,7 @@ reads_closed all here bytes rest others b r is e =
     ∙ ap (λ l. let found : Parsed = record { bytes = r.front; behind = l } in Some found) (drop-front-suc r.front others b)
     ∙ sym (r.same ∙ ap (puts r.front) e ∙ puts-done r.front others)
 
--- or in front of the rest
+-- or at the beginning of the rest
 pub reads_open : (all here : Option Parsed) (bytes rest : List ℕ) → Reads all here bytes rest → here ≡ Some (record { bytes = []; behind = rest })
     → Some (let found : Parsed = record { bytes = take (length bytes - length rest) bytes; behind = drop (length bytes - length rest) bytes } in found) ≡ all
 reads_open all here bytes rest r e =
@@ -81,7 +81,7 @@ get_or-front : (front others : List ℕ) (b : ℕ) → get_or (front ++ b ∷ ot
 get_or-front [] others b = refl
 get_or-front (c ∷ front) others b = get_or-front front others b
 
--- which byte stands there
+-- the byte at this place
 pub reads_byte : (all here : Option Parsed) (bytes rest others : List ℕ) (b : ℕ) → Reads all here bytes rest → rest ≡ b ∷ others
     → (length bytes - length rest < length bytes) × (get_or bytes (length bytes - length rest) 0 ≡ b)
 reads_byte all here bytes rest others b r is =
@@ -94,7 +94,7 @@ pub no_bytes : (bs : List ℕ) → length bs ≡ 0 → bs ≡ []
 no_bytes [] e = refl
 no_bytes (b ∷ bs) e = absurd (omega arith)
 
--- the part goes on to the end
+-- the part continues to the end
 pub reads_end : (all here : Option Parsed) (bytes rest : List ℕ) → Reads all here bytes rest → length rest ≡ 0 → here ≡ Some (record { bytes = []; behind = [] })
     → Some (let found : Parsed = record { bytes = take (length bytes) bytes; behind = drop (length bytes) bytes } in found) ≡ all
 reads_end all here bytes rest r none e =

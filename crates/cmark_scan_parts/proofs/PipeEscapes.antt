@@ -43,7 +43,7 @@ pub finds_escape : (r : Option ℕ) (bs text : List ℕ) → bs ≡ text → Fin
 finds_escape None bs text same h = ap without_pipe_escapes (sym same) ∙ none_left_out bs (λ k lt. h k (omega arith) lt) ∙ same
 finds_escape (Some at) bs text same h = leaves_out text at (subst (λ (l : List ℕ). FindsNeedle l piped 0 (Some at)) same h)
 
--- what is left is no longer
+-- the result is not longer
 shorter : (bs : List ℕ) → length (without_pipe_escapes bs) ≤ length bs
 shorter [] = omega arith
 shorter (b ∷ bs) = go (starts piped (b ∷ bs)) (shorter bs)
@@ -66,7 +66,7 @@ pub changes_if : (r : Option ℕ) (bs text : List ℕ) → bs ≡ text → is_so
 changes_if None bs text e there h same = absurd (true≢false (sym there))
 changes_if (Some at) bs text e there h same = changes bs at h (ap without_pipe_escapes e ∙ same ∙ sym e)
 
--- what was pushed
+-- the text that was pushed
 pub push_to_escape : (at : ℕ) (out one rest next front all : List ℕ) → one ≡ out ++ front → next ≡ drop (at + 1) rest → front ≡ take at rest → LeavesOut rest at
     → out ++ without_pipe_escapes rest ≡ all → one ++ without_pipe_escapes next ≡ all
 push_to_escape at out one rest next front all first behind cut d e =

@@ -120,7 +120,7 @@ all_stay text at is_second past e =
     e ∙ ap (λ l. take at text ++ literal_pipes_from is_second l) (drop_all at text past) ∙ ap (λ l. l ++ literal_pipes_from is_second []) (take_all at text past)
     ∙ append-nil text
 
--- ---- what is left
+-- ---- the rest
 
 -- it is no longer
 shorter : (is_second : Bool) (bs : List ℕ) → length (literal_pipes_from is_second bs) ≤ length bs
@@ -148,7 +148,7 @@ pub drops_if : (r : Option Backslashes) (bs text : List ℕ) → bs ≡ text →
 drops_if None bs text e there h same = absurd (true≢false (sym there))
 drops_if (Some found) bs text e there h same = drops_some bs found.start found.end h (ap with_literal_pipes e ∙ same ∙ sym e)
 
--- what was pushed
+-- the text that was pushed
 pub push_to_backslashes : (start end : ℕ) (out one rest next front all : List ℕ) → one ≡ out ++ front → next ≡ drop end rest → front ≡ take start rest → Drops rest start end
     → out ++ with_literal_pipes rest ≡ all → one ++ with_literal_pipes next ≡ all
 push_to_backslashes start end out one rest next front all first behind cut d e =
@@ -157,7 +157,7 @@ push_to_backslashes start end out one rest next front all first behind cut d e =
     ∙ append_assoc out (take start rest) (with_literal_pipes (drop end rest))
     ∙ ap (λ l. out ++ l) (sym d.same) ∙ e
 
--- as many bytes are the same ones
+-- if the length is the same, the bytes are
 kept_all : (is_second : Bool) (bs : List ℕ) → length bs ≤ length (literal_pipes_from is_second bs) → literal_pipes_from is_second bs ≡ bs
 kept_all is_second [] le = refl
 kept_all true (b ∷ bs) le = ap (λ l. b ∷ l) (kept_all false bs (omega (arith, le)))

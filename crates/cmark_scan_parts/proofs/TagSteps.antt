@@ -7,7 +7,7 @@ use Rattle.cmark_grammar.specs.Lines.{is_content, begins_with_line_feed}
 use Rattle.cmark_grammar.specs.Tags.{without_prefix, prefix_behind, behind_ending, behind_line_feed, behind_quotation_mark, behind_attribute, behind_attributes}
 use Rattle.cmark_scan_parts.proofs.Lists.{or_false, and_true, behind_all-on, behind_all-off}
 
--- the attributes of bytes go on from this rest
+-- the attributes of the bytes continue from this rest
 pub record Reached (prefix : List ℕ → ℕ) (bytes rest : List ℕ) : Type 0 where
   pub most : ℕ
   pub enough : length rest ≤ most
@@ -25,7 +25,7 @@ reached_next prefix bytes rest next r e lt = go r.most refl
       same = sym (ap (λ o. elim o [ None ↦ rest | Some x ↦ behind_attributes prefix m x ]) e) ∙ ap (λ k. behind_attributes prefix k rest) (sym is) ∙ r.same;
     }
 
--- and none more
+-- no further attribute follows
 pub reached_all : (prefix : List ℕ → ℕ) (bytes rest : List ℕ) → Reached prefix bytes rest → behind_attribute prefix rest ≡ None → rest ≡ behind_attributes prefix (length bytes) bytes
 reached_all prefix bytes rest r e = go r.most refl
   where
@@ -64,7 +64,7 @@ module _ (prefix : List ℕ → ℕ) (quote : ℕ) where
       go true e h = ap (behind_quotation_mark prefix quote 0) (sym (behind_all-off (λ b. not (is_byte3 quote 10 13 b)) b bs (ap not e)))
       go false e h = quote_over b bs e ∙ h ∙ ap (behind_quotation_mark prefix quote 0) (sym (behind_all-on (λ b. not (is_byte3 quote 10 13 b)) b bs (ap not e)))
 
-  -- behind a line ending
+  -- after a line ending
   feed_next : (b : ℕ) (bs : List ℕ) → (b == quote) ≡ false → (b == 10) ≡ true → behind_quotation_mark prefix quote 0 (b ∷ bs) ≡ behind_quotation_mark prefix quote 0 (without_prefix prefix bs)
   feed_next b bs other is =
       ap (λ t. if t then Some bs else behind_quotation_mark prefix quote (prefix_behind prefix b bs) bs) other

@@ -1,10 +1,10 @@
--- Bytes without what passes at their end.
+-- Bytes without those at their end that pass.
 use Rattle.std.proofs.Common.{◌≡◌, ℕ, zero, suc, ◌+◌, ◌-◌, ◌<◌, ◌≤◌, Bool, true, false, List, [], ◌∷◌, ◌++◌, length, take, get_or, inl, inr, refl, sym, ap, ◌∙◌, arith}
 use Rattle.std.proofs.lemmas.Bool.{cases_lt}
 use Rattle.std.proofs.lemmas.List.{take_all, take_more}
 use Rattle.cmark_grammar.specs.Columns.{put_before, drop_end}
 
--- a list but for what passes at its end
+-- a list without those elements at its end that pass
 drop_end-push_passing : (q : ℕ → Bool) (xs : List ℕ) (y : ℕ) → q y ≡ true → drop_end q (xs ++ y ∷ []) ≡ drop_end q xs
 drop_end-push_passing q [] y e = rw e refl
 drop_end-push_passing q (x ∷ xs) y e = ap (put_before (q x) x) (drop_end-push_passing q xs y e)
@@ -40,7 +40,7 @@ drop_end-passing q bs (suc n) within passed =
     ∙ sym (drop_end-less q bs (length bs - n) (omega (arith, within)) (omega arith) (passed (length bs - n - 1) (omega arith) (omega (arith, within))))
     ∙ drop_end-passing q bs n (omega (arith, within)) (λ k from to. passed k (omega (arith, from)) to)
 
--- so many at the end pass, and the one before them, if there is one, does not
+-- this many elements at the end pass, and the one before them, if there is one, does not
 pub drop_end-cut : (q : ℕ → Bool) (bs : List ℕ) (n : ℕ) → n ≤ length bs
     → ((k : ℕ) → length bs - n ≤ k → k < length bs → q (get_or bs k 0) ≡ true)
     → (n < length bs → q (get_or bs (length bs - n - 1) 0) ≡ false)

@@ -20,7 +20,7 @@ module _ (lookup : Lookup) where
   plain_skip (suc k) [] = refl
   plain_skip (suc k) (b ∷ bs) = plain_skip k bs
 
-  -- a byte that stands for itself
+  -- a literal byte
   plain_one : (what : Does) (b : ℕ) (bs : List ℕ) → part_of what bs ≡ None → add_bytes what b (resolved_from lookup (is_escape what) (size_behind what) bs) ≡ b ∷ resolved_from lookup false 0 bs
   plain_one Stands b bs e = refl
   plain_one EscapesNext b bs e = cc
@@ -44,7 +44,7 @@ module _ (lookup : Lookup) where
       ap (λ l. entity.bytes ++ l) (plain_skip (entity.size - 1) bs ∙ ap (λ n. resolved_from lookup false 0 (drop n (b ∷ bs))) size)
       ∙ ap (λ (p : Entity). p.bytes ++ resolved_from lookup false 0 (drop p.size (b ∷ bs))) is
 
-  -- the same of what is resolved
+  -- the same fact for resolved text
   resolved_one : (b : ℕ) (bs : List ℕ) → resolved_front lookup (b ∷ bs) ≡ None → resolved lookup (b ∷ bs) ≡ b ∷ resolved lookup bs
   resolved_one b bs e = plain_one (does lookup false b bs) b bs e
 
@@ -66,7 +66,7 @@ module _ (lookup : Lookup) where
       resolved_one b bs (unmarked b bs (none 0 (omega arith)))
       ∙ ap (λ l. b ∷ l) (resolved_unmarked n bs (omega arith) (λ k lt. none (suc k) (omega arith)))
 
-  -- so much of a text stands for itself, and this rest is left
+  -- the text up to this rest is literal
   pub record Passed (text rest : List ℕ) : Type 0 where
     pub front : List ℕ
     pub cut : text ≡ front ++ rest
@@ -128,7 +128,7 @@ module _ (lookup : Lookup) where
             ∙ ap (λ bs. take start text ++ (part.bytes ++ resolved lookup bs)) (ap (drop part.size) (sym behind) ∙ drop-drop part.size start text);
       }
 
--- where an entity ends
+-- the end of an entity
 closed_cut : (bs : List ℕ) (size : ℕ) → IsUtf8 bs → Closes bs 0 size → (0 < size) × IsCharBoundary bs size
 closed_cut bs size utf8 h =
     let low = h.low in let high = h.high in
@@ -170,7 +170,7 @@ pipe_byte bs n h = (
   ap (λ k. get_or bs k 0) (let e : n ≡ n + 0 = omega arith in e) ∙ h.reads 0 (omega arith),
 )
 
--- cuts behind escapes
+-- boundaries after escapes
 pub punctuation_is_ascii : (b : ℕ) → IsAsciiPunctuation b → b < 128
 punctuation_is_ascii b h =
     ⊎_elim (λ x. ⊎_elim (λ r. let e = r.1 in omega arith) (λ r. let e = r.1 in omega arith) x)
@@ -213,7 +213,7 @@ module _ (lookup : Lookup) (text rest bytes cut : List ℕ) (at : ℕ) (same : b
       subst (Passed lookup text) (ap (drop 1) is ∙ drop-drop 1 at rest ∙ sym behind)
       (passed_mark lookup text cut (let n = cut_size in let h = found.0.high in omega arith) (sym e) to_mark)
 
--- what was pushed
+-- the text that was pushed
 pub push_part : (lookup : Lookup) (start end : ℕ) (out one two rest next front part all : List ℕ) → one ≡ out ++ front → two ≡ one ++ part → next ≡ drop end rest → front ≡ take start rest → Resolves lookup rest start end part
     → out ++ resolved lookup rest ≡ all → two ++ resolved lookup next ≡ all
 push_part lookup start end out one two rest next front part all first second behind cut r e =
@@ -241,7 +241,7 @@ pipe_is_escape lookup (b ∷ (c ∷ bs)) zero h =
     ap (λ x. is_some (resolved_front lookup (x ∷ (c ∷ bs)))) (let e : b ≡ 92 = h.reads 0 (omega arith) in e)
     ∙ ap (λ x. is_some (resolved_front lookup (92 ∷ (x ∷ bs)))) (let e : c ≡ 92 = h.reads 1 (omega arith) in e)
 
--- no escape where none stands
+-- there is no escape at this place
 pub no_escape : (lookup : Lookup) (text : List ℕ) (at : ℕ) → HasNoEscapes lookup text → ¬ (is_some (resolved_front lookup (drop at text)) ≡ true)
 no_escape lookup text at none e = true≢false (sym e ∙ ap is_some (none at))
 

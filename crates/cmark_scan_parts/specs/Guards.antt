@@ -1,4 +1,4 @@
--- What finds of markup in the same bytes remember: marks of kinds whose closers were sought in vain.
+-- The marks that the searches for markup in the same bytes share: each is for a kind whose closer was not found.
 use Rattle.std.specs.Prelude.{◌≡◌, ℕ, ◌+◌, ◌-◌, ◌<◌, ◌≤◌, true, nat_lt, if◌then◌else◌, List, ◌∷◌, ◌++◌, drop, length, min, codes, Option, Some, None}
 use Rattle.cmark_grammar.specs.InlineHtml.{Find, behind_comment}
 use Rattle.cmark_grammar.specs.Letters.{behind_first, first_is, is_letter, starts}
@@ -8,7 +8,7 @@ use Rattle.cmark_scan_parts.specs.declared.inline_html.MarkupKind.TheVariants as
 
 -- ## Kinds
 
--- what opens behind `<!`, if anything does
+-- the markup that `<!` opens, if any
 abbrev pub kind_in : List ℕ → Option MarkupKind
 kind_in bs =
     if starts (codes "--") bs then Some kind.Comment
@@ -16,14 +16,14 @@ kind_in bs =
     else if starts (codes "[CDATA[") bs then Some kind.Cdata
     else None
 
--- markup of this kind opens in front, and this is inside
+-- markup of this kind opens at the beginning, and these are the bytes inside it
 abbrev pub OpensWith : MarkupKind → (bs inside : List ℕ) → Type 0
 OpensWith kind.Comment bs inside = bs ≡ codes "--" ++ inside
 OpensWith kind.Processing bs inside = bs ≡ inside
 OpensWith kind.Declaration bs inside = (letter : ℕ) × (is_letter letter ≡ true) × (bs ≡ letter ∷ inside)
 OpensWith kind.Cdata bs inside = bs ≡ codes "[CDATA[" ++ inside
 
--- behind the closer of what opened, if it is closed
+-- the bytes after the closer of the opened markup, if it is closed
 abbrev pub closed_by : MarkupKind → (inside : List ℕ) → Option (List ℕ)
 closed_by kind.Comment inside = behind_comment inside
 closed_by kind.Processing inside = behind_first (codes "?>") inside
@@ -50,7 +50,7 @@ marked kind.Processing place guard = record guard { processing = place }
 marked kind.Declaration place guard = record guard { declaration = place }
 marked kind.Cdata place guard = record guard { cdata = place }
 
--- a mark beyond a place of the bytes says that no closer of its kind follows that place
+-- if the mark of a kind is beyond a place of the bytes, no closer of that kind follows the place
 pub record AreMarks (bytes : List ℕ) (at : ℕ) (guard : HtmlScanGuard) : Type 0 where
   pub cdata : at < guard.cdata → behind_first (codes "]]>") (drop at bytes) ≡ None
   pub processing : at < guard.processing → behind_first (codes "?>") (drop at bytes) ≡ None
@@ -63,14 +63,14 @@ pub record AreWithin (size : ℕ) (guard : HtmlScanGuard) : Type 0 where
   pub declaration : guard.declaration ≤ size
   pub comment : guard.comment ≤ size
 
--- ## Finds
+-- ## Searches
 
--- the find from a place on, where this opens there: where its mark is beyond the place, at most seven bytes are passed
+-- the search from a place at which this kind opens: if its mark is beyond the place, at most seven bytes are passed
 abbrev pub guarded : HtmlScanGuard → Option MarkupKind → (bytes : List ℕ) → (at : ℕ) → Find → Find
 guarded guard None bytes at find = find
 guarded guard (Some kind) bytes at find = if nat_lt at (mark_of guard kind) then record { end = None; passed = min (length bytes - at) 7 } else find
 
--- a kind whose mark stands before the end may still be sought in vain once, over so many bytes
+-- if the mark of a kind is before the end `size`, another search for its closer may pass `width` bytes in vain
 abbrev pub may_pass_by : (width size mark : ℕ) → ℕ
 may_pass_by width size mark = if nat_lt mark size then width else 0
 

@@ -4,8 +4,8 @@ use Rattle.cmark_grammar.specs.LinkDefinitions.{Parsed, put}
 use Rattle.cmark_scan_parts.specs.declared.closed.Step.{Step}
 use Rattle.cmark_scan_parts.specs.declared.closed.Step.TheVariants.{Ends, Fails, GoesOn}
 
--- what is read from a byte on, if this is what the byte does, and that is read behind it: one that ends a part is its
--- closer, or stands behind it
+-- the part that is read from a byte on, by the effect of the byte and the part read after it. A byte that ends a part is its closer or
+-- comes after it
 abbrev pub read_closed : Step → ℕ → List ℕ → Option Parsed → Option Parsed
 read_closed Ends b bs found = Some (record { bytes = []; behind = bs })
 read_closed Fails b bs found = None
@@ -16,7 +16,7 @@ read_bare Ends b bs found = Some (record { bytes = []; behind = b ∷ bs })
 read_bare Fails b bs found = None
 read_bare GoesOn b bs found = put b found
 
--- P, if the part ends at the byte, or if the byte belongs to it
+-- `P`, if the part ends at the byte, or if the byte belongs to it
 abbrev pub OnEnds : Step → Type 0 → Type 0
 OnEnds Ends P = P
 OnEnds Fails P = Unit {0}

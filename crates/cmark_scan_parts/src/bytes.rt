@@ -1,4 +1,4 @@
-//! Tests of bytes, and what stands in front of bytes or at their end: the one place for each test that several crates make.
+//! Tests of bytes, and of the beginning and the end of byte slices: the one place for each test that several crates make.
 
 ghost use Rattle.std.specs.Prelude.{◌≡◌, ◌<◌, ◌≤◌, length, option_copied, IfSome};
 ghost use Rattle.cmark_grammar.specs.Autolinks.{is_local_mark};
@@ -12,20 +12,20 @@ ghost use Rattle.cmark_scan_parts.specs.Tested.{ForTests};
 
 use crate::count::scan_rev_while;
 
-/// A class of bytes, all of them ASCII but for `BareValue` and `Uri`.
+/// A class of bytes, all of them ASCII except in `BareValue` and `Uri`.
 #[derive(Clone, Copy)]
 pub(crate) enum Class {
     /// Spaces and tabs.
     Blank,
-    /// What follows the first letter of a tag's name: letters, digits and `-` (CommonMark 6.6).
+    /// The bytes after the first letter of a tag's name: letters, digits and `-` (CommonMark 6.6).
     TagName,
-    /// What follows the first byte of an attribute's name: letters, digits, `_`, `:`, `.` and `-` (CommonMark 6.6).
+    /// The bytes after the first byte of an attribute's name: letters, digits, `_`, `:`, `.` and `-` (CommonMark 6.6).
     AttributeName,
-    /// All but blanks, line endings, quotes, `=`, `<`, `>` and backticks (CommonMark 6.6).
+    /// All bytes except blanks, line endings, quotes, `=`, `<`, `>` and backticks (CommonMark 6.6).
     BareValue,
-    /// What follows the first letter of a URI's scheme: letters, digits, `+`, `-` and `.` (CommonMark 6.5).
+    /// The bytes after the first letter of a URI's scheme: letters, digits, `+`, `-` and `.` (CommonMark 6.5).
     Scheme,
-    /// All but ASCII controls, space, `<` and `>` (CommonMark 6.5).
+    /// All bytes except ASCII controls, space, `<` and `>` (CommonMark 6.5).
     Uri,
     /// The local part of an email address: letters, digits and ``.!#$%&'*+/=?^_`{|}~-`` (CommonMark 6.5).
     Local,
@@ -61,7 +61,7 @@ impl Class {
         }
     }
 
-    /// How many bytes of the class stand in front.
+    /// The number of bytes of the class at the beginning.
     pub fn count(self, bytes: &[u8]) -> usize
         ensures value { result ≡ prefix_len (is_in self) bytes.now }
         ensures within { result ≤ length bytes.now }
@@ -69,7 +69,7 @@ impl Class {
         bytes.iter().take_while(|byte| self.has(**byte)).count()
     }
 
-    /// The bytes behind those of the class in front.
+    /// The bytes after those of the class at the beginning.
     pub fn behind(self, bytes: &[u8]) -> &[u8]
         ensures value { result.now ≡ behind_all (is_in self) bytes.now }
         ensures within { length result.now ≤ length bytes.now }
@@ -86,7 +86,7 @@ pub fn is_blank(byte: u8) -> bool
     byte == b' ' || byte == b'\t'
 }
 
-/// How many blanks stand in front.
+/// The number of blanks at the beginning.
 #[inline]
 pub fn count_blanks(bytes: &[u8]) -> usize
     ensures value { result ≡ prefix_len is_blank_byte bytes.now }
@@ -129,7 +129,7 @@ fn ends_value(byte: u8) -> bool
     is_space(byte) || matches!(byte, b'"' | b'\'' | b'<' | b'=' | b'>' | b'`')
 }
 
-/// Whether a byte is one of the marks that the local part of an email address has (CommonMark 6.5).
+/// Whether a byte is a sign that is allowed in the local part of an email address (CommonMark 6.5).
 fn is_local_mark(byte: u8) -> bool
     ensures { result ≡ is_local_mark byte }
 {
@@ -154,7 +154,7 @@ pub(crate) fn is_attribute_start(byte: u8) -> bool
     is_letter(byte) || byte == b'_' || byte == b':'
 }
 
-/// Whether the byte behind this one is escaped: this one is a backslash, and no backslash escapes it (CommonMark 2.4).
+/// Whether the byte after this one is escaped: this one is a backslash, and no backslash escapes it (CommonMark 2.4).
 #[inline]
 pub fn escapes_next(escaped: bool, byte: u8) -> bool
     ensures { result ≡ escapes_next escaped byte }
@@ -162,8 +162,8 @@ pub fn escapes_next(escaped: bool, byte: u8) -> bool
     !escaped && byte == b'\\'
 }
 
-/// How many bytes the line ending has that these bytes begin with: a line feed or a carriage return has one, and both in this order
-/// have two (CommonMark 2.1). Nothing has none.
+/// The length of the line ending that these bytes begin with: 1 for a line feed or a carriage return, 2 for both in this order (CommonMark
+/// 2.1). It is 0 if there are no bytes.
 #[inline]
 pub fn ending_len(bytes: &[u8]) -> usize
     ensures value { result ≡ ending_len bytes.now }
@@ -176,7 +176,7 @@ pub fn ending_len(bytes: &[u8]) -> usize
     }
 }
 
-/// The bytes behind a line ending, if one stands in front: a line feed, a carriage return, or both in this order.
+/// The bytes after a line ending, if they begin with one: a line feed, a carriage return, or both in this order.
 pub fn behind_ending(bytes: &[u8]) -> Option<&[u8]>
     ensures value { option_copied result ≡ behind_ending bytes.now }
     ensures within { IfSome result (λ rest. length rest.now < length bytes.now) }

@@ -1,8 +1,8 @@
-//! How many bytes pass a test.
+//! The number of bytes that pass a test.
 
 ghost use Rattle.std.specs.Prelude.{◌-◌, ◌<◌, ◌≤◌, ℕ, true, false, length, slice_index};
 
-/// How many bytes from the front on pass the test, up to the first that does not.
+/// The number of bytes at the beginning that pass the test, up to the first that does not.
 pub fn scan_while<F: Fn(u8) -> bool>(bytes: &[u8], f: F) -> usize
     requires { F.IsAlwaysCallable f }
     ensures within { result ≤ length bytes.now }
@@ -17,7 +17,7 @@ pub fn scan_while<F: Fn(u8) -> bool>(bytes: &[u8], f: F) -> usize
     bytes.len()
 }
 
-/// How many bytes at the end pass the test, down to the last that does not.
+/// The number of bytes at the end that pass the test, down to the last that does not.
 pub fn scan_rev_while<F: Fn(u8) -> bool>(bytes: &[u8], f: F) -> usize
     requires { F.IsAlwaysCallable f }
     ensures within { result ≤ length bytes.now }

@@ -12,7 +12,7 @@ use crate::closed::{Step, closed_size};
 use crate::find::begins_with;
 use crate::link::Cut;
 
-/// How deep the parentheses are behind a byte of a bare destination.
+/// The depth of parentheses after a byte of a bare destination.
 fn depth_after(escaped: bool, depth: usize, byte: u8) -> usize
     requires { depth ≤ 32 }
     ensures { result ≡ depth_after escaped depth byte }
@@ -24,8 +24,8 @@ fn depth_after(escaped: bool, depth: usize, byte: u8) -> usize
     }
 }
 
-/// What a byte does to a bare destination: an ASCII control, a space or an unescaped `)` without its `(` ends it where all
-/// parentheses are closed, and refuses it elsewhere; so does one more parenthesis where 32 are open.
+/// The effect of a byte on a bare destination. An ASCII control, a space or an unescaped `)` without its `(` ends it if all parentheses are
+/// closed, and refuses it otherwise. So does a 33rd open parenthesis.
 fn bare_step(escaped: bool, depth: usize, byte: u8) -> Step
     requires { depth ≤ 32 }
     ensures value { (bs : List ℕ) (found : Option Parsed) → bare_byte escaped depth byte bs found ≡ read_bare result byte bs found }
@@ -43,7 +43,7 @@ fn bare_step(escaped: bool, depth: usize, byte: u8) -> Step
     }
 }
 
-/// How many bytes a bare destination in front has, if its parentheses are balanced.
+/// The number of bytes of the bare destination at the beginning, if its parentheses are balanced.
 fn bare_size(bytes: &[u8]) -> Option<usize>
     ensures value { option_map (λ size. record { bytes = take size bytes.now; behind = drop size bytes.now }) result ≡ bare_in false 0 bytes.now }
     ensures within { IfSome result (λ size. size ≤ length bytes.now) }
@@ -65,7 +65,7 @@ fn bare_size(bytes: &[u8]) -> Option<usize>
     if depth == 0 { Some(bytes.len()) } else { None }
 }
 
-/// The destination in pointed brackets whose `<` stands at this place of the text.
+/// The destination in angle brackets whose `<` is at this byte offset of the text.
 fn pointed_dest(text: &str, start_ix: usize) -> Option<Cut<'_>>
     requires within { start_ix < length text.now }
     requires opens { slice_index text.now start_ix ≡ 60 }
@@ -81,7 +81,7 @@ fn pointed_dest(text: &str, start_ix: usize) -> Option<Cut<'_>>
     })
 }
 
-/// The bare destination at this place of the text.
+/// The bare destination at this byte offset of the text.
 fn bare_dest(text: &str, start_ix: usize) -> Option<Cut<'_>>
     requires { IsCharBoundary text.now start_ix }
     ensures value { option_map shown_cut result ≡ option_map (cut_behind text.entry.now) (bare_in false 0 (drop start_ix text.entry.now)) }
@@ -95,10 +95,9 @@ fn bare_dest(text: &str, start_ix: usize) -> Option<Cut<'_>>
     })
 }
 
-/// The destination of a link at this place of the text, as it is written, and the place behind it (CommonMark 6.3): in pointed
-/// brackets, without a line ending or an unescaped `<` or `>`, or else all bytes up to an ASCII control, a space or an
-/// unescaped `)` without its `(`, where parentheses are balanced, 32 deep at most, or escaped. Either may be empty; `part` is
-/// without the brackets.
+/// The destination of a link at this byte offset of the text, as written, and the byte offset after it (CommonMark 6.3). In angle brackets
+/// it contains no line ending and no unescaped `<` or `>`. A bare one ends before an ASCII control, a space or an unescaped `)` without its
+/// `(`; its parentheses are balanced, 32 deep at most, or escaped. Either may be empty; `part` is without the brackets.
 pub fn scan_link_dest(text: &str, start_ix: usize) -> Option<Cut<'_>>
     requires { IsCharBoundary text.now start_ix }
     ensures value { option_map shown_cut result ≡ option_map (cut_behind text.entry.now) (link_destination_in (drop start_ix text.entry.now)) }

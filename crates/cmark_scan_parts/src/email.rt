@@ -7,7 +7,7 @@ ghost use Rattle.cmark_grammar.specs.Autolinks.{is_domain_label, is_domain, is_e
 use crate::bytes::Class;
 use crate::find::behind_byte;
 
-/// Whether these bytes are a label of a domain: 1 to 63 letters, digits and `-`, of which neither the first nor the last is `-`.
+/// Whether these bytes are a label of a domain: 1 to 63 letters, digits and `-`, neither beginning nor ending with `-`.
 fn is_domain_label(bytes: &[u8]) -> bool
     ensures { result ≡ is_domain_label bytes.now }
 {
@@ -19,7 +19,7 @@ fn is_domain_label(bytes: &[u8]) -> bool
         && bytes[size - 1] != b'-'
 }
 
-/// How many bytes stand before the first period, or in all where there is none.
+/// The number of bytes before the first period, or of all bytes if there is no period.
 fn label_size(bytes: &[u8]) -> usize
     ensures value { result ≡ prefix_len (λ b. not (b == 46)) bytes.now }
     ensures within { result ≤ length bytes.now }

@@ -14,9 +14,9 @@ use cmark_text_parts::{CowStr, EntityLookup};
 /// An entity or a numeric character reference.
 #[derive(Drop)]
 pub struct Entity<'e> {
-    /// How many bytes it takes, from `&` to behind `;`.
+    /// The number of bytes from `&` to the end of `;`.
     pub len: usize,
-    /// The text that it stands for. A numeric one lies in the value itself.
+    /// Its text. The text of a numeric reference is in the value itself.
     pub text: CowStr<'e>,
 }
 
@@ -33,7 +33,7 @@ fn digit_of(byte: u8) -> u32
     }
 }
 
-/// The number that these decimal digits spell.
+/// The number that these decimal digits represent.
 fn decimal_value(digits: &[u8]) -> u32
     requires few { length digits.now ≤ 7 }
     requires digits { EachIndex digits.now (λ k. is_hexadecimal (slice_index digits.now k) ≡ true) }
@@ -46,7 +46,7 @@ fn decimal_value(digits: &[u8]) -> u32
     value
 }
 
-/// The number that these hexadecimal digits spell.
+/// The number that these hexadecimal digits represent.
 fn hexadecimal_value(digits: &[u8]) -> u32
     requires few { length digits.now ≤ 7 }
     requires digits { EachIndex digits.now (λ k. is_hexadecimal (slice_index digits.now k) ≡ true) }
@@ -59,7 +59,7 @@ fn hexadecimal_value(digits: &[u8]) -> u32
     value
 }
 
-/// The character of this number; U+FFFD for 0 and for a number that no character has.
+/// The character of this number; U+FFFD for 0 and for numbers that are not characters.
 fn character(code: u32) -> char
     ensures { encode_utf8 result ≡ character code }
 {
@@ -72,7 +72,7 @@ fn character(code: u32) -> char
     }
 }
 
-/// Whether 1 to `most` digits and a semicolon stand in front, if `count` digits do.
+/// Whether the `count` digits at the beginning are 1 to `most`, and a semicolon follows.
 fn is_closed(bytes: &[u8], count: usize, most: usize) -> bool
     requires { count ≤ length bytes.now }
     ensures { result ≡ (nat_lt 0 count && (nat_le count most && first_is (λ b. b == 59) (drop count bytes.now))) }
@@ -80,7 +80,7 @@ fn is_closed(bytes: &[u8], count: usize, most: usize) -> bool
     0 < count && count <= most && begins_with(&bytes[count..], b';')
 }
 
-/// The decimal reference whose `&#` stands before `bytes`.
+/// The decimal reference whose `&#` precedes `bytes`.
 fn decimal_in(bytes: &[u8]) -> Option<Entity<'static>>
     ensures value { option_map shown_entity result ≡ decimal_in bytes.now }
     ensures closed { IfSome result (λ entity. Closes bytes.now 2 entity.len) }
@@ -95,7 +95,7 @@ fn decimal_in(bytes: &[u8]) -> Option<Entity<'static>>
     })
 }
 
-/// The hexadecimal reference whose `&#x` stands before `bytes`.
+/// The hexadecimal reference whose `&#x` precedes `bytes`.
 fn hexadecimal_in(bytes: &[u8]) -> Option<Entity<'static>>
     ensures value { option_map shown_entity result ≡ hexadecimal_in bytes.now }
     ensures closed { IfSome result (λ entity. Closes bytes.now 3 entity.len) }
@@ -110,7 +110,7 @@ fn hexadecimal_in(bytes: &[u8]) -> Option<Entity<'static>>
     })
 }
 
-/// The numeric reference whose `&#` stands before `bytes`.
+/// The numeric reference whose `&#` precedes `bytes`.
 fn numeric_in(bytes: &[u8]) -> Option<Entity<'static>>
     ensures value { option_map shown_entity result ≡ numeric_in bytes.now }
     ensures closed { IfSome result (λ entity. Closes bytes.now 2 entity.len) }
@@ -121,7 +121,7 @@ fn numeric_in(bytes: &[u8]) -> Option<Entity<'static>>
     }
 }
 
-/// The entity whose `&` stands before `bytes`, by its name.
+/// The entity whose `&` precedes `bytes`, by its name.
 fn named_in<'e, E: EntityLookup>(bytes: &[u8], entities: &'e E) -> Option<Entity<'e>>
     ensures value { option_map shown_entity result ≡ named_in (E.replacement entities.now) bytes.entry.now }
     ensures closed { IfSome result (λ entity. Closes bytes.entry.now 1 entity.len) }
@@ -141,9 +141,9 @@ fn named_in<'e, E: EntityLookup>(bytes: &[u8], entities: &'e E) -> Option<Entity
     })
 }
 
-/// The entity or numeric character reference in front, if one stands there (CommonMark 2.5): `&` and a name of ASCII letters
-/// and digits that the look-up knows, `&#` and 1 to 7 digits, or `&#x` or `&#X` and 1 to 6 hexadecimal digits, and `;`. 0 and
-/// numbers that no character has stand for U+FFFD. No memory is taken.
+/// The entity or numeric character reference at the beginning, if there is one (CommonMark 2.5). It is `&` and a name of ASCII letters and
+/// digits that the look-up knows, `&#` and 1 to 7 digits, or `&#x` or `&#X` and 1 to 6 hexadecimal digits; then `;`. The text for 0 and for
+/// numbers that are not characters is U+FFFD. No memory is needed.
 pub fn scan_entity<'e, E: EntityLookup>(bytes: &[u8], entities: &'e E) -> Option<Entity<'e>>
     ensures closed { IfSome result (λ entity. Closes bytes.entry.now 0 entity.len) }
     ensures boundary { IsUtf8 bytes.entry.now → IfSome result (λ entity. IsCharBoundary bytes.entry.now entity.len) }

@@ -21,15 +21,15 @@ use std::alloc::{AllocError, Global};
 /// An escape or an entity in a text.
 #[derive(Drop)]
 struct Resolved<'t> {
-    /// Where it begins.
+    /// The byte offset at which it begins.
     start: usize,
-    /// The place behind it.
+    /// The byte offset after it.
     end: usize,
-    /// What it stands for.
+    /// Its text.
     text: CowStr<'t>,
 }
 
-/// The escape whose backslash stands in front, if ASCII punctuation follows it.
+/// The escape at the beginning: a backslash, if ASCII punctuation follows it.
 fn escape_in_front(text: &str) -> Option<Entity<'_>>
     requires { first_is (λ b. b == 92) text.now ≡ true }
     ensures value { (lookup : Lookup) → option_map shown_entity result ≡ resolved_front lookup text.entry.now }
@@ -44,7 +44,7 @@ fn escape_in_front(text: &str) -> Option<Entity<'_>>
     }
 }
 
-/// The escape or the entity in front, if one stands there.
+/// The escape or the entity at the beginning, if there is one.
 fn resolved_in_front<'t, E: EntityLookup>(text: &'t str, entities: &'t E) -> Option<Entity<'t>>
     ensures value { option_map shown_entity result ≡ resolved_front (E.replacement entities.now) text.entry.now }
     ensures within { IfSome result (λ part. (0 < part.len) × IsCharBoundary text.entry.now part.len) }
@@ -93,7 +93,7 @@ fn push_resolved<E: EntityLookup>(
     Ok(())
 }
 
-/// The text without its escapes and entities; the very text where it has none.
+/// The text without its escapes and entities; the same value if it has none.
 fn resolve<'a, E: EntityLookup>(
     alloc: Global,
     text: CowStr<'a>,
@@ -110,7 +110,7 @@ fn resolve<'a, E: EntityLookup>(
     CowStr::from_string(out)
 }
 
-/// Where the first escaped backslash in front of a pipe stands.
+/// The byte offset of the first escaped backslash before a pipe.
 fn find_escaped_pipe(text: &str) -> Option<usize>
     ensures { FindsNeedle text.now escaped_pipe 0 result }
 {
@@ -130,7 +130,7 @@ fn push_with_escaped_pipes(out: &mut String, text: &str) -> Result<(), AllocErro
     Ok(())
 }
 
-/// The text without the backslash directly before each escaped pipe; the very text where there is none.
+/// The text without the backslash directly before each escaped pipe; the same value if there is none.
 fn with_escaped_pipes<'a>(alloc: Global, text: CowStr<'a>) -> Result<CowStr<'a>, AllocError>
     ensures value { IfOk result (λ made. text_bytes made ≡ with_escaped_pipes (text_bytes text.entry)) }
     ensures kept { (lookup : Lookup) → HasNoEscapes lookup (text_bytes text.entry) → result ≡ Ok text.entry }
@@ -143,10 +143,11 @@ fn with_escaped_pipes<'a>(alloc: Global, text: CowStr<'a>) -> Result<CowStr<'a>,
     CowStr::from_string(out)
 }
 
-/// The text without its escapes and entities (CommonMark 2.4 and 2.5): a backslash before ASCII punctuation is dropped, and an
-/// entity or a numeric character reference stands for its text. In a table `\|` and `\\|` are both `|`.
+/// The text without its escapes and entities (CommonMark 2.4 and 2.5): a backslash before ASCII punctuation is removed, and an entity or a
+/// numeric character reference becomes its text. In a table cell `\|` and `\\|` both become `|`.
 ///
-/// A text without escapes and entities is handed back as it is, borrowed if it was borrowed; memory is taken only for others.
+/// A text without escapes and entities is returned unchanged, borrowed if it was borrowed. Other texts need memory; it fails only if that
+/// is refused.
 pub fn unescape<'a, E: EntityLookup>(
     alloc: Global,
     input: CowStr<'a>,

@@ -6,7 +6,7 @@ ghost use Rattle.cmark_grammar.specs.Letters.{first_is, behind_all, behind_if, b
 
 use memchr::{memchr3, memmem};
 
-/// The bytes from the first of these three on; none, where none of them stands there.
+/// The bytes from the first of these three on; empty if they do not occur.
 pub fn at_first3(one: u8, two: u8, three: u8, bytes: &[u8]) -> &[u8]
     ensures value { result.now ≡ behind_all (λ b. not (is_byte3 one two three b)) bytes.now }
     ensures within { length result.now ≤ length bytes.now }
@@ -17,7 +17,7 @@ pub fn at_first3(one: u8, two: u8, three: u8, bytes: &[u8]) -> &[u8]
     }
 }
 
-/// The bytes behind this one, if it stands in front.
+/// The bytes after this one, if they begin with it.
 pub fn behind_byte(byte: u8, bytes: &[u8]) -> Option<&[u8]>
     ensures value { option_copied result ≡ behind_if (λ b. b == byte) bytes.now }
     ensures within { IfSome result (λ rest. length rest.now < length bytes.now) }
@@ -28,7 +28,7 @@ pub fn behind_byte(byte: u8, bytes: &[u8]) -> Option<&[u8]>
     }
 }
 
-/// The bytes behind these, if they stand in front.
+/// The bytes after this prefix, if they begin with it.
 pub fn behind_start<'a>(prefix: &[u8], bytes: &'a [u8]) -> Option<&'a [u8]>
     ensures value { option_copied result ≡ behind_start prefix.now bytes.now }
     ensures within { IfSome result (λ rest. length rest.now ≤ length bytes.now) }
@@ -36,7 +36,7 @@ pub fn behind_start<'a>(prefix: &[u8], bytes: &'a [u8]) -> Option<&'a [u8]>
     bytes.strip_prefix(prefix)
 }
 
-/// The bytes behind the first place where the closer stands.
+/// The bytes after the first occurrence of the closer.
 pub fn behind_first<'a>(closer: &[u8], bytes: &'a [u8]) -> Option<&'a [u8]>
     requires { 0 < length closer.now }
     ensures value { option_copied result ≡ behind_first closer.now bytes.now }
@@ -46,7 +46,7 @@ pub fn behind_first<'a>(closer: &[u8], bytes: &'a [u8]) -> Option<&'a [u8]>
     Some(&bytes[at + closer.len()..])
 }
 
-/// Whether this byte stands in front.
+/// Whether the bytes begin with this one.
 pub fn begins_with(bytes: &[u8], byte: u8) -> bool
     ensures { result ≡ first_is (λ b. b == byte) bytes.now }
 {

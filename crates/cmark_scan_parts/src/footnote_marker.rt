@@ -9,7 +9,7 @@ use crate::closed::closed_size;
 use crate::find::begins_with;
 use crate::label_text::is_label;
 
-/// How many bytes the label has in front that stands on one line, if it is one and `]:` stands behind it.
+/// The number of bytes of the label at the beginning, if it is valid, is on one line, and `]:` follows it.
 fn label_size(bytes: &[u8]) -> Option<usize>
     ensures value { option_map (labelled bytes.now) result ≡ label_then_colon (label_if (up_to false 93 91 false bytes.now)) }
     ensures within { IfSome result (λ size. size + 2 ≤ length bytes.now) }
@@ -24,9 +24,9 @@ fn label_size(bytes: &[u8]) -> Option<usize>
     }
 }
 
-/// How many bytes the label has of the footnote definition whose marker these bytes begin with, if they do: `[^`, a label on one line,
-/// as of links (1 to 999 characters, at least one of them no white space, and no bracket but escaped ones), and `]:`. The label
-/// stands behind the first two bytes; the marker has four bytes more than it.
+/// The number of bytes of the label, if these bytes begin with the marker of a footnote definition: `[^`, a label on one line, and `]:`.
+/// The label is as for links: 1 to 999 characters, not only white space, and no unescaped bracket. It begins after the first two bytes; the
+/// marker is four bytes longer than the label.
 pub fn scan_footnote_marker(words: &[u8]) -> Option<usize>
     ensures value { option_map (marked words.now) result ≡ footnote_in words.now }
     ensures closed { IfSome result (IsClosed words.now) }

@@ -1,4 +1,4 @@
-//! Finds of comments, declarations, CDATA sections and processing instructions (CommonMark 6.6).
+//! Searches for the ends of comments, declarations, CDATA sections and processing instructions (CommonMark 6.6).
 
 ghost use Rattle.std.specs.Prelude.{◌≡◌, ℕ, ◌+◌, ◌-◌, ◌≤◌, length, drop, codes, Some, None, IfSome, MatchOption, option_copied, option_map};
 ghost use Rattle.std.specs.Str.{IsUtf8, IsCharBoundary};
@@ -10,17 +10,17 @@ ghost use Rattle.cmark_scan_parts.specs.declared.inline_html.MarkupKind.TheVaria
 use crate::bytes::is_letter;
 use crate::find::{behind_first, behind_start};
 
-/// What a search for the end of a piece of inline HTML came to.
+/// The result of a search for the end of a piece of inline HTML.
 #[derive(Clone, Copy)]
 pub struct HtmlFind {
-    /// The place behind the first closer; `None` where there is none, and where nothing opens.
+    /// The byte offset after the first closer. `None` if there is no closer, or nothing opens here.
     pub end: Option<usize>,
-    /// How many bytes the search passed, from its place on: up to `end`; all of them, where there is no closer; the first
-    /// seven or fewer, where nothing opens, and where it was known that there is none.
+    /// The number of bytes that the search passed from its place on. It is up to `end`, or all bytes if there is no closer. If nothing
+    /// opens, or if a mark shows that there is no closer, it is at most seven.
     pub passed: usize,
 }
 
-/// What opens behind `<!` or `<?`.
+/// The markup that `<!` or `<?` opens.
 #[derive(Clone, Copy)]
 enum MarkupKind {
     Comment,
@@ -29,8 +29,8 @@ enum MarkupKind {
     Cdata,
 }
 
-/// What finds in the same bytes remember: a mark for each kind. A mark beyond the place of a find says that no closer of its kind
-/// follows that place.
+/// The marks that searches in the same bytes share, one for each kind. If the mark of a kind is beyond the place of a search, no closer of
+/// that kind follows that place.
 #[derive(Clone, Copy, Default)]
 pub struct HtmlScanGuard {
     /// The mark of CDATA sections.
@@ -43,7 +43,7 @@ pub struct HtmlScanGuard {
     pub comment: usize,
 }
 
-/// The bytes behind a comment, if `bytes` are those behind its `<!--` and it is closed.
+/// The bytes after a comment, if `bytes` follow its `<!--` and it is closed.
 fn behind_comment(bytes: &[u8]) -> Option<&[u8]>
     ensures value { option_copied result ≡ behind_comment bytes.now }
     ensures within { IfSome result (λ rest. length rest.now ≤ length bytes.now) }
@@ -57,7 +57,7 @@ fn behind_comment(bytes: &[u8]) -> Option<&[u8]>
     behind_first(b"-->", bytes)
 }
 
-/// The find of what opened at a place of the bytes.
+/// The result of a search from a place of the bytes: `opened` is the markup there, if any, and the bytes after its closer, if any.
 fn find_with(bytes: &[u8], ix: usize, opened: Option<Option<&[u8]>>) -> HtmlFind
     requires place { ix ≤ length bytes.now }
     requires within { IfSome opened (λ closed. IfSome closed (λ rest. length rest.now ≤ length bytes.now - ix)) }
@@ -83,7 +83,7 @@ fn find_with(bytes: &[u8], ix: usize, opened: Option<Option<&[u8]>>) -> HtmlFind
     }
 }
 
-/// What opens behind `<!`, if anything does, with the bytes behind what opens it.
+/// The kind of markup that `<!` opens, if any, with the bytes after its opening.
 fn opening(bytes: &[u8]) -> Option<(MarkupKind, &[u8])>
     ensures kind { option_map (λ o. o.0) result ≡ kind_in bytes.entry.now }
     ensures opens { IfSome result (λ o. OpensWith o.0 bytes.entry.now o.1.now) }
@@ -102,7 +102,7 @@ fn opening(bytes: &[u8]) -> Option<(MarkupKind, &[u8])>
     Some((MarkupKind::Cdata, rest))
 }
 
-/// The bytes behind the closer, if `bytes` are those behind what opens markup of this kind and it is closed.
+/// The bytes after the closer, if `bytes` follow the opening of markup of this kind and it is closed.
 fn behind_closer(kind: MarkupKind, bytes: &[u8]) -> Option<&[u8]>
     ensures value { option_copied result ≡ closed_by kind bytes.entry.now }
     ensures within { IfSome result (λ rest. length rest.now ≤ length bytes.entry.now) }
@@ -140,7 +140,7 @@ impl HtmlScanGuard {
         }
     }
 
-    /// The find of markup of this kind, which opens at a place of the bytes; `inside` are those behind what opens it.
+    /// Searches for the end of markup of this kind, which opens at a place of the bytes; `inside` are the bytes after its opening.
     fn find(&mut self, kind: MarkupKind, bytes: &[u8], ix: usize, inside: &[u8]) -> HtmlFind
         requires place { ix ≤ length bytes.now }
         requires opens { OpensWith kind (drop ix bytes.now) inside.now }
@@ -166,11 +166,10 @@ impl HtmlScanGuard {
     }
 }
 
-/// The end of the comment, declaration or CDATA section whose `<!` ends at the place `ix` (CommonMark 6.6). A comment is
-/// closed at once by `>` or `->`, else by the first `-->`; a declaration, which a letter opens, by the first `>`; a CDATA
-/// section by the first `]]>`. Where none of them opens, `end` is `None`, and `passed` counts the next seven bytes, or as
-/// many as there are. So it is too where the mark of its kind is beyond the place; where there is no closer, this mark goes to the end of
-/// the bytes.
+/// The end of the comment, declaration or CDATA section whose `<!` ends at byte offset `ix` (CommonMark 6.6). A comment is closed at once
+/// by `>` or `->`, else by the first `-->`. A declaration begins with a letter and is closed by the first `>`. A CDATA section is closed by
+/// the first `]]>`. If nothing opens, or if the mark of its kind is beyond `ix`, `end` is `None` and `passed` counts at most the next seven
+/// bytes. If there is no closer, the mark is set to the end of the bytes.
 pub fn scan_inline_html_comment(bytes: &[u8], ix: usize, guard: &mut HtmlScanGuard) -> HtmlFind
     requires place { ix ≤ length bytes.now }
     requires marks { AreMarks bytes.now ix guard.old }
@@ -190,9 +189,8 @@ pub fn scan_inline_html_comment(bytes: &[u8], ix: usize, guard: &mut HtmlScanGua
     }
 }
 
-/// The end of the processing instruction whose `<?` ends at the place `ix`: behind the first `?>` (CommonMark 6.6). Where its mark is
-/// beyond the place, `end` is `None`, and `passed` counts the next seven bytes, or as many as there are; where there is no closer, the
-/// mark goes to the end of the bytes.
+/// The end of the processing instruction whose `<?` ends at byte offset `ix`: after the first `?>` (CommonMark 6.6). If its mark is beyond
+/// `ix`, `end` is `None` and `passed` counts at most the next seven bytes. If there is no closer, the mark is set to the end of the bytes.
 pub fn scan_inline_html_processing(bytes: &[u8], ix: usize, guard: &mut HtmlScanGuard) -> HtmlFind
     requires place { ix ≤ length bytes.now }
     requires marks { AreMarks bytes.now ix guard.old }

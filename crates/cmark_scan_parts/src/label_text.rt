@@ -1,4 +1,4 @@
-//! Which bytes are the text of a label (CommonMark 6.3).
+//! The bytes that are the text of a label (CommonMark 6.3).
 
 ghost use Rattle.std.specs.Prelude.{◌≡◌, ◌||◌, not, nat_lt, nat_le, count_by};
 ghost use Rattle.std.specs.Char.{is_ascii_whitespace};
@@ -12,14 +12,14 @@ pub fn begins_character(byte: u8) -> bool
     byte < 128 || 192 <= byte
 }
 
-/// How many characters these bytes have.
+/// The number of characters in these bytes.
 fn characters(bytes: &[u8]) -> usize
     ensures { result ≡ characters bytes.now }
 {
     bytes.iter().filter(|byte| begins_character(**byte)).count()
 }
 
-/// Whether some byte is no white space.
+/// Whether some byte is not white space.
 fn has_words(bytes: &[u8]) -> bool
     ensures { result ≡ nat_lt 0 (count_by (λ b. not (is_ascii_whitespace b)) bytes.now) }
 {
@@ -29,7 +29,7 @@ fn has_words(bytes: &[u8]) -> bool
         .count()
 }
 
-/// Whether these bytes are the text of a label: 1 to 999 characters, at least one of them no white space.
+/// Whether these bytes are the text of a label: 1 to 999 characters, not only white space.
 pub fn is_label(bytes: &[u8]) -> bool
     ensures { result ≡ is_label bytes.now }
 {

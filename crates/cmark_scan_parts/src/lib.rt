@@ -1,4 +1,4 @@
-//! Scanners of what stands inside a line: entities, destinations, autolinks, tags and other inline HTML.
+//! Scanners of constructs inside a line: entities, destinations, autolinks, tags and other inline HTML.
 #![tactic(auto)]
 
 pub mod bytes;

@@ -13,16 +13,16 @@ use crate::email::is_email;
 use crate::find::begins_with;
 use memchr::memchr;
 
-/// A part of a text, and the place behind its closer.
+/// A part of a text, and the byte offset after its closer.
 #[derive(Clone, Copy)]
 pub struct Cut<'t> {
-    /// The place in the text behind the closer.
+    /// The byte offset in the text after the closer.
     pub end: usize,
     /// The part up to the closer.
     pub part: &'t str,
 }
 
-/// Whether a scheme and a colon stand in front: a letter, then letters, digits, `+`, `-` and `.`, 2 to 32 bytes in all.
+/// Whether the bytes begin with a scheme and a colon: a letter, then letters, digits, `+`, `-` and `.`, 2 to 32 bytes in all.
 pub fn has_scheme(bytes: &[u8]) -> bool
     ensures { result ≡ has_scheme bytes.now }
 {
@@ -33,8 +33,7 @@ pub fn has_scheme(bytes: &[u8]) -> bool
     is_letter(*first) && 2 <= size && size <= 32 && begins_with(&bytes[size..], b':')
 }
 
-/// Whether an address begins the bytes, of which the first `size` are those that a URI may have: a URI or, with `emails`, an email
-/// address.
+/// Whether the bytes begin with an address, if the first `size` bytes may be part of a URI: a URI or, with `emails`, an email address.
 fn has_address(emails: bool, bytes: &[u8], size: usize) -> bool
     requires { size ≡ prefix_len is_uri_byte bytes.now }
     ensures { result ≡ has_address emails bytes.now }
@@ -42,7 +41,7 @@ fn has_address(emails: bool, bytes: &[u8], size: usize) -> bool
     has_scheme(bytes) || emails && is_email(&bytes[..size])
 }
 
-/// How many bytes the address of an autolink in front takes up to a `>`, if it is one and that follows it.
+/// The number of bytes of the address of an autolink at the beginning, if it is valid and a `>` follows it.
 fn address_size(emails: bool, bytes: &[u8]) -> Option<usize>
     ensures value { option_map (λ size. record { bytes = take size bytes.now; behind = drop (suc size) bytes.now }) result ≡ autolink_in emails bytes.now }
     ensures within { IfSome result (λ size. size < length bytes.now) }
@@ -56,9 +55,9 @@ fn address_size(emails: bool, bytes: &[u8]) -> Option<usize>
     }
 }
 
-/// The autolink whose `<` ends at the place `start_ix` (CommonMark 6.5): its address, as it is written, up to the `>` that closes
-/// it, and the place after that. The address is a URI, with a scheme of 2 to 32 bytes and no ASCII control, space, `<` or `>` in
-/// it, or with `emails` an email address.
+/// The autolink whose `<` ends at byte offset `start_ix` (CommonMark 6.5): its address, as written, up to the `>` that closes it, and the
+/// byte offset after that. The address is a URI with a scheme of 2 to 32 bytes and without ASCII controls, space, `<` or `>`; with `emails`
+/// it may also be an email address.
 pub fn scan_autolink(emails: bool, text: &str, start_ix: usize) -> Option<Cut<'_>>
     requires { IsCharBoundary text.now start_ix }
     ensures value { option_map shown_cut result ≡ cut_at start_ix (autolink_in emails (drop start_ix text.entry.now)) }
@@ -72,8 +71,8 @@ pub fn scan_autolink(emails: bool, text: &str, start_ix: usize) -> Option<Cut<'_
     })
 }
 
-/// The name of a wikilink in front of its first `|`, among the `len` bytes of the text from `start_ix` on, and the place
-/// behind that `|` (this profile's own).
+/// The name of a wikilink before its first `|`, among the `len` bytes of the text from `start_ix` on, and the byte offset after that `|`
+/// (this profile's own).
 pub fn scan_wikilink_pipe(text: &str, start_ix: usize, len: usize) -> Option<Cut<'_>>
     requires starts { IsCharBoundary text.now start_ix }
     requires within { start_ix + len ≤ length text.now }

@@ -1,4 +1,4 @@
-//! Literal pipes in cells of tables (GFM 4.10).
+//! Literal pipes in table cells (GFM 4.10).
 
 ghost use Rattle.std.specs.Prelude.{◌≡◌, ◌⊎◌, ◌<◌, ◌≤◌, ◌++◌, length, Ok, string_bytes, IfOk, IsTrue, OnOk, MatchOption};
 ghost use Rattle.std.specs.Str.{IsCharBoundary};
@@ -16,13 +16,13 @@ use std::alloc::{AllocError, Global};
 /// The backslashes of a literal pipe.
 #[derive(Clone, Copy)]
 struct Backslashes {
-    /// Where they begin.
+    /// The byte offset at which they begin.
     start: usize,
-    /// Where the pipe stands.
+    /// The byte offset of the pipe.
     end: usize,
 }
 
-/// Whether these bytes stand in front.
+/// Whether the bytes begin with this prefix.
 fn starts(bytes: &[u8], prefix: &[u8]) -> bool
     ensures value { result ≡ starts prefix.now bytes.now }
     ensures within { IsTrue result → length prefix.now ≤ length bytes.now }
@@ -30,7 +30,7 @@ fn starts(bytes: &[u8], prefix: &[u8]) -> bool
     bytes.starts_with(prefix)
 }
 
-/// The one or two backslashes that the first literal pipe loses, where backslashes are read from the left in pairs.
+/// The one or two backslashes that the first literal pipe loses. Backslashes are read from the left, in pairs.
 fn find_backslashes(text: &str) -> Option<Backslashes>
     ensures { MatchOption result (with_literal_pipes text.now ≡ text.now) (λ found. Drops text.now found.start found.end) }
 {
@@ -72,8 +72,8 @@ fn push_with_literal_pipes(out: &mut String, text: &str) -> Result<(), AllocErro
     Ok(())
 }
 
-/// The text with `|` in the place of each `\|` and `\\|`, where backslashes are read from the left in pairs; the very text where
-/// there is none.
+/// The text with `|` in place of each `\|` and `\\|`, with backslashes read from the left in pairs; the same value if there is none. Fails
+/// only if memory is refused.
 pub fn with_literal_pipes<'a>(alloc: Global, text: CowStr<'a>) -> Result<CowStr<'a>, AllocError>
     ensures value { IfOk result (λ made. text_bytes made ≡ with_literal_pipes (text_bytes text.entry)) }
     ensures kept { with_literal_pipes (text_bytes text.entry) ≡ text_bytes text.entry → result ≡ Ok text.entry }
@@ -86,14 +86,14 @@ pub fn with_literal_pipes<'a>(alloc: Global, text: CowStr<'a>) -> Result<CowStr<
     CowStr::from_string(out)
 }
 
-/// Where the first backslash stands that a pipe follows directly.
+/// The byte offset of the first backslash directly before a pipe.
 fn find_pipe_escape(text: &str) -> Option<usize>
     ensures { MatchOption result (without_pipe_escapes text.now ≡ text.now) (LeavesOut text.now) }
 {
     memmem::find(text.as_bytes(), b"\\|")
 }
 
-/// Appends the text without each backslash that a pipe follows directly.
+/// Appends the text without each backslash directly before a pipe.
 fn push_without_pipe_escapes(out: &mut String, text: &str) -> Result<(), AllocError>
     ensures { OnOk result (string_bytes out.new ≡ string_bytes out.old ++ without_pipe_escapes text.now) }
 {
@@ -106,8 +106,8 @@ fn push_without_pipe_escapes(out: &mut String, text: &str) -> Result<(), AllocEr
     Ok(())
 }
 
-/// What code and formulas in the cell of a table hold (GFM 4.10): the text with `|` in the place of each `\|`, which is a text of its own;
-/// the very text where there is none. Of `\\|` one backslash stays.
+/// The content of code and formulas in a table cell (GFM 4.10): an owned text with `|` in place of each `\|`. If there is none, the same
+/// value is returned. Of `\\|` one backslash remains. Fails only if memory is refused.
 pub fn without_pipe_escapes<'a>(alloc: Global, text: CowStr<'a>) -> Result<CowStr<'a>, AllocError>
     ensures value { IfOk result (λ made. text_bytes made ≡ without_pipe_escapes (text_bytes text.entry)) }
     ensures kept { without_pipe_escapes (text_bytes text.entry) ≡ text_bytes text.entry → result ≡ Ok text.entry }

@@ -1,7 +1,7 @@
 //! Open and closing tags (CommonMark 6.6).
 //!
-//! A tag may take several lines, behind each of which stand the prefixes of the containers around it. A handler is asked
-//! about the bytes behind a line ending, and answers how many of them are prefixes.
+//! A tag may span several lines. After each line ending come the prefixes of the containers around it. A handler gets the bytes after a
+//! line ending and returns the number of them that are prefixes.
 
 ghost use Rattle.std.specs.Prelude.{◌≡◌, ◌-◌, ◌<◌, ◌≤◌, length, true, option_copied, IfSome};
 ghost use Rattle.std.specs.Str.{IsUtf8, IsCharBoundary};
@@ -12,7 +12,7 @@ ghost use Rattle.cmark_scan_parts.specs.Handled.{AnswersWithin, ForAnswers};
 use crate::bytes::{Class, behind_ending, is_attribute_start, is_letter, is_space};
 use crate::find::{at_first3, behind_byte};
 
-/// The bytes behind a tag's name, if one stands in front: a letter, then letters, digits and `-`.
+/// The bytes after a tag's name, if they begin with one: a letter, then letters, digits and `-`.
 fn behind_tag_name(bytes: &[u8]) -> Option<&[u8]>
     ensures value { option_copied result ≡ behind_tag_name bytes.now }
     ensures within { IfSome result (λ rest. length rest.now ≤ length bytes.now) }
@@ -23,8 +23,7 @@ fn behind_tag_name(bytes: &[u8]) -> Option<&[u8]>
     }
 }
 
-/// The bytes behind an attribute's name, if one stands in front: a letter, `_` or `:`, then letters, digits, `_`, `:`, `.`
-/// and `-`.
+/// The bytes after an attribute's name, if they begin with one: a letter, `_` or `:`, then letters, digits, `_`, `:`, `.` and `-`.
 fn behind_attribute_name(bytes: &[u8]) -> Option<&[u8]>
     ensures value { option_copied result ≡ behind_attribute_name bytes.now }
     ensures within { IfSome result (λ rest. length rest.now < length bytes.now) }
@@ -37,7 +36,7 @@ fn behind_attribute_name(bytes: &[u8]) -> Option<&[u8]>
     }
 }
 
-/// The bytes behind a bare value, if one stands in front.
+/// The bytes after a bare value, if they begin with one.
 fn behind_bare_value(bytes: &[u8]) -> Option<&[u8]>
     ensures value { option_copied result ≡ behind_bare_value bytes.now }
     ensures within { IfSome result (λ rest. length rest.now ≤ length bytes.now) }
@@ -48,7 +47,7 @@ fn behind_bare_value(bytes: &[u8]) -> Option<&[u8]>
     }
 }
 
-/// The bytes behind the end of an open tag, if it stands in front: `>`, or `/>`.
+/// The bytes after the end of an open tag, if they begin with it: `>`, or `/>`.
 fn behind_open_end(bytes: &[u8]) -> Option<&[u8]>
     ensures value { option_copied result ≡ behind_open_end bytes.now }
     ensures within { IfSome result (λ rest. length rest.now ≤ length bytes.now) }
@@ -59,7 +58,7 @@ fn behind_open_end(bytes: &[u8]) -> Option<&[u8]>
     }
 }
 
-/// The bytes behind a closing tag, if `bytes` are those behind its `</`.
+/// The bytes after a closing tag, if `bytes` follow its `</`.
 fn behind_closing_tag(bytes: &[u8]) -> Option<&[u8]>
     ensures value { option_copied result ≡ behind_closing_tag bytes.now }
     ensures within { IfSome result (λ rest. length rest.now ≤ length bytes.now) }
@@ -67,7 +66,7 @@ fn behind_closing_tag(bytes: &[u8]) -> Option<&[u8]>
     behind_byte(b'>', Class::Blank.behind(behind_tag_name(bytes)?))
 }
 
-/// A rest of a line without its prefixes, of which the handler says how many bytes they take.
+/// The rest of a line without its prefixes; the handler returns their number of bytes.
 pub fn without_prefix<'a, H: Fn(&[u8]) -> usize>(bytes: &'a [u8], handler: &H) -> &'a [u8]
     requires callable { H.IsAlwaysCallable handler.now }
     requires within { AnswersWithin H.Fn handler.now }
@@ -77,7 +76,7 @@ pub fn without_prefix<'a, H: Fn(&[u8]) -> usize>(bytes: &'a [u8], handler: &H) -
     &bytes[handler(bytes)..]
 }
 
-/// The bytes behind white space: blanks with at most one line ending, and the prefixes of the next line.
+/// The bytes after white space: blanks with at most one line ending, and the prefixes of the next line.
 fn behind_space<'a, H: Fn(&[u8]) -> usize>(bytes: &'a [u8], handler: &H) -> &'a [u8]
     requires callable { H.IsAlwaysCallable handler.now }
     requires within { AnswersWithin H.Fn handler.now }
@@ -91,7 +90,7 @@ fn behind_space<'a, H: Fn(&[u8]) -> usize>(bytes: &'a [u8], handler: &H) -> &'a 
     }
 }
 
-/// The bytes behind the closing quote, if `bytes` are those behind the opening one.
+/// The bytes after the closing quote, if `bytes` follow the opening one.
 fn behind_quotation_mark<'a, H: Fn(&[u8]) -> usize>(
     quote: u8,
     bytes: &'a [u8],
@@ -113,7 +112,7 @@ fn behind_quotation_mark<'a, H: Fn(&[u8]) -> usize>(
     }
 }
 
-/// The bytes behind an attribute's value, if one stands in front.
+/// The bytes after an attribute's value, if they begin with one.
 fn behind_value<'a, H: Fn(&[u8]) -> usize>(bytes: &'a [u8], handler: &H) -> Option<&'a [u8]>
     requires callable { H.IsAlwaysCallable handler.now }
     requires within { AnswersWithin H.Fn handler.now }
@@ -127,8 +126,8 @@ fn behind_value<'a, H: Fn(&[u8]) -> usize>(bytes: &'a [u8], handler: &H) -> Opti
     }
 }
 
-/// The bytes behind the value that an attribute has, if one stands behind its name; none, where `=` stands there alone.
-/// `name` are the bytes behind the name.
+/// The bytes after an attribute's value, or after its name if there is no `=`. `name` are the bytes after the name. `None` if no value
+/// follows the `=`.
 fn behind_assigned<'a, H: Fn(&[u8]) -> usize>(name: &'a [u8], handler: &H) -> Option<&'a [u8]>
     requires callable { H.IsAlwaysCallable handler.now }
     requires within { AnswersWithin H.Fn handler.now }
@@ -141,7 +140,7 @@ fn behind_assigned<'a, H: Fn(&[u8]) -> usize>(name: &'a [u8], handler: &H) -> Op
     }
 }
 
-/// The bytes behind an attribute, if one stands in front behind white space.
+/// The bytes after an attribute, if white space and an attribute are at the beginning.
 fn behind_attribute<'a, H: Fn(&[u8]) -> usize>(bytes: &'a [u8], handler: &H) -> Option<&'a [u8]>
     requires callable { H.IsAlwaysCallable handler.now }
     requires within { AnswersWithin H.Fn handler.now }
@@ -159,7 +158,7 @@ fn behind_attribute<'a, H: Fn(&[u8]) -> usize>(bytes: &'a [u8], handler: &H) -> 
     }
 }
 
-/// The bytes behind all attributes in front.
+/// The bytes after all attributes at the beginning.
 fn behind_attributes<'a, H: Fn(&[u8]) -> usize>(bytes: &'a [u8], handler: &H) -> &'a [u8]
     requires callable { H.IsAlwaysCallable handler.now }
     requires within { AnswersWithin H.Fn handler.now }
@@ -173,7 +172,7 @@ fn behind_attributes<'a, H: Fn(&[u8]) -> usize>(bytes: &'a [u8], handler: &H) ->
     rest
 }
 
-/// The bytes behind an open tag, if `bytes` are those behind its `<`.
+/// The bytes after an open tag, if `bytes` follow its `<`.
 fn behind_open_tag<'a, H: Fn(&[u8]) -> usize>(bytes: &'a [u8], handler: &H) -> Option<&'a [u8]>
     requires callable { H.IsAlwaysCallable handler.now }
     requires within { AnswersWithin H.Fn handler.now }
@@ -184,7 +183,7 @@ fn behind_open_tag<'a, H: Fn(&[u8]) -> usize>(bytes: &'a [u8], handler: &H) -> O
     behind_open_end(behind_space(attributes, handler))
 }
 
-/// The bytes behind an open or a closing tag, if `bytes` are those behind its `<`.
+/// The bytes after an open or a closing tag, if `bytes` follow its `<`.
 fn behind_tag_start<'a, H: Fn(&[u8]) -> usize>(bytes: &'a [u8], handler: &H) -> Option<&'a [u8]>
     requires callable { H.IsAlwaysCallable handler.now }
     requires within { AnswersWithin H.Fn handler.now }
@@ -197,7 +196,7 @@ fn behind_tag_start<'a, H: Fn(&[u8]) -> usize>(bytes: &'a [u8], handler: &H) -> 
     }
 }
 
-/// The bytes behind an open or a closing tag, if one stands in front.
+/// The bytes after an open or a closing tag, if they begin with one.
 pub fn behind_tag<'a, H: Fn(&[u8]) -> usize>(bytes: &'a [u8], handler: &H) -> Option<&'a [u8]>
     requires callable { H.IsAlwaysCallable handler.now }
     requires within { AnswersWithin H.Fn handler.now }
@@ -207,7 +206,7 @@ pub fn behind_tag<'a, H: Fn(&[u8]) -> usize>(bytes: &'a [u8], handler: &H) -> Op
     behind_tag_start(behind_byte(b'<', bytes)?, handler)
 }
 
-/// The bytes behind an open or a closing tag, if one stands in front (CommonMark 6.6). For bytes of one line.
+/// The bytes after an open or a closing tag, if they begin with one (CommonMark 6.6). The bytes are of one line.
 pub fn scan_tag(bytes: &[u8]) -> Option<&[u8]>
     ensures value { option_copied result ≡ behind_tag no_prefix bytes.now }
     ensures within { IfSome result (λ rest. length rest.now ≤ length bytes.now) }

@@ -1,4 +1,4 @@
--- Sets of ASCII bytes, asked for sixteen lanes at once.
+-- Sets of ASCII bytes, in which sixteen lanes are looked up at once.
 use borrow.Rule.Slice.PartMut.{put_mid, post_of}
 use Rattle.std.proofs.Common.{◌≡◌, ℕ, zero, suc, ◌+◌, ◌-◌, ◌*◌, ◌/◌, ◌%◌, ◌^◌, ◌<◌, ◌≤◌, Bool, true, false, not, ◌==◌, ◌&&◌, nat_lt, if◌then◌else◌, pow_pos, cond, eqb, List, [], ◌∷◌, ◌++◌, length, min, get_or, map, replicate, drop, take, append_assoc, drop-drop, take-append-drop, length-append, length-drop, refl, sym, ap, subst, ◌∙◌, arith, w8, bit_and, Fits, inl, inr, Option, Some, None}
 use Rattle.std.specs.Int.{bit_at}
@@ -16,7 +16,7 @@ use Rattle.memchr.proofs.lemmas.FindLemmas.{IsFirst-agree}
 use Rattle.cmark_search.specs.Sets.{column_of, in_keys, in_rows, row_of}
 use Rattle.cmark_search.specs.declared.search.TheConstants.{BITS}
 
--- ---- lanes that are places in a table of sixteen
+-- ---- lanes that are indices into a table of sixteen
 
 each_below : {P : ℕ → Type 0} (f : ℕ → ℕ) → ((x : ℕ) → P x → f x < 16) → (xs : List ℕ) → Each1 P xs → Each1 (λ j. j < 16) (map f xs)
 each_below f small [] each = tt
@@ -28,7 +28,7 @@ looked_up table i (j ∷ places) room small =
     let head = get_or-swz_l_below w8 16 table i (j ∷ places) 0 (omega arith) small.0 ∙ ap (λ n. get_or table n 0) (omega arith) in
     λ k. head k ∷ looked_up table (suc i) places (omega arith) small.1 k
 
--- the same where each place is made of a lane
+-- a look-up by indices that are computed from lanes
 module _ (f : ℕ → ℕ) (small : (x : ℕ) → Fits w8 x → f x < 16) (lanes : List ℕ) (long : length lanes ≡ 16) (fits : Each1 (Fits w8) lanes) where
   pub places_ok : SwzOk w8 16 16 0 (map f lanes)
   places_ok = SwzOk-from_below w8 16 1 16 0 (map f lanes) refl (omega (arith, length-map lanes f)) (each_below f small lanes fits)
@@ -63,7 +63,7 @@ module _ (lanes : List ℕ) (long : length lanes ≡ 16) (fits : Each1 (Fits w8)
 
 -- ---- the marks
 
--- the bits by which a byte's high digit is asked for
+-- the bits that select a byte's high digit
 bits_are : (place : ℕ) → place < 16 → get_or BITS.now place 0 ≡ (if nat_lt place 8 then 2 ^ place else 0)
 bits_are place small = eqb-true _ _ (agree_below_at (λ n. get_or BITS.now n 0 == (if nat_lt n 8 then 2 ^ n else 0)) (λ _. true) 16 place refl small)
 
@@ -106,7 +106,7 @@ module _ (rows : List ℕ) where
         ∙ ap (λ l. mask_l (map (λ x. not (eqb x 0)) l)) commons
         ∙ ap mask_l (map-map (λ x. not (eqb x 0)) (λ x. bit_and (get_or rows (x % 16) 0) (get_or BITS.now (x / 16) 0)) lanes ∙ lanes_are lanes fits)
 
-    -- the same, where the rows were read as a vector
+    -- a look-up in rows that were read as a vector
     pub marked-read : (table : List ℕ) → table ≡ rows
         → mask_l (map (top 7) (zip2 (λ a b. cond (not (eqb a b)) 255 0) (zip2 bit_and (swz_l w8 16 table 0 (zip2 bit_and lanes (replicate 16 15))) (swz_l w8 16 BITS.now 0 (zip2 (λ a b. a / 2 ^ b) lanes (replicate 16 4)))) (replicate 16 0))) % 2 ^ 64
         ≡ mask_l (map (in_rows rows) lanes)
@@ -158,7 +158,7 @@ is_one : (b : Bool) → (cond {A = ℕ} b 1 0 == 1) ≡ b
 is_one true = refl
 is_one false = refl
 
--- rows made of a table have what it has
+-- rows made of a table have the bytes of the table
 pub in_rows-of_table : (table : List Bool) (rows : List ℕ) → ((low : ℕ) → low < 16 → get_or rows low 0 ≡ row_of table low) → (byte : ℕ) → byte < 128 → in_rows rows byte ≡ get_or table byte false
 in_rows-of_table table rows made byte small =
     let place : byte % 16 + 16 * (byte / 16) ≡ byte = omega arith in
@@ -172,12 +172,12 @@ marked_step : (b : Bool) (n m l : ℕ) → 0 < cond b 1 0 + 2 * n → (0 < n →
 marked_step true n m l some within = omega arith
 marked_step false n m l some within = omega (arith, within (omega arith))
 
--- where a lane is marked, the first that is in the set is one of them
+-- if a lane is marked, the first lane in the set is one of the lanes
 pub first-within : (p : ℕ → Bool) (xs : List ℕ) → 0 < mask_l (map p xs) → position_or_len p xs < length xs
 first-within p [] some = absurd (omega arith)
 first-within p (x ∷ xs) some = marked_step (p x) (mask_l (map p xs)) (position_or_len p xs) (length xs) some (first-within p xs)
 
--- sixteen bytes from a place on were looked at, and this many stand before the first of the set
+-- sixteen bytes from `at` on were looked at, and `passed` of them are before the first byte in the set
 module _ (p : ℕ → Bool) (bs : List ℕ) (at passed : ℕ) (room : at + 16 ≤ length bs) (is : passed ≡ position_or_len p (take 16 (drop at bs))) (before : (k : ℕ) → k < at → p (get_or bs k 0) ≡ false) where
   pub step-le : passed ≤ 16
   step-le = run_in_chunk_le p bs at 16 passed 0 room is
@@ -200,7 +200,8 @@ module _ (p : ℕ → Bool) (bs : List ℕ) (at passed : ℕ) (room : at + 16 �
             | inr none ↦ absurd (let end = last (omega arith) in omega arith)
           ]
 
--- `n` bytes from a place on were looked at, and this many stand before the first of the set; so do all from an earlier place on
+-- `n` bytes from `at` on were looked at, and `passed` of them are before the first byte in the set; the bytes from `from` up to `at` are
+-- outside the set too
 module _ (p : ℕ → Bool) (bs : List ℕ) (from at n passed : ℕ) (room : at + n ≤ length bs) (is : passed ≡ position_or_len p (take n (drop at bs))) (before : (k : ℕ) → from ≤ k → k < at → p (get_or bs k 0) ≡ false) where
   pub chunk-fails : (k : ℕ) → from ≤ k → k < at + passed → p (get_or bs k 0) ≡ false
   chunk-fails k high low =
@@ -215,7 +216,7 @@ module _ (p : ℕ → Bool) (bs : List ℕ) (from at n passed : ℕ) (room : at 
   pub chunk-stops : passed < n → p (get_or bs (at + passed) 0) ≡ true
   chunk-stops found = run_in_chunk_stops p bs at n passed 0 room is found
 
--- a search from a place on and before another ends where the first of the set stands, or at that other place
+-- a search from one offset up to another ends at the first byte in the set, or at the second offset
 pub place-within : (p : ℕ → Bool) (bs : List ℕ) (from at to : ℕ) → from ≤ at → at ≤ to → to ≤ length bs
     → ((k : ℕ) → from ≤ k → k < at → p (get_or bs k 0) ≡ false) → (at < to → p (get_or bs at 0) ≡ true)
     → at ≡ from + position_or_len p (drop from (take to bs))
@@ -238,7 +239,7 @@ place-within p bs from at to order within inside fails here =
         let below : at < to = omega (arith, long, low) in
         ap p (read (at - from) (omega arith)) ∙ ap (λ n. p (get_or bs n 0)) place ∙ here below
 
--- the first of the set among bytes, sought in longer ones that begin with these
+-- the first byte in the set, searched in a longer list that begins with these bytes
 pub front-place : (p : ℕ → Bool) (bs more : List ℕ) → min (position_or_len p (bs ++ more)) (length bs) ≡ position_or_len p bs
 front-place p bs more = sym (position_or_len_is p bs at 0 (omega arith) before here)
   where
@@ -252,7 +253,7 @@ front-place p bs more = sym (position_or_len_is p bs at 0 (omega arith) before h
     here below = let is : at ≡ position_or_len p (bs ++ more) = omega arith in
         ap p (sym (get_or_append_left bs more 0 at below)) ∙ ap (λ n. p (get_or (bs ++ more) n 0)) is ∙ passes_at_first p (bs ++ more) 0 (omega (arith, length-append bs more, is))
 
--- bytes whose first `size` and last `size`, which are all, were written over the front of a row
+-- bytes were written to the front of a row: their first `size` and their last `size`, which together are all of them
 pub ends-written : (bytes row : List ℕ) (size : ℕ) → size ≤ length bytes → length bytes ≤ size + size
     → put_mid (length bytes - size) (length bytes - (length bytes - size)) (take size bytes ++ post_of 0 size row) (drop (length bytes - size) bytes) ≡ bytes ++ drop (length bytes) row
 ends-written bytes row size fits all = (λ i. front i ++ (drop at bytes ++ behind i)) ∙ whole
@@ -275,7 +276,7 @@ ends-written bytes row size fits all = (λ i. front i ++ (drop at bytes ++ behin
     whole : take at bytes ++ (drop at bytes ++ drop (length bytes) row) ≡ bytes ++ drop (length bytes) row
     whole = sym (append_assoc (take at bytes) (drop at bytes) (drop (length bytes) row)) ∙ ap (λ l. l ++ drop (length bytes) row) (take-append-drop at bytes)
 
--- the number of bytes before the first of the set says where it stands
+-- the number of bytes before the first byte in the set is its offset
 pub first-place : (p : ℕ → Bool) (bs : List ℕ) (at : ℕ) → at ≡ position_or_len p bs → at < length bs → IsFirstByte p bs (Some at)
 first-place p bs at is below = (
   record {

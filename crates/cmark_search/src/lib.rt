@@ -1,4 +1,4 @@
-//! Searches for ASCII bytes, sixteen a step.
+//! Searches for ASCII bytes, sixteen bytes a step.
 #![tactic(auto)]
 
 mod search;

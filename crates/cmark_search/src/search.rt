@@ -1,4 +1,4 @@
-//! Searches for the first byte of a set, sixteen bytes a step. They are made for short ways: a line has some sixty bytes.
+//! Searches for the first byte of a set, sixteen bytes a step. They are made for short distances: a line has some sixty bytes.
 
 ghost use Rattle.std.specs.Prelude.{◌≡◌, ◌+◌, ◌<◌, ◌≤◌, if◌then◌else◌, ℕ, Bool, List, ◌++◌, None, IfSome, true, false, length, map, drop, replicate, take, slice_index, slice_index_or};
 ghost use Rattle.std.specs.List.{position_or_len};
@@ -9,19 +9,19 @@ ghost use Rattle.cmark_search.specs.Sets.{in_rows, in_keys, row_of};
 use std::marker::Model;
 use std::simd::prelude::*;
 
-/// The keys of the set of the backtick alone.
+/// The keys of the set that has the backtick alone.
 const BACKTICKS: &[u8; 16] = &[96, 0, 0, 0, 0, 0, 0, 0, 0, 0, 0, 0, 0, 0, 0, 0];
 
-/// The keys of the set of the pipe alone. No byte whose low digit is 0 is 1.
+/// The keys of the set that has the pipe alone. The key 1 at index 0 matches nothing, since the low digit of the byte 1 is not 0.
 const PIPES: &[u8; 16] = &[1, 0, 0, 0, 0, 0, 0, 0, 0, 0, 0, 0, 124, 0, 0, 0];
 
-/// The keys of the set of line feed and carriage return. No byte whose low digit is 0 is 1.
+/// The keys of the set of line feed and carriage return. The key 1 at index 0 matches nothing, since the low digit of the byte 1 is not 0.
 const LINE_ENDS: &[u8; 16] = &[1, 0, 0, 0, 0, 0, 0, 0, 0, 0, 10, 0, 0, 13, 0, 0];
 
 /// Bit `n` alone for `n` below 8, and no bit for the others.
 const BITS: &[u8; 16] = &[1, 2, 4, 8, 16, 32, 64, 128, 0, 0, 0, 0, 0, 0, 0, 0];
 
-/// The keys of the set of ampersand and backslash. No byte whose low digit is 0 is 1.
+/// The keys of the set of ampersand and backslash. The key 1 at index 0 matches nothing, since the low digit of the byte 1 is not 0.
 const ESCAPES: &[u8; 16] = &[1, 0, 0, 0, 0, 0, 38, 0, 0, 0, 0, 0, 92, 0, 0, 0];
 
 /// A set of ASCII bytes. Bit `high` of row `low` says whether the byte `16 * high + low` is in the set. A contract sees the
@@ -51,9 +51,10 @@ impl AsciiSet {
         AsciiSet { rows }
     }
 
-    /// The first place from `from` on and before `to` whose byte is in the set; `to`, where there is none. Bytes behind `to` are looked at
-    /// together with the last ones before it, since sixteen that stand in memory cost less than a few that have to be put together; they do
-    /// not count.
+    /// The offset of the first byte from `from` on and before `to` that is in the set; `to` if there is none.
+    ///
+    /// A step may load bytes after `to`, which do not count: sixteen bytes that are in memory cost less than a few that have to be copied
+    /// together.
     #[inline(always)]
     pub fn find_within(&self, bytes: &[u8], from: usize, to: usize) -> usize
         requires ordered { from ≤ to }
@@ -86,7 +87,7 @@ fn row_of(table: &[bool; 256], low: usize) -> u8
     one(table[low]) + 2 * (one(table[low + 16]) + 2 * lower)
 }
 
-/// Bit `k` of the answer says whether lane `k` is in the set.
+/// The lanes that are in the set, as bits: bit `k` is lane `k`.
 #[inline(always)]
 fn marks(rows: &[u8; 16], lanes: u8x16) -> u64
     ensures { result ≡ mask_l (map (in_rows rows.now) lanes) }
@@ -96,7 +97,7 @@ fn marks(rows: &[u8; 16], lanes: u8x16) -> u64
     (low & high).simd_ne(u8x16::splat(0)).to_bitmask()
 }
 
-/// The same for the set of these keys, which takes one look-up in place of two.
+/// The lanes that are in the set with these keys, as bits: bit `k` is lane `k`. It takes one table look-up, and `AsciiSet` two.
 #[inline(always)]
 fn marks_of_keys(keys: &[u8; 16], lanes: u8x16) -> u64
     ensures { result ≡ mask_l (map (in_keys keys.now) lanes) }
@@ -105,16 +106,16 @@ fn marks_of_keys(keys: &[u8; 16], lanes: u8x16) -> u64
     sought.simd_eq(lanes).to_bitmask()
 }
 
-/// A set of which sixteen lanes are asked at once.
+/// A set in which sixteen lanes are looked up at once.
 trait LaneSet {
     ghost has: { Self → ℕ → Bool };
 
-    /// Bit `k` of the answer says whether lane `k` is in the set.
+    /// The lanes that are in the set, as bits: bit `k` is lane `k`.
     fn marks(&self, lanes: u8x16) -> u64
         ensures { result ≡ mask_l (map (has self.now) lanes) };
 }
 
-/// A set that is given by its rows.
+/// A set given by its rows.
 #[derive(Clone, Copy)]
 struct Rows<'r> {
     rows: &'r [u8; 16],
@@ -129,7 +130,7 @@ impl<'r> LaneSet for Rows<'r> {
     }
 }
 
-/// A set of bytes with different low digits, which is given by its keys.
+/// A set of bytes with different low digits, given by its keys.
 #[derive(Clone, Copy)]
 struct Keys<'k> {
     keys: &'k [u8; 16],
@@ -144,7 +145,7 @@ impl<'k> LaneSet for Keys<'k> {
     }
 }
 
-/// The first lane that is in the set, if one is.
+/// The index of the first lane that is in the set, if there is one.
 #[inline(always)]
 fn first_lane<S: LaneSet>(set: &S, lanes: u8x16) -> Option<usize>
     ensures value { IfSome result (λ lane. lane ≡ position_or_len (S.has set.now) lanes) }
@@ -158,7 +159,7 @@ fn first_lane<S: LaneSet>(set: &S, lanes: u8x16) -> Option<usize>
     Some(hits.trailing_zeros() as usize)
 }
 
-/// How many lanes stand in front of the first that is in the set; 16, where none is.
+/// The number of lanes before the first that is in the set; 16 if no lane is in it.
 #[inline(always)]
 fn lanes_before<S: LaneSet>(set: &S, lanes: u8x16) -> usize
     ensures value { result ≡ position_or_len (S.has set.now) lanes }
@@ -167,7 +168,7 @@ fn lanes_before<S: LaneSet>(set: &S, lanes: u8x16) -> usize
     first_lane(set, lanes).unwrap_or(16)
 }
 
-/// How many of the sixteen bytes from `at` on stand in front of the first that is in the set, if one is.
+/// The number of bytes before the first that is in the set, among the sixteen bytes from `at` on; `None` if no byte is in it.
 #[inline(always)]
 fn first_from<S: LaneSet>(set: &S, bytes: &[u8], at: usize) -> Option<usize>
     requires { at + 16 ≤ length bytes.now }
@@ -178,7 +179,7 @@ fn first_from<S: LaneSet>(set: &S, bytes: &[u8], at: usize) -> Option<usize>
     first_lane(set, u8x16::from_slice(&bytes[at..]))
 }
 
-/// The same as `first_from`, with 16 where none is.
+/// Like `first_from`, but 16 if none of the bytes is in the set.
 #[inline(always)]
 fn bytes_before<S: LaneSet>(set: &S, bytes: &[u8], at: usize) -> usize
     requires { at + 16 ≤ length bytes.now }
@@ -188,7 +189,7 @@ fn bytes_before<S: LaneSet>(set: &S, bytes: &[u8], at: usize) -> usize
     lanes_before(set, u8x16::from_slice(&bytes[at..]))
 }
 
-/// The first place whose byte is in the set; the length, where there is none. The last step looks at the last sixteen bytes, some of
+/// The offset of the first byte that is in the set; the length if there is none. The last step looks at the last sixteen bytes, some of
 /// them for the second time.
 #[inline(always)]
 fn find<S: LaneSet>(set: &S, bytes: &[u8]) -> usize
@@ -210,7 +211,7 @@ fn find<S: LaneSet>(set: &S, bytes: &[u8]) -> usize
     last + bytes_before(set, bytes, last)
 }
 
-/// The same as `find`, of fewer than sixteen bytes: they are looked at in one step, with zeros behind them.
+/// Like `find`, for fewer than sixteen bytes: they are looked at in one step, padded with zeros.
 #[inline(always)]
 fn find_in_few<S: LaneSet>(set: &S, bytes: &[u8]) -> usize
     requires { length bytes.now < 16 }
@@ -221,8 +222,8 @@ fn find_in_few<S: LaneSet>(set: &S, bytes: &[u8]) -> usize
     lanes_before(set, u8x16::from_slice(&lanes)).min(bytes.len())
 }
 
-/// Fewer than sixteen bytes with zeros behind them. They are copied in two pieces of a size that is known, which may overlap, since a call
-/// that copies any number of bytes costs more.
+/// The bytes, fewer than sixteen, padded with zeros. They are copied in two pieces of a fixed size, which may overlap, since a call that
+/// copies any number of bytes costs more.
 #[inline(always)]
 fn padded(bytes: &[u8]) -> [u8; 16]
     requires { length bytes.now < 16 }
@@ -241,7 +242,7 @@ fn padded(bytes: &[u8]) -> [u8; 16]
     lanes
 }
 
-/// Copies bytes to the front of the lanes: the first `size` of them and the last `size`, which are all.
+/// Copies `bytes` to the start of the lanes: the first `size` of them and the last `size`, which together are all of them.
 #[inline(always)]
 fn copy_ends(lanes: &mut [u8; 16], bytes: &[u8], size: usize)
     requires size { size ≤ length bytes.now }
@@ -254,8 +255,8 @@ fn copy_ends(lanes: &mut [u8; 16], bytes: &[u8], size: usize)
     lanes[len - size..len].copy_from_slice(&bytes[len - size..]);
 }
 
-/// The first place from `from` on and before `to` whose byte is in the set; `to`, where there is none. Each step looks at sixteen bytes, as
-/// long as so many stand there, those behind `to` among them.
+/// The offset of the first byte from `from` on and before `to` that is in the set; `to` if there is none. Each step looks at sixteen bytes,
+/// as long as there are sixteen; some of them may be after `to`.
 #[inline(always)]
 fn find_between<S: LaneSet>(set: &S, bytes: &[u8], from: usize, to: usize) -> usize
     requires ordered { from ≤ to }
@@ -265,7 +266,7 @@ fn find_between<S: LaneSet>(set: &S, bytes: &[u8], from: usize, to: usize) -> us
     ensures within { result ≤ to }
     ensures here { result < to → S.has set.now (slice_index bytes.now result) ≡ true }
 {
-    // From each place before this one on sixteen bytes stand.
+    // From each offset below `whole` on there are sixteen bytes.
     let whole = to.min(bytes.len().saturating_sub(15));
     let mut at = from;
     while at < whole {
@@ -280,7 +281,7 @@ fn find_between<S: LaneSet>(set: &S, bytes: &[u8], from: usize, to: usize) -> us
     to
 }
 
-/// Where the first byte stands that is in the set of these keys: a byte is in it where the key of its low digit is that byte.
+/// The offset of the first byte that is in the set with these keys. A byte is in the set if it equals the key at its low digit.
 #[inline(always)]
 pub fn find_first(keys: &[u8; 16], bytes: &[u8]) -> Option<usize>
     ensures { IsFirstByte (in_keys keys.now) bytes.now result }
@@ -289,7 +290,7 @@ pub fn find_first(keys: &[u8; 16], bytes: &[u8]) -> Option<usize>
     if at < bytes.len() { Some(at) } else { None }
 }
 
-/// The same before `to`. Bytes behind `to` are looked at together with the last ones before it, and do not count.
+/// Like `find_first`, for the bytes before `to`. A step may load bytes after `to`; they do not count.
 #[inline(always)]
 pub fn find_first_within(keys: &[u8; 16], bytes: &[u8], to: usize) -> Option<usize>
     requires { to ≤ length bytes.now }
@@ -299,7 +300,7 @@ pub fn find_first_within(keys: &[u8; 16], bytes: &[u8], to: usize) -> Option<usi
     if at < to { Some(at) } else { None }
 }
 
-/// Where the first backtick stands.
+/// The offset of the first backtick.
 #[inline]
 pub fn find_backtick(bytes: &[u8]) -> Option<usize>
     ensures { IsFirstByte (is_byte 96) bytes.now result }
@@ -307,7 +308,7 @@ pub fn find_backtick(bytes: &[u8]) -> Option<usize>
     find_first(BACKTICKS, bytes)
 }
 
-/// Where the first pipe stands.
+/// The offset of the first pipe.
 #[inline]
 pub fn find_pipe(bytes: &[u8]) -> Option<usize>
     ensures { IsFirstByte (is_byte 124) bytes.now result }
@@ -315,7 +316,7 @@ pub fn find_pipe(bytes: &[u8]) -> Option<usize>
     find_first(PIPES, bytes)
 }
 
-/// Where the first line feed or carriage return stands.
+/// The offset of the first line feed or carriage return.
 #[inline]
 pub fn find_line_end(bytes: &[u8]) -> Option<usize>
     ensures { IsFirstByte (is_byte2 10 13) bytes.now result }
@@ -323,7 +324,7 @@ pub fn find_line_end(bytes: &[u8]) -> Option<usize>
     find_first(LINE_ENDS, bytes)
 }
 
-/// Where the first ampersand or backslash stands, with which an entity or an escape begins.
+/// The offset of the first ampersand or backslash, with which an entity or an escape begins.
 #[inline]
 pub fn find_escape(bytes: &[u8]) -> Option<usize>
     ensures { IsFirstByte (is_byte2 38 92) bytes.now result }

@@ -125,7 +125,7 @@ module _ (leaf : LeafText) (source : List ℕ) (texts : List CowStr) (links : Li
       go false true e f = absurd (let p : t < a = grind (arith) in let q : b ≤ t = grind (arith) in omega (arith, p, q, lt))
       go false false e f = refl
 
-  -- it ends by the place in the text where what it stands for ends by the place in the source
+  -- the slot ends by the offset in the text if its slot of the model ends by the offset in the source
   ends-kind : (slot : Slot) (k : SlotKind) (y : row.Slot) → slot.start < slot.end → slot.end ≤ length (text_of leaf) → EndsIn leaf slot.end (source_end k) → IsLike source (slot_as leaf texts links slot k) y
       → row_shows.ends_by display y ≡ (has_none_behind t slot.start k || nat_le slot.end t)
   ends-kind slot kind.Text y some fits e h = item-end _ y h ∙ past-same slot.end (omega (arith, some)) fits
@@ -328,7 +328,7 @@ module _ (leaf : LeafText) (source : List ℕ) (texts : List CowStr) (links : Li
           ap (hidden_by display) (sym parted) ∙ s.1 ∙ ap (λ k. k + hidden_by display rest_rows) mid-count,
         )
 
-    -- the first that ends behind the place, if there is one
+    -- the first slot that ends after the offset, if there is one
     abbrev pub FirstShown : List Slot → Type 0
     FirstShown [] = Unit {0}
     FirstShown (slot ∷ slots) =

@@ -18,7 +18,7 @@ own-unlent (Borrowed text) bytes (inl none) differ = absurd none
 own-unlent (Borrowed text) bytes (inr none) differ = absurd none
 own-unlent (Inlined text) bytes own differ = differ
 
--- bytes that stand apart in the source are not what the source has from the first to the last of them
+-- bytes with gaps in the source differ from the source between the first and the last of them
 apart-differs : (text source : List ℕ) (from to first last : ℕ) → from < to → to ≤ length text → first < last → last ≤ length source → last ≢ first + (to - from) → slice text from to ≢ slice source first last
 apart-differs text source from to first last some within ordered inside apart e =
     let here = slice-length text from to within in
@@ -67,7 +67,7 @@ bytes_over leaf from to = slice (source_of leaf) (place_of leaf from) (place_of 
 pub there : (leaf : LeafText) (from to : ℕ) → IsRead leaf → IsPart (text_of leaf) from to → IsPart (source_of leaf) (place_of leaf from) (place_of leaf (to - 1) + 1)
 there leaf from to read part = part-there (source_of leaf) leaf.stretches.items from to read.stretches part
 
--- a copy of bytes that stand apart in the source
+-- a copy of bytes that have gaps in the source
 pub copy-unlent : {E : Type 0} (copy : Result CowStr E) (leaf : LeafText) (from to : ℕ) → IsRead leaf → IsPart (text_of leaf) from to → place_of leaf (to - 1) + 1 ≢ place_of leaf from + (to - from)
     → IfOk copy (λ made. text_bytes made ≡ slice (text_of leaf) from to) → IfOk copy (λ made. IsBoxed made ⊎ IsInlined made) → IfOk copy (IsLentBy (bytes_over leaf from to))
 copy-unlent (Ok made) leaf from to read part apart value own =
@@ -76,7 +76,7 @@ copy-unlent (Ok made) leaf from to read part apart value own =
     (λ e. apart-differs (text_of leaf) (source_of leaf) from to (place_of leaf from) (place_of leaf (to - 1) + 1) part.some part.within there-part.some there-part.within apart (sym value ∙ e))
 copy-unlent (Err e) leaf from to read part apart value own = tt
 
--- a part of what a code span holds, where that stands in the source without a gap
+-- a part of a code span's content, if the content is in the source without a gap
 pub code-part : {E : Type 0} (code : Result CowStr E) (content : List ℕ) (leaf : LeafText) (from to : ℕ) → IsRead leaf → IsPart (text_of leaf) from to → content ≡ bytes_over leaf from to
     → IfOk code (IsPartIfBorrowed content) → IfOk code (IsPartIfBorrowed (source_of leaf))
 code-part (Ok made) content leaf from to read part is p =
@@ -85,7 +85,7 @@ code-part (Ok made) content leaf from to read part is p =
     borrowed-in made content (source_of leaf) (place_of leaf from) (place_of leaf (to - 1) + 1) (omega (arith, some)) there-part.within is p
 code-part (Err e) content leaf from to read part is p = tt
 
--- what is lent by these bytes of the source is a part of it
+-- a text that these bytes of the source lend is a part of the source
 lent-made : (made : CowStr) (source : List ℕ) (first last : ℕ) → IsPart source first last → IsLentBy (slice source first last) made → IsPartIfBorrowed source made
 lent-made (Boxed text) source first last part lent = tt
 lent-made (Borrowed text) source first last part lent = let some = part.some in record { start = first; end = last; ordered = omega (arith, some); within = part.within; are = lent }
@@ -94,7 +94,7 @@ lent-made (Inlined text) source first last part lent = tt
 pub lent-part-of : (made : CowStr) (leaf : LeafText) (from to : ℕ) → IsRead leaf → IsPart (text_of leaf) from to → IsLentBy (bytes_over leaf from to) made → IsPartIfBorrowed (source_of leaf) made
 lent-part-of made leaf from to read part lent = lent-made made (source_of leaf) (place_of leaf from) (place_of leaf (to - 1) + 1) (there leaf from to read part) lent
 
--- without its escaped pipes a text is the same, or one of its own
+-- without its escaped pipes a text is the same text, or an owned one
 pub escapes-part : {E : Type 0} (made : Result CowStr E) (written : CowStr) (source : List ℕ) → (made ≡ Ok written) ⊎ IfOk made IsBoxed → IsPartIfBorrowed source written → IfOk made (IsPartIfBorrowed source)
 escapes-part made written source (inl e) p = subst (λ r. IfOk r (IsPartIfBorrowed source)) (sym e) p
 escapes-part (Ok (Boxed text)) written source (inr own) p = tt

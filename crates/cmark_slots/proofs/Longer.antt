@@ -1,4 +1,4 @@
--- Slots stand for the same where the tables of texts and links got longer.
+-- Slots keep their meaning if the tables of texts and links get longer.
 use Rattle.std.proofs.Common.{◌≡◌, ℕ, zero, suc, ◌<◌, List, [], ◌∷◌, ◌++◌, length, Option, Some, None, refl, ap, ◌∙◌, arith}
 use Rattle.std.specs.Prelude.{All, slice_get}
 use Rattle.cmark_grammar.specs.Items as items
@@ -17,7 +17,7 @@ use Rattle.cmark_slots.specs.declared.slot.SlotKind.{SlotKind}
 use Rattle.cmark_slots.specs.declared.slot.SlotKind.TheVariants as kind
 use Rattle.cmark_slots.proofs.Placing.{all-head, all-tail}
 
--- what is named somewhere is the same in another table
+-- the element at an index is the same in another table
 abbrev pub SameAt : {X : Type 0} → Option ℕ → (old new : List X) → Type 0
 SameAt None old new = Unit {0}
 SameAt (Some index) old new = slice_get new index ≡ slice_get old index
@@ -63,7 +63,7 @@ get-longer [] more i lt = absurd (omega (arith, lt))
 get-longer (x ∷ xs) more zero lt = refl
 get-longer (x ∷ xs) more (suc i) lt = get-longer xs more i (omega (arith, lt))
 
--- what comes last into a table
+-- the element that is appended to a table
 pub get-last : {X : Type 0} (xs : List X) (x : X) → slice_get (xs ++ (x ∷ [])) (length xs) ≡ Some x
 get-last [] x = refl
 get-last (y ∷ xs) x = get-last xs x

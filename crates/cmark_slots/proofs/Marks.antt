@@ -116,7 +116,7 @@ whole-merges first last old new m whole lt within text =
 
 -- ## What a write leaves
 
--- slots are the same before one and from another on
+-- slots are the same before one index and from another on
 pub record SameAround (low high : ℕ) (old new : List Slot) : Type 0 where
   pub size : length new ≡ length old
   pub before : (k : ℕ) (d : Slot) → k < low → get_or new k d ≡ get_or old k d
@@ -240,7 +240,7 @@ module _ (slots : List Slot) (begun : List ℕ) (at : ℕ) (places : List ℕ) (
       blank-behind [] b = b
       blank-behind (k ∷ kinds) b = b
 
--- where a span ends, the one that began last
+-- at the end of a span: the span that began last
 pub record EndsLast (slots : List Slot) (begun : List ℕ) (at : ℕ) (places : List ℕ) (others : List code_mark.Slot) : Type 0 where
   pub first : ℕ
   pub before : List ℕ
@@ -290,7 +290,7 @@ ends-last slots (first ∷ before) at places others k r (x ∷ kinds) b n behind
 pub ends-one : (slots : List Slot) (begun : List ℕ) (at : ℕ) (places : List ℕ) (others : List code_mark.Slot) (k : code_kind.SpanKind) → AreReady slots begun (at ∷ places) (mark.End k ∷ others) → EndsLast slots begun at places others
 ends-one slots begun at places others k r = ends-last slots begun at places others k r r.kinds r.balanced r.as_many r.behind
 
--- ## The same of slots of the model
+-- ## The same lemmas for slots of the model
 
 length-used : (count at : ℕ) (rows : List row.Slot) → length (used_up at count rows) ≡ length rows
 length-used zero at rows = refl
@@ -338,7 +338,7 @@ module _ (leaf : LeafText) (texts : List CowStr) (links : List Link) where
   ends-at : (slots : List Slot) (at : ℕ) → at < length slots → ((d : Slot) → (get_or slots at d).kind ≡ kind.Text) → end_in (get_or (views slots) at row.NothingSlot) ≡ slot_end leaf (get_or slots at no-slot)
   ends-at slots at lt text = ap end_in (get_or-map (shown_slot leaf texts links) slots at no-slot row.NothingSlot lt) ∙ ends (get_or slots at no-slot) (text no-slot)
 
-  -- where the greater of two ends stands
+  -- the greater of two ends in the source
   past-greater : (one other : Slot) → one.end ≤ other.end → place_of leaf (max one.end other.end - 1) + 1 ≡ slot_end leaf other
   past-greater one other le = ap (λ n. place_of leaf (n - 1) + 1) (let q : max one.end other.end ≡ other.end = omega (arith, le) in q)
 
@@ -409,7 +409,7 @@ module _ (leaf : LeafText) (texts : List CowStr) (links : List Link) where
         ∙ ap (λ l. marked options places ms l e.before) (sym (none-view slots new e.first at m e.below e.within e.first_text e.last_text e.order))
         ∙ ap (λ b. marked options places ms (views new) b) (sym left)
 
--- what holds behind the end of a span
+-- the facts after the end of a span
 module _ (slots new : List Slot) (begun begun1 : List ℕ) (at : ℕ) (places : List ℕ) (others : List code_mark.Slot) (e : EndsLast slots begun at places others) (left : begun1 ≡ e.before) where
   pub some-ready : (el : Element) → new ≡ set (set slots at (ended (get_or slots at no-slot))) e.first (begun_as el (get_or slots at no-slot).end (get_or slots e.first no-slot)) → AreReady new begun1 places others
   some-ready el is =
@@ -428,7 +428,7 @@ module _ (slots new : List Slot) (begun begun1 : List ℕ) (at : ℕ) (places : 
       subst (λ b. AreReady new b places others) (sym left)
       (e.goes_on new (same-merges e.first at slots new m e.below) (whole-merges e.first at slots new m e.whole e.below e.within e.first_text))
 
--- the first slot of an element, behind the end of it
+-- the first slot of an element, after its end
 pub begun-behind : (old mid new : List Slot) (first last at end : ℕ) (e : Element) (d : Slot) → last ≡ first → mid ≡ set old at (ended (get_or old at d)) → end ≡ (get_or old at d).end
     → ((d1 : Slot) → new ≡ set mid last (begun_as e end (get_or mid last d1))) → first < at
     → new ≡ set (set old at (ended (get_or old at d))) first (begun_as e (get_or old at d).end (get_or old first d))

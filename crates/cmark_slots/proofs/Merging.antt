@@ -14,9 +14,9 @@ use Rattle.cmark_slots.proofs.Cutting.{hides-more}
 already-hidden : (s : Slot) → s.kind ≡ kind.Nothing → s ≡ hidden s
 already-hidden s e = ap (λ (k : SlotKind). record { kind = k; start = s.start; end = s.end }) e
 
--- the slots behind one up to this one became nothing
+-- the slots after `first` up to this one became Nothing
 module _ (first at last end : ℕ) (old ss : List Slot) (d0 : Slot) (h : Hides (first + 1) (at + 1) old ss) (whole : AreWhole old) (low : first ≤ at) (lt : at < last) (within : last < length old) where
-  -- the next one is still as it was, and so is what belongs to it
+  -- the next slot is unchanged, and so are the slots that belong to it
   next-as : (d : Slot) → get_or ss (at + 1) d0 ≡ get_or old (at + 1) d
   next-as d =
       let m = h.size in

@@ -23,7 +23,7 @@ differ-none : (o : Option ℕ) → Differ o None
 differ-none None = tt
 differ-none (Some i) = λ e. let z : ⊥ = cc in z
 
--- what is there differs from the number of the next
+-- an index that exists differs from the next free one
 differ-next : (n : ℕ) (o : Option ℕ) → IsThere n o → Differ o (Some n)
 differ-next n None h = tt
 differ-next n (Some i) h = λ e. let q : n ≡ i = same_Some n i e in absurd (omega (arith, q, h))
@@ -36,7 +36,7 @@ module _ (named : SlotKind → Option ℕ) where
   abbrev name : List Slot → ℕ → Slot → Option ℕ
   name slots k d = named (get_or slots k d).kind
 
-  -- each slot names nothing, what it named before, or, in one place, this number
+  -- each slot names nothing, or what it named before, or, at one index, this number
   abbrev Adds : (n at : ℕ) → (old new : List Slot) → Type 0
   Adds n at old new = (k : ℕ) (d : Slot) → k < length new → (name new k d ≡ None) ⊎ (((k < length old) × (name new k d ≡ name old k d)) ⊎ ((k ≡ at) × (name new k d ≡ Some n)))
 
@@ -108,7 +108,7 @@ no-more-on old mid new a b = λ k d lt. go k d (b k d lt)
 pub same-as : (one two : Slot) → two ≡ one → NamesAs one two
 same-as one two e = (ap (λ (s : Slot). text_named s.kind) e, ap (λ (s : Slot). link_named s.kind) e, ap (λ (s : Slot). source_end s.kind) e, ap (λ (s : Slot). s.end) e)
 
--- a slot that is one of these, and names no more than that
+-- a slot is one of these, and names at most the same things
 abbrev pub AddsOne : (at : ℕ) → Slot → (old new : List Slot) → Type 0
 AddsOne at s old new = (k : ℕ) (d : Slot) → k < length new → ((k ≡ at) × NamesAs s (get_or new k d)) ⊎ (IsPlain (get_or new k d).kind ⊎ ((k < length old) × NamesAs (get_or old k d) (get_or new k d)))
 

@@ -53,7 +53,7 @@ touching-is place brackets first e = go (nat_lt brackets.inactive_below (length 
     go true t o s = ends o s (ap (if_ends place) (sym s) ∙ sym (ap (λ z. if z then if_ends place (slice_get brackets.standing.items (length brackets.standing.items - 1)) else None) t) ∙ e)
     go false t o s = absurd (let q : None ≡ Some first = sym (ap (λ z. if z then if_ends place (slice_get brackets.standing.items (length brackets.standing.items - 1)) else None) t) ∙ e in let z : ⊥ = cc in z)
 
--- the doubled brackets stay, or one more is put behind them
+-- the doubled brackets are unchanged, or one more is added at the end
 abbrev pub Doubles : (place inside : ℕ) → (standing old new : List Bracket) → Type 0
 Doubles place inside standing old new = (new ≡ old) ⊎ ((first : Bracket) × LastOf place standing first × (new ≡ old ++ (record first { inside = inside } ∷ [])))
 
@@ -65,7 +65,7 @@ doubles-are o brackets is_image start inside old new e = go (not is_image && o.w
     go true t None s = inl (e ∙ ap (λ z. if z then with_double (touching start brackets) inside old else old) t ∙ ap (λ f. with_double f inside old) s)
     go true t (Some first) s = inr (first, touching-is start brackets first s, e ∙ ap (λ z. if z then with_double (touching start brackets) inside old else old) t ∙ ap (λ f. with_double f inside old) s)
 
--- ## A bracket more
+-- ## One more bracket
 
 module _ (texts links : ℕ) (before : List Slot) (runs : List PlacedRun) (quotes : List PlacedQuote) (standing doubled : List Bracket) (h : AreSound texts links before runs quotes standing doubled)
     (text : List ℕ) (pending : ℕ) (are : AreBrackets text pending standing) (pairs : AreBrackets text pending doubled) (s : Slot) (is : s.kind ≡ kind.Text) (b : Bracket) (behind : pending ≤ b.start) (some : b.start < b.inside)
@@ -94,7 +94,7 @@ module _ (texts links : ℕ) (before : List Slot) (runs : List PlacedRun) (quote
         quotes_behind = λ k d le lt. absurd (omega (arith, le, lt, quotes_is));
       }
 
-  -- every bracket that stands ends before the new one begins, and has a slot before its own
+  -- every open bracket ends before the new one begins, and has an earlier slot
   ends-before : (bs : List Bracket) → AreBrackets text pending bs → All (IsPlaced before runs quotes) bs → (k : ℕ) (d : Bracket) → k < length bs → ((get_or bs k d).start < b.start) × ((get_or bs k d).inside ≤ b.start) × ((get_or bs k d).slot < b.slot)
   ends-before bs a p k d lt =
       let x = a k d lt in
@@ -229,7 +229,7 @@ module _ (texts links : ℕ) (slots : List Slot) (runs : List PlacedRun) (quotes
       subst (λ l. AreSound texts links slots runs quotes standing l) (sym e)
       (subst (λ l. AreSound texts links slots runs quotes l (take (length doubled - 1) doubled)) (take_all (length standing) standing (omega arith)) (sound-fewer texts links slots runs quotes standing doubled h (length standing) (length doubled - 1)))
 
-  -- the last of the brackets is behind those that are left
+  -- the last of the brackets comes after those that are left
   pub is-taken : (bracket : Bracket) (new : List Bracket) → slice_get standing (length standing - 1) ≡ Some bracket → new ≡ take (length standing - 1) standing → IsTaken slots runs quotes new doubled bracket
   is-taken bracket new e is =
       let there = some-there standing (length standing - 1) bracket e in

@@ -1,4 +1,4 @@
--- Quotes, delimiter runs and brackets that stand in slots, as slots are appended and become others.
+-- Quotes, delimiter runs and brackets in slots, while slots are appended and replaced.
 use Rattle.std.proofs.Common.{◌≡◌, ◌⊎◌, inl, inr, false, ℕ, zero, suc, ◌+◌, ◌-◌, ◌<◌, ◌≤◌, List, [], ◌∷◌, ◌++◌, length, take, drop, get_or, refl, sym, ap, subst, ◌∙◌, arith}
 use Rattle.std.specs.Prelude.{All}
 use Rattle.std.proofs.lemmas.Bool.{cases_lt}
@@ -94,7 +94,7 @@ runs-within slots from place (r ∷ runs) sizes h =
     all-cons (λ (r : PlacedRun). r.slot + r.run.run_length ≤ length slots) r runs (bytes-in r.run.run_length r.slot h.0 (all-head size-of r runs sizes) slots h.3)
     (runs-within slots (r.slot + r.run.run_length) (h.0 + r.run.run_length) runs (all-tail size-of r runs sizes) h.4)
 
--- runs stand from any slot on that is none behind the first
+-- runs begin at any slot up to the first one
 pub runs-low : (slots : List Slot) (low place : ℕ) (runs : List PlacedRun) → HaveBytes slots low place runs → (least : ℕ) → least ≤ low → All (λ (r : PlacedRun). least ≤ r.slot) runs
 runs-low slots low place [] h least le = λ k d lt. absurd (omega (arith, lt))
 runs-low slots low place (r ∷ runs) h least le =
@@ -118,7 +118,7 @@ have-drop slots from place low zero runs h le = have-from slots from place low r
 have-drop slots from place low (suc n) [] h le = tt
 have-drop slots from place low (suc n) (r ∷ runs) h le = have-drop slots (r.slot + r.run.run_length) (h.0 + r.run.run_length) low n runs h.4 le
 
--- a run more, behind all others
+-- one more run, after all others
 pub have-push : (slots : List Slot) (from place high at : ℕ) (runs : List PlacedRun) (new : PlacedRun) → from ≤ high → place ≤ at → EndBefore high runs → HaveSizes runs → ((k : ℕ) (d : Slot) → k < high → (get_or slots k d).end ≤ at)
     → high ≤ new.slot → take new.run.run_length (drop new.slot slots) ≡ byte_slots at new.run.run_length → HaveBytes slots from place runs → HaveBytes slots from place (runs ++ (new ∷ []))
 have-push slots from place high at [] new f p ends sizes before le is h = (at, (let q : from ≤ new.slot = omega (arith, f, le) in q), p, is, tt)
@@ -137,7 +137,7 @@ have-push slots from place high at (r ∷ runs) new f p ends sizes before le is 
           (all-tail (λ (r : PlacedRun). r.slot + r.run.run_length ≤ high) r runs ends) (all-tail size-of r runs sizes) before le is h.4,
     )
 
--- what stands before a slot keeps its bytes where slots before that stay
+-- runs before an index keep their bytes if the slots before that index are unchanged
 pub keeps-before : (low : ℕ) (old new : List Slot) (runs : List PlacedRun) → SameBefore low old new → EndBefore low runs → KeepsRuns old new runs
 keeps-before low old new runs same ends = λ k d lt. λ j e l h. let w = ends k d lt in same j e (omega (arith, h, w))
 
@@ -206,7 +206,7 @@ module _ (slots : List Slot) (runs : List PlacedRun) (quotes : List PlacedQuote)
       go k d le most (inl lt) = subst (λ (r : PlacedQuote). b.slot < r.slot) (sym (get_or_append_left quotes (new ∷ []) d k lt)) (p.quotes_behind k d le lt)
       go k d le most (inr g) = subst (λ (r : PlacedQuote). b.slot < r.slot) (sym (get_or_push quotes new d k (let q : length quotes ≡ k = omega (arith, g, most) in q))) behind
 
-  -- the runs and the quotes behind a later bracket are forgotten
+  -- the runs and the quotes after a later bracket are removed
   pub placed-cut : (c : Bracket) → IsPlaced slots runs quotes c → b.slot < c.slot → IsPlaced slots (take c.runs runs) (take c.quotes quotes) b
   placed-cut c pc before =
       let rn = length-take-le c.runs runs pc.runs_there in

@@ -1,4 +1,4 @@
--- Slots that become those of characters.
+-- Slots that become characters.
 use Rattle.std.proofs.Common.{◌≡◌, ℕ, zero, suc, ◌+◌, ◌<◌, ◌≤◌, List, [], ◌∷◌, length, drop, get_or, set, refl, sym, ap, ◌∙◌, arith}
 use Rattle.std.proofs.Math.Seq.{drop-cons}
 use Rattle.std.specs.Prelude.{map}
@@ -16,7 +16,7 @@ becomes [] at character d lt = absurd (omega (arith, lt))
 becomes (slot ∷ slots) zero character d lt = refl
 becomes (slot ∷ slots) (suc at) character d lt = ap (λ (l : List Slot). slot ∷ l) (becomes slots at character d (let q : at < length slots = omega (arith, lt) in q))
 
--- one quote more has its character
+-- one more quote has its character
 pub one-more : (placed : List PlacedQuote) (characters : List ℕ) (slots : List Slot) (at : ℕ) (d : PlacedQuote) (character : ℕ) → at < length placed → length characters ≡ length placed → character ≡ get_or characters at character
     → with_characters (drop (at + 1) placed) (drop (at + 1) characters) (with_character (get_or placed at d).slot character slots) ≡ with_characters (drop at placed) (drop at characters) slots
 one-more placed characters slots at d character lt many made =
@@ -28,11 +28,11 @@ one-more placed characters slots at d character lt many made =
     ∙ ap (λ (cs : List ℕ). with_characters (p ∷ drop (suc at) placed) cs slots) (drop-cons characters at character there ∙ ap (λ (c : ℕ). c ∷ drop (suc at) characters) (sym made))
     ∙ ap (λ (n : ℕ). with_characters (drop n placed) (drop n characters) (with_character p.slot character slots)) (sym next))
 
--- where all have theirs
+-- all quotes have their characters
 pub all-written : (placed : List PlacedQuote) (characters : List ℕ) (slots : List Slot) (at : ℕ) → at ≡ length placed → with_characters (drop at placed) (drop at characters) slots ≡ slots
 all-written placed characters slots at e = ap (λ (ps : List PlacedQuote). with_characters ps (drop at characters) slots) (drop_all at placed (let q : length placed ≤ at = omega (arith, e) in q))
 
--- there are as many characters as quotes
+-- there is one character for each quote
 as-many : (before quotes : List Quote) → length (quote_characters before quotes) ≡ length quotes
 as-many before [] = refl
 as-many before (q ∷ quotes) = ap suc (as-many (q ∷ before) quotes)

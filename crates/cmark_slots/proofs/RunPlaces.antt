@@ -43,7 +43,7 @@ pub length-places : (at : ℕ) (placed : List PlacedRun) → length (places_of p
 length-places at [] = refl
 length-places at (p ∷ placed) = length-run p.slot p.run.run_length (places_of placed) ∙ ap (λ n. p.run.run_length + n) (length-places (at + p.run.run_length) placed)
 
--- one more run is gathered, its bytes counted from there on
+-- one more run is gathered, its bytes counted from `count` on
 pub gathered-more : (runs : List code_run.Run) (n : code_run.Run) (next : PlacedRun) (others : List PlacedRun) (count : ℕ)
     → n ≡ record { delimiter = next.run.delimiter; run_length = next.run.run_length; at = count; left = next.run.run_length; opens = next.run.opens; closes = next.run.closes }
     → map shown_run (runs ++ (n ∷ [])) ++ runs_of (siblings_from (count + next.run.run_length) others) ≡ map shown_run runs ++ runs_of (siblings_from count (next ∷ others))
@@ -96,7 +96,7 @@ marks-are placed marks pairs spans e is =
     ∙ ap (λ ps. marks_by (places_taken sib) ps) (sym (one sib pairs spans e).0)
     ∙ ap (λ n. marks_by n pairs) (sym (length-places 0 placed))
 
--- where each byte stays, the slots are as they were
+-- if each byte stays, the slots are unchanged
 stay-marked : (options : Options) (places : List ℕ) (count : ℕ) (slots : List row.Slot) → marked options places (entries.stays Mark Stays opening closing count) slots [] ≡ slots
 stay-marked options [] count slots = refl
 stay-marked options (at ∷ places) zero slots = refl
@@ -112,14 +112,14 @@ alone-marked options placed pairs spans slots e =
     sym (ap (λ ps. marked options (places_of (placed ∷ [])) (marks_by (length (places_of (placed ∷ []))) ps) slots []) ((one (siblings_from 0 (placed ∷ [])) pairs spans e).0 ∙ no-pairs placed)
     ∙ stay-marked options (places_of (placed ∷ [])) (length (places_of (placed ∷ []))) slots)
 
--- the last of the runs makes none
+-- the last of the runs makes no pair
 pub lone-marked : (options : Options) (placed : List PlacedRun) (pairs : List Pair) (spans : Spans) (slots : List row.Slot) → length placed ≡ 1 → IsEmphasis (siblings_from 0 placed) pairs spans
     → slots ≡ marked options (places_of placed) (marks_by (length (places_of placed)) pairs) slots []
 lone-marked options [] pairs spans slots one_long e = absurd (omega arith)
 lone-marked options (p ∷ []) pairs spans slots one_long e = alone-marked options p pairs spans slots e
 lone-marked options (p ∷ (q ∷ placed)) pairs spans slots one_long e = absurd (omega arith)
 
--- pairs write into a row of entries, and leave as many of them
+-- pairs write into a row of entries, and keep its length
 module _ (Entry : Type 0) (single : Entry) (open_side close_side : SpanKind → List Entry) where
   length-write : (at : ℕ) (xs all : List Entry) → length (entries.write at xs all) ≡ length all
   length-write at [] all = refl
@@ -189,7 +189,7 @@ pub all-ahead : (slots : List Slot) (from place : ℕ) (placed : List PlacedRun)
 all-ahead slots from place [] h = tt
 all-ahead slots from place (p ∷ placed) h = bytes-ahead p.run.run_length p.slot h.0 from place slots (places_of placed) h.1 h.2 h.3 (all-ahead slots (p.slot + p.run.run_length) (h.0 + p.run.run_length) placed h.4)
 
--- runs that stand so from one slot and one place on do so from the first ones on
+-- if runs have their bytes from a later slot and offset on, they have them from the first ones on
 pub have-all : (slots : List Slot) (from place : ℕ) (placed : List PlacedRun) → HaveBytes slots from place placed → HaveBytes slots 0 0 placed
 have-all slots from place [] h = tt
 have-all slots from place (p ∷ placed) h = (h.0, (let q : 0 ≤ p.slot = omega arith in q), (let q : 0 ≤ h.0 = omega arith in q), h.3, h.4)
@@ -220,7 +220,7 @@ pushed old new last e = ap reverse e ∙ reverse-append old (last ∷ [])
 
 -- ## The bytes of one run
 
--- the first byte of what is left of one
+-- the first byte of the rest of a run
 run-next : (at next left less : ℕ) (behind : List ℕ) → left ≡ suc less → next ≡ suc at → run_places at left behind ≡ at ∷ run_places next less behind
 run-next at next left less behind l n = ap (λ k. run_places at k behind) l ∙ ap (λ k. at ∷ run_places k less behind) (sym n)
 
@@ -236,7 +236,7 @@ ready-next slots begun slot size byte behind marks d lt many r =
     subst (λ ms. AreReady slots begun ((slot + byte) ∷ run_places (slot + (byte + 1)) (size - (byte + 1)) behind) ms) (mark-next marks byte d (omega (arith, lt, many)))
     (subst (λ ps. AreReady slots begun ps (drop byte marks)) (places-next slot size byte behind lt) r)
 
--- the marks behind those of a run
+-- the marks after those of a run
 pub behind-all : (marks : List code_mark.Slot) (size : ℕ) → take (length marks - size) (drop size marks) ≡ drop size marks
 behind-all marks size = take_all (length marks - size) (drop size marks) (let n = length-drop size marks in let q : length (drop size marks) ≤ length marks - size = omega (arith, n) in q)
 
@@ -260,6 +260,6 @@ runs-from low slots from place (p ∷ placed) le h =
     let f = h.1 in
     (omega (arith, le, f), runs-from low slots (p.slot + p.run.run_length) (h.0 + p.run.run_length) placed (omega (arith, le, f)) h.4)
 
--- what is the same before a slot stays so
+-- slots before an index that are unchanged twice are unchanged
 pub same-on : (low : ℕ) (old mid new : List Slot) → SameBefore low old mid → SameBefore low mid new → SameBefore low old new
 same-on low old mid new a b k d lt = b k d lt ∙ a k d lt

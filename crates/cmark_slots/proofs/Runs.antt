@@ -1,4 +1,4 @@
--- Runs that are counted one behind the other.
+-- Runs that are counted one after the other.
 use Rattle.std.proofs.Common.{Bool, ◌≡◌, ℕ, suc, ◌+◌, ◌<◌, ◌≤◌, List, [], ◌∷◌, ◌++◌, All, drop, length, take, refl, sym, ap, ◌∙◌, arith}
 use Rattle.std.specs.Prelude.{map}
 use Rattle.std.proofs.lemmas.List.Elements.{All-cons}
@@ -61,7 +61,7 @@ one-more count rs qs r h at whole e =
       are = runs-more h.siblings (shown_run r) ∙ ap (λ l. l ++ (shown_run r ∷ [])) h.are ∙ sym (map-more rs r) ∙ ap (map shown_run) (sym e);
     }
 
--- runs that are gathered are as many as those that are placed, and consist of the same bytes, as many
+-- gathered runs are as many as the placed ones, and have the same delimiters and lengths
 pub gathered-known : (rs : List code_run.Run) (ps : List PlacedRun) (n : ℕ) → map shown_run rs ≡ runs_of (siblings_from n ps) → (length rs ≡ length ps) × (AreKnown ps → All IsKnown rs)
 gathered-known [] [] n e = (refl, λ known. λ k d lt. absurd (omega (arith, lt)))
 gathered-known [] (p ∷ ps) n e = absurd (let q : ⊥ = cc in q)

@@ -1,4 +1,4 @@
--- Slots that get the characters of quotes and the marks of runs, and what stays of them.
+-- Slots that get the characters of quotes and the marks of runs, and the facts that hold after it.
 use Rattle.std.proofs.Common.{◌≡◌, ◌≢◌, ◌⊎◌, inl, inr, ⊎_elim, ℕ, zero, suc, ◌+◌, ◌<◌, ◌≤◌, List, [], ◌∷◌, ◌++◌, length, get_or, refl, sym, ap, subst, ◌∙◌, arith}
 use Rattle.std.proofs.lemmas.Bool.{cases_lt}
 use Rattle.std.proofs.lemmas.List.{length_push, get_or_append_left, get_or_push}
@@ -18,7 +18,7 @@ use Rattle.cmark_slots.proofs.Placing.{KeepsRuns, have-kept, keeps-before, no-qu
 pub nothing-text : kind.Nothing ≢ kind.Text
 nothing-text e = let z : ⊥ = cc in z
 
--- a kind stays, or another one than nothing becomes one that stands alone
+-- a kind stays, or a kind other than Nothing becomes one that stands alone
 abbrev pub Stays : (old new : SlotKind) → Type 0
 Stays old new = (new ≡ old) ⊎ ((old ≢ kind.Nothing) × ((i : ℕ) → last_in new i ≡ i))
 
@@ -45,7 +45,7 @@ module _ (old new : List Slot) (size : length new ≡ length old) (stays : (k : 
 pub before-push : (low : ℕ) (slots : List Slot) (s : Slot) → low ≤ length slots → SameBefore low slots (slots ++ (s ∷ []))
 before-push low slots s le = λ k d lt. get_or_append_left slots (s ∷ []) d k (omega (arith, lt, le))
 
--- a slot more, which stands alone
+-- one more slot, which stands alone
 module _ (slots : List Slot) (s : Slot) (alone : (i : ℕ) → last_in s.kind i ≡ i) where
   pub whole-push : AreWhole slots → EndWithin slots → AreWhole (slots ++ (s ∷ []))
   whole-push whole within i k d ik kl lt =
@@ -99,7 +99,7 @@ one-character (suc at) character (slot ∷ slots) (suc k) d = go (one-character 
     go (inl e) = inl e
     go (inr (e, lt, c)) = inr (ap suc e, (let q : suc k < length (slot ∷ slots) = omega (arith, lt) in q), c)
 
--- a slot stays, or it is that of one of the quotes and becomes a character
+-- a slot stays, or it is the slot of one of the quotes and becomes a character
 abbrev pub Lettered : List PlacedQuote → (old new : List Slot) → (k : ℕ) → Slot → Type 0
 Lettered placed old new k d =
     (get_or new k d ≡ get_or old k d) ⊎ ((i : ℕ) × (i < length placed) × ((get_or placed i no-quote).slot ≡ k) × (k < length old) × ((character : ℕ) × ((get_or new k d).kind ≡ kind.Character character)))
@@ -118,7 +118,7 @@ are-lettered (p ∷ placed) (c ∷ characters) slots k d = go (one-character p.s
     go (inr (at_it, lt, made)) (inl f) = inr (0, (let q : 0 < length (p ∷ placed) = omega arith in q), sym at_it, lt, (c, ap (λ (s : Slot). s.kind) f ∙ made))
 
 module _ (low : ℕ) (slots : List Slot) (runs : List PlacedRun) (quotes : List PlacedQuote) (h : CanSettle low slots runs quotes) where
-  -- a slot more
+  -- one more slot
   pub can-push : (s : Slot) → ((i : ℕ) → last_in s.kind i ≡ i) → CanSettle low (slots ++ (s ∷ [])) runs quotes
   can-push s alone =
       let new : List Slot = slots ++ (s ∷ []) in

@@ -129,7 +129,7 @@ within-hides from to old new h within i d lt =
     go i d there (inr high) (inl lt) = subst (λ (s : Slot). last_in s.kind i < length old) (sym (h.inside i d high lt)) there
     go i d there (inr high) (inr past) = subst (λ (s : Slot). last_in s.kind i < length old) (sym (h.behind i d past)) (within i d there)
 
--- the runs from one on, whose slots stand behind a place
+-- the runs from an index on, whose slots are after an offset
 have-rest : (slots : List Slot) (from place low n : ℕ) (runs : List PlacedRun) → HaveBytes slots from place runs → ((d : PlacedRun) → n < length runs → low ≤ (get_or runs n d).slot) → HaveBytes slots low 0 (drop n runs)
 have-rest slots from place low zero [] h le = tt
 have-rest slots from place low zero (r ∷ runs) h le = (h.0, le r (let q : 0 < length (r ∷ runs) = omega arith in q), (let q : 0 ≤ h.0 = omega arith in q), h.3, h.4)

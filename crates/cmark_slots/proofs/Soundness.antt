@@ -62,7 +62,7 @@ module _ (texts links : ℕ) (slots : List Slot) (runs : List PlacedRun) (quotes
   pub sound-link : (s : Slot) → ((i : ℕ) → last_in s.kind i ≡ i) → text_named s.kind ≡ None → link_named s.kind ≡ Some links → AreSound texts (links + 1) (slots ++ (s ∷ [])) runs quotes standing doubled
   sound-link s alone bare is = sound-push texts (links + 1) s alone (named-link (length slots) s slots (slots ++ (s ∷ [])) (adds-push slots s) texts links h.named bare is)
 
--- there is one link more, which is not named yet
+-- there is one more link, which is not named yet
 pub sound-more : (texts links more : ℕ) (slots : List Slot) (runs : List PlacedRun) (quotes : List PlacedQuote) (standing doubled : List Bracket) → links ≤ more → AreSound texts links slots runs quotes standing doubled → AreSound texts more slots runs quotes standing doubled
 sound-more texts links more slots runs quotes standing doubled le h = record {
   named = named-more texts links more slots le h.named;
@@ -129,7 +129,7 @@ module _ (texts links : ℕ) (before : List Slot) (runs : List PlacedRun) (quote
           subst (λ (x : PlacedQuote). x.slot < (get_or (quotes ++ (q ∷ [])) j d).slot) (sym (get_or_append_left quotes (q ∷ []) d i low))
           (subst (λ (y : PlacedQuote). (get_or quotes i d).slot < y.slot) (sym (get_or_push quotes q d j (let k : length quotes ≡ j = omega (arith, g, most) in k))) (let k : (get_or quotes i d).slot < q.slot = omega (arith, t, at) in k))
 
--- each byte is a slot more
+-- each byte adds a slot
 pub sound-bytes : (texts links : ℕ) (slots : List Slot) (runs : List PlacedRun) (quotes : List PlacedQuote) (standing doubled : List Bracket) (start size : ℕ) → AreSound texts links slots runs quotes standing doubled
     → AreSound texts links (slots ++ byte_slots start size) runs quotes standing doubled
 sound-bytes texts links slots runs quotes standing doubled start zero h = subst (λ l. AreSound texts links l runs quotes standing doubled) (sym (append-none slots)) h
@@ -175,7 +175,7 @@ module _ (texts links : ℕ) (before : List Slot) (runs : List PlacedRun) (quote
 
 -- ## What a closing bracket leaves
 
--- the brackets that are left are some first ones of those that stood
+-- the brackets that are left are the first ones of the old list
 module _ (texts links : ℕ) (slots : List Slot) (runs : List PlacedRun) (quotes : List PlacedQuote) (standing doubled : List Bracket) (h : AreSound texts links slots runs quotes standing doubled) where
   pub sound-fewer : (n m : ℕ) → AreSound texts links slots runs quotes (take n standing) (take m doubled)
   sound-fewer n m = record {
@@ -211,7 +211,7 @@ module _ (texts links : ℕ) (slots : List Slot) (runs : List PlacedRun) (quotes
           subst (λ (x : Bracket). x.inside < (get_or (take n bs) j d).inside) (sym (get_or-take n bs i d low))
           (subst (λ (y : Bracket). (get_or bs i d).inside < y.inside) (sym (get_or-take n bs j d high)) (e i j d less (let q : j < length bs = omega (arith, lt, a) in q)))
 
-  -- the slots before a bracket stay, and what stands behind it is forgotten
+  -- the slots before a bracket stay, and the runs, quotes and brackets after it are removed
   pub sound-back : (bracket : Bracket) → IsPlaced slots runs quotes bracket → All (λ (b : Bracket). b.slot < bracket.slot) standing → All (λ (d : Bracket). d.slot < bracket.slot) doubled
       → (more_texts more_links : ℕ) (new : List Slot) → length slots ≤ length new → SameBefore bracket.slot slots new → AreNamed more_texts more_links new → AreWhole new → EndWithin new
       → AreSound more_texts more_links new (take bracket.runs runs) (take bracket.quotes quotes) standing doubled
@@ -253,7 +253,7 @@ module _ (texts links : ℕ) (slots : List Slot) (runs : List PlacedRun) (quotes
           let t = p.there in
           placed-slots slots (take bracket.runs runs) (take bracket.quotes quotes) b (placed-cut slots runs quotes b q bracket p lt) new (omega (arith, lt, t, le)) (λ d. same b.slot d lt)
 
-  -- quotes and runs behind a bracket can be settled
+  -- quotes and runs after a bracket can be settled
   pub sound-settles : (bracket : Bracket) → IsPlaced slots runs quotes bracket → CanSettle (bracket.slot + 1) slots (drop bracket.runs runs) (drop bracket.quotes quotes)
   sound-settles bracket p = record {
     whole = h.whole;

@@ -20,14 +20,14 @@ no-new-push ss s e = λ from h k d le lt. go from h k d le (nat_lt k (length ss)
     go from h k d le true b m = ap (λ (t : Slot). begins_link t.kind) (get_or_append_left ss (s ∷ []) d k (ltb-true k (length ss) b)) ∙ h k d le (ltb-true k (length ss) b)
     go from h k d le false b m = ap (λ (t : Slot). begins_link t.kind) (get_or_push ss s d k (let g = ltb-false k (length ss) b in let q : length ss ≡ k = omega (arith, g, m) in q)) ∙ e
 
--- one slot more
+-- one more slot
 pub no-new : (ss ts : List Slot) (s : Slot) → begins_link s.kind ≡ false → ts ≡ ss ++ (s ∷ []) → NoNewLink ss ts
 no-new ss ts s e p = subst (NoNewLink ss) (sym p) (no-new-push ss s e)
 
 pub free-on : (ss ts : List Slot) (bs : List Bracket) (inactive_below : ℕ) → AreFree ss bs inactive_below → NoNewLink ss ts → AreFree ts bs inactive_below
 free-on ss ts bs inactive_below h new = λ i d le lt. new (get_or bs i d).slot (h i d le lt)
 
--- a bracket more, with its own slot
+-- one more bracket, with its own slot
 pub free-push : (ss : List Slot) (bs cs : List Bracket) (b : Bracket) (inactive_below : ℕ) → AreFree ss bs inactive_below → HoldNoLink ss b.slot → cs ≡ bs ++ (b ∷ []) → AreFree ss cs inactive_below
 free-push ss bs cs b inactive_below h new p = subst (λ l. AreFree ss l inactive_below) (sym p) (λ i d le lt. go i d le (nat_lt i (length bs)) refl (let l = length_push bs b in let q : i ≤ length bs = omega (arith, lt, l) in q))
   where

@@ -1,4 +1,4 @@
--- Slots that become nothing, and slots that are cut at a place.
+-- Slots that become Nothing, and slots that are cut at an offset.
 use Rattle.std.specs.Prelude.{◌≡◌, ℕ, zero, suc, ◌≤◌, ◌<◌, nat_le, nat_lt, Bool, true, false, ◌&&◌, ◌||◌, if◌then◌else◌, List, [], ◌∷◌, length, get_or}
 use Rattle.cmark_grammar.specs.InlineHtml.{takes_lines}
 use Rattle.cmark_grammar.specs.Tokens.{slice}
@@ -6,18 +6,18 @@ use Rattle.cmark_slots.specs.declared.slot.Slot.{Slot}
 use Rattle.cmark_slots.specs.declared.slot.SlotKind.{SlotKind}
 use Rattle.cmark_slots.specs.declared.slot.SlotKind.TheVariants as kind
 
--- the end of an element and what is nothing have no bytes of their own, and a text of no bytes ends where it begins
+-- End and Nothing have no bytes, and an empty text ends where it begins
 abbrev pub has_none_behind : (place start : ℕ) → SlotKind → Bool
 has_none_behind place start kind.End = true
 has_none_behind place start kind.Nothing = true
 has_none_behind place start kind.Empty = nat_le start place
 has_none_behind place start _ = false
 
--- a slot has no bytes behind a place
+-- a slot has no bytes after an offset
 abbrev pub ends_by : (place : ℕ) → Slot → Bool
 ends_by place slot = has_none_behind place slot.start slot.kind || nat_le slot.end place
 
--- the first slot from one on that ends behind a place
+-- the first slot, from one index on, that ends after an offset
 pub record IsFirstBehind (slots : List Slot) (from place at : ℕ) : Type 0 where
   pub order : from ≤ at
   pub within : at ≤ length slots
@@ -25,7 +25,7 @@ pub record IsFirstBehind (slots : List Slot) (from place at : ℕ) : Type 0 wher
   pub shown : (d : Slot) → at < length slots → ends_by place (get_or slots at d) ≡ false
   pub behind : (d : Slot) → at < length slots → place < (get_or slots at d).end
 
--- the slots from one to before another became nothing
+-- the slots from one index up to another, exclusive, became Nothing
 abbrev pub hidden : Slot → Slot
 hidden slot = record { kind = kind.Nothing; start = slot.start; end = slot.end }
 
@@ -35,7 +35,7 @@ pub record Hides (from to : ℕ) (old new : List Slot) : Type 0 where
   pub before : (k : ℕ) (d : Slot) → k < from → get_or new k d ≡ get_or old k d
   pub behind : (k : ℕ) (d : Slot) → to ≤ k → get_or new k d ≡ get_or old k d
 
--- a slot that begins at a place inside it: a tag over lines stays whole, and a text is what stands in the source
+-- the meaning of a slot that begins at an offset inside it: a tag over several lines stays whole, and a text is a part of the source
 abbrev pub cut_kind : (text : List ℕ) → (start end : ℕ) → SlotKind → SlotKind
 cut_kind text start end kind.InlineHtml = if takes_lines (slice text start end) then kind.CutHtml start else kind.InlineHtml
 cut_kind text start end (kind.CutHtml from) = if takes_lines (slice text from end) then kind.CutHtml from else kind.InlineHtml

@@ -1,4 +1,4 @@
--- Which elements are those of emphasis.
+-- The elements of emphasis.
 use Rattle.std.specs.Prelude.{◌≡◌, Option, Some, None}
 use Rattle.cmark_grammar.specs.Options.{Options}
 use Rattle.cmark_grammar.specs.Spans.{SpanKind, span_tag}
@@ -7,7 +7,7 @@ use Rattle.cmark_grammar.specs.Tag as tag
 use Rattle.cmark_slots.specs.declared.slot.Element.{Element}
 use Rattle.cmark_slots.specs.declared.slot.Element.TheVariants as element
 
--- the tag of an element of emphasis; links and images are none
+-- the tag of an element of emphasis; links and images are not emphasis
 abbrev pub emphasis_tag : Element → Option Tag
 emphasis_tag element.Emphasis = Some tag.Emphasis
 emphasis_tag element.Strong = Some tag.Strong
@@ -19,7 +19,7 @@ emphasis_tag (element.Link index) = None
 emphasis_tag (element.Autolink index) = None
 emphasis_tag (element.Image index) = None
 
--- what stands around a span, if anything
+-- the element of a span, if it forms an element
 abbrev pub IsElementOf : Options → SpanKind → Option Element → Type 0
 IsElementOf options kind None = span_tag options kind ≡ None
 IsElementOf options kind (Some element) = span_tag options kind ≡ emphasis_tag element

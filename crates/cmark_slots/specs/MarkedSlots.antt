@@ -1,4 +1,4 @@
--- What quotes and the marks of emphasis write into slots.
+-- The slots after quotes have their characters and emphasis its marks.
 use Rattle.std.specs.Prelude.{◌≡◌, ℕ, suc, ◌+◌, ◌<◌, ◌≤◌, max, List, [], ◌∷◌, length, take, drop, set, get_or, All}
 use Rattle.cmark_emphasis.specs.Shown.{shown_kind}
 use Rattle.cmark_emphasis.specs.Slots.{AreBalanced}
@@ -24,20 +24,19 @@ HaveTexts slots placed = All (λ (p : PlacedQuote). (p.slot < length slots) × (
 
 -- ## Runs
 
--- the places of the slots of their bytes
+-- the indices of the slots of their bytes
 abbrev pub places_of : List PlacedRun → List ℕ
 places_of [] = []
 places_of (p ∷ placed) = run_places p.slot p.run.run_length (places_of placed)
 
--- the runs as siblings, their bytes counted from a place on
+-- the runs as siblings, their bytes counted from an index on
 abbrev pub siblings_from : (at : ℕ) → List PlacedRun → List Sibling
 siblings_from at [] = []
 siblings_from at (p ∷ placed) =
     Delimiter (record { delimiter = p.run.delimiter; run_length = p.run.run_length; at = at; left = p.run.run_length; opens = p.run.opens; closes = p.run.closes })
     ∷ siblings_from (at + p.run.run_length) placed
 
--- each byte of each run is a text of its own, and the runs stand one behind the other, from this slot and from this place of the
--- leaf's text on
+-- each byte of each run is a text of its own, and the runs follow one another, from this slot and from this offset of the leaf's text on
 abbrev pub HaveBytes : List Slot → (from place : ℕ) → List PlacedRun → Type 0
 HaveBytes slots from place [] = Unit {0}
 HaveBytes slots from place (p ∷ placed) =
@@ -45,16 +44,16 @@ HaveBytes slots from place (p ∷ placed) =
 
 -- ## Whole texts
 
--- the last slot that belongs to one
+-- the last slot that belongs to a slot
 abbrev pub last_in : SlotKind → (at : ℕ) → ℕ
 last_in (kind.Whole last) at = max last at
 last_in _ at = at
 
--- behind a whole text the slots up to its last are nothing
+-- after a whole text the slots up to its last are Nothing
 abbrev pub AreWhole : List Slot → Type 0
 AreWhole slots = (i k : ℕ) (d : Slot) → i < k → k ≤ last_in (get_or slots i d).kind i → k < length slots → (get_or slots k d).kind ≡ kind.Nothing
 
--- and its last is a slot
+-- the last slot of each whole text exists
 abbrev pub EndWithin : List Slot → Type 0
 EndWithin slots = (i : ℕ) (d : Slot) → i < length slots → last_in (get_or slots i d).kind i < length slots
 
@@ -69,7 +68,7 @@ begun_as element end slot = record { kind = kind.Begin element; start = slot.sta
 abbrev pub whole_to : (last end : ℕ) → Slot → Slot
 whole_to last end slot = record { kind = kind.Whole last; start = slot.start; end = max slot.end end }
 
--- one text was made of the slots from one to another
+-- the slots from one index to another became one text
 pub record Merges (first last : ℕ) (old new : List Slot) : Type 0 where
   pub between : List Slot
   pub hides : Hides (first + 1) (last + 1) old between
@@ -83,20 +82,21 @@ shown_mark (mark.Begin kind) = Begins (shown_kind kind)
 shown_mark (mark.End kind) = Ends (shown_kind kind)
 shown_mark mark.Blank = Blank
 
--- spans began at texts in slots before one, the last first; none of these texts ends behind a place
+-- spans began at texts in slots before an index, the last first; no text of these ends after an offset
 abbrev pub AreBegun : List Slot → (below end : ℕ) → List ℕ → Type 0
 AreBegun slots below end [] = Unit {0}
 AreBegun slots below end (first ∷ begun) =
     (first < below) × ((d : Slot) → (get_or slots first d).kind ≡ kind.Text) × ((d : Slot) → (get_or slots first d).end ≤ end) × AreBegun slots first end begun
 
--- the bytes at which marks are still to be written are texts in slots from one on, one behind the other; none ends before a place
+-- the bytes whose marks are still to be written are texts in slots from an index on, one after the other; no text of these ends before an
+-- offset
 abbrev pub AreAhead : List Slot → (from end : ℕ) → List ℕ → Type 0
 AreAhead slots from end [] = Unit {0}
 AreAhead slots from end (at ∷ places) =
     (e : ℕ) × (from ≤ at) × (at < length slots) × ((d : Slot) → (get_or slots at d).kind ≡ kind.Text) × ((d : Slot) → (get_or slots at d).end ≡ e) × (end ≤ e)
     × AreAhead slots (suc at) e places
 
--- what holds between two marks, where spans began at some places
+-- the state between two marks, if spans began at these slots
 pub record AreReady (slots : List Slot) (begun places : List ℕ) (marks : List code_mark.Slot) : Type 0 where
   pub from : ℕ
   pub end : ℕ
@@ -107,11 +107,11 @@ pub record AreReady (slots : List Slot) (begun places : List ℕ) (marks : List 
   pub balanced : AreBalanced kinds marks
   pub as_many : length kinds ≡ length begun
 
--- spans began at no slot before one
+-- no span began at a slot before an index
 abbrev pub BeganFrom : (low : ℕ) → (begun : List ℕ) → Type 0
 BeganFrom low [] = Unit {0}
 BeganFrom low (first ∷ begun) = (low ≤ first) × BeganFrom low begun
 
--- slots before one are the same
+-- the slots before an index are unchanged
 abbrev pub SameBefore : (low : ℕ) → (old new : List Slot) → Type 0
 SameBefore low old new = (k : ℕ) (d : Slot) → k < low → get_or new k d ≡ get_or old k d

@@ -6,7 +6,7 @@ use Rattle.cmark_slots.specs.declared.quote.PlacedQuote.{PlacedQuote}
 use Rattle.cmark_slots.specs.declared.slot.Slot.{Slot}
 use Rattle.cmark_slots.specs.declared.slot.SlotKind.TheVariants as kind
 
--- the slot of this index stands for a character
+-- the slot with this index is a character
 abbrev pub with_character : (at character : ℕ) → List Slot → List Slot
 with_character at character [] = []
 with_character zero character (slot ∷ slots) = record { kind = kind.Character character; start = slot.start; end = slot.end } ∷ slots
@@ -18,6 +18,6 @@ with_characters [] characters slots = slots
 with_characters (quote ∷ quotes) [] slots = slots
 with_characters (quote ∷ quotes) (character ∷ characters) slots = with_characters quotes characters (with_character quote.slot character slots)
 
--- the characters that these quotes have among one another
+-- the characters of these quotes as one list of siblings
 abbrev pub characters_of : List PlacedQuote → List ℕ
 characters_of placed = quote_characters [] (map shown_quote (map (λ (p : PlacedQuote). p.quote) placed))

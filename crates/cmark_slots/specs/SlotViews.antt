@@ -1,4 +1,4 @@
--- What a slot stands for as a slot of the model, whose places are those of the source, and the events that are read off slots.
+-- A slot as a slot of the model, with offsets of the source, and the events that are read from slots.
 use Rattle.std.specs.Prelude.{◌≢◌, ◌<◌, ℕ, ◌+◌, ◌-◌, List, [], length, map, get_or, slice_get, encode_utf8, All, Option, None, Some}
 use Rattle.std.specs.Str.{IsCharBoundary}
 use Rattle.cmark_grammar.specs.CodeSpans.{code_text}
@@ -26,7 +26,7 @@ use Rattle.cmark_slots.specs.declared.slot.SlotKind.TheVariants as kind
 
 -- ## Slots
 
--- the text of an index; no bytes where there is none, which CanBeGiven leaves out
+-- the text with an index; empty if it is missing, which CanBeGiven excludes
 abbrev pub bytes_or_none : Option CowStr → List ℕ
 bytes_or_none None = []
 bytes_or_none (Some text) = text_bytes text
@@ -34,7 +34,7 @@ bytes_or_none (Some text) = text_bytes text
 abbrev pub text_at : List CowStr → (index : ℕ) → List ℕ
 text_at texts index = bytes_or_none (slice_get texts index)
 
--- the link of an index, in the same way
+-- the link with an index; an empty one if it is missing
 abbrev pub linked_or_none : Option Link → Linked
 linked_or_none None = record { link_type = link.Inline; destination = []; title = []; id = [] }
 linked_or_none (Some parts) = shown_link parts
@@ -54,21 +54,21 @@ shown_element links (element.Link index) = tag.Link (linked_at links index)
 shown_element links (element.Autolink index) = tag.Link (linked_at links index)
 shown_element links (element.Image index) = tag.Image (linked_at links index)
 
--- from where to where the bytes of a slot stand in the source
+-- the start and the end of a slot's bytes in the source
 abbrev pub first_of : LeafText → Slot → ℕ
 first_of leaf slot = place_of leaf slot.start
 
 abbrev pub slot_end : LeafText → Slot → ℕ
 slot_end leaf slot = place_of leaf (slot.end - 1) + 1
 
--- the bytes of the leaf's text between two places
+-- the bytes of the leaf's text between two offsets
 abbrev pub written : LeafText → (from to : ℕ) → List ℕ
 written leaf from to = slice (text_of leaf) from to
 
 abbrev pub item_slot : items.ItemKind → (start end : ℕ) → row.Slot
 item_slot kind start end = row.ItemSlot (item kind start end)
 
--- what a slot of this kind stands for
+-- the meaning of a slot of this kind
 module _ (leaf : LeafText) (texts : List CowStr) (links : List Link) (slot : Slot) where
   abbrev pub slot_as : SlotKind → row.Slot
   slot_as kind.Text = item_slot (items.Written (written leaf slot.start slot.end)) (first_of leaf slot) (slot_end leaf slot)
@@ -100,7 +100,7 @@ shown_slots leaf texts links slots = map (shown_slot leaf texts links) slots
 abbrev pub all_events : LeafText → List CowStr → List Link → List Slot → List Ranged
 all_events leaf texts links slots = slot_events (source_of leaf) (shown_slots leaf texts links slots) []
 
--- ## What slots name: a text or a link is taken when its slot is given, so that it can be given once
+-- ## The texts and links that slots name. A text or a link is moved out when its slot is given, so it can be given once
 
 abbrev pub text_named : SlotKind → Option ℕ
 text_named (kind.OwnedText index) = Some index
@@ -121,7 +121,7 @@ abbrev pub IsThere : (count : ℕ) → Option ℕ → Type 0
 IsThere count None = Unit {0}
 IsThere count (Some index) = index < count
 
--- what is named in one place is not named in another
+-- two slots do not name the same thing
 abbrev pub Differ : (one other : Option ℕ) → Type 0
 Differ None other = Unit {0}
 Differ (Some index) other = other ≢ Some index
@@ -129,13 +129,13 @@ Differ (Some index) other = other ≢ Some index
 abbrev pub AreOnce : (SlotKind → Option ℕ) → List Slot → Type 0
 AreOnce named slots = (i j : ℕ) (d : Slot) → i < j → j < length slots → Differ (named (get_or slots i d).kind) (named (get_or slots j d).kind)
 
--- HTML and a text of the source end behind their begin, and not inside a character
+-- HTML and a text of the source end after their start, at a character boundary
 abbrev pub EndsBehind : LeafText → Slot → SlotKind → Type 0
 EndsBehind leaf slot (kind.SourceHtml end) = (first_of leaf slot < end) × IsCharBoundary (source_of leaf) end
 EndsBehind leaf slot (kind.SourceText end) = (first_of leaf slot < end) × IsCharBoundary (source_of leaf) end
 EndsBehind leaf slot _ = Unit {0}
 
--- each text and each link that these slots name is there, and is named once
+-- each text and each link that these slots name exists, and is named once
 pub record CanBeGiven (leaf : LeafText) (texts : List CowStr) (links : List Link) (slots : List Slot) : Type 0 where
   pub texts_there : All (λ (slot : Slot). IsThere (length texts) (text_named slot.kind)) slots
   pub links_there : All (λ (slot : Slot). IsThere (length links) (link_named slot.kind)) slots

@@ -1,4 +1,4 @@
--- The slots of a leaf's text, and the opening brackets that stand in them.
+-- The slots of a leaf's text, and the opening brackets among them.
 use Rattle.std.specs.Prelude.{◌≡◌, ℕ, ◌+◌, ◌≤◌, ◌<◌, Bool, true, false, List, [], ◌∷◌, ◌++◌, length, get_or, All, nat_lt, if◌then◌else◌, set, zero, suc}
 use Rattle.std.specs.List.{sum_by}
 use Rattle.std.specs.Str.{IsCharBoundary}
@@ -11,7 +11,7 @@ use Rattle.cmark_slots.specs.declared.slot.Slot.{Slot}
 use Rattle.cmark_slots.specs.declared.slot.SlotKind.{SlotKind}
 use Rattle.cmark_slots.specs.declared.slot.SlotKind.TheVariants as kind
 
--- what a code span or a formula holds is a part of the text
+-- the content of a code span or a formula is a part of the text
 abbrev pub IsContent : List ℕ → SlotKind → Type 0
 IsContent text kind.Text = Unit {0}
 IsContent text (kind.OwnedText index) = Unit {0}
@@ -32,7 +32,7 @@ IsContent text (kind.Begin element) = Unit {0}
 IsContent text kind.End = Unit {0}
 IsContent text kind.Nothing = Unit {0}
 
--- a slot stands at some bytes of the text before this place, and cuts no character
+-- a slot covers bytes of the text before this offset, and begins and ends at character boundaries
 pub record IsSlot (text : List ℕ) (at : ℕ) (slot : Slot) : Type 0 where
   pub part : IsPart text slot.start slot.end
   pub before : slot.end ≤ at
@@ -41,7 +41,7 @@ pub record IsSlot (text : List ℕ) (at : ℕ) (slot : Slot) : Type 0 where
 abbrev pub AreSlots : (text : List ℕ) → (at : ℕ) → List Slot → Type 0
 AreSlots text at slots = All (IsSlot text at) slots
 
--- an opening bracket stands before this place; the `!` of an image is a character of its own
+-- an opening bracket is before this offset; the `!` of an image is a character of its own
 pub record IsBracket (text : List ℕ) (at : ℕ) (bracket : Bracket) : Type 0 where
   pub part : IsPart text bracket.start bracket.inside
   pub mark : bracket.is_image ≡ true → IsCharBoundary text (bracket.start + 1)
@@ -50,7 +50,7 @@ pub record IsBracket (text : List ℕ) (at : ℕ) (bracket : Bracket) : Type 0 w
 abbrev pub AreBrackets : (text : List ℕ) → (at : ℕ) → List Bracket → Type 0
 AreBrackets text at brackets = All (IsBracket text at) brackets
 
--- a link or a wikilink begins, which is neither an autolink nor an image
+-- a link or a wikilink begins, which is not an autolink and not an image
 abbrev pub is_link : Element → Bool
 is_link element.Emphasis = false
 is_link element.Strong = false
@@ -82,7 +82,7 @@ begins_link (kind.Begin element) = is_link element
 begins_link kind.End = false
 begins_link kind.Nothing = false
 
--- no link begins in a slot from this one on
+-- no link begins in a slot from this index on
 abbrev pub HoldNoLink : (slots : List Slot) → (from : ℕ) → Type 0
 HoldNoLink slots from = (k : ℕ) (d : Slot) → from ≤ k → k < length slots → begins_link (get_or slots k d).kind ≡ false
 
@@ -90,11 +90,11 @@ HoldNoLink slots from = (k : ℕ) (d : Slot) → from ≤ k → k < length slots
 abbrev pub NoNewLink : (old new : List Slot) → Type 0
 NoNewLink old new = (from : ℕ) → HoldNoLink old from → HoldNoLink new from
 
--- behind each bracket that may still form a link no link begins: a link holds no other (CommonMark 6.3)
+-- no link begins after a bracket that may still form a link: a link contains no other (CommonMark 6.3)
 abbrev pub AreFree : List Slot → (brackets : List Bracket) → (inactive_below : ℕ) → Type 0
 AreFree slots brackets inactive_below = (i : ℕ) (d : Bracket) → inactive_below ≤ i → i < length brackets → HoldNoLink slots (get_or brackets i d).slot
 
--- how many bytes delimiter runs have
+-- the number of bytes of delimiter runs
 abbrev pub bytes_of : List PlacedRun → ℕ
 bytes_of placed = sum_by (λ (p : PlacedRun). p.run.run_length) placed
 
@@ -106,11 +106,11 @@ IsEnd text at close end = IsSlot text at (record { kind = kind.End; start = clos
 abbrev pub PushesText : (start end : ℕ) → (old new : List Slot) → Type 0
 PushesText start end old new = (start < end → new ≡ old ++ (record { kind = kind.Text; start = start; end = end } ∷ [])) × (end ≤ start → new ≡ old)
 
--- a slot is put at an index, in the place of the one there or behind the last
+-- a slot is put at an index: it replaces the slot there, or follows the last
 abbrev pub put_at : (at : ℕ) → Slot → List Slot → List Slot
 put_at at slot slots = if nat_lt at (length slots) then set slots at slot else slots ++ (slot ∷ [])
 
--- a slot for each of so many bytes from a place on
+-- a slot for each of `size` bytes from `start` on
 abbrev pub byte_slots : (start size : ℕ) → List Slot
 byte_slots start zero = []
 byte_slots start (suc size) = record { kind = kind.Text; start = start; end = start + 1 } ∷ byte_slots (start + 1) size

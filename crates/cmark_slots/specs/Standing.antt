@@ -1,5 +1,5 @@
--- What holds of the slots of a leaf while it is read: of the texts and links that they name, and of the quotes, the delimiter runs
--- and the brackets that stand in them.
+-- Facts about the slots of a leaf while it is read: about the texts and links that they name, and about the quotes, delimiter runs and
+-- brackets among them.
 use Rattle.std.specs.Prelude.{◌≡◌, ◌⊎◌, ℕ, ◌+◌, ◌<◌, ◌≤◌, List, length, get_or, All, Option, Some, None}
 use Rattle.std.specs.Str.{IsCharBoundary}
 use Rattle.cmark_emphasis.specs.Counts.{IsKnown}
@@ -16,21 +16,20 @@ use Rattle.cmark_slots.specs.declared.slot.SlotKind.TheVariants as kind
 
 -- ## Texts and links
 
--- each text and each link that slots name is one of so many, and is named once
+-- each text and each link that slots name exists, and is named once
 pub record AreNamed (texts links : ℕ) (slots : List Slot) : Type 0 where
   pub texts_there : All (λ (slot : Slot). IsThere texts (text_named slot.kind)) slots
   pub links_there : All (λ (slot : Slot). IsThere links (link_named slot.kind)) slots
   pub texts_once : AreOnce text_named slots
   pub links_once : AreOnce link_named slots
 
--- the place of the source before which a slot ends that is a part of the source
+-- the end, in the source, of a slot that is a part of the source
 abbrev pub source_end : SlotKind → Option ℕ
 source_end (kind.SourceHtml end) = Some end
 source_end (kind.SourceText end) = Some end
 source_end _ = None
 
--- it is no place inside a character; each byte of the leaf's text before the end of the slot stands before it, and each other one at it or
--- behind it
+-- this end is at a character boundary. A byte of the leaf's text is before it in the source exactly if it is before the end of the slot
 abbrev pub EndsIn : LeafText → (end : ℕ) → Option ℕ → Type 0
 EndsIn leaf end None = Unit {0}
 EndsIn leaf end (Some past) =
@@ -39,36 +38,36 @@ EndsIn leaf end (Some past) =
 abbrev pub AreEnded : LeafText → List Slot → Type 0
 AreEnded leaf slots = All (λ (slot : Slot). EndsIn leaf slot.end (source_end slot.kind)) slots
 
--- a slot names no text and no link, and is no part of the source
+-- a slot names no text and no link, and is not a part of the source
 abbrev pub IsPlain : SlotKind → Type 0
 IsPlain kind = (text_named kind ≡ None) × (link_named kind ≡ None) × (source_end kind ≡ None)
 
--- a slot names what another one names, and ends with it
+-- a slot names the same things as another one, and has the same end
 abbrev pub NamesAs : (old new : Slot) → Type 0
 NamesAs old new = (text_named new.kind ≡ text_named old.kind) × (link_named new.kind ≡ link_named old.kind) × (source_end new.kind ≡ source_end old.kind) × (new.end ≡ old.end)
 
--- each slot names what it named before, or nothing
+-- each slot names the same things as before, or nothing
 abbrev pub NamesNoMore : (old new : List Slot) → Type 0
 NamesNoMore old new = (k : ℕ) (d : Slot) → k < length new → IsPlain (get_or new k d).kind ⊎ ((k < length old) × NamesAs (get_or old k d) (get_or new k d))
 
 -- ## Quotes, runs and brackets
 
--- no quote stands among the bytes of a run
+-- no quote is among the bytes of a run
 abbrev pub AreApart : List PlacedRun → List PlacedQuote → Type 0
 AreApart runs quotes = All (λ (q : PlacedQuote). All (λ (r : PlacedRun). (q.slot < r.slot) ⊎ (r.slot + r.run.run_length ≤ q.slot)) runs) quotes
 
 abbrev pub HaveSizes : List PlacedRun → Type 0
 HaveSizes runs = All (λ (r : PlacedRun). 0 < r.run.run_length) runs
 
--- they consist of bytes of which delimiter runs do
+-- their bytes and lengths are those of delimiter runs
 abbrev pub AreKnown : List PlacedRun → Type 0
 AreKnown runs = All (λ (r : PlacedRun). IsKnown r.run) runs
 
--- each quote has a slot before that of the next one
+-- the slot of each quote is before the slot of the next one
 abbrev pub StandInOrder : List PlacedQuote → Type 0
 StandInOrder quotes = (i j : ℕ) (d : PlacedQuote) → i < j → j < length quotes → (get_or quotes i d).slot < (get_or quotes j d).slot
 
--- an opening bracket is a text in a slot, and it knows how many runs and quotes stand before that
+-- an opening bracket is a text in a slot, and has the numbers of runs and quotes before that slot
 pub record IsPlaced (slots : List Slot) (runs : List PlacedRun) (quotes : List PlacedQuote) (bracket : Bracket) : Type 0 where
   pub there : bracket.slot < length slots
   pub text : (d : Slot) → (get_or slots bracket.slot d).kind ≡ kind.Text
@@ -79,11 +78,11 @@ pub record IsPlaced (slots : List Slot) (runs : List PlacedRun) (quotes : List P
   pub quotes_before : (k : ℕ) (d : PlacedQuote) → k < bracket.quotes → (get_or quotes k d).slot < bracket.slot
   pub quotes_behind : (k : ℕ) (d : PlacedQuote) → bracket.quotes ≤ k → k < length quotes → bracket.slot < (get_or quotes k d).slot
 
--- a bracket that begins before another one has a slot before that of the other one
+-- a bracket that begins before another one has an earlier slot
 abbrev pub BeginsBefore : (one other : Bracket) → Type 0
 BeginsBefore one other = one.start < other.start → one.slot < other.slot
 
--- each bracket begins before the next one, and its slot stands before that of the next one
+-- each bracket begins before the next one, and has an earlier slot
 abbrev pub AreInOrder : List Bracket → Type 0
 AreInOrder brackets = (i j : ℕ) (d : Bracket) → i < j → j < length brackets → ((get_or brackets i d).start < (get_or brackets j d).start) × ((get_or brackets i d).slot < (get_or brackets j d).slot)
 
@@ -91,7 +90,7 @@ AreInOrder brackets = (i j : ℕ) (d : Bracket) → i < j → j < length bracket
 abbrev pub EndInOrder : List Bracket → Type 0
 EndInOrder brackets = (i j : ℕ) (d : Bracket) → i < j → j < length brackets → (get_or brackets i d).inside < (get_or brackets j d).inside
 
--- what holds of slots that name so many texts and links, while these runs, quotes and brackets stand in them
+-- the facts about slots that name `texts` texts and `links` links, with these runs, quotes and brackets among them
 pub record AreSound (texts links : ℕ) (slots : List Slot) (runs : List PlacedRun) (quotes : List PlacedQuote) (standing doubled : List Bracket) : Type 0 where
   pub named : AreNamed texts links slots
   pub whole : AreWhole slots
@@ -109,9 +108,9 @@ pub record AreSound (texts links : ℕ) (slots : List Slot) (runs : List PlacedR
   pub doubled_end : EndInOrder doubled
   pub crossed : All (λ (b : Bracket). All (λ (d : Bracket). BeginsBefore b d × BeginsBefore d b) doubled) standing
 
--- ## What is settled
+-- ## Quotes and runs that are settled
 
--- quotes and runs in slots from one on can get their characters and their marks
+-- quotes and runs in slots from an index on can get their characters and their marks
 pub record CanSettle (low : ℕ) (slots : List Slot) (runs : List PlacedRun) (quotes : List PlacedQuote) : Type 0 where
   pub whole : AreWhole slots
   pub within : EndWithin slots
@@ -122,28 +121,28 @@ pub record CanSettle (low : ℕ) (slots : List Slot) (runs : List PlacedRun) (qu
   pub known : AreKnown runs
   pub apart : AreApart runs quotes
 
--- they have got them: nothing is named that was not named before, and the slots before stay
+-- they have got them: nothing is named that was not named before, and the slots before the index are unchanged
 pub record IsSettled (low : ℕ) (old new : List Slot) : Type 0 where
   pub names : NamesNoMore old new
   pub whole : AreWhole new
   pub within : EndWithin new
   pub before : SameBefore low old new
 
--- ## A bracket that was taken
+-- ## A bracket that was removed
 
--- it stands behind the brackets that are left
+-- it comes after the brackets that are left
 pub record IsTaken (slots : List Slot) (runs : List PlacedRun) (quotes : List PlacedQuote) (standing doubled : List Bracket) (bracket : Bracket) : Type 0 where
   pub placed : IsPlaced slots runs quotes bracket
   pub standing_before : All (λ (b : Bracket). b.slot < bracket.slot) standing
   pub doubled_before : All (λ (d : Bracket). BeginsBefore d bracket) doubled
 
--- and a doubled one behind the single ones that begin before it
+-- and a doubled bracket comes after the single ones that begin before it
 pub record IsTakenPair (slots : List Slot) (runs : List PlacedRun) (quotes : List PlacedQuote) (standing : List Bracket) (bracket : Bracket) : Type 0 where
   pub placed : IsPlaced slots runs quotes bracket
   pub standing_before : All (λ (b : Bracket). BeginsBefore b bracket) standing
 
--- ## What calls keep
+-- ## Facts that calls preserve
 
--- a slot of this kind names nothing, and no other belongs to it
+-- a slot of this kind names nothing, and no other slot belongs to it
 abbrev pub StandsAlone : SlotKind → Type 0
 StandsAlone kind = IsPlain kind × ((i : ℕ) → last_in kind i ≡ i)

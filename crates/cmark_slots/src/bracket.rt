@@ -10,28 +10,28 @@ use bitflags::Flags;
 use cmark_text_parts::Options;
 use std::alloc::{AllocError, Global};
 
-/// An opening bracket that no closing one has used up.
+/// An opening bracket that no closing bracket has taken yet.
 #[derive(Clone, Copy)]
 pub struct Bracket {
-    /// The place of its slot.
+    /// The index of its slot.
     pub slot: usize,
-    /// How many delimiter runs stand before it.
+    /// The number of delimiter runs before it.
     pub runs: usize,
-    /// How many quotes stand before it.
+    /// The number of quotes before it.
     pub quotes: usize,
-    /// Byte offset in the leaf's text.
+    /// Its byte offset in the leaf's text.
     pub start: usize,
-    /// The place behind it.
+    /// The offset after it, where its content begins.
     pub inside: usize,
     /// Whether it opens an image.
     pub is_image: bool,
 }
 
-/// The opening brackets that stand.
+/// The open brackets.
 #[derive(Drop)]
 pub struct Brackets {
     standing: Vec<Bracket>,
-    /// So many of them, the first ones, form no link any more, for they would hold one.
+    /// The number of brackets, from the first on, that cannot form a link any more, because that link would contain another.
     inactive_below: usize,
 }
 
@@ -59,7 +59,7 @@ impl Brackets {
         Ok(())
     }
 
-    /// The nearest bracket, which is used up, and whether it can form a link or an image.
+    /// Removes the nearest bracket, and returns it with whether it can form a link or an image.
     pub fn take(&mut self) -> Option<(Bracket, bool)>
         ensures value { result ≡ nearest self.old }
         ensures others { self.new.standing.items ≡ take (length self.old.standing.items - 1) self.old.standing.items }
@@ -75,7 +75,7 @@ impl Brackets {
         Some((bracket, forms))
     }
 
-    /// The last bracket, if it ends at this place and no link was formed behind it.
+    /// The last bracket, if it ends at this offset and no link was formed after it.
     pub fn touching(&self, place: usize) -> Option<Bracket>
         ensures value { result ≡ touching place self.now }
         ensures ends { IfSome result (λ first. first.inside ≡ place) }
@@ -94,8 +94,8 @@ impl Brackets {
         }
     }
 
-    /// These are doubled brackets, and a bracket is put behind those of `single`: with one that it touches it is a doubled bracket,
-    /// which may open a wikilink, where these are read and it opens no image.
+    /// Adds a doubled bracket to these, if the bracket `second` touches the last bracket of `single`. A doubled bracket may open a
+    /// wikilink, so `second` has to be no image, and wikilinks have to be enabled.
     pub fn double(
         &mut self,
         single: &Brackets,
@@ -119,7 +119,7 @@ impl Brackets {
         Ok(())
     }
 
-    /// Drops the last brackets, as many as end behind a place.
+    /// Removes all brackets at the end of the list that end after an offset.
     pub fn drop_behind(&mut self, place: usize)
         ensures drops { DropsBehind place self.old.standing.items self.new.standing.items }
         ensures inactive_below { self.new.inactive_below ≡ min self.old.inactive_below (length self.new.standing.items) }
@@ -134,7 +134,7 @@ impl Brackets {
         self.inactive_below = self.inactive_below.min(count);
     }
 
-    /// A link is formed: the brackets that stand form none any more.
+    /// Takes account of a link that was formed: the open brackets cannot form a link any more.
     pub fn deactivate_all(&mut self)
         ensures standing { self.new.standing ≡ self.old.standing }
         ensures inactive_below { self.new.inactive_below ≡ length self.old.standing.items }

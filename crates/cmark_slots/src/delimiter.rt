@@ -1,4 +1,4 @@
-//! Delimiter runs and the elements that they become (CommonMark 6.2).
+//! Delimiter runs and the elements that they form (CommonMark 6.2).
 
 ghost use Rattle.std.specs.Prelude.{◌≡◌, ◌+◌, ◌*◌, ◌^◌, ◌<◌, ◌≤◌, All, ◌++◌, ◌∷◌, ℕ, false, List, [], None, Some, drop, get_or, length, map, reverse, set, take, IsOk, OnOk, IfOk, IfSome};
 ghost use Rattle.cmark_emphasis.specs.Counts.{IsKnown};
@@ -29,14 +29,14 @@ use cmark_emphasis::{PairingRoom, Run, Slot as Mark, SpanKind, slots_of_runs, sl
 use cmark_text_parts::Options;
 use std::alloc::{AllocError, Global};
 
-/// A delimiter run and the place of its first slot, which those of its other bytes follow.
+/// A delimiter run and the index of its first slot. The slots of its other bytes follow it.
 #[derive(Clone, Copy)]
 pub struct PlacedRun {
     pub slot: usize,
     pub run: Run,
 }
 
-/// The delimiter runs of the siblings that are not resolved, and room for their pairing.
+/// The delimiter runs of the siblings that are not resolved, and working memory for their pairing.
 #[derive(Drop)]
 pub struct Delimiters {
     placed: Vec<PlacedRun>,
@@ -44,7 +44,7 @@ pub struct Delimiters {
     room: PairingRoom,
     marks: Vec<Mark>,
     begun: Vec<usize>,
-    /// How many open runs were examined to pair runs, since there was none.
+    /// The number of open runs that were examined to pair runs, since the last `clear`.
     pub examined: u128,
 }
 
@@ -68,7 +68,7 @@ impl Delimiters {
         self.examined = 0;
     }
 
-    /// How many runs there are.
+    /// The number of runs.
     pub fn len(&self) -> usize
         ensures { result ≡ length self.now.placed.items }
     {
@@ -84,7 +84,7 @@ impl Delimiters {
         Ok(())
     }
 
-    /// The first run from one on whose slot is this one or a later one; how many there are, where there is none.
+    /// The index of the first run, from `first` on, whose slot is at or after the index `slot`; the number of runs if there is none.
     pub fn first_from(&self, first: usize, slot: usize) -> usize
         requires { first ≤ length self.now.placed.items }
         ensures order { first ≤ result }
@@ -99,7 +99,7 @@ impl Delimiters {
         at
     }
 
-    /// Forgets the runs from this one on.
+    /// Removes the runs from the index `first` on.
     pub fn truncate(&mut self, first: usize)
         ensures placed { self.new.placed.items ≡ take first self.old.placed.items }
         ensures examined { self.new.examined ≡ self.old.examined }
@@ -108,8 +108,8 @@ impl Delimiters {
         self.placed.truncate(first);
     }
 
-    /// Resolves the runs from this one on, which are those of one list of siblings, and forgets them. Each of their bytes is a text in a
-    /// slot of its own.
+    /// Resolves the runs from the index `first` on, and removes them. They have to be the runs of one list of siblings, and each of their
+    /// bytes a text in a slot of its own.
     #[inline(always)]
     pub fn resolve(
         &mut self,
@@ -144,7 +144,7 @@ impl Delimiters {
             return Ok(());
         }
         if self.placed.len() - first == 1 {
-            // One run alone makes no pair.
+            // A single run makes no pair.
             self.placed.truncate(first);
             return Ok(());
         }
@@ -160,8 +160,8 @@ impl Delimiters {
         Ok(())
     }
 
-    // Puts into `marks` what becomes of each byte of the runs from this one on, which are those of one list of siblings and have no more
-    // bytes than `bound`. Most lists have two runs, of which one span is made.
+    // Writes into `marks` the role of each byte of the runs from the index `first` on. They have to be the runs of one list of siblings,
+    // and have at most `bound` bytes. Most lists have two runs, which make one span.
     fn mark(&mut self, first: usize, bound: usize) -> Result<(), AllocError>
         requires first { first ≤ length self.old.placed.items }
         requires bytes { bytes_of self.old.placed.items ≤ bound }
@@ -196,7 +196,7 @@ impl Delimiters {
     }
 }
 
-/// The run with all its bytes, counted from this place on.
+/// The run with all its bytes, counted from `at` on.
 fn counted_from(run: Run, at: usize) -> Run
     ensures { shown_run result ≡ record { delimiter = run.delimiter; run_length = run.run_length; at = at; left = run.run_length; opens = run.opens; closes = run.closes } }
 {
@@ -207,8 +207,8 @@ fn counted_from(run: Run, at: usize) -> Run
     }
 }
 
-/// Puts the runs from this one on into `runs`, their bytes counted from 0, and says how many bytes they are. No more than
-/// `bound` are there.
+/// Collects the runs from the index `first` on in `runs`, with their bytes counted from 0, and returns the number of these bytes, which is
+/// at most `bound`.
 fn gather(
     runs: &mut Vec<Run>,
     placed: &[PlacedRun],
@@ -238,7 +238,7 @@ fn gather(
     Ok(count)
 }
 
-/// The runs from this one on.
+/// The runs from the index `first` on.
 fn runs_from(placed: &[PlacedRun], first: usize) -> &[PlacedRun]
     requires { first ≤ length placed.now }
     ensures bytes { bytes_of result.now ≤ bytes_of placed.entry.now }
@@ -247,7 +247,7 @@ fn runs_from(placed: &[PlacedRun], first: usize) -> &[PlacedRun]
     &placed[first..]
 }
 
-/// Writes the marks of the bytes of a run into their slots, and hands back the marks behind.
+/// Writes the marks of the bytes of a run into their slots, and returns the remaining marks.
 fn write_run<'m>(
     placed: PlacedRun,
     options: Options,
@@ -277,7 +277,7 @@ fn write_run<'m>(
     Ok(&marks[placed.run.run_length..])
 }
 
-/// Writes what a mark says into a slot: elements begin and end, and the bytes between are nothing.
+/// Writes the meaning of a mark into a slot: elements begin and end, and the bytes between become `Nothing`.
 fn write_mark(
     mark: Mark,
     slot: usize,
@@ -311,7 +311,7 @@ fn write_mark(
     Ok(())
 }
 
-/// Makes one text of the element that began last and ends at a slot.
+/// Makes one text from the element that began last up to a slot.
 fn merge_last(slots: &mut Vec<Slot>, slot: usize, begun: &mut Vec<usize>)
     requires begun { (first : ℕ) × (others : List ℕ) × (reverse begun.old.items ≡ first ∷ others) × (first < slot) }
     requires there { slot < length slots.old.items }
@@ -349,7 +349,8 @@ fn end_last(slots: &mut Vec<Slot>, slot: usize, element: Element, begun: &mut Ve
     begin(slots, first, element, end);
 }
 
-/// What stands around a span, by the options. Double tildes without strikethrough make one text of all (this profile's own).
+/// The element of a span under these options. Double tildes without strikethrough form no element: their span becomes one text (this
+/// profile's own).
 fn element_of(kind: SpanKind, options: Options) -> Option<Element>
     ensures value { IsElementOf (shown_options options) (shown_kind kind) result }
     ensures links { IfSome result (λ element. is_link element ≡ false) }

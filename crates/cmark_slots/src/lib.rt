@@ -1,5 +1,5 @@
-//! Slots: what stands in a leaf's text, one behind the other, and what stands in them while the text is read: opening brackets, delimiter
-//! runs and quotes (CommonMark 6).
+//! Slots: the parts of a leaf's text, one after the other; and the opening brackets, delimiter runs and quotes among them while the text is
+//! read (CommonMark 6).
 #![tactic(auto)]
 
 pub mod bracket;

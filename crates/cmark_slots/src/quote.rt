@@ -1,4 +1,4 @@
-//! Quotes, and the characters that they become (this profile's own).
+//! Quotes, and their characters (this profile's own).
 
 ghost use Rattle.std.specs.Prelude.{◌≡◌, ◌<◌, ◌≤◌, ◌++◌, ◌∷◌, ℕ, List, [], drop, take, get_or, length, map, IsOk, OnOk};
 ghost use Rattle.cmark_inline_model.specs.SlotRows.{quoted};
@@ -15,14 +15,14 @@ use crate::slot::{Slot, become_character};
 use cmark_emphasis::{Quote, quote_characters};
 use std::alloc::{AllocError, Global};
 
-/// A quote and the place of its slot.
+/// A quote and the index of its slot.
 #[derive(Clone, Copy)]
 pub struct PlacedQuote {
     pub slot: usize,
     pub quote: Quote,
 }
 
-/// The quotes of the siblings that are not resolved, and room for their characters.
+/// The quotes of the siblings that are not resolved, and working memory for their characters.
 #[derive(Drop)]
 pub struct Quotes {
     placed: Vec<PlacedQuote>,
@@ -45,7 +45,7 @@ impl Quotes {
         self.placed.clear();
     }
 
-    /// How many quotes there are.
+    /// The number of quotes.
     pub fn len(&self) -> usize
         ensures { result ≡ length self.now.placed.items }
     {
@@ -59,7 +59,7 @@ impl Quotes {
         Ok(())
     }
 
-    /// The first quote from one on whose slot is this one or a later one; how many there are, where there is none.
+    /// The index of the first quote, from `first` on, whose slot is at or after the index `slot`; the number of quotes if there is none.
     pub fn first_from(&self, first: usize, slot: usize) -> usize
         requires { first ≤ length self.now.placed.items }
         ensures order { first ≤ result }
@@ -74,15 +74,15 @@ impl Quotes {
         at
     }
 
-    /// Forgets the quotes from this one on.
+    /// Removes the quotes from the index `first` on.
     pub fn truncate(&mut self, first: usize)
         ensures { self.new.placed.items ≡ take first self.old.placed.items }
     {
         self.placed.truncate(first);
     }
 
-    /// Gives the quotes from this one on, which are those of one list of siblings, their characters, and forgets them. Each of them is a
-    /// text in a slot.
+    /// Gives the quotes from the index `first` on their characters, and removes them. They have to be the quotes of one list of siblings,
+    /// each a text in a slot.
     #[inline(always)]
     pub fn resolve(&mut self, first: usize, slots: &mut Vec<Slot>) -> Result<(), AllocError>
         requires first { first ≤ length self.old.placed.items }
@@ -111,7 +111,7 @@ impl Quotes {
     }
 }
 
-/// The quotes from this one on.
+/// The quotes from the index `first` on.
 fn quotes_from(placed: &[PlacedQuote], first: usize) -> &[PlacedQuote]
     requires { first ≤ length placed.now }
     ensures { result.now ≡ drop first placed.entry.now }
@@ -119,7 +119,7 @@ fn quotes_from(placed: &[PlacedQuote], first: usize) -> &[PlacedQuote]
     &placed[first..]
 }
 
-/// Puts the quotes in `quotes`, which held others.
+/// Collects the quotes in `quotes`, whose old content is dropped.
 fn gather(quotes: &mut Vec<Quote>, placed: &[PlacedQuote]) -> Result<(), AllocError>
     ensures { OnOk result (quotes.new.items ≡ map (λ (p : PlacedQuote). p.quote) placed.now) }
 {

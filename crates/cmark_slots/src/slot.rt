@@ -1,4 +1,4 @@
-//! Slots: what stands in a leaf's text, one behind the other.
+//! Slots: the parts of a leaf's text, one after the other.
 
 ghost use Rattle.std.specs.Prelude.{◌≡◌, ◌<◌, ◌≤◌, ◌+◌, ◌++◌, ◌∷◌, ◌&&◌, nat_lt, true, false, [], ℕ, List, get_or, length, set, IsOk, OnOk};
 ghost use Rattle.std.specs.Str.{IsCharBoundary};
@@ -24,54 +24,54 @@ pub enum Element {
     Superscript,
     Subscript,
     Highlight,
-    /// The link of this index.
+    /// The link with this index.
     Link(usize),
-    /// The autolink of this index.
+    /// The autolink with this index.
     Autolink(usize),
-    /// The image of this index.
+    /// The image with this index.
     Image(usize),
 }
 
-/// What a slot stands for.
+/// The meaning of a slot.
 #[derive(Clone, Copy)]
 pub enum SlotKind {
     /// The bytes of its range.
     Text,
-    /// The owned text of this index.
+    /// The owned text with this index.
     OwnedText(usize),
     /// This character.
     Character(char),
-    /// The bytes of the source that its range reaches over. The slots behind it up to that of this index are nothing any more.
+    /// The bytes of the source that its range covers. The later slots up to the one with this index are `Nothing`.
     Whole(usize),
     SoftBreak,
     HardBreak,
-    /// A code span, with the range of what it holds.
+    /// A code span, with the range of its content.
     Code(usize, usize),
-    /// A formula in the line, with the range of what it holds.
+    /// Inline math, with the range of its content.
     InlineMath(usize, usize),
-    /// A display, with the range of what it holds.
+    /// Display math, with the range of its content.
     DisplayMath(usize, usize),
     /// A tag: the bytes of its range.
     InlineHtml,
-    /// Inline HTML that is a part of the source, up to before this place there.
+    /// Inline HTML that is a part of the source and ends there at this offset, exclusive.
     SourceHtml(usize),
-    /// A tag over lines that begins at this place, of which its range has the last bytes.
+    /// A tag over several lines that begins at this offset of the text. The slot's range has its last bytes.
     CutHtml(usize),
-    /// A text that is a part of the source, up to before this place there.
+    /// A text that is a part of the source and ends there at this offset, exclusive.
     SourceText(usize),
-    /// A text of no bytes, before those of its range.
+    /// An empty text, before the bytes of its range.
     Empty,
-    /// A footnote reference, whose label is the owned text of this index.
+    /// A footnote reference. Its label is the owned text with this index.
     FootnoteReference(usize),
-    /// An element begins. The range is the whole element's.
+    /// The start of an element. The range is the whole element's.
     Begin(Element),
-    /// The element that began last ends.
+    /// The end of the element that began last.
     End,
-    /// Nothing any more: a delimiter that another slot stands for.
+    /// No event: a delimiter whose bytes belong to another slot.
     Nothing,
 }
 
-/// What stands at some bytes of a leaf's text.
+/// A part of a leaf's text.
 #[derive(Clone, Copy)]
 pub struct Slot {
     pub kind: SlotKind,
@@ -104,7 +104,7 @@ pub fn push_text(slots: &mut Vec<Slot>, start: usize, end: usize) -> Result<(), 
     Ok(())
 }
 
-/// Makes a slot the begin of an element that reaches at least up to a place.
+/// Makes a slot the start of an element that ends at the offset `end` or later.
 pub fn begin(slots: &mut Vec<Slot>, at: usize, element: Element, end: usize)
     requires there { at < length slots.old.items }
     ensures slots { (text : List ℕ) (place : ℕ) → AreSlots text place slots.old.items → IsCharBoundary text end → end ≤ place → AreSlots text place slots.new.items }
@@ -121,7 +121,7 @@ pub fn begin(slots: &mut Vec<Slot>, at: usize, element: Element, end: usize)
     };
 }
 
-/// Makes a slot another one.
+/// Replaces a slot.
 pub fn replace_slot(slots: &mut Vec<Slot>, at: usize, slot: Slot)
     requires there { at < length slots.old.items }
     requires kind { begins_link slot.kind ≡ false }
@@ -133,7 +133,7 @@ pub fn replace_slot(slots: &mut Vec<Slot>, at: usize, slot: Slot)
     slots[at] = slot;
 }
 
-/// Puts a slot at this index, in the place of the one there or behind the last.
+/// Puts a slot at this index: replaces the slot there, or appends it after the last.
 pub fn put_slot(slots: &mut Vec<Slot>, at: usize, slot: Slot) -> Result<(), AllocError>
     requires within { at ≤ length slots.old.items }
     requires kind { begins_link slot.kind ≡ false }
@@ -151,7 +151,7 @@ pub fn put_slot(slots: &mut Vec<Slot>, at: usize, slot: Slot) -> Result<(), Allo
     Ok(())
 }
 
-/// Makes a slot that of a delimiter: the end of an element, or nothing any more.
+/// Makes a slot a used delimiter: the end of an element if `ends`, and otherwise `Nothing`.
 pub fn use_up(slots: &mut Vec<Slot>, at: usize, ends: bool)
     requires there { at < length slots.old.items }
     ensures slots { (text : List ℕ) (place : ℕ) → AreSlots text place slots.old.items → AreSlots text place slots.new.items }
@@ -169,7 +169,7 @@ pub fn use_up(slots: &mut Vec<Slot>, at: usize, ends: bool)
     slots[at] = Slot { kind, ..slot };
 }
 
-/// Makes a slot that of a character.
+/// Makes a slot a character.
 pub fn become_character(slots: &mut Vec<Slot>, at: usize, character: char)
     requires there { at < length slots.old.items }
     ensures value { slots.new.items ≡ with_character at character slots.old.items }
@@ -184,8 +184,8 @@ pub fn become_character(slots: &mut Vec<Slot>, at: usize, character: char)
     };
 }
 
-/// Makes one text of the slots from one to another, which is a text: the bytes of the source from the begin of the first to the end of
-/// the last.
+/// Merges the slots from `first` to `last`, of which the last is a text, into one text. It has the bytes of the source from the start of
+/// the first to the end of the last.
 pub fn merge(slots: &mut Vec<Slot>, first: usize, last: usize)
     requires ordered { first < last }
     requires within { last < length slots.old.items }
@@ -201,7 +201,7 @@ pub fn merge(slots: &mut Vec<Slot>, first: usize, last: usize)
     become_whole(slots, first, last, end);
 }
 
-// Makes a slot the text of all slots up to another, which reaches at least up to a place.
+// Makes a slot the text of all slots up to `last`. It ends at the offset `end` or later.
 fn become_whole(slots: &mut Vec<Slot>, at: usize, last: usize, end: usize)
     requires there { at < length slots.old.items }
     ensures slots { (text : List ℕ) (place : ℕ) → AreSlots text place slots.old.items → IsCharBoundary text end → end ≤ place → AreSlots text place slots.new.items }
@@ -217,8 +217,7 @@ fn become_whole(slots: &mut Vec<Slot>, at: usize, last: usize, end: usize)
     };
 }
 
-// Makes the slots behind one up to another, which is a text, nothing any more. Those that are nothing already, behind a whole text, are
-// passed over.
+// Makes the slots after `first` up to `last`, which is a text, `Nothing`. Slots that a whole text already covers are skipped.
 fn use_up_between(slots: &mut Vec<Slot>, first: usize, last: usize)
     requires ordered { first < last }
     requires within { last < length slots.old.items }
@@ -238,7 +237,7 @@ fn use_up_between(slots: &mut Vec<Slot>, first: usize, last: usize)
     }
 }
 
-/// The index of the first slot from one on that ends behind a place; the number of slots, where none does.
+/// The index of the first slot, from `from` on, that ends after the offset `place`; the number of slots if there is none.
 pub fn first_behind(slots: &[Slot], from: usize, place: usize) -> usize
     requires { from ≤ length slots.now }
     ensures { IsFirstBehind slots.now from place result }
@@ -250,8 +249,7 @@ pub fn first_behind(slots: &[Slot], from: usize, place: usize) -> usize
     at
 }
 
-// Whether a slot has no bytes behind a place. The end of an element and what is nothing have none of their own, and a text of no
-// bytes ends where it begins.
+// Whether a slot has no bytes after an offset. `End` and `Nothing` have no bytes, and an empty text ends where it begins.
 fn ends_by(slot: Slot, place: usize) -> bool
     ensures value { result ≡ ends_by place slot }
     ensures behind { result ≡ false → place < slot.end }
@@ -264,7 +262,7 @@ fn ends_by(slot: Slot, place: usize) -> bool
     has_none || slot.end <= place
 }
 
-/// Makes the slots from one up to before another nothing any more.
+/// Makes the slots from `from` up to `to`, exclusive, `Nothing`.
 pub fn hide(slots: &mut Vec<Slot>, from: usize, to: usize)
     requires ordered { from ≤ to }
     requires within { to ≤ length slots.old.items }
@@ -279,8 +277,8 @@ pub fn hide(slots: &mut Vec<Slot>, from: usize, to: usize)
     }
 }
 
-/// Makes the first slot that ends behind a place begin there, if that is inside it; there is none where its index is the number of
-/// slots. What it holds stays whole, but for a text and for HTML on one line, which are what stands there.
+/// Makes the slot at the index `at` begin at the offset `place`, if that is inside it. Does nothing if `at` is the number of slots. The
+/// content of the slot stays whole, except that a text, and HTML on one line, lose the bytes before `place`.
 pub fn cut(slots: &mut Vec<Slot>, at: usize, text: &str, place: usize)
     requires within { at ≤ length slots.old.items }
     requires slots { (end : ℕ) × AreSlots text.now end slots.old.items }
@@ -296,7 +294,7 @@ pub fn cut(slots: &mut Vec<Slot>, at: usize, text: &str, place: usize)
     }
 }
 
-// A slot that begins at a place, if that is inside it.
+// The slot, beginning at `place` if that is inside it.
 fn cut_slot(slot: Slot, text: &str, place: usize) -> Slot
     requires part { IsPart text.now slot.start slot.end }
     requires content { IsContent text.now slot.kind }
@@ -314,14 +312,14 @@ fn cut_slot(slot: Slot, text: &str, place: usize) -> Slot
     slot
 }
 
-// Whether a place is inside a slot.
+// Whether an offset is inside a slot, after its start.
 fn is_inside(slot: Slot, place: usize) -> bool
     ensures { result ≡ (nat_lt slot.start place && nat_lt place slot.end) }
 {
     slot.start < place && place < slot.end
 }
 
-// What a slot stands for that begins behind its first bytes.
+// The meaning of a slot once its first bytes are cut off.
 fn cut_kind(slot: Slot, text: &str) -> SlotKind
     requires part { IsPart text.now slot.start slot.end }
     requires content { IsContent text.now slot.kind }
@@ -339,7 +337,7 @@ fn cut_kind(slot: Slot, text: &str) -> SlotKind
     }
 }
 
-// Whether a line ends between two places of the text.
+// Whether the text has a line ending between two offsets.
 fn takes_lines(text: &str, from: usize, end: usize) -> bool
     requires from { IsCharBoundary text.now from }
     requires end { IsCharBoundary text.now end }
@@ -348,7 +346,7 @@ fn takes_lines(text: &str, from: usize, end: usize) -> bool
     from < end && find_line_end(text[from..end].as_bytes()).is_some()
 }
 
-// The index of the last slot that belongs to that of this index.
+// The index of the last slot that belongs to the slot at `at`.
 fn last_of(kind: SlotKind, at: usize) -> usize
     ensures order { at ≤ result }
     ensures value { result ≡ last_in kind at }

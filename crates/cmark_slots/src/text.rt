@@ -1,4 +1,4 @@
-//! Texts of the bytes between two places of a leaf's text.
+//! Texts of the bytes between two offsets of a leaf's text.
 
 ghost use Rattle.std.specs.Prelude.{◌≡◌, ◌⊎◌, ◌+◌, ◌-◌, IfOk};
 ghost use Rattle.cmark_grammar.specs.Tokens.{slice};
@@ -10,7 +10,7 @@ use cmark_leaf_text::LeafText;
 use cmark_text_parts::CowStr;
 use std::alloc::{AllocError, Global};
 
-/// The bytes of a leaf's text between two places: borrowed where they stand in the source without a gap. Fails where memory is refused.
+/// The bytes of a leaf's text from `from` up to `to`: borrowed if they are in the source without a gap. Fails if memory is refused.
 #[inline(always)]
 pub fn text_between<'a>(
     alloc: Global,
@@ -30,7 +30,7 @@ pub fn text_between<'a>(
     }
 }
 
-/// A text of these bytes, which borrows nothing. Fails where memory is refused.
+/// A copy of the text that borrows nothing. Fails if memory is refused.
 #[inline(never)]
 pub fn copied<'a>(alloc: Global, text: &str) -> Result<CowStr<'a>, AllocError>
     ensures value { IfOk result (λ copy. text_bytes copy ≡ text.now) }

@@ -5,7 +5,7 @@ use Rattle.cmark_grammar.specs.Event.{Ranged, Start}
 use Rattle.cmark_grammar.specs.LeafSpans.{IsRange}
 use Rattle.cmark_grammar.specs.LeafText.{Leaf}
 use Rattle.cmark_grammar.specs.Options.{Options}
-use Rattle.cmark_grammar.specs.Questions.{Exchange}
+use Rattle.cmark_grammar.specs.Questions.{Exchange, Plan}
 use Rattle.cmark_grammar.specs.Readers.{Reader}
 use Rattle.cmark_grammar.specs.SpanDocuments as documents
 use Rattle.cmark_grammar.specs.SpanDocuments.{Segment, Left}
@@ -16,6 +16,7 @@ use Rattle.cmark_inline_model.specs.FirstEvents.{BeginWithEnd}
 use Rattle.cmark_inline_model.specs.LeafExtents.{extents}
 use Rattle.cmark_inline_model.specs.LeafGaps.{HasNoPipesBetween}
 use Rattle.cmark_inline_model.specs.PlacedLeaves.{IsPlaced}
+use Rattle.cmark_inline_model.specs.PlannedAnswers.{AreByPlan}
 use Rattle.cmark_references.specs.Definitions.{definition}
 use Rattle.cmark_references.specs.Footnotes.{footnote}
 use Rattle.cmark_references.specs.declared.link.Link.{Link}
@@ -269,6 +270,12 @@ module _ {E F : Type 0} (Says : F → BrokenLink → Option (CowStr × CowStr) �
     pub taken : List Exchange
     pub answered : Answered Says taken (callback_of old) (callback_of new)
     pub none : Remains replacement reader old taken []
+
+  -- memory was refused after these questions. They come first among the questions of what was left, however the further ones are answered
+  pub record Stops (old new : SpanWalk E F) : Type 0 where
+    pub taken : List Exchange
+    pub answered : Answered Says taken (callback_of old) (callback_of new)
+    pub left : (plan : Plan) → (rest : List Exchange) × (events : List Ranged) × AreByPlan plan [] rest × Remains replacement reader old (taken ++ rest) events
 
   -- a call gives the first of the events that are left, in its range; or nothing was left
   abbrev pub Gives : SpanWalk E F → Option Given → SpanWalk E F → Type 0

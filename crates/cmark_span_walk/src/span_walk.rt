@@ -13,6 +13,7 @@ ghost use Rattle.cmark_inline.specs.Footnoted.{SameFootnotes};
 ghost use Rattle.cmark_inline_model.specs.LeafExtents.{extents};
 ghost use Rattle.cmark_references.specs.Links.{shown_link};
 ghost use Rattle.cmark_inline.specs.PlainStretches.{IsSetOf, StandUpTo};
+ghost use Rattle.cmark_inline.specs.Resolved.{StopsAs};
 ghost use Rattle.cmark_leaf_text.specs.Stretches.{AreLines};
 ghost use Rattle.cmark_walk.specs.Walking.{Remains as BlocksRemain, definitions_of as block_definitions, text_of};
 ghost use Rattle.cmark_text.specs.Excerpt.{excerpt_bytes};
@@ -53,7 +54,7 @@ pub struct SpanWalk<'input, 'e, E, F> {
 }
 
 impl<'input, 'e, E: EntityLookup, F: BrokenLinkCallback<'input> + Drop> SpanWalk<'input, 'e, E, F> {
-    ghost use Rattle.cmark_span_walk.specs.Walking.{BeforeLeaf, KeepsAround, EntersLeaf, Gives, GivesInLeaf, GivesNext, GivesSpan, GivesStart, IsCounted, IsReadBy, KeepsBehindLeaf, KeepsLeft, LeavesFewer, LeavesLeaf, NoEndIsNext, ReadsLeaf, ReadsSame, Remains, Stands, as_next, callback_of, definitions_of, events_left, expansion_left_of, footnotes_of, link_to_come, options_of, source_of, steps_of};
+    ghost use Rattle.cmark_span_walk.specs.Walking.{BeforeLeaf, KeepsAround, EntersLeaf, Gives, GivesInLeaf, GivesNext, GivesSpan, GivesStart, IsCounted, IsReadBy, KeepsBehindLeaf, KeepsLeft, LeavesFewer, LeavesLeaf, NoEndIsNext, ReadsLeaf, ReadsSame, Remains, Stands, Stops, as_next, callback_of, definitions_of, events_left, expansion_left_of, footnotes_of, link_to_come, options_of, source_of, steps_of};
 
     /// A walk over what this walk over the text meets, which are fewer events and leaves than `budget`. `entities` says what the
     /// entity names stand for; `footnotes` are those that the text defines, of which each counts its references; `callback` is asked
@@ -134,6 +135,7 @@ impl<'input, 'e, E: EntityLookup, F: BrokenLinkCallback<'input> + Drop> SpanWalk
         ensures fewer { IfOk result (λ given. OnSome given (events_left self.new < events_left self.old)) }
         ensures ends { OnErr result ((reader : GrammarReader) → NoEndIsNext E.replacement reader self.old) }
         ensures asked { OnErr result (HasAsked F.answers (callback_of self.old) (callback_of self.new)) }
+        ensures stops { (reader : GrammarReader) → IsReadBy E.replacement reader self.old → OnErr result (Stops F.answers E.replacement reader self.old self.new) }
         ensures counted { IsCounted self.new }
         ensures definitions { definitions_of self.new ≡ definitions_of self.old }
         ensures footnotes { SameFootnotes (footnotes_of self.old) (footnotes_of self.new) }
@@ -174,6 +176,7 @@ impl<'input, 'e, E: EntityLookup, F: BrokenLinkCallback<'input> + Drop> SpanWalk
         ensures fewer { IfOk result (λ coming. LeavesFewer self.old (as_next coming) self.new) }
         ensures ends { OnErr result ((reader : GrammarReader) → NoEndIsNext E.replacement reader self.old) }
         ensures asked { OnErr result (HasAsked F.answers (callback_of self.old) (callback_of self.new)) }
+        ensures stops { (reader : GrammarReader) → IsReadBy E.replacement reader self.old → OnErr result (Stops F.answers E.replacement reader self.old self.new) }
         ensures counted { IsCounted self.new }
         ensures definitions { definitions_of self.new ≡ definitions_of self.old }
         ensures footnotes { SameFootnotes (footnotes_of self.old) (footnotes_of self.new) }
@@ -329,6 +332,8 @@ impl<'input, 'e, E: EntityLookup, F: BrokenLinkCallback<'input> + Drop> SpanWalk
         ensures reads { OnOk result ((reader : GrammarReader) (leaf : Leaf) (others : List Segment) → BeforeLeaf self.old is_cell leaf others → HasPlaces reader leaf → ReadsSame E.replacement reader self.old
             → ReadsLeaf F.answers E.replacement reader leaf self.old self.new) }
         ensures lines { OnErr result (self.old.lines.items ≢ []) }
+        ensures stops { OnErr result ((reader : GrammarReader) (leaf : Leaf) (others : List Segment) → BeforeLeaf self.old is_cell leaf others → HasPlaces reader leaf → ReadsSame E.replacement reader self.old
+            → StopsAs F.answers reader leaf (expansion_left_of self.old) (callback_of self.old) (callback_of self.new)) }
         ensures asked { HasAsked F.answers (callback_of self.old) (callback_of self.new) }
         ensures counted { IsCounted self.new }
         ensures source { source_of self.new ≡ source_of self.old }

@@ -1,4 +1,4 @@
--- A text escaped so far, by a map of each byte.
+-- A text that is escaped byte by byte, up to some point.
 use Rattle.std.proofs.Common.{◌≡◌, ℕ, suc, ◌+◌, ◌-◌, ◌<◌, ◌≤◌, Bool, true, false, List, [], ◌∷◌, ◌++◌, length, get_or, take, drop, slice_range, flat_map, position, Option, None, Some, refl, sym, ap, subst, ◌∙◌, arith, add-one, append_assoc, append-nil, take-append-drop, drop-cons, drop-drop, Result, Ok, Err, OnOk, OnErr, is_ok, if◌then◌else◌}
 use Rattle.std.proofs.lemmas.Bool.{false_from_ne_true}
 use Rattle.std.proofs.lemmas.Grind.{flat_map-append}
@@ -17,7 +17,7 @@ pub record Written (escape : ℕ → List ℕ) (old new text rest : List ℕ) : 
 pub written_none : (escape : ℕ → List ℕ) (old text : List ℕ) → Written escape old old text text
 written_none escape old text = record { front = []; cut = refl; written = sym (append-nil old) }
 
--- one part more
+-- one more part
 pub written_more : (escape : ℕ → List ℕ) (old mid new text part rest : List ℕ) → Written escape old mid text (part ++ rest) → new ≡ mid ++ flat_map escape part → Written escape old new text rest
 written_more escape old mid new text part rest w e = record {
   front = w.front ++ part;
@@ -34,7 +34,7 @@ pub written_front : (escape : ℕ → List ℕ) (old mid new text rest : List �
 written_front escape old mid new text rest w same =
     (flat_map escape w.front, flat_map escape rest, ap (flat_map escape) w.cut ∙ flat_map-append escape w.front rest, same ∙ w.written)
 
--- and a beginning of the next part
+-- a beginning of the escaped text that ends in the next part
 pub written_within : (escape : ℕ → List ℕ) (old mid new text part rest : List ℕ) → Written escape old mid text (part ++ rest) → AppendsFront mid new (flat_map escape part) → AppendsFront old new (flat_map escape text)
 written_within escape old mid new text part rest w h = (
   flat_map escape w.front ++ h.0,
@@ -50,7 +50,7 @@ pub on_err : {T E P : Type 0} (r : Result T E) → P → OnErr r P
 on_err (Ok x) p = tt
 on_err (Err e) p = p
 
--- a fact that follows from one at the same outcome
+-- a fact that follows from another at the same outcome
 pub then_ok : {T E P Q : Type 0} (r : Result T E) → OnOk r P → (P → Q) → OnOk r Q
 then_ok (Ok x) p f = f p
 then_ok (Err e) p f = tt
@@ -59,7 +59,7 @@ pub then_err : {T E P Q : Type 0} (r : Result T E) → OnErr r P → (P → Q) �
 then_err (Ok x) p f = tt
 then_err (Err e) p f = f p
 
--- the same where what a push leaves follows from the outcome
+-- then_ok for a push, whose result the outcome determines
 pub at_ok : {T E P : Type 0} (r : Result T E) (new more old : List ℕ) → new ≡ (if is_ok r then more else old) → (new ≡ more → P) → OnOk r P
 at_ok (Ok x) new more old e fact = fact e
 at_ok (Err e) new more old same fact = tt
@@ -89,7 +89,7 @@ first_mark-byte mark xs at found = record {
 pub all_kept-byte : (mark : ℕ → Bool) (xs : List ℕ) → IsFirstByte mark xs None → AllKept mark xs
 all_kept-byte mark xs none k below = false_from_ne_true (mark (get_or xs k 0)) (none k (omega arith) below)
 
--- and a beginning of what is written for the mark
+-- a beginning of the escaped text that ends in the escape of the mark
 pub written_within_mark : (escape : ℕ → List ℕ) (old mid new text : List ℕ) (at : ℕ) → at < length text → Written escape old mid text (drop at text) → AppendsFront mid new (escape (get_or text at 0)) → AppendsFront old new (flat_map escape text)
 written_within_mark escape old mid new text at below w h =
     let cut : drop at text ≡ (get_or text at 0 ∷ []) ++ drop (at + 1) text = rw add-one (drop-cons text at 0 below) in
@@ -110,7 +110,7 @@ module _ (escape : ℕ → List ℕ) (mark : ℕ → Bool) (keeps : (b : ℕ) �
       let small : k < n = omega (arith, length-take-le n xs fits) in
       ap mark (get_or-take n xs k 0 small) ∙ kept k small)
 
-  -- the bytes in front of the first mark, and the mark itself
+  -- the bytes before the first mark, and the mark itself
   pub written_to_mark : (old mid new text rest : List ℕ) (at : ℕ) → at ≤ length rest → ((k : ℕ) → k < at → mark (get_or rest k 0) ≡ false) → Written escape old mid text rest → new ≡ mid ++ take at rest → Written escape old new text (drop at rest)
   written_to_mark old mid new text rest at fits kept w e =
       written_more escape old mid new text (take at rest) (drop at rest)
@@ -124,7 +124,7 @@ module _ (escape : ℕ → List ℕ) (mark : ℕ → Bool) (keeps : (b : ℕ) �
       (subst (Written escape old mid text) cut w)
       (e ∙ ap (λ l. mid ++ l) (sym (append-nil (escape (get_or rest at 0)))))
 
-  -- where no mark is left
+  -- no mark is left
   pub written_to_end : (old mid new text rest : List ℕ) → AllKept mark rest → Written escape old mid text rest → new ≡ mid ++ rest → new ≡ old ++ flat_map escape text
   written_to_end old mid new text rest kept w e =
       written_all escape old new text

@@ -1,4 +1,4 @@
--- The bytes of a part of a text that is handed on with what stands behind it there.
+-- The bytes of a part of a text that is passed together with the bytes after it.
 use Rattle.std.specs.Prelude.{ℕ, List, take}
 use Rattle.cmark_text.specs.declared.excerpt.Excerpt.{Excerpt}
 

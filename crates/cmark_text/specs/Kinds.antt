@@ -1,4 +1,4 @@
--- What a text or a link stands for: the events that hold one text alone, and the tags of elements that lead somewhere.
+-- The events that hold a text and nothing else, and the tags of elements with a destination.
 use Rattle.std.specs.Prelude.{ℕ, List}
 use Rattle.cmark_grammar.specs.Event as event
 use Rattle.cmark_grammar.specs.Tag as tag

@@ -1,4 +1,4 @@
--- The bytes that an escape does not keep.
+-- The bytes that are escaped.
 use Rattle.std.specs.Prelude.{ℕ, Bool, ◌==◌, ◌||◌, not}
 use Rattle.cmark_grammar.specs.Escapes.{is_url_byte}
 

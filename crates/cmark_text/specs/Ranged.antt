@@ -1,4 +1,4 @@
--- An event with its range, as one of the definitions, and the zero-copy law of it.
+-- An event with its range as a value of the grammar, and its zero-copy law.
 use Rattle.std.specs.Prelude.{ℕ, List}
 use Rattle.cmark_grammar.specs.Event as event
 use Rattle.cmark_text.specs.Shown.{shown}

@@ -1,4 +1,4 @@
--- The events that own nothing, as those of the definitions, and the zero-copy law of them.
+-- The events that own nothing as events of the grammar, and their zero-copy law.
 use Rattle.std.specs.Prelude.{◌≡◌, ℕ, List, option_map}
 use Rattle.cmark_grammar.specs.Attributes.{no_attributes}
 use Rattle.cmark_grammar.specs.CodeBlockKind as code_kind
@@ -59,7 +59,7 @@ shown_short short.SoftBreak = event.SoftBreak
 shown_short short.HardBreak = event.HardBreak
 shown_short short.Rule = event.Rule
 
--- the zero-copy law of an event that owns nothing, which stands over these bytes: all its texts are borrowed
+-- the zero-copy law of an event that owns nothing and has this range: all its texts are borrowed
 abbrev pub IsShortZeroCopy : (source : List ℕ) → Short → (start end : ℕ) → Type 0
 IsShortZeroCopy source (short.Text text) start end = excerpt_bytes text ≡ slice source start end
 IsShortZeroCopy source (short.Html text) start end = text.now ≡ slice source start end

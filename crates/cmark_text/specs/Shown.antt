@@ -1,4 +1,4 @@
--- The values of this crate as those of the definitions: a text by its bytes, a heading level by its number.
+-- The values of this crate as values of the grammar: a text by its bytes, a heading level by its number.
 use Rattle.std.specs.Prelude.{map, option_map}
 use Rattle.cmark_grammar.specs.Event as event
 use Rattle.cmark_grammar.specs.Tag as tag

@@ -1,4 +1,4 @@
-//! Copies of tags and events, and what they are in values that borrow nothing.
+//! Copies of tags and events, also as values that borrow nothing.
 
 ghost use Rattle.std.specs.Prelude.{◌≡◌, ◌∷◌, [], ◌++◌, length, IfOk, IsOk, IfSome, OnOk, map, option_map};
 ghost use Rattle.cmark_grammar.specs.Tag as tag;
@@ -15,7 +15,7 @@ use cmark_text_parts::{CowStr, HeadingLevel, LinkType};
 use std::alloc::{AllocError, Global};
 
 impl<'a> Tag<'a> {
-    /// The same tag once more.
+    /// A copy of the tag.
     pub fn clone(&self, alloc: Global) -> Result<Tag<'a>, AllocError>
         ensures value { IfOk result (λ copy. shown_tag copy ≡ shown_tag self.now) }
         ensures succeeds { TagCopiesInPlace self.now → IsOk result }
@@ -49,7 +49,7 @@ impl<'a> Tag<'a> {
         }
     }
 
-    /// The same tag in a value that borrows nothing.
+    /// This tag as a value that borrows nothing.
     pub fn into_static(self, alloc: Global) -> Result<Tag<'static>, AllocError>
         ensures value { IfOk result (λ made. shown_tag made ≡ shown_tag self.entry) }
         ensures succeeds { TagStaysInPlace self.entry → IsOk result }
@@ -78,14 +78,14 @@ impl<'a> Tag<'a> {
             } => static_linked(alloc, LinkKind::Image, link_type, dest_url, title, id),
             _ => {
                 let plain = self.textless();
-                // A call drops it: a drop that the compiler adds is written out here, which is dear to prove.
+                // Dropped by a call: the compiler would write out an implicit drop here, which takes long to prove.
                 drop(self);
                 Ok(plain.tag(alloc))
             }
         }
     }
 
-    /// The tag as one of an element that has no text of its own, which it is.
+    /// The tag as a `PlainTag`. It has to be the tag of an element without texts of its own.
     fn textless(&self) -> PlainTag
         requires { MayOwn self.now → ⊥ }
         ensures { shown_plain result ≡ shown_tag self.now }
@@ -98,7 +98,7 @@ impl<'a> Tag<'a> {
 }
 
 impl<'a> Event<'a> {
-    /// The same event once more.
+    /// A copy of the event.
     pub fn clone(&self, alloc: Global) -> Result<Event<'a>, AllocError>
         ensures value { IfOk result (λ copy. shown copy ≡ shown self.now) }
         ensures succeeds { EventCopiesInPlace self.now → IsOk result }
@@ -124,7 +124,7 @@ impl<'a> Event<'a> {
         }
     }
 
-    /// The same event in a value that borrows nothing.
+    /// This event as a value that borrows nothing.
     pub fn into_static(self, alloc: Global) -> Result<Event<'static>, AllocError>
         ensures value { IfOk result (λ made. shown made ≡ shown self.entry) }
         ensures succeeds { EventStaysInPlace self.entry → IsOk result }
@@ -151,7 +151,7 @@ impl<'a> Event<'a> {
     }
 }
 
-/// The events that hold one text alone.
+/// The kinds of events that hold a text and nothing else.
 #[derive(Clone, Copy)]
 enum TextKind {
     Text,
@@ -164,7 +164,7 @@ enum TextKind {
 }
 
 impl TextKind {
-    /// The event that holds this text.
+    /// The event of this kind with this text.
     fn event<'a>(self, text: CowStr<'a>) -> Event<'a>
         ensures { shown result ≡ shown_text self (text_bytes text.entry) }
     {
@@ -183,7 +183,7 @@ impl TextKind {
 /// An attribute of a heading: its name, and its value if it has one.
 type Attribute<'a> = (CowStr<'a>, Option<CowStr<'a>>);
 
-/// The elements that lead somewhere.
+/// The elements with a destination.
 #[derive(Clone, Copy)]
 enum LinkKind {
     Link,
@@ -191,7 +191,7 @@ enum LinkKind {
 }
 
 impl LinkKind {
-    /// The tag that has these texts.
+    /// The tag of this element with these texts.
     fn tag<'a>(
         self,
         link_type: LinkType,
@@ -218,7 +218,7 @@ impl LinkKind {
     }
 }
 
-/// A copy of the link or the image of this type with these texts.
+/// A copy of the link or the image with this type and these texts.
 fn clone_linked<'a>(
     alloc: Global,
     kind: LinkKind,
@@ -230,7 +230,7 @@ fn clone_linked<'a>(
     ensures value { IfOk result (λ copy. shown_tag copy ≡ shown_link_tag kind (shown_linked link_type dest_url.now title.now id.now)) }
     ensures succeeds { CopiesInPlace dest_url.now → CopiesInPlace title.now → CopiesInPlace id.now → IsOk result }
 {
-    // Calls drop the others: drops that the compiler adds are written out at each way out, which is dear to prove.
+    // The other texts are dropped by calls: the compiler would write out implicit drops at each exit, which takes long to prove.
     let Ok(dest_url) = dest_url.clone(alloc) else {
         return Err(AllocError);
     };
@@ -246,7 +246,7 @@ fn clone_linked<'a>(
     Ok(kind.tag(link_type, dest_url, title, id))
 }
 
-/// The link or the image of this type with these texts, in a value that borrows nothing.
+/// The link or the image with this type and these texts, as a value that borrows nothing.
 fn static_linked(
     alloc: Global,
     kind: LinkKind,
@@ -258,7 +258,7 @@ fn static_linked(
     ensures value { IfOk result (λ made. shown_tag made ≡ shown_link_tag kind (shown_linked link_type dest_url.entry title.entry id.entry)) }
     ensures succeeds { StaysInPlace dest_url.entry → StaysInPlace title.entry → StaysInPlace id.entry → IsOk result }
 {
-    // Calls drop the others, as in `clone_linked`.
+    // Calls drop the other texts, as in `clone_linked`.
     let Ok(dest_url) = dest_url.into_static(alloc) else {
         drop(title);
         drop(id);
@@ -277,7 +277,7 @@ fn static_linked(
     Ok(kind.tag(link_type, dest_url, title, id))
 }
 
-/// A copy of the heading of this level that says this in braces.
+/// A copy of the heading with this level and these attributes.
 fn clone_heading<'a>(
     alloc: Global,
     level: HeadingLevel,
@@ -305,7 +305,7 @@ fn clone_heading<'a>(
     }
 }
 
-/// The heading of this level that says this in braces, in a value that borrows nothing.
+/// The heading with this level and these attributes, as a value that borrows nothing.
 fn static_heading(
     alloc: Global,
     level: HeadingLevel,
@@ -316,7 +316,7 @@ fn static_heading(
     ensures value { IfOk result (λ made. shown_tag made ≡ tag.Heading (level_number level) (shown_attributes id.entry classes.entry.items attrs.entry.items)) }
     ensures succeeds { IfSome id.entry StaysInPlace → length classes.entry.items ≡ 0 → length attrs.entry.items ≡ 0 → IsOk result }
 {
-    // Calls drop the anchor, as the texts of a link above. A list is dropped by a call anyway.
+    // A call drops the anchor, as in `clone_linked`. A list is dropped by a call in any case.
     let Ok(classes) = static_texts(alloc, classes) else {
         drop(id);
         return Err(AllocError);
@@ -364,7 +364,7 @@ fn clone_texts<'a>(alloc: Global, texts: &[CowStr<'a>]) -> Result<Vec<CowStr<'a>
     Ok(copies)
 }
 
-/// Appends a copy of this text. The list is lent, so that no way out lets it go here.
+/// Appends a copy of this text. The list is passed by reference, so that no exit of this function drops it.
 fn push_clone<'a>(
     copies: &mut Vec<CowStr<'a>>,
     alloc: Global,
@@ -397,7 +397,7 @@ fn clone_attributes<'a>(
     Ok(copies)
 }
 
-/// Appends a copy of this attribute, as `push_clone` does of a text.
+/// Appends a copy of this attribute, as `push_clone` does for a text.
 fn push_attribute_clone<'a>(
     copies: &mut Vec<Attribute<'a>>,
     alloc: Global,
@@ -445,7 +445,7 @@ fn static_texts(alloc: Global, texts: Vec<CowStr<'_>>) -> Result<Vec<CowStr<'sta
     Ok(made)
 }
 
-/// Appends this text in a value that borrows nothing. The list is lent, so that no way out lets it go here.
+/// Appends this text as a value that borrows nothing. The list is passed by reference, so that no exit of this function drops it.
 fn push_static(
     made: &mut Vec<CowStr<'static>>,
     alloc: Global,
@@ -478,7 +478,7 @@ fn static_attributes(
     Ok(made)
 }
 
-/// Appends this attribute in a value that borrows nothing, as `push_static` does a text.
+/// Appends this attribute as a value that borrows nothing, as `push_static` does for a text.
 fn push_static_attribute(
     made: &mut Vec<Attribute<'static>>,
     alloc: Global,

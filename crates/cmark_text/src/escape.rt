@@ -1,4 +1,4 @@
-//! Escapes of texts in HTML. Stretches that are kept are copied whole.
+//! Escapes of texts in HTML. Stretches of bytes that need no escape are copied whole.
 
 ghost use Rattle.std.specs.Prelude.{◌≡◌, ◌+◌, ◌<◌, ◌≤◌, ℕ, true, false, not, ◌++◌, length, position, take, slice_range, slice_index, OnOk, OnErr, string_bytes};
 ghost use Rattle.memchr.specs.Find.{IsFirstByte};
@@ -13,7 +13,7 @@ use std::alloc::AllocError;
 
 /// Appends the text as body text of HTML: `&`, `<` and `>` are written as entities.
 ///
-/// Where there is no memory, the old text stands with a beginning of the escaped one.
+/// If memory is refused, the string holds its old text and a beginning of the escaped text.
 #[inline(always)]
 pub fn escape_html_body_text(out: &mut String, text: &str) -> Result<(), AllocError>
     ensures ok { OnOk result (string_bytes out.new ≡ string_bytes out.old ++ escaped_body_text text.now) }
@@ -25,10 +25,10 @@ pub fn escape_html_body_text(out: &mut String, text: &str) -> Result<(), AllocEr
     }
 }
 
-/// Appends the excerpt as body text of HTML, as `escape_html_body_text` does a text. A few bytes are looked at together with those that
-/// stand behind them.
+/// Appends the excerpt as body text of HTML, as `escape_html_body_text` does for a text. A short excerpt is searched together with the
+/// bytes after it.
 ///
-/// Where there is no memory, the old text stands with a beginning of the escaped one.
+/// If memory is refused, the string holds its old text and a beginning of the escaped text.
 #[inline(always)]
 pub fn escape_excerpt(out: &mut String, excerpt: Excerpt<'_>) -> Result<(), AllocError>
     ensures ok { OnOk result (string_bytes out.new ≡ string_bytes out.old ++ escaped_body_text (excerpt_bytes excerpt.entry)) }
@@ -40,10 +40,10 @@ pub fn escape_excerpt(out: &mut String, excerpt: Excerpt<'_>) -> Result<(), Allo
     }
 }
 
-/// Appends the excerpt as it is. Where there is no memory, the old text stands as it was.
+/// Appends the excerpt as it is. If memory is refused, the string keeps its old text.
 ///
-/// One of up to sixteen bytes is copied with those that stand behind it, if they are sixteen in all, and then they are cut off: a copy of
-/// a fixed length has no branch on the length.
+/// An excerpt of up to sixteen bytes is copied together with the bytes after it, if these are sixteen in all, and the excess is cut off. A
+/// copy of a fixed length has no branch on the length.
 #[inline(always)]
 pub fn append_excerpt(out: &mut String, excerpt: Excerpt<'_>) -> Result<(), AllocError>
     ensures ok { OnOk result (string_bytes out.new ≡ string_bytes out.old ++ excerpt_bytes excerpt.entry) }
@@ -59,8 +59,8 @@ pub fn append_excerpt(out: &mut String, excerpt: Excerpt<'_>) -> Result<(), Allo
     out.push_str(excerpt.as_str())
 }
 
-/// Appends a text as body text of HTML, whose first byte that is not kept stands at a place. It is apart, so that most texts, which have
-/// none, are appended where they are given.
+/// Appends a text as body text of HTML. `at` is the offset of the first byte that needs an escape. This is a function of its own so that
+/// most texts, which need no escape, are appended by the caller itself.
 #[inline(never)]
 fn escape_from(out: &mut String, text: &str, first: usize) -> Result<(), AllocError>
     requires { IsFirstByte is_body_text_mark text.now (Some first) }
@@ -78,10 +78,10 @@ fn escape_from(out: &mut String, text: &str, first: usize) -> Result<(), AllocEr
     out.push_str(rest)
 }
 
-/// The keys of the set of `&`, `<` and `>`. No byte whose low digit is 0 is 1.
+/// The keys of the set of `&`, `<` and `>`. The key 1 at index 0 matches nothing, since the low digit of the byte 1 is not 0.
 const BODY_TEXT_MARKS: &[u8; 16] = &[1, 0, 0, 0, 0, 0, 38, 0, 0, 0, 0, 0, 60, 0, 62, 0];
 
-/// Where the first byte stands that `escape_html_body_text` does not keep.
+/// The offset of the first byte that `escape_html_body_text` escapes.
 #[inline]
 fn find_body_text_mark(text: &str) -> Option<usize>
     ensures { IsFirstByte is_body_text_mark text.now result }
@@ -89,7 +89,7 @@ fn find_body_text_mark(text: &str) -> Option<usize>
     find_first(BODY_TEXT_MARKS, text.as_bytes())
 }
 
-/// The same of the first `len` bytes of a text.
+/// The offset of the first byte that `escape_html_body_text` escapes, among the first `len` bytes of a text.
 #[inline(always)]
 fn find_mark_within(ahead: &str, len: usize) -> Option<usize>
     requires { len ≤ length ahead.now }
@@ -98,7 +98,7 @@ fn find_mark_within(ahead: &str, len: usize) -> Option<usize>
     find_first_within(BODY_TEXT_MARKS, ahead.as_bytes(), len)
 }
 
-/// What a byte of body text that is not kept is written as.
+/// The entity of a byte that `escape_html_body_text` escapes.
 fn body_text_entity(byte: u8) -> &'static str
     requires { is_body_text_mark byte ≡ true }
     ensures { result.now ≡ body_text_byte byte }
@@ -110,7 +110,7 @@ fn body_text_entity(byte: u8) -> &'static str
     }
 }
 
-/// 1 at each byte that `escape_html` does not keep.
+/// 1 at each byte that `escape_html` escapes.
 const HTML_MARKS: &[u8; 256] = &[
     0, 0, 0, 0, 0, 0, 0, 0, 0, 0, 0, 0, 0, 0, 0, 0, 0, 0, 0, 0, 0, 0, 0, 0, 0, 0, 0, 0, 0, 0, 0, 0,
     0, 0, 1, 0, 0, 0, 1, 1, 0, 0, 0, 0, 0, 0, 0, 0, 0, 0, 0, 0, 0, 0, 0, 0, 0, 0, 0, 0, 1, 0, 1, 0,
@@ -124,7 +124,7 @@ const HTML_MARKS: &[u8; 256] = &[
 
 /// Appends the text as the value of an attribute of HTML: `&`, `<`, `>`, `"` and `'` are written as entities.
 ///
-/// Where there is no memory, the old text stands with a beginning of the escaped one.
+/// If memory is refused, the string holds its old text and a beginning of the escaped text.
 pub fn escape_html(out: &mut String, text: &str) -> Result<(), AllocError>
     ensures ok { OnOk result (string_bytes out.new ≡ string_bytes out.old ++ escaped_html text.now) }
     ensures err { OnErr result (AppendsFront (string_bytes out.old) (string_bytes out.new) (escaped_html text.now)) }
@@ -138,7 +138,7 @@ pub fn escape_html(out: &mut String, text: &str) -> Result<(), AllocError>
     out.push_str(rest)
 }
 
-/// Where the first byte stands that `escape_html` does not keep.
+/// The offset of the first byte that `escape_html` escapes.
 #[inline]
 fn find_html_mark(text: &str) -> Option<usize>
     ensures { result ≡ position is_html_mark text.now }
@@ -153,7 +153,7 @@ fn is_html_mark(byte: u8) -> bool
     HTML_MARKS[byte as usize] != 0
 }
 
-/// What a byte that `escape_html` does not keep is written as.
+/// The entity of a byte that `escape_html` escapes.
 fn html_entity(byte: u8) -> &'static str
     requires { is_html_mark byte ≡ true }
     ensures { result.now ≡ html_byte byte }
@@ -167,7 +167,7 @@ fn html_entity(byte: u8) -> &'static str
     }
 }
 
-/// 1 at each byte that `escape_href` does not keep.
+/// 1 at each byte that `escape_href` escapes.
 const HREF_MARKS: &[u8; 256] = &[
     1, 1, 1, 1, 1, 1, 1, 1, 1, 1, 1, 1, 1, 1, 1, 1, 1, 1, 1, 1, 1, 1, 1, 1, 1, 1, 1, 1, 1, 1, 1, 1,
     1, 0, 1, 0, 0, 0, 1, 1, 0, 0, 0, 0, 0, 0, 0, 0, 0, 0, 0, 0, 0, 0, 0, 0, 0, 0, 0, 0, 1, 0, 1, 0,
@@ -184,10 +184,10 @@ static HEXADECIMAL_DIGITS: [char; 16] = [
     '0', '1', '2', '3', '4', '5', '6', '7', '8', '9', 'A', 'B', 'C', 'D', 'E', 'F',
 ];
 
-/// Appends a URL as the value of an attribute of HTML: `&` and `'` are written as entities, and each other byte but ASCII
-/// letters, digits and ``!#$%()*+,-./:;=?@_~`` as `%` with two upper-case hexadecimal digits.
+/// Appends a URL as the value of an attribute of HTML. `&` and `'` are written as entities. ASCII letters, digits and
+/// ``!#$%()*+,-./:;=?@_~`` are kept. Each other byte is written as `%` with two upper-case hexadecimal digits.
 ///
-/// Where there is no memory, the old text stands with a beginning of the escaped URL.
+/// If memory is refused, the string holds its old text and a beginning of the escaped URL.
 pub fn escape_href(out: &mut String, url: &str) -> Result<(), AllocError>
     ensures ok { OnOk result (string_bytes out.new ≡ string_bytes out.old ++ escaped_href url.now) }
     ensures err { OnErr result (AppendsFront (string_bytes out.old) (string_bytes out.new) (escaped_href url.now)) }
@@ -205,7 +205,7 @@ pub fn escape_href(out: &mut String, url: &str) -> Result<(), AllocError>
     Ok(())
 }
 
-/// Where from `from` on the first byte stands that `escape_href` does not keep, or the length.
+/// The offset of the first byte from `from` on that `escape_href` escapes, or the length.
 #[inline]
 fn find_href_mark(url: &str, from: usize) -> usize
     requires { from ≤ length url.now }
@@ -230,7 +230,7 @@ fn is_href_mark(byte: u8) -> bool
     HREF_MARKS[byte as usize] != 0
 }
 
-/// Appends the bytes of the URL from `from` to before `to`, all of which are kept, and so ASCII.
+/// Appends the bytes of the URL from `from` up to `to`. None of them needs an escape, so they are ASCII.
 fn push_kept(out: &mut String, url: &str, from: usize, to: usize) -> Result<(), AllocError>
     requires ordered { from ≤ to }
     requires in_bounds { to ≤ length url.now }
@@ -244,7 +244,7 @@ fn push_kept(out: &mut String, url: &str, from: usize, to: usize) -> Result<(), 
     out.push_str(&url[from..to])
 }
 
-/// Appends what a byte that `escape_href` does not keep is written as.
+/// Appends the escape of a byte that `escape_href` does not keep.
 fn push_href_byte(out: &mut String, byte: u8) -> Result<(), AllocError>
     requires { is_href_mark byte ≡ true }
     ensures ok { OnOk result (string_bytes out.new ≡ string_bytes out.old ++ href_byte byte) }

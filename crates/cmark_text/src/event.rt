@@ -8,16 +8,16 @@ use cmark_text_parts::{
     Alignment, BlockQuoteKind, CodeBlockKind, CowStr, HeadingLevel, LinkType, MetadataBlockKind,
 };
 
-/// An element that has a start and an end. A value has 128 bytes, those of a link's three texts.
+/// An element that has a start and an end. A value has 128 bytes, because a link has three texts.
 #[derive(Debug, Drop, PartialEq, Eq)]
 pub enum Tag<'a> {
     /// A paragraph (CommonMark 4.8).
     Paragraph,
     /// A heading (CommonMark 4.2 and 4.3) with its attributes (this profile's own).
     Heading {
-        /// How deep the heading stands in the outline.
+        /// The level of the heading in the outline.
         level: HeadingLevel,
-        /// The anchor that leads here.
+        /// The anchor of the heading, for links to it.
         id: Option<CowStr<'a>>,
         /// The classes, in the order of the text.
         classes: Vec<CowStr<'a>>,
@@ -34,13 +34,13 @@ pub enum Tag<'a> {
     List(Option<u64>),
     /// An item of a list (CommonMark 5.2).
     Item,
-    /// What a footnote's label stands for (this profile's own).
+    /// The definition of the footnote with this label (this profile's own).
     FootnoteDefinition(CowStr<'a>),
-    /// A list of terms and what they mean (this profile's own).
+    /// A definition list: terms and their definitions (this profile's own).
     DefinitionList,
     /// A term of a definition list.
     DefinitionListTitle,
-    /// What the terms before it mean.
+    /// A definition of the terms before it.
     DefinitionListDefinition,
     /// A table, with an alignment for each column (GFM 4.10).
     Table(Vec<Alignment>),
@@ -66,18 +66,18 @@ pub enum Tag<'a> {
     Link {
         /// How it is written.
         link_type: LinkType,
-        /// Where it leads.
+        /// The destination.
         dest_url: CowStr<'a>,
         /// Its title, which may be empty.
         title: CowStr<'a>,
         /// The label of a reference, and otherwise empty.
         id: CowStr<'a>,
     },
-    /// An image (CommonMark 6.4); what is inside describes it.
+    /// An image (CommonMark 6.4); its content is the description.
     Image {
         /// How it is written.
         link_type: LinkType,
-        /// Where the image lies.
+        /// The address of the image.
         dest_url: CowStr<'a>,
         /// Its title, which may be empty.
         title: CowStr<'a>,
@@ -137,7 +137,7 @@ pub enum TagEnd {
     CodeBlock,
     /// The end of an HTML block.
     HtmlBlock,
-    /// The end of a list; `true` where it is ordered.
+    /// The end of a list; `true` if the list is ordered.
     List(bool),
     /// The end of an item.
     Item,
@@ -147,7 +147,7 @@ pub enum TagEnd {
     DefinitionList,
     /// The end of a term.
     DefinitionListTitle,
-    /// The end of what terms mean.
+    /// The end of a definition of terms.
     DefinitionListDefinition,
     /// The end of a table.
     Table,
@@ -180,7 +180,7 @@ pub enum TagEnd {
 impl From<Tag<'_>> for TagEnd {
     ghost from_gives = { λ tag end. shown_end end ≡ end_of (shown_tag tag) };
 
-    /// The end of this element, as `to_end` gives it.
+    /// The end of this element, as `to_end` returns it.
     fn from(tag: Tag<'_>) -> TagEnd {
         let end = tag.to_end();
         drop(tag);
@@ -188,14 +188,14 @@ impl From<Tag<'_>> for TagEnd {
     }
 }
 
-/// What a walk over a document gives, one after the other. A value has 136 bytes, eight more than a tag.
+/// The events of a document, in order. A value has 136 bytes, eight more than a tag.
 #[derive(Debug, Drop, PartialEq, Eq)]
 pub enum Event<'a> {
-    /// An element starts; what is inside it follows, and then its `End`.
+    /// The start of an element; its content follows, and then its `End`.
     Start(Tag<'a>),
-    /// The element that started last and has not ended ends.
+    /// The end of the innermost open element.
     End(TagEnd),
-    /// Text. The texts of one paragraph are parts of one text.
+    /// Text. A paragraph's text may be split over several events.
     Text(CowStr<'a>),
     /// A code span (CommonMark 6.1).
     Code(CowStr<'a>),
@@ -215,7 +215,7 @@ pub enum Event<'a> {
     HardBreak,
     /// A thematic break (CommonMark 4.1).
     Rule,
-    /// The marker of a task; `true` where it is done (GFM 5.3).
+    /// The marker of a task; `true` if the task is done (GFM 5.3).
     TaskListMarker(bool),
 }
 

@@ -1,15 +1,15 @@
-//! Parts of a text that are handed on with what stands behind them there.
+//! Parts of a text that are passed together with the bytes after them.
 
 ghost use Rattle.std.specs.Prelude.{◌≡◌, take};
 ghost use Rattle.std.specs.Str.{IsCharBoundary};
 
-/// A part of a text, with what stands behind it there. The bytes behind it do not count; but since they are there, sixteen bytes can be
-/// looked at or copied at once where the part has fewer, whatever its length is.
+/// A part of a text, together with the text after it. The bytes after it are not part of the value. Because they exist, sixteen bytes can
+/// be searched or copied at once even if the part is shorter.
 #[derive(Clone, Copy, Debug)]
 pub struct Excerpt<'a> {
-    /// The text, from the part's begin on.
+    /// The text from the start of the part on.
     pub(crate) ahead: &'a str,
-    /// How many bytes the part has.
+    /// The length of the part in bytes.
     pub(crate) len: usize,
     ghost boundary: { IsCharBoundary ahead.now len },
 }
@@ -17,7 +17,7 @@ pub struct Excerpt<'a> {
 impl<'a> Excerpt<'a> {
     ghost use Rattle.cmark_text.specs.Excerpt.{excerpt_bytes};
 
-    /// The first `len` bytes of a text, with what stands behind them there. They cut no character.
+    /// The first `len` bytes of a text, with the text after them. `len` has to be a character boundary.
     #[inline(always)]
     pub fn new(ahead: &'a str, len: usize) -> Excerpt<'a>
         requires { IsCharBoundary ahead.now len }
@@ -26,7 +26,7 @@ impl<'a> Excerpt<'a> {
         Excerpt { ahead, len }
     }
 
-    /// A whole text, with nothing behind it.
+    /// A whole text, with no text after it.
     #[inline(always)]
     pub fn whole(text: &'a str) -> Excerpt<'a>
         ensures { excerpt_bytes result ≡ text.entry.now }

@@ -1,5 +1,5 @@
-//! The vocabulary of the product: texts, events and their tags, options, the look-up of entities, labels, and the escapes
-//! of texts in HTML. What stands below tags and events is handed on from `cmark_text_parts`.
+//! The vocabulary of the library: texts, events and their tags, options, the look-up of entities, labels, and the escapes of texts in HTML.
+//! The parts that tags and events are built from are re-exported from `cmark_text_parts`.
 #![tactic(auto)]
 
 mod copies;

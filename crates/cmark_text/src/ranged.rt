@@ -1,13 +1,13 @@
-//! An event with the bytes that it comes from.
+//! An event with its range in the source.
 
 use crate::event::Event;
 use std::ops::Range;
 
-/// An event, and the bytes of the text that it comes from. A start and its end have the range of the whole element.
+/// An event, with its range in the source. A start and its end have the range of the whole element.
 #[derive(Debug, Drop)]
 pub struct Ranged<'a> {
     /// The event.
     pub event: Event<'a>,
-    /// Byte offsets of the text, from the start to before the end.
+    /// The byte offsets of the range in the text; the end is exclusive.
     pub range: Range<usize>,
 }

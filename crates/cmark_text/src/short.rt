@@ -1,4 +1,4 @@
-//! Events that own nothing: what needs no more room than a part of a text.
+//! Events that own nothing, and so need no more room than a part of a text.
 
 ghost use Rattle.std.specs.Prelude.{◌≡◌};
 ghost use Rattle.cmark_text.specs.Short.{shown_plain, shown_short};
@@ -26,11 +26,11 @@ pub enum PlainTag {
     List(Option<u64>),
     /// An item of a list (CommonMark 5.2).
     Item,
-    /// A list of terms and what they mean (this profile's own).
+    /// A definition list: terms and their definitions (this profile's own).
     DefinitionList,
     /// A term of a definition list.
     DefinitionListTitle,
-    /// What the terms before it mean.
+    /// A definition of the terms before it.
     DefinitionListDefinition,
     /// The head of a table, which has its cells.
     TableHead,
@@ -55,7 +55,7 @@ pub enum PlainTag {
 }
 
 impl PlainTag {
-    /// The tag that it is.
+    /// The tag, as a `Tag`.
     pub fn tag<'a>(self, alloc: Global) -> Tag<'a>
         ensures { shown_tag result ≡ shown_plain self }
     {
@@ -93,8 +93,7 @@ impl<'a> Tag<'a> {
     ghost use Rattle.std.specs.Prelude.{MatchOption};
     ghost use Rattle.cmark_text.specs.Short.{MayOwn};
 
-    /// The tag as one of an element that has no text of its own. None where the element may have a text or a list of its own, as a
-    /// heading has its attributes.
+    /// The tag as a `PlainTag`, or `None` if the element may have a text or a list of its own, such as a heading with its attributes.
     pub fn plain(&self) -> Option<PlainTag>
         ensures { MatchOption result (MayOwn self.now) (λ plain. shown_plain plain ≡ shown_tag self.now) }
     {
@@ -127,14 +126,14 @@ impl<'a> Tag<'a> {
     }
 }
 
-/// An event that owns nothing. A value has 32 bytes, where one of any kind has 136.
+/// An event that owns nothing. A value has 32 bytes; an `Event` has 136.
 #[derive(Clone, Copy, Debug)]
 pub enum Short<'a> {
-    /// An element starts that has no text of its own.
+    /// The start of an element that has no text of its own.
     Start(PlainTag),
-    /// The element that started last and has not ended ends.
+    /// The end of the innermost open element.
     End(TagEnd),
-    /// Text, with what stands behind it in the text that it was found in.
+    /// Text, together with the text after it in its source.
     Text(Excerpt<'a>),
     /// A code span (CommonMark 6.1).
     Code(&'a str),
@@ -151,7 +150,7 @@ pub enum Short<'a> {
 }
 
 impl<'a> Short<'a> {
-    /// The event that it is.
+    /// The event, as an `Event`.
     pub fn event(self, alloc: Global) -> Event<'a>
         ensures { shown result ≡ shown_short self.entry }
     {
@@ -169,13 +168,13 @@ impl<'a> Short<'a> {
     }
 }
 
-/// What comes next of a text, of which no event is made.
+/// The next step of a walk that builds no `Event`.
 #[derive(Clone, Copy, Debug)]
 pub enum Next<'a> {
     /// An event that owns nothing.
     Short(Short<'a>),
     /// An event of another kind, which has not been given yet.
     Long,
-    /// Nothing: the text is over.
+    /// The end of the text: no event is left.
     Over,
 }

@@ -4,7 +4,7 @@ use Rattle.std.proofs.lemmas.Bool.{ltb-false}
 use Rattle.std.proofs.lemmas.List.Sums.{fails_before_first}
 use Rattle.std.specs.List.{position_or_len}
 
--- no byte of it is marked
+-- no byte of the text is marked
 abbrev pub AllKept : (ℕ → Bool) → List ℕ → Type 0
 AllKept mark xs = (k : ℕ) → k < length xs → mark (get_or xs k 0) ≡ false
 

@@ -1,4 +1,4 @@
--- The words of a label, as they come off its front.
+-- The words of a label, taken from its start one by one.
 use Rattle.std.proofs.Common.{◌≡◌, ℕ, suc, ◌<◌, ◌≤◌, false, List, [], ◌∷◌, ◌++◌, length, get_or, filter, position, None, All, refl, sym, ap, subst, ◌∙◌, inl, inr, arith, length-append, append_assoc, append-nil}
 use Rattle.std.specs.Char.{is_ascii_whitespace}
 use Rattle.std.specs.List.{slice_split, join_with_byte, AllPass}
@@ -16,7 +16,7 @@ use Rattle.cmark_text_parts.proofs.Kept.{all_kept-position}
 not_white : (b : ℕ) → 128 ≤ b → is_ascii_whitespace b ≡ false
 not_white b high = grind (arith, nat_tests)
 
--- no byte of a text without white space is one
+-- no byte of a text without white space is white space
 no_white : (x : List ℕ) → NoCharPasses is_ascii_whitespace x → All (λ b. is_ascii_whitespace b ≡ false) x
 no_white x none =
     All-from_get_or (λ b. is_ascii_whitespace b ≡ false) x 0 (λ k below.
@@ -25,7 +25,7 @@ no_white x none =
       | inr high ↦ not_white (get_or x k 0) high
     ])
 
--- white space in front
+-- white space at the start
 words_past_gap : (gap bs : List ℕ) → AllPass is_ascii_whitespace gap → words (gap ++ bs) ≡ words bs
 words_past_gap [] bs white = refl
 words_past_gap (b ∷ gap) bs white =
@@ -35,7 +35,7 @@ words_past_gap (b ∷ gap) bs white =
 kept_word : (x : List ℕ) (parts : List (List ℕ)) → 0 < length x → filter is_nonempty (x ∷ parts) ≡ x ∷ filter is_nonempty parts
 kept_word x parts some = cond-true (is_nonempty x) (x ∷ filter is_nonempty parts) (filter is_nonempty parts) (lt-ltb 0 (length x) some)
 
--- a word, and what stands behind it
+-- a word, and the text after it
 words_at_word : (x sep rest : List ℕ) → 0 < length x → All (λ b. is_ascii_whitespace b ≡ false) x → IsAsciiSeparator sep rest → words (x ++ (sep ++ rest)) ≡ x ∷ words rest
 words_at_word x [] rest some none behind =
     let nothing : rest ≡ [] = nil_from_length rest (behind.2 refl) in

@@ -6,7 +6,7 @@ use Rattle.cmark_text_parts.specs.declared.text.CowStr.TheVariants.{Boxed, Borro
 use Rattle.cmark_text_parts.specs.declared.kind.CodeBlockKind.{CodeBlockKind}
 use Rattle.cmark_text_parts.specs.declared.kind.CodeBlockKind.TheVariants.{Indented, Fenced}
 
--- a text that has a box of its own is copied in place only where it fits into the value
+-- an owned text is copied without memory only if it fits into the value
 abbrev pub CopiesInPlace : CowStr → Type 0
 CopiesInPlace (Boxed text) = length (boxed_str_bytes text) ≤ 22
 CopiesInPlace (Borrowed text) = Unit {0}
@@ -16,7 +16,7 @@ abbrev pub KindCopiesInPlace : CodeBlockKind → Type 0
 KindCopiesInPlace Indented = Unit {0}
 KindCopiesInPlace (Fenced info) = CopiesInPlace info
 
--- a text that is borrowed is made static in place only where it fits into the value
+-- a borrowed text is made static without memory only if it fits into the value
 abbrev pub StaysInPlace : CowStr → Type 0
 StaysInPlace (Boxed text) = Unit {0}
 StaysInPlace (Borrowed text) = length text.now ≤ 22

@@ -1,4 +1,4 @@
--- What a label shows: its normal form, and what it is compared by.
+-- The two texts of a label: its normal form, and the text by which it is compared.
 use Rattle.std.specs.Prelude.{ℕ, List, string_bytes}
 use Rattle.cmark_grammar.specs.Labels.{case_folded}
 use Rattle.cmark_text_parts.specs.declared.label.LinkLabel.{LinkLabel}

@@ -1,5 +1,5 @@
--- The zero-copy law: which texts of events are borrowed. It is said of an event with its range, so that whoever has both and the
--- text that was parsed can see it.
+-- The zero-copy law: which texts of events are borrowed. It is a law about an event and its range, so that whoever has both and the parsed
+-- text can check it.
 use Rattle.std.specs.Prelude.{◌≡◌, ◌≢◌, ℕ, ◌≤◌, List, length}
 use Rattle.std.specs.Box.{boxed_str_bytes}
 use Rattle.cmark_grammar.specs.Tokens.{slice}
@@ -7,7 +7,7 @@ use Rattle.cmark_text_parts.specs.Shown.{inline_bytes}
 use Rattle.cmark_text_parts.specs.declared.text.CowStr.{CowStr}
 use Rattle.cmark_text_parts.specs.declared.text.CowStr.TheVariants.{Boxed, Borrowed, Inlined}
 
--- a borrowed text is these bytes, and a text of its own is not: so it is borrowed exactly where it is these bytes
+-- a borrowed text equals these bytes, and an owned text does not: so a text is borrowed exactly if it equals these bytes
 abbrev pub IsLentBy : (bytes : List ℕ) → CowStr → Type 0
 IsLentBy bytes (Borrowed text) = text.now ≡ bytes
 IsLentBy bytes (Boxed text) = boxed_str_bytes text ≢ bytes

@@ -1,4 +1,4 @@
--- The values of this crate as those of the definitions: a text by its bytes, a heading level by its number.
+-- The values of this crate as values of the grammar: a text by its bytes, a heading level by its number.
 use Rattle.std.specs.Prelude.{ℕ, ◌==◌, Bool, List, map, Option, option_map}
 use Rattle.std.specs.Box.{boxed_str_bytes}
 use Rattle.std.specs.Int.RustNames.{bit_and}

@@ -3,13 +3,13 @@
 ghost use Rattle.std.specs.Prelude.{◌≡◌, ℕ, List, Option, option_copied};
 ghost use Rattle.cmark_grammar.specs.Entities.{basic_entity};
 
-/// The texts that entity names stand for.
+/// The texts that entity names are replaced by.
 ///
-/// A look-up is a function of the name: `replacement` says which, and a parser's meaning is stated with it.
+/// A look-up is a function of the name: `replacement` is that function, and a parser's meaning is stated with it.
 pub trait EntityLookup {
     ghost replacement: { Self → List ℕ → Option (List ℕ) };
 
-    /// The text that `&name;` stands for, or `None` where the name is not known. `name` comes without `&` and `;`.
+    /// The replacement of `&name;`, or `None` if the name is not known. `name` comes without `&` and `;`.
     fn get_entity(&self, name: &str) -> Option<&str>
         ensures { option_copied result ≡ replacement self.now name.now };
 }

@@ -1,4 +1,4 @@
-//! Short texts that lie in the value itself.
+//! Short texts that are stored in the value itself.
 
 ghost use Rattle.std.specs.Prelude.{◌≡◌, ◌<◌, ◌≤◌, Some, MatchResult, length, nat_eq, encode_utf8};
 ghost use Rattle.std.specs.Cmp.{on_equiv, on_per, partial_equiv_from_equiv};
@@ -13,14 +13,14 @@ use arrayvec::ArrayString;
 use std::fmt::{self, Debug, Display, Formatter, Write};
 use std::hash::{Hash, Hasher};
 
-/// How many bytes an `InlineStr` holds at most.
+/// The most bytes that an `InlineStr` holds.
 const MAX_INLINE_STR_LEN: usize = 22;
 
 /// The text is longer than 22 bytes.
 #[derive(Clone, Copy, Debug, PartialEq, Eq)]
 pub struct StringTooLongError;
 
-/// A text of at most 22 bytes, which takes no memory besides the value, 32 bytes.
+/// A text of at most 22 bytes, stored in the value itself. A value has 32 bytes and takes no other memory.
 #[derive(Drop)]
 pub struct InlineStr {
     text: ArrayString<MAX_INLINE_STR_LEN>,
@@ -37,7 +37,7 @@ impl InlineStr {
         self.text.as_str()
     }
 
-    /// The same text once more. It takes no memory.
+    /// A copy of the text. It takes no memory.
     pub fn clone(&self) -> InlineStr
         ensures { inline_bytes result ≡ inline_bytes self.now }
     {

@@ -65,14 +65,14 @@ impl<'a> CodeBlockKind<'a> {
         matches!(self, CodeBlockKind::Indented)
     }
 
-    /// Whether the block stands between fences.
+    /// Whether the block is fenced.
     pub fn is_fenced(&self) -> bool
         ensures { result ≡ is_fenced (shown_code_block_kind self.now) }
     {
         matches!(self, CodeBlockKind::Fenced(_))
     }
 
-    /// The same kind once more.
+    /// A copy of the kind. Memory is taken only for an owned info string that does not fit into an `InlineStr`.
     pub fn clone(&self, alloc: Global) -> Result<CodeBlockKind<'a>, AllocError>
         ensures value { IfOk result (λ copy. shown_code_block_kind copy ≡ shown_code_block_kind self.now) }
         ensures succeeds { KindCopiesInPlace self.now → IsOk result }
@@ -83,7 +83,7 @@ impl<'a> CodeBlockKind<'a> {
         }
     }
 
-    /// The same kind in a value that borrows nothing.
+    /// This kind as a value that borrows nothing.
     pub fn into_static(self, alloc: Global) -> Result<CodeBlockKind<'static>, AllocError>
         ensures value { IfOk result (λ made. shown_code_block_kind made ≡ shown_code_block_kind self.entry) }
         ensures succeeds { KindStaysInPlace self.entry → IsOk result }
@@ -106,7 +106,7 @@ pub enum HeadingLevel {
     H6,
 }
 
-/// No heading has this level: only 1 to 6 are levels.
+/// The error for a number that is not a heading level: the levels are 1 to 6.
 #[derive(Clone, Copy, Debug, PartialEq, Eq)]
 pub struct InvalidHeadingLevel(pub usize);
 
@@ -117,7 +117,7 @@ impl TryFrom<usize> for HeadingLevel {
         (λ level. level_number level ≡ number)
         (λ error. (error.0 ≡ number) × ((number ≡ 0) ⊎ (6 < number))) };
 
-    /// The level of this number, if it is one of 1 to 6.
+    /// The level with this number, which has to be one of 1 to 6.
     fn try_from(number: usize) -> Result<HeadingLevel, InvalidHeadingLevel> {
         match number {
             1 => Ok(HeadingLevel::H1),
@@ -157,15 +157,15 @@ pub enum LinkType {
     Inline,
     /// `[text][label]`
     Reference,
-    /// The same with a label that has no definition; the caller's code said where it leads.
+    /// `[text][label]` with a label that has no definition; the callback gave the destination.
     ReferenceUnknown,
     /// `[label][]`
     Collapsed,
-    /// The same with a label that has no definition.
+    /// `[label][]` with a label that has no definition; the callback gave the destination.
     CollapsedUnknown,
     /// `[label]`
     Shortcut,
-    /// The same with a label that has no definition.
+    /// `[label]` with a label that has no definition; the callback gave the destination.
     ShortcutUnknown,
     /// `<https://example.com>`
     Autolink,
@@ -173,13 +173,13 @@ pub enum LinkType {
     Email,
     /// `[[page]]`, or with a pothole `[[page|text]]` (this profile's own).
     WikiLink {
-        /// Whether a text of its own is shown.
+        /// Whether a text of its own, written after `|`, is shown.
         has_pothole: bool,
     },
 }
 
 impl LinkType {
-    /// The type of the same reference where its label has no definition. Types that are no reference stay.
+    /// The type of this reference if its label has no definition. Other types are returned as they are.
     pub fn to_unknown(self) -> LinkType
         ensures { shown_link_type result ≡ to_unknown (shown_link_type self) }
     {

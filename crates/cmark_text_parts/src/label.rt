@@ -16,11 +16,11 @@ use std::alloc::{AllocError, Global};
 use std::cmp::Ordering;
 use std::hash::{Hash, Hasher};
 
-/// The label of a link (CommonMark 4.7), in its normal form: without white space at both ends, and with one space for
-/// each run of white space inside. White space is tab, line feed, form feed, carriage return and space.
+/// The label of a link (CommonMark 4.7), in its normal form: without white space at both ends, and with one space for each run of white
+/// space inside. White space is tab, line feed, form feed, carriage return and space.
 ///
-/// Two are equal, and hash alike, exactly when their normal forms are the same with Unicode's full case folding; they are
-/// ordered by the bytes of these.
+/// Two labels are equal, and have equal hashes, exactly when their normal forms have the same full Unicode case folding. Labels are ordered
+/// by the bytes of their folded forms.
 #[derive(Debug, Drop, PartialEq, Eq, PartialOrd, Ord, Hash)]
 pub struct LinkLabel {
     link: Label,
@@ -39,14 +39,14 @@ impl LinkLabel {
         })
     }
 
-    /// The normal form, with the case of the text.
+    /// The normal form. It keeps the case of the text.
     pub fn as_str(&self) -> &str
         ensures { result.now ≡ link_text self.now }
     {
         self.link.as_str()
     }
 
-    /// The same label once more.
+    /// A copy of the label.
     pub fn clone(&self, alloc: Global) -> Result<LinkLabel, AllocError>
         ensures text { IfOk result (λ copy. link_text copy ≡ link_text self.now) }
         ensures key { IfOk result (λ copy. link_key copy ≡ link_key self.now) }
@@ -57,7 +57,7 @@ impl LinkLabel {
     }
 }
 
-/// The label of a footnote (this profile's own), in its normal form; it is compared as a [`LinkLabel`] is.
+/// The label of a footnote (this profile's own), in its normal form. It is compared like a [`LinkLabel`].
 #[derive(Debug, Drop, PartialEq, Eq, PartialOrd, Ord, Hash)]
 pub struct FootnoteLabel {
     footnote: Label,
@@ -76,7 +76,7 @@ impl FootnoteLabel {
         })
     }
 
-    /// The normal form, with the case of the text.
+    /// The normal form. It keeps the case of the text.
     pub fn as_str(&self) -> &str
         ensures { result.now ≡ footnote_text self.now }
     {
@@ -84,11 +84,11 @@ impl FootnoteLabel {
     }
 }
 
-/// A normal form, and what it is compared by.
+/// A normal form, and the text by which it is compared.
 #[derive(Debug, Drop)]
 struct Label {
     text: String,
-    /// What it is compared by, where that is another text.
+    /// The text by which it is compared, if that may differ from the normal form.
     folded: Option<String>,
     ghost folds: { compared (string_bytes text) folded ≡ case_folded (string_bytes text) },
 }
@@ -119,7 +119,7 @@ impl Label {
         self.text.as_str()
     }
 
-    /// What it is compared by.
+    /// The text by which it is compared.
     fn key(&self) -> &str
         ensures { result.now ≡ case_folded (string_bytes self.now.text) }
     {
@@ -178,7 +178,7 @@ impl Hash for Label {
     }
 }
 
-/// The text with Unicode's full case folding, where that may be another text. Most labels are of lower case, which folds to itself.
+/// The text with full Unicode case folding, if that may differ from the text. Most labels are in lower case, which folds to itself.
 fn folded_apart(alloc: Global, text: &str) -> Result<Option<String>, AllocError>
     ensures { IfOk result (λ made. compared text.now made ≡ case_folded text.now) }
 {
@@ -189,7 +189,7 @@ fn folded_apart(alloc: Global, text: &str) -> Result<Option<String>, AllocError>
     Ok(Some(folded))
 }
 
-/// Where the first byte stands that case folding may change.
+/// The offset of the first byte that case folding may change.
 fn find_folding(text: &str) -> Option<usize>
     ensures { result ≡ position may_fold text.now }
 {
@@ -204,7 +204,7 @@ fn may_fold(byte: u8) -> bool
     byte > 64 && byte < 91 || byte > 127
 }
 
-/// The text with Unicode's full case folding. An ASCII text, as most labels are, folds to its lower case.
+/// The text with full Unicode case folding. An ASCII text, as most labels are, folds to its lower case.
 #[tactic(auto, using(crate::proofs::Folds::folded_ascii))]
 fn case_folded(alloc: Global, text: &str) -> Result<String, AllocError>
     ensures { IfOk result (λ made. string_bytes made ≡ case_folded text.now) }
@@ -216,7 +216,7 @@ fn case_folded(alloc: Global, text: &str) -> Result<String, AllocError>
     default_case_fold_str(alloc, text)
 }
 
-/// The normal form of a label. Most labels have no white space, and are their own.
+/// The normal form of a label. Most labels have no white space, and are their own normal form.
 fn normal_text(alloc: Global, label: &str) -> Result<String, AllocError>
     ensures { IfOk result (λ text. string_bytes text ≡ normal_form label.now) }
 {
@@ -228,7 +228,7 @@ fn normal_text(alloc: Global, label: &str) -> Result<String, AllocError>
     Ok(text)
 }
 
-/// Where the first white space stands.
+/// The offset of the first white space.
 fn find_white_space(label: &str) -> Option<usize>
     ensures { result ≡ position is_ascii_whitespace label.now }
 {
@@ -249,7 +249,7 @@ fn normalized(alloc: Global, label: &str) -> Result<String, AllocError>
     Ok(text)
 }
 
-/// Appends the word, behind a space unless it is the first.
+/// Appends the word, after a space unless it is the first.
 fn push_word(text: &mut String, word: &str) -> Result<(), AllocError>
     ensures first { OnOk result (length (string_bytes text.old) ≡ 0 → string_bytes text.new ≡ word.now) }
     ensures further { OnOk result (0 < length (string_bytes text.old) → string_bytes text.new ≡ string_bytes text.old ++ (32 ∷ word.now)) }

@@ -8,9 +8,10 @@ use crate::text::CowStr;
 use std::alloc::{AllocError, Global};
 
 impl<'a> CowStr<'a> {
-    /// The same text as an event has it that stands over a part of another text: that part, borrowed, where it is the same, and
-    /// elsewhere a text that borrows nothing. Memory is taken only for a borrowed text that is not the part and is too long for
-    /// an [`InlineStr`](crate::InlineStr).
+    /// The same text, borrowed from `part` if the two are equal, and otherwise as a value that borrows nothing. An event over `part` holds
+    /// its text in this way.
+    ///
+    /// Memory is taken only for a borrowed text that differs from `part` and is too long for an [`InlineStr`](crate::InlineStr).
     pub fn lent_by(self, alloc: Global, part: &'a str) -> Result<CowStr<'a>, AllocError>
         ensures value { IfOk result (λ made. text_bytes made ≡ text_bytes self.entry) }
         ensures lent { IfOk result (IsLentBy part.entry.now) }

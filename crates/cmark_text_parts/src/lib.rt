@@ -1,4 +1,4 @@
-//! The parts of the vocabulary below tags and events: texts, kinds of blocks and links, options, labels and the look-up of entities.
+//! The vocabulary that tags and events are built from: texts, kinds of blocks and links, options, labels and the look-up of entities.
 #![tactic(auto)]
 
 mod entity;

@@ -5,14 +5,14 @@ ghost use Rattle.cmark_text_parts.specs.Shown.{shown_options};
 
 use bitflags::{Flag, Flags};
 
-/// A set of rules beyond CommonMark. The calls of `bitflags::Flags`, as `union` and `contains`, make and read it.
+/// A set of rules beyond CommonMark. The calls of `bitflags::Flags`, such as `union` and `contains`, make and read it.
 #[derive(Clone, Copy, Debug, PartialEq, Eq, PartialOrd, Ord)]
 pub struct Options(u32);
 
 impl Options {
     /// Tables (GFM 4.10).
     pub const ENABLE_TABLES: Options = Options(1 << 1);
-    /// Footnotes as GitHub reads them (this profile's own).
+    /// Footnotes in GitHub's form (this profile's own).
     pub const ENABLE_FOOTNOTES: Options = Options(1 << 2);
     /// Strikethrough (GFM 6.5).
     pub const ENABLE_STRIKETHROUGH: Options = Options(1 << 3);
@@ -26,7 +26,7 @@ impl Options {
     pub const ENABLE_YAML_STYLE_METADATA_BLOCKS: Options = Options(1 << 7);
     /// Metadata blocks between lines of `+++` (this profile's own).
     pub const ENABLE_PLUSES_DELIMITED_METADATA_BLOCKS: Options = Options(1 << 8);
-    /// Footnotes as they were read before; it has the bit of `ENABLE_FOOTNOTES` too (this profile's own).
+    /// Footnotes in the original's older form; it includes the bit of `ENABLE_FOOTNOTES` (this profile's own).
     pub const ENABLE_OLD_FOOTNOTES: Options = Options((1 << 9) | (1 << 2));
     /// Formulas between `$` (this profile's own).
     pub const ENABLE_MATH: Options = Options(1 << 10);
@@ -44,12 +44,12 @@ impl Options {
     pub const ENABLE_HIGHLIGHT: Options = Options(1 << 16);
     /// Email addresses as autolinks (CommonMark 6.5).
     pub const ENABLE_EMAIL_AUTOLINKS: Options = Options(1 << 17);
-    /// What GitHub reads: tables, footnotes, strikethrough, task lists, alerts and email addresses as autolinks.
+    /// The rules that GitHub reads: tables, footnotes, strikethrough, task lists, alerts and email addresses as autolinks.
     pub const GITHUB: Options = Options(
         (1 << 1) | (1 << 2) | (1 << 3) | (1 << 4) | (1 << 11) | (1 << 17),
     );
 
-    /// Whether footnotes are read as GitHub reads them: footnotes are, and not as they were before.
+    /// Whether footnotes are read in GitHub's form: `ENABLE_FOOTNOTES` is set, and the older form is not chosen.
     pub fn has_gfm_footnotes(&self) -> bool
         ensures { let options = shown_options self.now in result ≡ (options.footnotes && not options.old_footnotes) }
     {

@@ -20,14 +20,14 @@ use std::boxed::BoxedStr;
 use std::fmt::{self, Debug, Display, Formatter, Write};
 use std::hash::{Hash, Hasher};
 
-/// A text that an event holds: a part of the parsed text, a short text in the value itself, or a text of its own.
+/// A text that an event holds: a part of the parsed text, a short text in the value itself, or an owned text.
 ///
-/// Two are equal, and hash alike, exactly when their texts are the same, whatever holds them. A value has 40 bytes.
+/// Two values are equal, and have equal hashes, exactly when their texts are the same, however they are held. A value has 40 bytes.
 #[derive(Drop)]
 pub enum CowStr<'a> {
-    /// A text of its own.
+    /// An owned text.
     Boxed(BoxedStr),
-    /// A part of another text, mostly of the parsed one.
+    /// A part of another text, usually of the parsed one.
     Borrowed(&'a str),
     /// A short text.
     Inlined(InlineStr),
@@ -47,7 +47,7 @@ impl<'a> CowStr<'a> {
         }
     }
 
-    /// The same text once more. Memory is taken only where a text of its own does not fit into an [`InlineStr`].
+    /// A copy of the text. Memory is taken only for an owned text that does not fit into an [`InlineStr`].
     pub fn clone(&self, alloc: Global) -> Result<CowStr<'a>, AllocError>
         ensures value { IfOk result (λ copy. text_bytes copy ≡ text_bytes self.now) }
         ensures held { IfOk result (StaysBorrowed self.now) }
@@ -60,7 +60,7 @@ impl<'a> CowStr<'a> {
         }
     }
 
-    /// The text of a `String`, which it keeps. No memory is taken, so this never fails.
+    /// The text of a `String`, whose memory it keeps. It takes no memory, so it never fails.
     pub fn from_string(text: String) -> Result<CowStr<'a>, AllocError>
         ensures value { IfOk result (λ made. text_bytes made ≡ string_bytes text) }
         ensures held { IfOk result IsBoxed }
@@ -69,7 +69,7 @@ impl<'a> CowStr<'a> {
         Ok(CowStr::Boxed(text.into_boxed_str()))
     }
 
-    /// A `String` of the text. A text of its own becomes the `String`; others are copied.
+    /// A `String` of the text. An owned text becomes the `String`; other texts are copied.
     pub fn into_string(self, alloc: Global) -> Result<String, AllocError>
         ensures value { IfOk result (λ made. string_bytes made ≡ text_bytes self.entry) }
         ensures succeeds { IsBoxed self.entry → IsOk result }
@@ -81,7 +81,7 @@ impl<'a> CowStr<'a> {
         }
     }
 
-    /// The same text in a value that borrows nothing. A borrowed text is copied, into the value itself where it is short.
+    /// This text as a value that borrows nothing. A borrowed text is copied, into the value itself if it is short.
     pub fn into_static(self, alloc: Global) -> Result<CowStr<'static>, AllocError>
         ensures value { IfOk result (λ made. text_bytes made ≡ text_bytes self.entry) }
         ensures own { IfOk result (λ made. IsBoxed made ⊎ IsInlined made) }
@@ -94,7 +94,7 @@ impl<'a> CowStr<'a> {
         }
     }
 
-    /// The text of std's `CowStr`: a borrowed one stays borrowed. No memory is taken, so this never fails.
+    /// The text of std's `CowStr`: a borrowed text stays borrowed. It takes no memory, so it never fails.
     pub fn from_cow(text: borrow::CowStr<'a>) -> Result<CowStr<'a>, AllocError>
         ensures value { IfOk result (λ made. text_bytes made ≡ cow_str_bytes text.entry) }
         ensures held { IfOk result (ComesFromCow text.entry) }
@@ -106,7 +106,7 @@ impl<'a> CowStr<'a> {
         }
     }
 
-    /// The text as std's `CowStr`: a borrowed one stays borrowed. Memory is taken for a short text alone.
+    /// The text as std's `CowStr`: a borrowed text stays borrowed. Memory is taken only for a short text.
     pub fn into_cow(self, alloc: Global) -> Result<borrow::CowStr<'a>, AllocError>
         ensures value { IfOk result (λ made. cow_str_bytes made ≡ text_bytes self.entry) }
         ensures held { IfOk result (BecomesCow self.entry) }
@@ -123,7 +123,7 @@ impl<'a> CowStr<'a> {
     }
 }
 
-/// A text that borrows nothing, in the value itself where it is short.
+/// A copy that borrows nothing, in the value itself if the text is short.
 fn own(alloc: Global, text: &str) -> Result<CowStr<'static>, AllocError>
     ensures value { IfOk result (λ made. text_bytes made ≡ text.now) }
     ensures own { IfOk result (λ made. IsBoxed made ⊎ IsInlined made) }

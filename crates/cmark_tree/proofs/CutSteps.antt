@@ -29,7 +29,7 @@ module _ {T : Type 0} (s : Spans T) (to : ℕ) where
       ap (λ z. if z then Node p.item (items_of inside) (ending_before s to (items_of (join after rest))) else Nil) (lt-ltb (s.end p.item) to before.0)
       ∙ ap (Node p.item (items_of inside)) (left-items after rest before.1 r)
 
-  -- where the first of these begins
+  -- the start of the first of these
   abbrev pub start_of : Forest (Placed T) → Option ℕ
   start_of Nil = None
   start_of (Node p inside after) = Some (s.start p.item)
@@ -64,11 +64,11 @@ module _ {T : Type 0} (s : Spans T) (to : ℕ) where
     up_is = is.up_is;
   }
 
-  -- where those began that were cut off
+  -- the start of the first sibling that was cut off
   pub cut-start : (nodes : Nodes T) (here : Forest T) (f done rest : Forest (Placed T)) → items_of f ≡ here → f ≡ join done rest → AllEndBefore s to done → FirstReaches s to rest → reaching_start s to here ≡ start_of rest
   cut-start nodes here f done rest is split before reaches = ap (reaching_start s to) (sym is ∙ ap items_of split) ∙ start-items done rest before reaches
 
-  -- the first of those that were cut off, as it stands
+  -- the first sibling that was cut off is unchanged
   pub rest-stands : (nodes : Nodes T) (up : List (Level T)) (f done rest : Forest (Placed T)) → Stands (node_at nodes) (plug up f) → f ≡ join done rest → Stands (node_at nodes) rest
   rest-stands nodes up f done rest st split = Stands-right (node_at nodes) done rest (subst (Stands (node_at nodes)) split (Stands-inner (node_at nodes) up f st))
 
@@ -84,7 +84,7 @@ module _ {T : Type 0} (s : Spans T) (to : ℕ) where
       let n = node_at-within nodes at (record { item = p.item; child = first i; next = first a }) read in
       some (λ z. absurd (let l : 0 < at = n.0 in omega (arith, z, l))) (record { item = p.item; child = first i; next = first a }) read
 
--- where a path has a parent, a node is open
+-- if a path has a parent, a node is open
 opened-some : {T : Type 0} (levels : List (Level T)) (i : TreeIndex) → parent_of levels ≡ Some i → (v : Opened T) × (up : List (Opened T)) × (opened levels ≡ v ∷ up)
 opened-some [] i e = absurd (let q : None ≡ Some i = e in cc)
 opened-some (l ∷ levels) i e = (_, _, refl)

@@ -22,7 +22,7 @@ use Rattle.cmark_tree.proofs.Truncating.{lt_false}
 use Rattle.cmark_tree.proofs.Order.{zero_or}
 
 module _ {T : Type 0} where
-  -- how many trees
+  -- the number of trees
   abbrev pub breadth : Forest (Placed T) → ℕ
   breadth Nil = 0
   breadth (Node p inside after) = suc (breadth after)
@@ -52,7 +52,7 @@ module _ {T : Type 0} where
   first-last_tree (Node p i (Node q j a)) = first-last_tree (Node q j a)
 
   module _ (s : Spans T) (to : ℕ) where
-    -- so many siblings end before the place
+    -- the first `steps` siblings end before the place
     pub record SoFar (f : Forest (Placed T)) (last at steps : ℕ) : Type 0 where
       pub done : Forest (Placed T)
       pub rest : Forest (Placed T)
@@ -136,7 +136,7 @@ module _ {T : Type 0} where
       reaches = subst (λ x. to ≤ s.end x) (items (record { item = a.place.item; child = first a.inside; next = first a.after }) a.read) le;
     }
 
-    -- after as many siblings as there are nodes
+    -- after a number of siblings equal to the number of nodes
     pub cut_all : (nodes : Nodes T) (f : Forest (Placed T)) (head last at steps : ℕ) → IsChildren nodes f head → node_count nodes ≤ steps → SoFar f last at steps → IsCut s to f last at
     cut_all nodes f head last at steps h le c = record { done = c.done; rest = c.rest; split = c.split; before = c.before; kept_is = c.last_is; at_is = c.at_is; reaches = go c.rest c.split }
       where
@@ -192,7 +192,7 @@ module _ {T : Type 0} where
     | inr w ↦ subst (HasNumber nodes) e (last_above nodes up done rest h.stands w)
   ]
 
-  -- an item written at a sibling
+  -- an item is written at a sibling
   pub item_written : (old new : Nodes T) (start : ℕ) (left : Forest (Placed T)) (p : Placed T) (inside after : Forest (Placed T)) (up : List (Level T)) (w : T) → IsForest (node_at old) start (plug up (join left (Node p inside after))) → IsChanged old new p.ix (with_other_item w) → IsForest (node_at new) start (plug up (join left (Node (record p { item = w }) inside after)))
   item_written old new start left p inside after up w h c =
       subst (IsForest (node_at new) start) same (replaced_item (node_at old) (node_at new) start p.ix w z h (rewritten old new p.ix (with_other_item w) c))
@@ -212,7 +212,7 @@ module _ {T : Type 0} where
           ∙ ap (λ k. plug up (join left (Node (record p { item = w }) inside k))) (replace_item-absent p.ix w after (omega (arith, once)))
 
   module _ (s : Spans T) (to : ℕ) where
-    -- what is left of cut siblings: no other, what is left of the next, or nothing of it
+    -- the rest of cut siblings: no other sibling, the rest of the next one, or nothing of it
     pub truncated-all : (done : Forest (Placed T)) → AllEndBefore s to done → truncated s to done ≡ done
     truncated-all Nil all = refl
     truncated-all (Node p i a) all = rw (lt-ltb (s.end p.item) to all.0) (ap (Node p i) (truncated-all a all.1))
@@ -283,7 +283,7 @@ module _ {T : Type 0} where
     written old new start last at f up left h n r =
         item_written old new start n.done n.place n.inside n.after up r.item (cut_forest old start last at f up h n) (subst (λ k. IsChanged old new k (with_other_item r.item)) (sym n.at_is) r.changed)
 
-    -- with something left of the next
+    -- if a part of the next sibling is left
     pub shortened_left : (old new : Nodes T) (start last at : ℕ) (f : Forest (Placed T)) (up : List (Level T)) (left : Bool) → IsForest (node_at old) start (plug up f) → (n : CutNode f last at) → (r : IsShortened s to old new at n.place.item left) → left ≡ true → IsForest (node_at new) start (plug up (join (join n.done (one (record n.place { item = r.item }) n.inside)) n.after)) × (last_place (join n.done (one (record n.place { item = r.item }) n.inside)) ≡ at) × (truncated s to f ≡ join n.done (one (record n.place { item = r.item }) n.inside))
     shortened_left old new start last at f up left h n r is_left = (
       subst (λ k. IsForest (node_at new) start (plug up k)) (sym (join_assoc n.done (one (record n.place { item = r.item }) n.inside) n.after)) (written old new start last at f up left h n r),
@@ -291,14 +291,14 @@ module _ {T : Type 0} where
       n.left ∙ ap (λ o. join n.done (kept s n.place n.inside o)) (r.is ∙ ap (λ b. if b then Some r.item else None) is_left),
     )
 
-    -- with nothing left of it
+    -- if nothing of it is left
     pub shortened_away : (old new : Nodes T) (start last at : ℕ) (f : Forest (Placed T)) (up : List (Level T)) (left : Bool) → IsForest (node_at old) start (plug up f) → (n : CutNode f last at) → (r : IsShortened s to old new at n.place.item left) → left ≡ false → IsForest (node_at new) start (plug up (join n.done (Node (record n.place { item = r.item }) n.inside n.after))) × (truncated s to f ≡ n.done)
     shortened_away old new start last at f up left h n r is_gone = (
       written old new start last at f up left h n r,
       n.left ∙ ap (λ o. join n.done (kept s n.place n.inside o)) (r.is ∙ ap (λ b. if b then Some r.item else None) is_gone) ∙ join-nil n.done,
     )
 
-  -- the siblings at hand are the parent's children
+  -- the current siblings are the parent's children
   pub children : (nodes : Nodes T) (start : ℕ) (f : Forest (Placed T)) (up : List (Level T)) (parent : TreeIndex) (head : ℕ) → IsForest (node_at nodes) start (plug up f) → parent_of up ≡ Some parent → ((e : Entry T) → node_at nodes parent.ix ≡ Some e → head ≡ e.child) → IsChildren nodes f head
   children nodes start f [] parent head h e read = absurd (let q : None ≡ Some parent = e in cc)
   children nodes start f (v ∷ up) parent head h e read = record {

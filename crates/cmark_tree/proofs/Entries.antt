@@ -50,7 +50,7 @@ none_past [] i e = omega arith
 none_past (x ∷ xs) zero e = absurd (let q : Some x ≡ None = e in cc)
 none_past (x ∷ xs) (suc i) e = omega (arith, none_past xs i e)
 
--- the places of a list in which two elements have changed places
+-- the elements of a list after two of them are exchanged
 swap_second : {A : Type 0} → (xs : List A) (a b : ℕ) → a < length xs → b < length xs → slice_get (swap xs a b) b ≡ slice_get xs a
 swap_second [] a b in_a in_b = absurd (omega (arith, in_a))
 swap_second (x ∷ xs) a b in_a in_b =
@@ -89,7 +89,7 @@ module _ {T : Type 0} where
   unfolding node_at
   node_at-zero v = refl
 
-  -- there is none past the last
+  -- there is no node after the last
   pub node_at-past : (v : Nodes T) (i : ℕ) → node_count v < i → node_at v i ≡ None
   unfolding node_at node_count
   node_at-past v zero lt = refl
@@ -120,7 +120,7 @@ module _ {T : Type 0} where
   pub child_place : (v : Nodes T) (ix : ℕ) → HasNumber v ix → ix - 1 < length v.children.items
   child_place v ix has = omega (arith, stored_place v ix has, v.even.1.0)
 
-  -- a node as what stands at its places
+  -- a node as the elements at its places
   entry_is : (o : Option T) (n c : Option ℕ) (e : Entry T) → entry_of o n c ≡ Some e → (o ≡ Some e.item) × (link_at n ≡ e.next) × (link_at c ≡ e.child)
   entry_is None n c e is = absurd (let q : None ≡ Some e = is in cc)
   entry_is (Some x) n c e is =
@@ -135,7 +135,7 @@ module _ {T : Type 0} where
       subst (λ k. (slice_get v.items.items k ≡ Some e.item) × (link_at (slice_get v.nexts.items k) ≡ e.next) × (link_at (slice_get v.children.items k) ≡ e.child))
       (let q : j ≡ suc j - 1 = omega arith in q) (entry_is (slice_get v.items.items j) (slice_get v.nexts.items j) (slice_get v.children.items j) e is)
 
-  -- what a read of each of the three answers
+  -- the values read from each of the three vectors
   pub read_item : (v : Nodes T) (ix : ℕ) (x : T) (e : Entry T) → HasNumber v ix → x ≡ get_or v.items.items (ix - 1) x → node_at v ix ≡ Some e → x ≡ e.item
   read_item v ix x e has is at = is ∙ same_Some _ _ (sym (slice_get-get_or v.items.items (ix - 1) x (stored_place v ix has)) ∙ (at_place v ix e has at).0)
 
@@ -178,7 +178,7 @@ module _ {T : Type 0} where
           ∙ ap (λ o. entry_of (slice_get v.items.items i) o (slice_get (v.children.items ++ 0 ∷ []) i)) (slice_get-pushed v.nexts.items 0 i (λ q. ne (q ∙ v.even.0)))
           ∙ ap (λ o. entry_of (slice_get v.items.items i) (slice_get v.nexts.items i) o) (slice_get-pushed v.children.items 0 i (λ q. ne (q ∙ v.even.1.0)))
 
-  -- one of the three written at a node
+  -- an item, a next link or a child link is written at a node
   pub item_changes : (v : Nodes T) (ix : ℕ) (x : T) → HasNumber v ix → IsChanged v (with_stored_item v ix x) ix (with_other_item x)
   unfolding node_at node_count
   item_changes v zero x has = absurd (omega (arith, has.0))
@@ -250,7 +250,7 @@ module _ {T : Type 0} where
       others zero h = refl
       others (suc i) h = same i ∙ ap (λ m. entry_of (slice_get v.items.items i) (slice_get v.nexts.items i) m) (slice_get-set_other v.children.items j i to (λ q. h (ap suc (sym q))))
 
-  -- a node that changes places with a new one
+  -- a node that is exchanged with a new one
   pub swap_moves : (v u w : Nodes T) (ix n : ℕ) (x : T) → HasNumber v ix → IsGrown v u n x → w.items.items ≡ swap u.items.items (ix - 1) (n - 1) → w.nexts.items ≡ swap u.nexts.items (ix - 1) (n - 1)
       → w.children.items ≡ swap u.children.items (ix - 1) (n - 1) → IsMoved v w ix n x
   unfolding node_at node_count

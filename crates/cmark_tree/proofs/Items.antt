@@ -1,4 +1,4 @@
--- What a builder sees after the item of an open node or of the last sibling is written.
+-- The tree as a builder sees it after the item of an open node or of the last sibling is written.
 use Rattle.std.proofs.Common.{◌≡◌, ◌≢◌, ◌⊎◌, inl, inr, ℕ, zero, suc, ◌+◌, ◌<◌, ◌≤◌, List, [], ◌∷◌, ◌++◌, length, Some, None, refl, sym, ap, ◌∙◌, subst, arith}
 use Rattle.std.specs.Prelude.{slice_get}
 use Rattle.std.proofs.lemmas.Option.{same_Some}
@@ -45,14 +45,14 @@ module _ {T : Type 0} where
       ∙ ap (λ r. record { left = v.left; place = v.place; right = r } ∷ replace_in_path ix w up) (replace_item-absent ix w v.right (omega (arith, none)))
       ∙ ap (λ u. v ∷ u) (replace_in_path-absent ix w up (omega (arith, none)))
 
-  -- a number of the path is the innermost node's, or one of those above
+  -- a number of the path belongs to the innermost node or to one above it
   spine_cases : (up : List (Level T)) (v : Level T) (k : ℕ) (i : TreeIndex) → slice_get (spine_of (v ∷ up)) k ≡ Some i → ((k ≡ length up) × (v.place.ix ≡ i.ix)) ⊎ (slice_get (spine_of up) k ≡ Some i)
   spine_cases up v k i e = elim (snoc_cases (spine_of up) (record { ix = v.place.ix }) k i e) [
     | inl l ↦ inl (l.0 ∙ length-spine_of up, ap (λ j. j.ix) l.1)
     | inr r ↦ inr r
   ]
 
-  -- a number of the path is a place beside it
+  -- a number of the path occurs outside the current siblings
   pub spine_outside : (up : List (Level T)) (k : ℕ) (i : TreeIndex) → slice_get (spine_of up) k ≡ Some i → 0 < outside i.ix up
   spine_outside [] k i e = absurd (let q : None ≡ Some i = e in cc)
   spine_outside (v ∷ up) k i e = elim (spine_cases up v k i e) [
@@ -77,7 +77,7 @@ module _ {T : Type 0} where
       ap (λ x. record { left = v.left; item = x } ∷ item_at_depth d w up) (pick-other (length up) d w v.item (λ e. omega (arith, le, e)))
       ∙ ap (λ u. v ∷ u) (none_deeper d w up (omega (arith, le)))
 
-  -- the item of the open node with k nodes around it
+  -- the item of the open node with `k` nodes around it
   opened-item : (up : List (Level T)) (k : ℕ) (i : TreeIndex) (w : T) → slice_get (spine_of up) k ≡ Some i → outside i.ix up ≤ 1 → opened (replace_in_path i.ix w up) ≡ item_at_depth k w (opened up)
   opened-item [] k i w e once = refl
   opened-item (v ∷ up) k i w e once = elim (spine_cases up v k i e) [
@@ -103,7 +103,7 @@ module _ {T : Type 0} where
   replaced_last ix w left Nil h = ap (replace_item ix w) h
   replaced_last ix w left (Node p inside after) h = ap (replace_item ix w) h
 
-  -- the item of an open node is written, that which has k nodes around it
+  -- the item of an open node is written: the node with `k` nodes around it
   pub Is-item_above : (t : Tree T) (here : Forest T) (up : List (Opened T)) (k : ℕ) (i : TreeIndex) (w : T) → slice_get t.spine.items k ≡ Some i → Is t here up → Is (with_item_at t i.ix w) here (item_at_depth k w up)
   Is-item_above t here up k i w e is = record {
     z = item_replaced i.ix w is.z;
@@ -184,7 +184,7 @@ module _ {T : Type 0} where
       count : times t.cur (whole is.z) ≡ (times t.cur is.z.left + times t.cur is.z.right) + outside t.cur is.z.up
       count = omega (arith, times-plug t.cur is.z.up (siblings is.z), times-join t.cur is.z.left is.z.right)
 
-  -- the item of the parent is written, as with the number of `peek_up`
+  -- the item of the parent is written, through the number of `peek_up`
   pub Is-item_parent : (t : Tree T) (here : Forest T) (v : Opened T) (up : List (Opened T)) (i : TreeIndex) (w : T) → ((z : Zip T) → Holds t z → Some i ≡ parent_of z.up) → Is t here (v ∷ up) → Is (with_item_at t i.ix w) here (record v { item = w } ∷ up)
   Is-item_parent t here v up i w parent is =
       subst (Is (with_item_at t i.ix w) here) (ap (λ x. record v { item = x } ∷ item_at_depth (length up) w up) (pick-same (length up) (length up) w v.item refl) ∙ ap (λ u. record v { item = w } ∷ u) (none_deeper (length up) w up (omega arith)))
@@ -197,7 +197,7 @@ module _ {T : Type 0} where
           let depth : length (spine_of levels) ≡ length up = length-spine_of levels ∙ sym (length-opened levels) ∙ ap length rest in
           ap (λ s. slice_get s (length up)) s ∙ subst (λ k. slice_get (spine_of levels ++ record { ix = l.place.ix } ∷ []) k ≡ Some (record { ix = l.place.ix })) depth (slice_get-end (spine_of levels) (record { ix = l.place.ix })) ∙ sym p
 
-  -- the item of the focus is written, as with the number of `cur`
+  -- the item of the focus is written, through the number of `cur`
   pub Is-item_focus : (t : Tree T) (here : Forest T) (x : T) (inside : Forest T) (up : List (Opened T)) (i : TreeIndex) (w : T) → ((z : Zip T) → Holds t z → Some i ≡ focus_of z.right) → Is t (join here (one x inside)) up → Is (with_item_at t i.ix w) (join here (one w inside)) up
   Is-item_focus t here x inside up i w focus is =
       subst (λ k. Is (with_item_at t k w) (join here (one w inside)) up) (is.holds.cur_is ∙ go is.z.right (focus is.z is.holds)) (Is-item_here t here x inside up w is)

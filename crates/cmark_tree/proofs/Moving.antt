@@ -83,7 +83,7 @@ module _ {T : Type 0} where
                 let lt' : 0 < (times n left + times n inside) + outside n up = subst (λ k. 0 < (times k left + times k inside) + outside k up) e lt in
                 omega (arith, lt', absent, count n)
 
-  -- the focus is the last sibling: where the tree has it, and what it is
+  -- the focus is the last sibling: its place in the tree, and its content
   pub record LastAt (t : Tree T) (here : Forest T) (x : T) (inside : Forest T) (up : List (Opened T)) : Type 0 where
     pub left : Forest (Placed T)
     pub place : Placed T

@@ -66,7 +66,7 @@ module _ {T : Type 0} where
   Rises-join lo mid hi Nil g a b = Rises-lower mid lo g hi a b
   Rises-join lo mid hi (Node p inside after) g a b = (a.0, a.1, a.2, Rises-join a.0 mid hi after g a.3 b)
 
-  -- where the first ends, the second may begin
+  -- the second forest begins where the first ends
   pub Rises-split : (lo hi : ℕ) (f g : Forest (Placed T)) → Rises lo (join f g) hi → (mid : ℕ) × Rises lo f mid × Rises mid g hi
   Rises-split lo hi Nil g h = (lo, omega arith, h)
   Rises-split lo hi (Node p inside after) g h = let r = Rises-split h.0 hi after g h.3 in (r.0, (h.0, h.1, h.2, r.1), r.2)
@@ -75,7 +75,7 @@ module _ {T : Type 0} where
   pub Rises-forest : (at : ℕ → Option (Entry T)) (lo : ℕ) (f : Forest (Placed T)) (hi : ℕ) → Rises lo f hi → Stands at f → IsForest at (first f) f
   Rises-forest at lo f hi h s = record { stands = s; once = Rises-once lo f hi h; start_is = refl }
 
-  -- siblings that go on, below a path at whose end they stand
+  -- more siblings, inside a path whose end they are at
   pub Rises-plug : (n : ℕ) (f g : Forest (Placed T)) (up : List (Level T)) → IsAtEnd up → ((lo hi : ℕ) → hi ≤ n → Rises lo f hi → Rises lo g (suc n)) → (lo hi : ℕ) → hi ≤ n → Rises lo (plug up f) hi → Rises lo (plug up g) (suc n)
   Rises-plug n f g [] end more lo hi le h = more lo hi le h
   Rises-plug n f g (v ∷ up) end more lo hi le h = Rises-plug n (join v.left (Node v.place f v.right)) (join v.left (Node v.place g v.right)) up end.1 (λ lo hi le h.

@@ -18,10 +18,10 @@ module _ {T : Type 0} where
   pub passes : (left after : Forest (Placed T)) (p : Placed T) (up : List (Level T)) → reading_from (record { left = left; right = Node p Nil after; up = up }) ≡ Enter p ∷ (Leave p ∷ reading_from (record { left = join left (one p Nil); right = after; up = up }))
   passes left after p up = refl
 
-  -- past the last tree nothing is left
+  -- after the last tree nothing is left
   pub ends : (left : Forest (Placed T)) → reading_from (record { left = left; right = Nil; up = [] }) ≡ []
   ends left = refl
 
-  -- at the first tree everything is
+  -- at the first tree everything is left
   pub begins : (z : Zip T) → reading_from (at_first z) ≡ reading (whole z)
   begins z = append-nil (reading (whole z))

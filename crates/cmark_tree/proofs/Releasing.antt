@@ -1,4 +1,4 @@
--- The last sibling goes out of the node around it.
+-- The last sibling is moved out of the node around it.
 use Rattle.std.proofs.Common.{◌≡◌, ◌≢◌, ℕ, zero, suc, ◌+◌, ◌-◌, ◌<◌, ◌≤◌, List, [], ◌∷◌, ◌++◌, length, take, Some, refl, sym, ap, ◌∙◌, subst, arith, length-append}
 use Rattle.std.proofs.Math.Seq.{take-append_seam}
 use Rattle.std.proofs.lemmas.Option.{same_Some}
@@ -23,7 +23,7 @@ use Rattle.cmark_tree.proofs.Building.{items_of-join}
 use Rattle.cmark_tree.proofs.Moving.{LastAt, above_zero}
 
 module _ {T : Type 0} where
-  -- so many siblings were passed on the way to this one
+  -- `steps` siblings were passed on the way to this one
   pub record Passed (done : Forest (Placed T)) (p : Placed T) (inside after : Forest (Placed T)) (before at steps : ℕ) : Type 0 where
     pub gone : Forest (Placed T)
     pub left : Forest (Placed T)
@@ -40,7 +40,7 @@ module _ {T : Type 0} where
     stands_left gone left split =
         Stands-right (node_at nodes) gone (join left (Node p inside after)) (subst (Stands (node_at nodes)) (ap (λ f. join f (Node p inside after)) split ∙ join_assoc gone left (Node p inside after)) h.stands)
 
-    -- the number where the search stands is a node's
+    -- the number that the search has reached is a node's
     pub passed_number : (before at steps : ℕ) → Passed done p inside after before at steps → HasNumber nodes at
     passed_number before at steps c = go (join c.left (Node p inside after)) c.at_is (stands_left c.gone c.left c.split) (some c.left)
       where
@@ -77,14 +77,14 @@ module _ {T : Type 0} where
           steps_is = omega (arith, c.steps_is, breadth-join c.gone (one q i));
         }
 
-    -- there are not as many siblings before it as there are nodes
+    -- the number of siblings before it is less than the number of nodes
     pub passed_few : (before at steps : ℕ) → node_count nodes ≤ steps → Passed done p inside after before at steps → ⊥
     passed_few before at steps le c =
         let f = join done (Node p inside after) in
         let b : breadth done ≡ breadth (join c.gone c.left) = ap breadth c.split in
         omega (arith, le, c.steps_is, b, breadth-join c.gone c.left, breadth-join done (Node p inside after), breadth-size f, size-count nodes f h.stands h.once)
 
-  -- The last of some siblings, which was cut off from the others, is put behind the node around them.
+  -- The last of some siblings, which was cut off from the others, is put after the node around them.
   module _ (old mid new : Nodes T) (start parent : ℕ) (done : Forest (Placed T)) (p : Placed T) (inside : Forest (Placed T)) (v : Level T) (up : List (Level T)) where
     pub released_forest : IsForest (node_at old) start (plug (v ∷ up) (join done (Node p inside Nil))) → IsForest (node_at mid) start (plug (v ∷ up) done) → ((i : ℕ) → In i (Node p inside Nil) → node_at mid i ≡ node_at old i) → IsChanged mid new parent (with_next p.ix) → parent ≡ v.place.ix → v.right ≡ Nil
         → IsForest (node_at new) start (plug up (join (join v.left (one v.place done)) (one p inside)))
@@ -159,7 +159,7 @@ module _ {T : Type 0} where
   pub children_of : (t : Tree T) (parent : TreeIndex) (head : ℕ) → ((z : Zip T) → Holds t z → Some parent ≡ parent_of z.up) → ((e : Entry T) → node_at t.nodes parent.ix ≡ Some e → head ≡ e.child) → (here : Forest T) (x : T) (inside : Forest T) (up : List (Opened T)) → (l : LastAt t here x inside up) → IsChildren t.nodes (join l.left (one l.place l.below)) head
   children_of t parent head parent_is head_is here x inside up l = children t.nodes t.first (join l.left (one l.place l.below)) l.above parent head l.holds.forest (sym (parent_is (record { left = l.left; right = one l.place l.below; up = l.above }) l.holds)) head_is
 
-  -- a tree of which the last sibling was cut off, and put behind the innermost open node
+  -- a tree whose last sibling was cut off and put after the innermost open node
   module _ (t now : Tree T) (mid : Nodes T) (parent : TreeIndex) (head before : ℕ)
       (parent_is : (z : Zip T) → Holds t z → Some parent ≡ parent_of z.up) (head_is : (e : Entry T) → node_at t.nodes parent.ix ≡ Some e → head ≡ e.child)
       (finds : (done : Forest (Placed T)) (p : Placed T) (inside after : Forest (Placed T)) → IsChildren t.nodes (join done (Node p inside after)) head → p.ix ≡ t.cur → last_place done ≡ before) where
@@ -215,7 +215,7 @@ module _ {T : Type 0} where
   before_number nodes head before done p inside h last ne =
       has_number nodes (join done (one p inside)) before h.stands (omega (arith, times-join before done (one p inside), last_in done before last (above_zero before ne)))
 
-  -- there are as many nodes as before
+  -- the number of nodes is unchanged
   pub ended_count : (old mid : Nodes T) (parent before : ℕ) → (before ≡ 0 → IsChanged old mid parent (with_child 0)) → ((before ≡ 0 → ⊥) → IsChanged old mid before (with_next 0)) → node_count mid ≡ node_count old
   ended_count old mid parent zero none some = (none refl).count
   ended_count old mid parent (suc k) none some = (some (λ e. omega (arith, e))).count

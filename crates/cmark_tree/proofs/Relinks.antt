@@ -1,4 +1,4 @@
--- A node with other siblings after it, other children or another item: the links afterwards are the forest that is so changed.
+-- A node with other siblings after it, other children or another item: the links afterwards form the changed forest.
 use Rattle.std.proofs.Common.{◌≡◌, ◌≢◌, ◌⊎◌, inl, inr, ℕ, zero, suc, ◌+◌, ◌<◌, ◌≤◌, Bool, true, false, cond, nat_eq, List, [], ◌∷◌, Option, Some, refl, sym, ap, ◌∙◌, subst, arith}
 use Rattle.std.proofs.lemmas.Bool.{eq-eqb, eqb-true}
 use Rattle.cmark_tree.specs.Forest.{Forest, Nil, Node, join}
@@ -39,7 +39,7 @@ module _ {T : Type 0} where
   first-replace_item ix w Nil = refl
   first-replace_item ix w (Node p inside after) = refl
 
-  -- one node is read as changed, and the others as they were
+  -- one node is changed, and the others are as before
   pub record IsRewritten (at at' : ℕ → Option (Entry T)) (ix : ℕ) (change : Entry T → Entry T) : Type 0 where
     pub written : (e : Entry T) → at ix ≡ Some e → at' ix ≡ Some (change e)
     pub others : (i : ℕ) → i ≢ ix → at' i ≡ at i
@@ -106,7 +106,7 @@ module _ {T : Type 0} where
         a,
       )
 
-  -- a place that isn't in a forest
+  -- a place that is not in a forest
   pub relink_next-absent : (ix : ℕ) (g f : Forest (Placed T)) → times ix f ≡ 0 → relink_next ix g f ≡ f
   relink_next-absent ix g Nil z = refl
   relink_next-absent ix g (Node p inside after) z =
@@ -129,7 +129,7 @@ module _ {T : Type 0} where
       ∙ ap (λ k. Node p k (replace_item ix w after)) (replace_item-absent ix w inside (omega (arith, z)))
       ∙ ap (Node p inside) (replace_item-absent ix w after (omega (arith, z)))
 
-  -- the node written stands before what it is linked to
+  -- the written node comes before the node that it is linked to
   pub times-relink_next : (ix : ℕ) (g f : Forest (Placed T)) → In ix f → 1 + times ix g ≤ times ix (relink_next ix g f)
   times-relink_next ix g Nil lt = absurd (omega (arith, lt))
   times-relink_next ix g (Node p inside after) lt =
@@ -161,7 +161,7 @@ module _ {T : Type 0} where
   times-replace_item i ix w (Node p inside after) =
       omega (arith, times-replace_item i ix w inside, times-replace_item i ix w after)
 
-  -- a forest with one part put in the place of another
+  -- a forest in which one part replaces another
   pub put : (at at' : ℕ → Option (Entry T)) (start : ℕ) (left : Forest (Placed T)) (up : List (Level T)) (f g : Forest (Placed T)) → IsForest at start (plug up (join left f)) → IsOnce (plug up (join left g)) → ((i : ℕ) → 0 < times i left + outside i up → at' i ≡ at i) → first g ≡ first f → Stands at' g → IsForest at' start (plug up (join left g))
   put at at' start left up f g h once same e s = record {
     stands = Stands-replug at at' up (join left f) (join left g) h.stands (λ i lt. same i (omega (arith, lt))) (first-join left g f e)
@@ -170,7 +170,7 @@ module _ {T : Type 0} where
     start_is = h.start_is ∙ sym (first-plug up (join left g) (join left f) (first-join left g f e));
   }
 
-  -- a place of f is not beside it
+  -- a place of `f` is not outside of it
   beside : (start : ℕ) (at : ℕ → Option (Entry T)) (left : Forest (Placed T)) (up : List (Level T)) (f : Forest (Placed T)) (i ix : ℕ) → IsOnce (plug up (join left f)) → In ix f → 0 < times i left + outside i up → i ≢ ix
   beside start at left up f i ix once inside lt e =
       let o = once ix in

@@ -1,4 +1,4 @@
--- The nodes that are read at the places of a forest: frame, parts, and a part put in the place of another.
+-- The nodes at the places of a forest: frame, parts, and a part that replaces another.
 use Rattle.std.proofs.Common.{◌≡◌, ℕ, zero, suc, ◌<◌, List, [], ◌∷◌, Option, Some, None, refl, sym, ap, ◌∙◌, arith, ◌⊎◌, inl, inr}
 use Rattle.cmark_tree.specs.Forest.{Forest, Nil, Node, join}
 use Rattle.cmark_tree.specs.Arena.{Entry, Placed, first, Stands, hit, times, In}
@@ -6,7 +6,7 @@ use Rattle.cmark_tree.specs.Zip.{Level, plug}
 use Rattle.cmark_tree.proofs.Times.{hit-same, hit-in, outside, first-join}
 
 module _ {T : Type 0} where
-  -- the node that the forest has there
+  -- the node at that place of the forest
   abbrev pub entry_of_node : Placed T → Forest (Placed T) → Forest (Placed T) → Entry T
   entry_of_node p inside after = record { item = p.item; child = first inside; next = first after }
 
@@ -58,7 +58,7 @@ module _ {T : Type 0} where
   Stands-inner at (v ∷ up) f h =
       (Stands-right at v.left (Node v.place f v.right) (Stands-inner at up (join v.left (Node v.place f v.right)) h)).1
 
-  -- other siblings behind the same ones
+  -- other siblings after the same ones
   pub Stands-rejoin : (at at' : ℕ → Option (Entry T)) (l f g : Forest (Placed T)) → Stands at (join l f) → SameOn at at' l → first g ≡ first f → Stands at' g → Stands at' (join l g)
   Stands-rejoin at at' Nil f g h same e s = s
   Stands-rejoin at at' (Node p inside after) f g h same e s = (

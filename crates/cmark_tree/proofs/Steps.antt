@@ -31,7 +31,7 @@ module _ {T : Type 0} where
   pub in_right : (nodes : Nodes T) (start : ℕ) (z : Zip T) → IsForest (node_at nodes) start (whole z) → Stands (node_at nodes) z.right
   in_right nodes start z h = Stands-right (node_at nodes) z.left z.right (in_siblings nodes start z h)
 
-  -- a place of a forest isn't 0
+  -- a place of a forest is not 0
   pub place_above : (nodes : Nodes T) (p : Placed T) (inside after : Forest (Placed T)) → Stands (node_at nodes) (Node p inside after) → 0 < p.ix
   place_above nodes p inside after h = (node_at-within nodes p.ix (record { item = p.item; child = first inside; next = first after }) h.0).0
 
@@ -53,7 +53,7 @@ module _ {T : Type 0} where
   new_stands : (old mid : Nodes T) (n : ℕ) (x : T) → IsGrown old mid n x → Stands (node_at mid) (new_one n x)
   new_stands old mid n x g = (g.written, tt, tt)
 
-  -- one place more, that wasn't there
+  -- another place, which was not there before
   pub one_more : (f f' : Forest (Placed T)) (n : ℕ) → IsOnce f → times n f ≡ 0 → ((i : ℕ) → times i f' ≡ hit n i + times i f) → IsOnce f'
   one_more f f' n once none more i =
       elim (same_or_not n i) [
@@ -128,7 +128,7 @@ module _ {T : Type 0} where
   first_none nodes Nil h e = refl
   first_none nodes (Node p inside after) h e = absurd (omega (arith, e, place_above nodes p inside after h))
 
-  -- the number that is read of the first link
+  -- the number that the first link has
   pub focus_read : (nodes : Nodes T) (f : Forest (Placed T)) → Stands (node_at nodes) f → index_at (first f) ≡ focus_of f
   focus_read nodes Nil h = refl
   focus_read nodes (Node p inside after) h = index_at-some p.ix (place_above nodes p inside after h)
@@ -141,7 +141,7 @@ module _ {T : Type 0} where
   length-spine_of [] = refl
   length-spine_of (v ∷ up) = let l = length-append (spine_of up) (record { ix = v.place.ix } ∷ []) in omega (arith, l, length-spine_of up)
 
-  -- a sibling at hand is a node
+  -- a current sibling is a node
   pub sibling_in : (nodes : Nodes T) (start : ℕ) (z : Zip T) (ix : ℕ) → Sibling z ix → IsForest (node_at nodes) start (whole z) → HasNumber nodes ix
   sibling_in nodes start z ix s h =
       let st : Stands (node_at nodes) (join s.left (Node s.place s.inside s.after)) = subst (Stands (node_at nodes)) s.split (in_siblings nodes start z h) in

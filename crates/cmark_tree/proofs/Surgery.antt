@@ -1,4 +1,4 @@
--- Links set from a node that stands anywhere behind a path: other siblings after it, or other children.
+-- Links set from any node after a path: other siblings after it, or other children.
 use Rattle.std.proofs.Common.{◌≡◌, ◌≢◌, inl, inr, ℕ, zero, suc, ◌+◌, ◌<◌, ◌≤◌, List, refl, sym, ap, ◌∙◌, subst, arith}
 use Rattle.cmark_tree.specs.declared.nodes.Nodes.{Nodes}
 use Rattle.cmark_tree.specs.Forest.{Forest, Nil, Node, join, one, size}
@@ -10,7 +10,7 @@ use Rattle.cmark_tree.proofs.StandsLemmas.{Stands-same, Stands-right, Stands-inn
 use Rattle.cmark_tree.proofs.Relinks.{pick-same, same_or_not, relinked_next, relinked_child, relink_next-absent, relink_child-absent}
 use Rattle.cmark_tree.proofs.Steps.{rewritten, has_number}
 
--- how often a place comes among the numbers 1 to n
+-- the number of times that a place occurs among the numbers 1 to n
 hits : ℕ → ℕ → ℕ
 hits zero k = 0
 hits (suc n) k = hit k (suc n) + hits n k
@@ -23,7 +23,7 @@ hits-one (suc n) k lt le = elim (same_or_not k (suc n)) [
   | inr ne ↦ omega (arith, hits-one n k lt (omega (arith, le, ne)))
 ]
 
--- two places that are not the same come once each
+-- two places that are not equal occur once each
 pub two_once : (a b i : ℕ) → a ≢ b → hit a i + hit b i ≤ 1
 two_once a b i ne = elim (same_or_not a i) [
   | inl e ↦ omega (arith, hit-le a i, hit-other b i (λ q. ne (e ∙ sym q)))
@@ -31,7 +31,7 @@ two_once a b i ne = elim (same_or_not a i) [
 ]
 
 module _ {T : Type 0} where
-  -- how often a place comes, part by part
+  -- the number of times that a place occurs, part by part
   pub times-at : (i : ℕ) (left : Forest (Placed T)) (p : Placed T) (inside after : Forest (Placed T)) (up : List (Level T)) → times i (plug up (join left (Node p inside after))) ≡ (times i left + (hit p.ix i + (times i inside + times i after))) + outside i up
   times-at i left p inside after up = omega (arith, times-plug i up (join left (Node p inside after)), times-join i left (Node p inside after))
 
@@ -108,20 +108,20 @@ module _ {T : Type 0} where
   pub size-count : (nodes : Nodes T) (f : Forest (Placed T)) → Stands (node_at nodes) f → IsOnce f → size f ≤ node_count nodes
   size-count nodes f h once = omega (arith, size-total nodes f h, total-once (node_count nodes) f once)
 
-  -- a part of the forest after a write to a node that is none of its places
+  -- a part of the forest after a write to a node at none of its places
   kept_part : (old new : Nodes T) (ix : ℕ) (change : Entry T → Entry T) (g : Forest (Placed T)) → IsChanged old new ix change → times ix g ≡ 0 → Stands (node_at old) g → Stands (node_at new) g
   kept_part old new ix change g c none s =
       Stands-same (node_at old) (node_at new) g (λ i lt. c.others i (λ e. (let lt' : In ix g = subst (λ k. In k g) e lt in omega (arith, none, lt')))) s
 
--- A run of siblings put into the node before it: the last of the run gets no next, the node's next is what comes after, and its child
--- is the run. What stands between the run and what comes after is dropped, and so are the children that the node had.
+-- A run of siblings is put into the node before it. The last of the run gets no next sibling; the node's next sibling is the one after the
+-- run, and its children are the run. The siblings between the run and that next sibling are removed, and so are the node's former children.
 module _ {T : Type 0} (a b c d : Nodes T) (start : ℕ) (left : Forest (Placed T)) (o : Placed T) (oi m : Forest (Placed T)) (y : Placed T) (yi skipped right : Forest (Placed T)) (up : List (Level T))
     (h : IsForest (node_at a) start (plug up (join left (Node o oi (join m (Node y yi (join skipped right)))))))
     (cut : IsChanged a b y.ix (with_next 0)) (past : IsChanged b c o.ix (with_next (first right))) (into : IsChanged c d o.ix (with_child (first (join m (one y yi))))) where
   run : Forest (Placed T)
   run = join m (one y yi)
 
-  -- how often a place comes before the writes
+  -- the number of times that a place occurs before the writes
   count : (i : ℕ) → ((times i left + (hit o.ix i + (times i oi + (times i m + (hit y.ix i + (times i yi + (times i skipped + times i right))))))) + outside i up) ≤ 1
   count i =
       let n = h.once i in
@@ -133,7 +133,7 @@ module _ {T : Type 0} (a b c d : Nodes T) (start : ℕ) (left : Forest (Placed T
       subst (λ f. IsForest (node_at b) start (plug up f)) (join_assoc left (Node o oi m) (one y yi))
       (dropped_after a b start y.ix (join left (Node o oi m)) y yi (join skipped right) up (subst (λ f. IsForest (node_at a) start (plug up f)) (sym (join_assoc left (Node o oi m) (Node y yi (join skipped right)))) h) refl cut)
 
-  -- what comes after is as it was
+  -- the siblings after the run are unchanged
   after_stands : Stands (node_at b) right
   after_stands =
       kept_part a b y.ix (with_next 0) right cut (omega (arith, count y.ix, hit-same y.ix y.ix refl))

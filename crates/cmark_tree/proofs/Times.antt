@@ -1,4 +1,4 @@
--- How often a place comes in a forest, and what a node is read as there.
+-- The number of times that a place occurs in a forest, and the node there.
 use Rattle.std.proofs.Common.{◌≡◌, ◌≢◌, ℕ, zero, suc, ◌+◌, ◌<◌, ◌≤◌, Bool, true, false, cond, nat_eq, List, [], ◌∷◌, refl, ap, arith, ◌⊎◌, inl, inr}
 use Rattle.std.proofs.lemmas.Bool.{eq-eqb, eqb-true}
 use Rattle.cmark_tree.specs.Forest.{Forest, Nil, Node, join}
@@ -48,7 +48,7 @@ module _ {T : Type 0} where
   join_assoc Nil g h = refl
   join_assoc (Node p inside after) g h = ap (Node p inside) (join_assoc after g h)
 
-  -- how often a place comes in the path and beside it
+  -- the number of times that a place occurs in the path and beside it
   abbrev pub outside : ℕ → List (Level T) → ℕ
   outside i [] = 0
   outside i (v ∷ up) = (times i v.left + (hit v.place.ix i + times i v.right)) + outside i up

@@ -1,4 +1,4 @@
--- What is left of an item, and of siblings, where their text ends.
+-- The rest of an item, and of siblings, at the end of their text.
 use Rattle.std.proofs.Common.{◌≡◌, ◌≢◌, ℕ, ◌-◌, ◌<◌, ◌≤◌, Bool, true, false, nat_lt, ◌==◌, Some, None, refl, arith}
 use Rattle.std.proofs.lemmas.Bool.{eq-eqb, eqb-true, lt-ltb, ltb-true}
 use Rattle.cmark_tree.specs.Truncating.{Spans, shortened}

@@ -1,8 +1,8 @@
--- Which ordered forest the links between numbered nodes are.
+-- The ordered forest that the links between numbered nodes form.
 use Rattle.std.specs.Prelude.{◌≡◌, ℕ, ◌+◌, ◌<◌, ◌≤◌, nat_eq, cond, Option, Some}
 use Rattle.cmark_tree.specs.Forest.{Forest, Nil, Node}
 
--- What a node holds: its item, and the places of its first child and of its next sibling, where 0 stands for none.
+-- a node: its item, and the places of its first child and of its next sibling; 0 is no node
 pub record Entry (T : Type 0) : Type 0 where
   pub item : T
   pub child : ℕ
@@ -13,11 +13,11 @@ pub record Placed (T : Type 0) : Type 0 where
   pub ix : ℕ
   pub item : T
 
--- 1 where the two numbers are the same, else 0
+-- 1 if the two numbers are equal, else 0
 unfoldable pub hit : ℕ → ℕ → ℕ
 hit a b = cond (nat_eq a b) 1 0
 
--- the first of two values where the two numbers are the same, else the second
+-- the first of two values if the two numbers are equal, else the second
 unfoldable pub pick : {A : Type 0} → ℕ → ℕ → A → A → A
 pick a b x y = cond (nat_eq a b) x y
 
@@ -27,13 +27,13 @@ module _ {T : Type 0} where
   first Nil = 0
   first (Node p inside after) = p.ix
 
-  -- the nodes that are read at the places of the forest are the forest's, with links to its first children and next siblings
+  -- the nodes at the places of the forest are those of the forest, with links to their first children and next siblings
   abbrev pub Stands : (ℕ → Option (Entry T)) → Forest (Placed T) → Type 0
   Stands at Nil = Unit {0}
   Stands at (Node p inside after) =
       (at p.ix ≡ Some (record { item = p.item; child = first inside; next = first after })) × Stands at inside × Stands at after
 
-  -- how often a place comes in a forest
+  -- the number of times that a place occurs in a forest
   abbrev pub times : ℕ → Forest (Placed T) → ℕ
   times i Nil = 0
   times i (Node p inside after) = hit p.ix i + (times i inside + times i after)
@@ -50,13 +50,12 @@ module _ {T : Type 0} where
   abbrev pub IsApart : Forest (Placed T) → Forest (Placed T) → Type 0
   IsApart f g = (i : ℕ) → In i f → In i g → ⊥
 
-  -- the items in their order, without their places
+  -- the items in order, without their places
   abbrev pub items_of : Forest (Placed T) → Forest T
   items_of Nil = Nil
   items_of (Node p inside after) = Node p.item (items_of inside) (items_of after)
 
-  -- The links are this forest: each leads to the node that stands there, the first tree stands at `start`, and no node is
-  -- reached twice.
+  -- The links form this forest: each leads to the node at its place, the first tree is at `start`, and no node is reached twice.
   pub record IsForest (at : ℕ → Option (Entry T)) (start : ℕ) (f : Forest (Placed T)) : Type 0 where
     pub stands : Stands at f
     pub once : IsOnce f

@@ -1,4 +1,4 @@
--- A tree as a builder sees it, who only adds at the end: the siblings at hand, and the nodes that are open around them.
+-- A tree as a builder sees it, who adds nodes only at the end: the current siblings, and the open nodes around them.
 use Rattle.std.specs.Prelude.{◌≡◌, ℕ, List, [], ◌∷◌, length}
 use Rattle.cmark_tree.specs.declared.tree.Tree.{Tree}
 use Rattle.cmark_tree.specs.Forest.{Forest, Nil, join, one}
@@ -16,13 +16,13 @@ module _ {T : Type 0} where
   opened [] = []
   opened (v ∷ up) = record { left = items_of v.left; item = v.place.item } ∷ opened up
 
-  -- nothing stands after the nodes of the path
+  -- there is no node after those of the path
   abbrev pub IsAtEnd : List (Level T) → Type 0
   IsAtEnd [] = Unit {0}
   IsAtEnd (v ∷ up) = (v.right ≡ Nil) × IsAtEnd up
 
-  -- These siblings are at hand, below these open nodes, the innermost first. The last sibling is the focus, and nothing stands
-  -- after it or after an open node.
+  -- These are the current siblings, inside these open nodes, the innermost first. The last sibling is the focus. There is no node after it
+  -- or after an open node.
   pub record Is (t : Tree T) (here : Forest T) (up : List (Opened T)) : Type 0 where
     pub z : Zip T
     pub holds : Holds t z
@@ -31,15 +31,15 @@ module _ {T : Type 0} where
     pub here_is : items_of (siblings z) ≡ here
     pub up_is : opened z.up ≡ up
 
-  -- some siblings are at hand, below some open nodes
+  -- there are some current siblings inside some open nodes
   abbrev pub IsPlaced : Tree T → Type 0
   IsPlaced t = (here : Forest T) × (up : List (Opened T)) × Is t here up
 
-  -- the innermost open node is closed, and stands behind its siblings
+  -- the innermost open node is closed, and comes after its siblings
   abbrev pub closed : Opened T → Forest T → Forest T
   closed v here = join v.left (one v.item here)
 
-  -- with another item at the open node that has `depth` nodes around it
+  -- the open node that has `depth` nodes around it gets another item
   abbrev pub item_at_depth : ℕ → T → List (Opened T) → List (Opened T)
   item_at_depth depth w [] = []
   item_at_depth depth w (v ∷ up) =

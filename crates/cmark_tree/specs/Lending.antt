@@ -1,4 +1,4 @@
--- What a tree ends as, where a `&mut` to the item of one of its nodes is returned.
+-- The final value of a tree after a `&mut` to the item of a node is returned.
 use Rattle.std.specs.Prelude.{ℕ, ◌-◌}
 use Rattle.std.proofs.Common.{sym, ◌∙◌, length-set}
 use Rattle.std.specs.Vec.{with_item}

@@ -3,7 +3,7 @@ use Rattle.std.specs.Prelude.{◌≡◌, ◌≢◌, ℕ, zero, suc, ◌<◌, ◌
 use Rattle.cmark_tree.specs.declared.nodes.Nodes.{Nodes}
 use Rattle.cmark_tree.specs.Arena.{Entry}
 
--- the number that a link is, where one that is not there is none
+-- a link's number; 0 if there is no link
 abbrev pub link_at : Option ℕ → ℕ
 link_at None = 0
 link_at (Some i) = i
@@ -21,7 +21,7 @@ module _ {T : Type 0} where
   unfoldable pub node_at : Nodes T → ℕ → Option (Entry T)
   node_at nodes = entry_in nodes.items.items nodes.nexts.items nodes.children.items
 
-  -- how many there are
+  -- the number of nodes
   unfoldable pub node_count : Nodes T → ℕ
   node_count nodes = length nodes.items.items
 
@@ -29,18 +29,18 @@ module _ {T : Type 0} where
   abbrev pub HasNumber : Nodes T → ℕ → Type 0
   HasNumber nodes ix = (0 < ix) × (ix ≤ node_count nodes)
 
-  -- every node but that of this number is as it was
+  -- every node except the one of this number is unchanged
   abbrev pub SameBut : Nodes T → Nodes T → ℕ → Type 0
   SameBut old new ix = (i : ℕ) → i ≢ ix → node_at new i ≡ node_at old i
 
-  -- a new node behind the others, with no links
+  -- a new node after the others, without links
   pub record IsGrown (old new : Nodes T) (ix : ℕ) (x : T) : Type 0 where
     pub place : ix ≡ suc (node_count old)
     pub written : node_at new ix ≡ Some (record { item = x; child = 0; next = 0 })
     pub others : SameBut old new ix
     pub count : node_count new ≡ suc (node_count old)
 
-  -- a new node behind the others has what the node `ix` had, which has this item and no links now
+  -- a new node after the others takes the content of the node `ix`, which gets this item and no links
   pub record IsMoved (old new : Nodes T) (ix to : ℕ) (x : T) : Type 0 where
     pub place : to ≡ suc (node_count old)
     pub moved : node_at new to ≡ node_at old ix

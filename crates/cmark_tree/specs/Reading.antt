@@ -1,4 +1,4 @@
--- A forest read in preorder, and what of the reading is left at a focus.
+-- A forest read in preorder, and the part of the reading that is left from a focus on.
 use Rattle.std.specs.Prelude.{List, [], ◌∷◌, ◌++◌}
 use Rattle.cmark_tree.specs.Forest.{Forest, Nil, Node}
 use Rattle.cmark_tree.specs.Arena.{Placed}
@@ -15,11 +15,11 @@ reading Nil = []
 reading (Node x inside after) = Enter x ∷ (reading inside ++ Leave x ∷ reading after)
 
 module _ {T : Type 0} where
-  -- what is left after the siblings at hand
+  -- the visits after the current siblings
   abbrev pub reading_above : List (Level T) → List (Visit (Placed T))
   reading_above [] = []
   reading_above (v ∷ up) = Leave v.place ∷ (reading v.right ++ reading_above up)
 
-  -- what is left from the focus on
+  -- the visits from the focus on
   abbrev pub reading_from : Zip T → List (Visit (Placed T))
   reading_from z = reading z.right ++ reading_above z.up

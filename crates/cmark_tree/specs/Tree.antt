@@ -1,4 +1,4 @@
--- Which forest with a path and a focus a tree is.
+-- The forest, path and focus of a tree.
 use Rattle.std.specs.Prelude.{◌≡◌, ℕ, zero, suc, List, [], ◌∷◌, ◌++◌, Option, Some, None}
 use Rattle.cmark_tree.specs.declared.tree.Tree.{Tree}
 use Rattle.cmark_tree.specs.declared.tree_index.TreeIndex.{TreeIndex}
@@ -12,7 +12,7 @@ abbrev pub place_of : Option TreeIndex → ℕ
 place_of None = 0
 place_of (Some i) = i.ix
 
--- the node that a link leads to, where 0 leads to none
+-- the node that a link leads to; the link 0 leads to no node
 abbrev pub index_at : ℕ → Option TreeIndex
 index_at zero = None
 index_at (suc i) = Some (record { ix = suc i })
@@ -22,7 +22,7 @@ module _ {T : Type 0} where
   abbrev pub entry_at : Tree T → ℕ → Option (Entry T)
   entry_at t = node_at t.nodes
 
-  -- how many nodes were made
+  -- the number of nodes that were made
   abbrev pub tree_len : Tree T → ℕ
   tree_len t = node_count t.nodes
 
@@ -40,12 +40,12 @@ module _ {T : Type 0} where
   parent_of [] = None
   parent_of (v ∷ up) = Some (record { ix = v.place.ix })
 
-  -- the numbers of the nodes of a path, outermost first
+  -- the numbers of the nodes of a path, the outermost first
   abbrev pub spine_of : List (Level T) → List TreeIndex
   spine_of [] = []
   spine_of (v ∷ up) = spine_of up ++ record { ix = v.place.ix } ∷ []
 
-  -- The tree is this forest with this path and this focus: its links are the forest, and the path has the nodes above the focus.
+  -- The tree is this forest with this path and this focus: its links form the forest, and the path has the nodes above the focus.
   pub record Holds (t : Tree T) (z : Zip T) : Type 0 where
     pub forest : IsForest (entry_at t) t.first (whole z)
     pub spine_is : t.spine.items ≡ spine_of z.up
@@ -55,7 +55,7 @@ module _ {T : Type 0} where
   abbrev pub IsTree : Tree T → Type 0
   IsTree t = (z : Zip T) × Holds t z
 
-  -- nothing stands yet where the next node goes
+  -- there is no node at the place of the next one
   abbrev pub IsOpen : Tree T → Type 0
   IsOpen t = (z : Zip T) × Holds t z × CanAppend z
 
@@ -63,7 +63,7 @@ module _ {T : Type 0} where
   abbrev pub IsAtNode : Tree T → Type 0
   IsAtNode t = (z : Zip T) × Holds t z × HasFocus z
 
-  -- the node is one of the siblings at hand
+  -- the node is among the current siblings
   abbrev pub IsAtSibling : Tree T → ℕ → Type 0
   IsAtSibling t ix = (z : Zip T) × Holds t z × Sibling z ix
 
@@ -82,8 +82,8 @@ module _ {T : Type 0} where
     pub nodes : KeepsNodes old new
     pub path : KeepsPath old new
 
-  -- A link may be set from the node `ix`, which is the focus, or stands after it or inside one of those, to the first of the
-  -- siblings `g`: they are nodes of the tree, and with them in their new place, as in `after`, no node is reached twice.
+  -- A link may be set from the node `ix` to the first of the siblings `g`. The node is the focus, or comes after it, or is inside the focus
+  -- or a later sibling. The siblings are nodes of the tree. With them at their new place, as in `after`, no node is reached twice.
   pub record CanLink (t : Tree T) (z : Zip T) (ix to : ℕ) (g : Forest (Placed T)) (after : Zip T) : Type 0 where
     pub holds : Holds t z
     pub below : In ix z.right

@@ -1,4 +1,4 @@
--- When a tree's siblings may be cut.
+-- The conditions under which a tree's siblings may be cut.
 use Rattle.std.specs.Prelude.{◌≡◌, ℕ, List, [], ◌∷◌, Some, None, Bool, if◌then◌else◌}
 use Rattle.cmark_tree.specs.declared.nodes.Nodes.{Nodes}
 use Rattle.cmark_tree.specs.declared.tree.Tree.{Tree}
@@ -17,7 +17,7 @@ module _ {T : Type 0} where
     pub once : IsOnce f
     pub head_is : head ≡ first f
 
-  -- that number is one of the siblings from there on
+  -- that number belongs to a sibling from `head` on
   abbrev pub IsAmong : Nodes T → (head ix : ℕ) → Type 0
   IsAmong nodes head ix = (done : Forest (Placed T)) × (p : Placed T) × (inside : Forest (Placed T)) × (after : Forest (Placed T)) × IsChildren nodes (join done (Node p inside after)) head × (p.ix ≡ ix)
 
@@ -25,7 +25,7 @@ module _ {T : Type 0} where
   HasParent [] = ⊥
   HasParent (v ∷ up) = Unit {0}
 
-  -- some siblings below that parent may end with that one
+  -- some siblings inside that parent may end with that one
   abbrev pub CanEnd : Tree T → TreeIndex → ℕ → Type 0
   CanEnd t parent last = (done : Forest (Placed T)) × (rest : Forest (Placed T)) × (up : List (Level T))
       × IsForest (entry_at t) t.first (plug up (join done rest)) × (parent_of up ≡ Some parent) × (last_place done ≡ last)
@@ -34,7 +34,7 @@ module _ {T : Type 0} where
   abbrev pub CanTruncate : Spans T → Tree T → Type 0
   CanTruncate s t = (z : Zip T) × Holds t z × HasParent z.up × NoEscapedAtZero s (siblings z)
 
-  -- the node has what is left of its item; where nothing is, it has some item
+  -- the node gets the rest of its item; if nothing is left, it has some item
   pub record IsShortened (s : Spans T) (to : ℕ) (old new : Nodes T) (at : ℕ) (x : T) (left : Bool) : Type 0 where
     pub item : T
     pub changed : IsChanged old new at (with_other_item item)

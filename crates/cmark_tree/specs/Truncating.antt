@@ -1,4 +1,4 @@
--- The siblings that are left where a line of text ends earlier than its spans.
+-- The siblings that are left if a line of text ends before its spans do.
 use Rattle.std.specs.Prelude.{◌≡◌, ℕ, ◌-◌, ◌<◌, ◌≤◌, Bool, true, ◌==◌, nat_lt, List, Option, Some, None, if◌then◌else◌}
 use Rattle.cmark_tree.specs.Forest.{Forest, Nil, Node, join, one}
 use Rattle.cmark_tree.specs.Arena.{Placed, first}
@@ -35,8 +35,8 @@ pub record Spans (T : Type 0) : Type 0 where
   pub ranged : T → ℕ → ℕ → T
 
 module _ {T : Type 0} (s : Spans T) where
-  -- What is left of an item that does not end before `to`: all of it where it ends there; its front where it begins earlier; and
-  -- of one that begins there the backslash before, if it was escaped, else nothing. Of a later one nothing is left.
+  -- The rest of an item that does not end before `to`. It is the whole item if that ends there, and its beginning if it begins before. An
+  -- item that begins there leaves the backslash before it, if that escapes it, and else nothing. A later item leaves nothing.
   unfoldable pub shortened : ℕ → T → Option T
   shortened to x =
       if s.end x == to then Some x
@@ -48,13 +48,13 @@ module _ {T : Type 0} (s : Spans T) where
   kept p inside None = Nil
   kept p inside (Some x) = one (record p { item = x }) inside
 
-  -- the siblings up to the first that does not end before `to`, and what is left of that one
+  -- the siblings up to the first that does not end before `to`, and the rest of that one
   abbrev pub truncated : ℕ → Forest (Placed T) → Forest (Placed T)
   truncated to Nil = Nil
   truncated to (Node p inside after) =
       if nat_lt (s.end p.item) to then Node p inside (truncated to after) else kept p inside (shortened to p.item)
 
-  -- the last that is left is the focus
+  -- the last remaining sibling is the focus
   abbrev pub siblings_truncated : ℕ → Zip T → Zip T
   siblings_truncated to z = at_last (truncated to (siblings z)) z.up
 
@@ -63,12 +63,12 @@ module _ {T : Type 0} (s : Spans T) where
   AllEndBefore to Nil = Unit {0}
   AllEndBefore to (Node p inside after) = (s.end p.item < to) × AllEndBefore to after
 
-  -- the first of these, if there is one, does not
+  -- the first of these siblings, if there is one, does not end before `to`
   abbrev pub FirstReaches : ℕ → Forest (Placed T) → Type 0
   FirstReaches to Nil = Unit {0}
   FirstReaches to (Node p inside after) = to ≤ s.end p.item
 
-  -- the siblings that end before `to`, and the others: `kept` is the last of the first, and `at` the first of the others
+  -- the siblings that end before `to`, and the others: `kept` is the last of the former, and `at` the first of the latter
   pub record IsCut (to : ℕ) (f : Forest (Placed T)) (kept at : ℕ) : Type 0 where
     pub done : Forest (Placed T)
     pub rest : Forest (Placed T)

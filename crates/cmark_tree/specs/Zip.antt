@@ -1,4 +1,4 @@
--- Forests with a path and a focus, and the steps of the calls of a tree.
+-- Forests with a path and a focus, and the effect of a tree's calls on them.
 use Rattle.std.specs.Prelude.{◌≡◌, ℕ, List, [], ◌∷◌}
 use Rattle.cmark_tree.specs.Forest.{Forest, Nil, Node, join, one}
 use Rattle.cmark_tree.specs.Arena.{Placed, relink_next, relink_child, replace_item, pick}
@@ -9,20 +9,20 @@ pub record Level (T : Type 0) : Type 0 where
   pub place : Placed T
   pub right : Forest (Placed T)
 
--- The siblings before the focus, those from the focus on, and the nodes above, the innermost first. Where no sibling is left
--- there is no focus.
+-- The siblings before the focus, those from the focus on, and the nodes above, the innermost first. If no sibling is left there is no
+-- focus.
 pub record Zip (T : Type 0) : Type 0 where
   pub left : Forest (Placed T)
   pub right : Forest (Placed T)
   pub up : List (Level T)
 
 module _ {T : Type 0} where
-  -- the forest with these siblings below that path
+  -- the forest with these siblings inside that path
   abbrev pub plug : List (Level T) → Forest (Placed T) → Forest (Placed T)
   plug [] f = f
   plug (v ∷ up) f = plug up (join v.left (Node v.place f v.right))
 
-  -- the siblings at hand
+  -- the current siblings
   abbrev pub siblings : Zip T → Forest (Placed T)
   siblings z = join z.left z.right
 
@@ -33,7 +33,7 @@ module _ {T : Type 0} where
   abbrev pub nothing : Zip T
   nothing = record { left = Nil; right = Nil; up = [] }
 
-  -- nothing stands after the focus; without a focus, nothing stands there at all
+  -- there is no node after the focus, or, without a focus, at its place
   abbrev pub IsLast : Forest (Placed T) → Forest (Placed T) → Type 0
   IsLast left Nil = left ≡ Nil
   IsLast left (Node p inside after) = after ≡ Nil
@@ -65,11 +65,11 @@ module _ {T : Type 0} where
   pop_to z [] = z
   pop_to z (v ∷ up) = record { left = v.left; right = Node v.place (siblings z) v.right; up = up }
 
-  -- up to the innermost node of the path, where there is one
+  -- up to the innermost node of the path, if there is one
   abbrev pub popped : Zip T → Zip T
   popped z = pop_to z z.up
 
-  -- one of the siblings at hand
+  -- a current sibling
   pub record Sibling (z : Zip T) (ix : ℕ) : Type 0 where
     pub left : Forest (Placed T)
     pub place : Placed T

@@ -1,4 +1,4 @@
-//! An ordered forest in one place of memory, with a path down into it and a focus: the tree of a document.
+//! An ordered forest, stored in vectors, with a path down into it and a focus: the tree of a document.
 #![tactic(auto)]
 
 mod nodes;

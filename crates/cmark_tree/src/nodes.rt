@@ -1,20 +1,20 @@
-// The nodes of a tree by their numbers. This file alone knows how they are stored.
+// The nodes of a tree by their numbers. Only this file knows how they are stored.
 
 ghost use Rattle.std.specs.Prelude.{◌≡◌, ◌≤◌, length, vec_capacity};
 
 use std::alloc::{AllocError, Global};
 
-// For how many nodes at least a vector that is full makes room: a short text then asks for memory once.
+// A full vector makes room for at least this many nodes, so that a short text asks for memory once.
 const NODES_AT_ONCE: usize = 16;
 
-// Node i has its item, the number of its next sibling and that of its first child at place i - 1 of the three vectors. The number 0 means
-// that there is none.
+// Node i has its item, the number of its next sibling and that of its first child at place i - 1 of the three vectors. The number 0 is no
+// node.
 #[derive(Drop)]
 pub struct Nodes<T> {
     items: Vec<T>,
     nexts: Vec<usize>,
     children: Vec<usize>,
-    // Each of the three has room for this many, so that one comparison says whether the next node needs memory.
+    // Each of the three has room for this many, so that one comparison shows whether the next node needs memory.
     room: usize,
     ghost even: { (length nexts.items ≡ length items.items)
         × ((length children.items ≡ length items.items)
@@ -48,7 +48,7 @@ impl<T: Drop> Nodes<T> {
         self.items.len()
     }
 
-    // Makes room for at least one more node. Where memory is refused, what grew before keeps its room.
+    // Makes room for at least one node. If memory is refused, a vector that grew before keeps its room.
     #[inline(never)]
     fn grow(&mut self) -> Result<(), AllocError>
         ensures items { self.new.items.items ≡ self.old.items.items }
@@ -67,7 +67,7 @@ impl<T: Drop> Nodes<T> {
         Ok(())
     }
 
-    // A node with no links after the others: its number. All three have room before any of them gets something.
+    // Appends a node without links and returns its number. All three vectors have room before any of them changes.
     #[inline]
     pub fn push(&mut self, item: T) -> Result<usize, AllocError>
         ensures ok { IfOk result (λ ix. IsGrown self.old self.new ix item) }
@@ -82,7 +82,7 @@ impl<T: Drop> Nodes<T> {
         Ok(self.items.len())
     }
 
-    // A new node behind the others takes what node `ix` has, which gets this item and no links: the new node's number.
+    // Appends a node that takes the content of node `ix`, which gets this item and no links. Returns the new node's number.
     pub fn move_to_new(&mut self, ix: usize, item: T) -> Result<usize, AllocError>
         requires { HasNumber self.old ix }
         ensures ok { IfOk result (λ new. IsMoved self.old self.new ix new item) }
@@ -138,7 +138,7 @@ impl<T: Drop> Nodes<T> {
         self.children[ix - 1] = to;
     }
 
-    // The children of a node end with this one, or, where it is 0, there are none.
+    // The children of a node end with this one; if it is 0, there are none.
     pub fn end_children(&mut self, parent: usize, last: usize)
         requires parent { HasNumber self.old parent }
         requires last { (last ≡ 0 → ⊥) → HasNumber self.old last }

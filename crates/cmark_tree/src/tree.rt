@@ -1,8 +1,8 @@
-//! An ordered forest in one place of memory, with a path down into it and a focus.
+//! An ordered forest, stored in vectors, with a path down into it and a focus.
 //!
-//! Nodes are numbered from 1 on in the order in which they are made, and none is ever freed. The contracts speak of a `Zip`: the
-//! siblings before the focus, those from the focus on, and the nodes above. `Holds tree z` says that the links of the tree are
-//! that forest, that no node is reached twice, and that the path and the focus are those of `z`; each call is a step of `z`.
+//! Nodes are numbered from 1 in the order in which they are made, and no node is ever freed. The contracts use a `Zip`: the siblings before
+//! the focus, those from the focus on, and the nodes above. `Holds tree z` means that the links of the tree form that forest, that no node
+//! is reached twice, and that the path and the focus are those of `z`. Each call is a step of `z`.
 
 ghost use Rattle.std.specs.Prelude.{◌⊎◌, List, [], ◌∷◌, ◌≡◌, ◌≢◌, ◌+◌, ◌<◌, ◌≤◌, suc, Some, length, IfOk, OnOk, OnErr, IfSome, OnSome, IfNone};
 ghost use Rattle.std.specs.Borrow.{sem};
@@ -22,7 +22,8 @@ use crate::tree_index::TreeIndex;
 use std::alloc::{AllocError, Global};
 use std::slice::Iter;
 
-/// An ordered forest with a path and a focus: siblings, of which one is the focus or none is, below the nodes of the path.
+/// An ordered forest with a path and a focus. The focus is a current sibling, if there is one; the current siblings are inside the nodes of
+/// the path.
 ///
 /// A builder calls `open`, `add` and `close`; a walk calls `cur`, `push`, `next_sibling` and `pop`:
 ///
@@ -31,7 +32,7 @@ use std::slice::Iter;
 /// tree.add(item)?;         //   item      the focus
 /// tree.close();            // list is the focus again
 /// ```
-// A link is the number of a node, where 0 stands for none; a node's item of 32 bytes so takes 48 bytes with its links.
+// A link is the number of a node, and 0 is no node. So a node with an item of 32 bytes takes 48 bytes with its links.
 #[derive(Drop)]
 pub struct Tree<T> {
     pub(crate) nodes: Nodes<T>,
@@ -60,7 +61,7 @@ fn link_of(ix: Option<TreeIndex>) -> usize
     }
 }
 
-// The sibling before `last`, in the row of siblings that begins with `head`; 0 stands for none.
+// The sibling before `last`, in the row of siblings that begins with `head`; 0 if there is none.
 fn sibling_before<T: Drop>(nodes: &Nodes<T>, head: usize, last: usize) -> usize
     requires { IsAmong nodes.now head last }
     ensures { (done : Forest (Placed T)) (p : Placed T) (inside after : Forest (Placed T)) → IsChildren nodes.now (join done (Node p inside after)) head → p.ix ≡ last
@@ -79,7 +80,7 @@ fn sibling_before<T: Drop>(nodes: &Nodes<T>, head: usize, last: usize) -> usize
 }
 
 impl<T: Drop> Tree<T> {
-    /// An empty forest with room for `capacity` nodes. It fails where there is no memory for them.
+    /// An empty forest with room for `capacity` nodes. It fails if there is no memory for them.
     pub fn with_capacity(alloc: Global, capacity: usize) -> Result<Tree<T>, AllocError>
         ensures empty { IfOk result (λ t. Holds t nothing) }
         ensures none { IfOk result (λ t. tree_len t ≡ 0) }
@@ -93,8 +94,8 @@ impl<T: Drop> Tree<T> {
         })
     }
 
-    /// A node after the focus; with no focus, the parent's first child, or the first tree. It becomes the focus, and its number is
-    /// answered. Nothing may stand in that place yet. Where there is no memory nothing changes.
+    /// Adds a node after the focus; with no focus, as the parent's first child, or as the first tree. The new node becomes the focus. There
+    /// may be no node at that place yet. Returns the number of the new node. If memory is refused nothing changes.
     pub fn append(&mut self, item: T) -> Result<TreeIndex, AllocError>
         requires { IsOpen self.old }
         ensures ok { IfOk result (λ i. (z : Zip T) → Holds self.old z → CanAppend z → Holds self.new (appended i.ix item z)) }
@@ -114,7 +115,7 @@ impl<T: Drop> Tree<T> {
         Ok(TreeIndex { ix })
     }
 
-    /// Down to the focus's first child, or to no focus where it has none. Where there is no memory nothing changes.
+    /// Moves down to the focus's first child, or to no focus if it has no child. If memory is refused nothing changes.
     pub fn push(&mut self) -> Result<(), AllocError>
         requires { IsAtNode self.old }
         ensures ok { OnOk result ((z : Zip T) → Holds self.old z → HasFocus z → Holds self.new (pushed z)) }
@@ -126,7 +127,7 @@ impl<T: Drop> Tree<T> {
         Ok(())
     }
 
-    /// Up to the parent, which becomes the focus and is answered; with no parent nothing changes.
+    /// Moves up to the parent, which becomes the focus, and returns it; with no parent nothing changes.
     pub fn pop(&mut self) -> Option<TreeIndex>
         ensures result { (z : Zip T) → Holds self.old z → result ≡ parent_of z.up }
         ensures popped { (z : Zip T) → Holds self.old z → Holds self.new (popped z) }
@@ -151,7 +152,8 @@ impl<T: Drop> Tree<T> {
         self.spine.last().copied()
     }
 
-    /// To the sibling after `ix`, which is answered, or to no focus after the last. `ix` is the focus or one of its siblings.
+    /// Moves to the sibling after `ix` and returns it; after the last sibling there is no focus. `ix` is the focus or a sibling of the
+    /// focus.
     pub fn next_sibling(&mut self, ix: TreeIndex) -> Option<TreeIndex>
         requires { IsAtSibling self.old ix.ix }
         ensures past { (z : Zip T) (s : Sibling z ix.ix) → Holds self.old z → Holds self.new (past z ix.ix s) }
@@ -163,7 +165,7 @@ impl<T: Drop> Tree<T> {
         index_of(next)
     }
 
-    /// To the first tree, with no parent.
+    /// Moves to the first tree, with no parent.
     pub fn reset(&mut self)
         ensures first { (z : Zip T) → Holds self.old z → Holds self.new (at_first z) }
         ensures nodes { KeepsNodes self.old self.new }
@@ -172,23 +174,23 @@ impl<T: Drop> Tree<T> {
         self.cur = self.first;
     }
 
-    /// The parents, outermost first.
+    /// The parents, the outermost first.
     pub fn walk_spine(&self) -> Iter<'_, TreeIndex>
         ensures { (z : Zip T) → Holds self.now z → iter_rest result ≡ spine_of z.up }
     {
         self.spine.iter()
     }
 
-    /// How many parents there are.
+    /// The number of parents.
     pub fn spine_len(&self) -> usize
         ensures { (z : Zip T) → Holds self.now z → result ≡ length z.up }
     {
         self.spine.len()
     }
 
-    /// A node after the focus, and the path down to it.
+    /// Adds a node after the focus and opens it: later nodes are inside it.
     ///
-    /// Refused, the tree is as it was, or the node stands there and is the focus.
+    /// If memory is refused, either the tree is unchanged, or the node is there, closed, and is the focus.
     #[inline(always)]
     pub fn open(&mut self, item: T) -> Result<(), AllocError>
         requires { IsPlaced self.old }
@@ -200,7 +202,7 @@ impl<T: Drop> Tree<T> {
         Ok(())
     }
 
-    /// A node with no children after the focus, which it becomes. Refused, the tree is as it was.
+    /// Adds a node without children after the focus; it becomes the focus. If memory is refused the tree is unchanged.
     pub fn add(&mut self, item: T) -> Result<TreeIndex, AllocError>
         requires { IsPlaced self.old }
         ensures ok { OnOk result ((here : Forest T) (up : List (Opened T)) → Is self.old here up → Is self.new (join here (one item Nil)) up) }
@@ -211,17 +213,17 @@ impl<T: Drop> Tree<T> {
         Ok(ix)
     }
 
-    /// Up from the innermost open node, which is the focus then.
+    /// Closes the innermost open node, which then is the focus.
     pub fn close(&mut self)
         ensures { (here : Forest T) (v : Opened T) (up : List (Opened T)) → Is self.old here (v ∷ up) → Is self.new (closed v here) up }
     {
         self.pop();
     }
 
-    /// A node around the last sibling, which becomes its only child and stays the focus: the new node stands in its place, and is
-    /// open. With no sibling at hand nothing changes.
+    /// Puts a new node around the last sibling. The new node takes the sibling's place and is open; the sibling becomes its only child and
+    /// stays the focus. With no current sibling nothing changes.
     ///
-    /// Refused, the tree is as it was, or the node stands there around the sibling, closed, and is the focus.
+    /// If memory is refused, either the tree is unchanged, or the new node is around the sibling, closed, and is the focus.
     pub fn enclose(&mut self, item: T) -> Result<(), AllocError>
         requires { IsPlaced self.old }
         ensures ok { OnOk result ((here : Forest T) (x : T) (inside : Forest T) (up : List (Opened T)) → Is self.old (join here (one x inside)) up
@@ -238,8 +240,8 @@ impl<T: Drop> Tree<T> {
         self.push()
     }
 
-    /// Up from the innermost open node; the last sibling, if there is one, then stands behind that node and is the focus. It takes time
-    /// in proportion to how many siblings there are. With no open node nothing changes.
+    /// Closes the innermost open node. Its last child, if there is one, is moved after that node and becomes the focus. The time is
+    /// proportional to the number of children. With no open node nothing changes.
     pub fn release(&mut self)
         requires { IsPlaced self.old }
         ensures released { (here : Forest T) (x : T) (inside : Forest T) (v : Opened T) (up : List (Opened T)) → Is self.old (join here (one x inside)) (v ∷ up)
@@ -260,7 +262,7 @@ impl<T: Drop> Tree<T> {
         self.nodes.set_next(parent.ix, self.cur);
     }
 
-    /// A node that no link leads to, as for `set_next` or `set_child` to lead to it. Where there is no memory nothing changes.
+    /// Makes a node that no link leads to, so that `set_next` or `set_child` can link it. If memory is refused nothing changes.
     pub fn create_node(&mut self, item: T) -> Result<TreeIndex, AllocError>
         ensures new { IfOk result (λ i. IsGrown self.old.nodes self.new.nodes i.ix item) }
         ensures forest { (z : Zip T) → Holds self.old z → Holds self.new z }
@@ -278,7 +280,7 @@ impl<T: Drop> Tree<T> {
         self.nodes.item(ix.ix)
     }
 
-    /// The item of a node, to be written.
+    /// The item of a node, for writing.
     pub fn item_mut(&mut self, ix: TreeIndex) -> &mut T
         requires { HasNode self.old ix.ix }
         ensures* lends { sem 𝓛 (LendsItemAt T.row self.entry ix.ix result) }
@@ -303,9 +305,9 @@ impl<T: Drop> Tree<T> {
         index_of(self.nodes.child(ix.ix))
     }
 
-    /// Sets the sibling after a node, which is the focus, or stands after it or inside one of those. The siblings that stood there
-    /// are dropped from the forest, and stay nodes. No other link may lead to `to`, but from dropped nodes, and the node may not
-    /// stand inside `to`.
+    /// Sets the sibling after a node. The node is the focus, or comes after it, or is inside the focus or a later sibling. The old next
+    /// siblings are removed from the forest, and remain nodes. No other link may lead to `to`, except from removed nodes, and the node may
+    /// not be inside `to`.
     pub fn set_next(&mut self, ix: TreeIndex, to: Option<TreeIndex>)
         requires { CanLinkNext self.old ix.ix (place_of to) }
         ensures forest { (z : Zip T) (g : Forest (Placed T)) → CanLink self.old z ix.ix (place_of to) g (next_relinked ix.ix g z) → Holds self.new (next_relinked ix.ix g z) }
@@ -315,7 +317,7 @@ impl<T: Drop> Tree<T> {
         self.nodes.set_next(ix.ix, link_of(to));
     }
 
-    /// Sets the first child of a node, on the terms of `set_next`.
+    /// Sets the first child of a node, under the conditions of `set_next`.
     pub fn set_child(&mut self, ix: TreeIndex, to: Option<TreeIndex>)
         requires { CanLinkChild self.old ix.ix (place_of to) }
         ensures forest { (z : Zip T) (g : Forest (Placed T)) → CanLink self.old z ix.ix (place_of to) g (child_relinked ix.ix g z) → Holds self.new (child_relinked ix.ix g z) }

@@ -4,7 +4,7 @@ ghost use Rattle.std.specs.Prelude.{◌≡◌, ◌+◌, ◌-◌, ◌^◌, ◌<�
 
 /// The number of a node in a `Tree`, from 1 on.
 ///
-/// Only a tree makes one; `checked_add` and `checked_sub` give those of nodes that were made after or before it.
+/// Only a tree makes one; `checked_add` and `checked_sub` give the numbers of nodes that were made later or earlier.
 #[derive(Clone, Copy, PartialEq, Eq, PartialOrd, Ord)]
 pub struct TreeIndex {
     pub(crate) ix: usize,
@@ -18,7 +18,7 @@ impl TreeIndex {
         self.ix
     }
 
-    /// The number that is `n` further on, or `None` past the last `usize`.
+    /// The number `n` higher, or `None` beyond the largest `usize`.
     pub fn checked_add(self, n: usize) -> Option<TreeIndex>
         ensures fits { IsSome result ↔ (self.ix + n < 2 ^ 64) }
         ensures value { IfSome result (λ i. i.ix ≡ self.ix + n) }
@@ -27,7 +27,7 @@ impl TreeIndex {
         Some(TreeIndex { ix })
     }
 
-    /// The number that is `n` further back, or `None` where it would be below 1.
+    /// The number `n` lower, or `None` if that is below 1.
     pub fn checked_sub(self, n: usize) -> Option<TreeIndex>
         ensures fits { IsSome result ↔ (n < self.ix) }
         ensures value { IfSome result (λ i. i.ix ≡ self.ix - n) }

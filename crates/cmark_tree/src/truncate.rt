@@ -1,4 +1,4 @@
-//! Siblings cut off where their text ends.
+//! Siblings cut off at the end of their text.
 
 ghost use Rattle.std.specs.Prelude.{◌≡◌, ℕ, ◌+◌, ◌<◌, ◌≤◌, true, List, [], ◌∷◌, Some, None, if◌then◌else◌};
 ghost use Rattle.cmark_tree.specs.Forest.{Forest, join};
@@ -16,19 +16,19 @@ use crate::nodes::Nodes;
 use crate::tree::Tree;
 use crate::tree_index::TreeIndex;
 
-/// What has a range of bytes, and may begin with a byte that a backslash escapes.
+/// An item with a range of bytes, whose first byte a backslash may escape.
 pub trait TreeSpan: Drop {
     ghost spans: { Spans Self };
 
-    /// Where the range begins.
+    /// The start of the range, a byte offset.
     fn start(&self) -> usize
         ensures { result ≡ spans.start self.now };
 
-    /// Where the range ends.
+    /// The end of the range, a byte offset.
     fn end(&self) -> usize
         ensures { result ≡ spans.end self.now };
 
-    /// Whether a backslash stands before the first byte, and escapes it.
+    /// Whether a backslash before the first byte escapes it.
     fn escaped(&self) -> bool
         ensures { result ≡ spans.escaped self.now };
 
@@ -37,7 +37,7 @@ pub trait TreeSpan: Drop {
         ensures { self.new ≡ spans.ranged self.old start end };
 }
 
-// Whether something is left of an item that does not end before `to`, which it is then.
+// Shortens an item that does not end before `to`. Returns whether any of it is left.
 fn shorten<T: TreeSpan>(item: &mut T, to: usize) -> bool
     requires { T.spans.start item.old ≡ to → T.spans.escaped item.old ≡ true → 0 < to }
     ensures { shortened T.spans to item.old ≡ (if result then Some item.new else None) }
@@ -57,14 +57,14 @@ fn shorten<T: TreeSpan>(item: &mut T, to: usize) -> bool
     false
 }
 
-// The last sibling that ends before the place, and the one after it, where 0 stands for none.
+// The last sibling that ends before the place, and the sibling after it; 0 is no node.
 #[derive(Clone, Copy)]
 struct Cut {
     kept: usize,
     at: usize,
 }
 
-// Where siblings are cut, from `head` on.
+// The place at which the siblings from `head` on are cut.
 fn cut_place<T: TreeSpan>(nodes: &Nodes<T>, head: usize, to: usize) -> Cut
     requires { (f : Forest (Placed T)) × IsChildren nodes.now f head }
     ensures { (f : Forest (Placed T)) → IsChildren nodes.now f head → IsCut T.spans to f result.kept result.at }
@@ -85,7 +85,7 @@ fn cut_place<T: TreeSpan>(nodes: &Nodes<T>, head: usize, to: usize) -> Cut
     cut
 }
 
-// Whether something is left of a node's item that does not end before `to`, which it is then.
+// Shortens the item of a node that does not end before `to`. Returns whether any of it is left.
 fn shorten_at<T: TreeSpan>(nodes: &mut Nodes<T>, at: usize, to: usize) -> bool
     requires number { HasNumber nodes.old at }
     requires inside { (e : Entry T) → node_at nodes.old at ≡ Some e → T.spans.start e.item ≡ to → T.spans.escaped e.item ≡ true → 0 < to }
@@ -95,7 +95,7 @@ fn shorten_at<T: TreeSpan>(nodes: &mut Nodes<T>, at: usize, to: usize) -> bool
     shorten(item, to)
 }
 
-// Where a node begins; none, where 0 stands for none.
+// The start of a node's range; `None` for the number 0.
 fn start_at<T: TreeSpan>(nodes: &Nodes<T>, at: usize) -> Option<usize>
     requires { (at ≡ 0 → ⊥) → HasNumber nodes.now at }
     ensures none { at ≡ 0 → result ≡ None }
@@ -108,9 +108,9 @@ fn start_at<T: TreeSpan>(nodes: &Nodes<T>, at: usize) -> Option<usize>
 }
 
 impl<T: TreeSpan> Tree<T> {
-    /// Cuts the parent's children off at byte `end`. Those that end before it stay; the next is shortened to end there, and what is
-    /// after it goes. One that begins at `end` goes too, but where a backslash escapes its first byte, it becomes that backslash. The
-    /// last that is left is the focus.
+    /// Cuts the parent's children off at byte `end`. The children that end before it stay. The next child is shortened to end there, and
+    /// the later ones are removed. A child that begins at `end` is removed too, unless a backslash escapes its first byte: then it becomes
+    /// that backslash. The last remaining child is the focus.
     pub fn truncate_siblings(&mut self, end: usize)
         requires { CanTruncate T.spans self.old }
         ensures { (z : Zip T) → Holds self.old z → HasParent z.up → Holds self.new (siblings_truncated T.spans end z) }
@@ -128,8 +128,8 @@ impl<T: TreeSpan> Tree<T> {
         }
     }
 
-    /// Cuts off the children of the innermost open node from the first that does not end before byte `end` on, and answers where
-    /// that one begins; none, where each ends before. The last that is left is the focus. Where no node is open nothing changes.
+    /// Cuts off the children of the innermost open node, from the first that does not end before byte `end`. Returns the start of that
+    /// child, or `None` if each child ends before `end`. The last remaining child is the focus. If no node is open nothing changes.
     pub fn cut_siblings(&mut self, end: usize) -> Option<usize>
         requires { IsPlaced self.old }
         ensures kept { (here : Forest T) (v : Opened T) (up : List (Opened T)) → Is self.old here (v ∷ up) → Is self.new (ending_before T.spans end here) (v ∷ up) }
@@ -144,7 +144,7 @@ impl<T: TreeSpan> Tree<T> {
         start
     }
 
-    // The parent's children end with this one, or there are none: it is the focus.
+    // The parent's children end with this one, which is the focus; if it is 0, there are none.
     fn end_siblings(&mut self, parent: TreeIndex, last: usize)
         requires { CanEnd self.old parent last }
         ensures { (done rest : Forest (Placed T)) (up : List (Level T)) → IsForest (entry_at self.old) self.old.first (plug up (join done rest)) → self.old.spine.items ≡ spine_of up → parent_of up ≡ Some parent → last_place done ≡ last → Holds self.new (at_last done up) }

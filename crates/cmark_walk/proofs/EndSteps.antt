@@ -50,7 +50,7 @@ otherwise-append [] L o = absurd o
 otherwise-append (Given given ∷ others) L o = o
 otherwise-append (Content leaf ∷ others) L o = o
 
--- a marker that stands behind starts, before what begins with one
+-- a marker that comes after starts, before events that begin with a start
 first-otherwise : (starts : ℕ) (start end : ℕ) (is_checked : Bool) (xs : List Segment) → ((n : ℕ) → starts ≡ suc n → BeginsOtherwise xs)
     → BeginsOtherwise (first_of_segments starts (Given (record { event = event.TaskListMarker is_checked; start = start; end = end })) xs)
 first-otherwise zero start end is_checked xs h = λ tag e. let q : event.TaskListMarker is_checked ≡ event.End tag = e in cc
@@ -60,7 +60,7 @@ first-otherwise (suc starts) start end is_checked (Content leaf ∷ others) h = 
 
 -- ## Documents
 
--- what begins with a title begins with its start
+-- nodes that begin with a title begin with its start
 title-read : (b : Bool) (R : Reads) (node : BlockNode) (d : BlockDocument) (I : List Segment) → (begins_title d ≡ true → BeginsOtherwise (segments d)) → reads.title_as b R (begins_title d) ≡ true
     → (z : ℕ) → BeginsOtherwise (with_first_segment (first_event R) z node (node_segments R node I ++ segments d))
 title-read b (reads.Around tag) node d I h e z = λ end q. let n : event.Start tag ≡ event.End end = q in cc
@@ -74,7 +74,7 @@ title-otherwise document.Nil e = absurd (true≢false (sym e))
 title-otherwise (document.Node node inside after) e =
     title-read (is_title node.kind) (read_as node.kind) node after (inside_of node.kind inside (segments inside)) (title-otherwise after) e (starts_before after)
 
--- what begins with a text behind starts begins with a start
+-- nodes that begin with a text after starts begin with a start
 starts-read : (s : ℕ) (R : Reads) (node : BlockNode) (d : BlockDocument) (I : List Segment) → ((n : ℕ) → starts_before d ≡ suc n → BeginsOtherwise (segments d)) → (n : ℕ) → reads.starts_as s R (starts_before d) ≡ suc n
     → (z : ℕ) → BeginsOtherwise (with_first_segment (first_event R) z node (node_segments R node I ++ segments d))
 starts-read s (reads.Around tag) node d I h n e z = λ end q. let m : event.Start tag ≡ event.End end = q in cc
@@ -90,7 +90,7 @@ starts-otherwise (document.Node node inside after) n e =
 
 -- ## The node in the focus
 
--- a node that is no definition, and not read as what is inside it alone
+-- a node that is not a definition, and is not read as only the events inside it
 read-otherwise : (kind : BlockKind) → is_definition kind ≡ false → (reads.Inside ≡ read_as kind → ⊥) → (z : ℕ) (node : BlockNode) (I A : List Segment) → ((n : ℕ) → z ≡ suc n → BeginsOtherwise A) → BeginsOtherwise (read_with (read_as kind) z node I A)
 read-otherwise (LinkDefinition reference) d i z node I A h = absurd (true≢false d)
 read-otherwise TightParagraph d i z node I A h = absurd (i refl)
@@ -102,7 +102,7 @@ within-definition true Paragraph = refl
 within-definition false Paragraph = refl
 within-definition tight _ = refl
 
--- the item is not read as what is inside it alone
+-- the item is not read as only the events inside it
 abbrev pub NotInside : Walk → Item → Type 0
 NotInside walk item = (z : Zip Item) (above : List Outer) (node : BlockNode) → StandsBelow walk z above → Drawn walk.text.now (texts_of walk) item node → reads.Inside ≡ read_as (kind_within (tight_below above) node.kind) → ⊥
 
@@ -117,7 +117,7 @@ before-otherwise walk item ix t at is before other left r m =
     (inside_at walk item ix t at is before r.above f.node f.inside) (segments after) (starts-otherwise after)))
     (subst MayBeginWithEnd (before-node walk item ix t at is before left r f) m)
 
--- what owns a text is an event, or an element
+-- an item that owns a text is an event, or an element
 owns-kind : (text : List ℕ) (texts : List CowStr) (start end : ℕ) (tight : Bool) (b : ItemBody) (kind : BlockKind) → kind_over text texts start end (shape b) ≡ Some kind → OwnsText b → reads.Inside ≡ read_as (kind_within tight kind) → ⊥
 owns-kind text texts start end tight (body.SynthesizeText x) kind e o i =
     let k = (spelt-kind document.OwnedText (text_at texts x.0) kind e).1 in
@@ -145,11 +145,11 @@ pub owns-otherwise : (walk : Walk) (item : Item) → OwnsText item.body → NotI
 owns-otherwise walk item o z above node b d =
     owns-kind walk.text.now (texts_of walk) item.start item.end (tight_below above) item.body node.kind (within-kind item.start item.end node (kind_over walk.text.now (texts_of walk) item.start item.end (shape item.body)) d.shown) o
 
--- an element is not read as what is inside it alone
+-- an element is not read as only the events inside it
 pub around-otherwise : (walk : Walk) (item : Item) (tag : _) → ((z : Zip Item) (above : List Outer) (node : BlockNode) → StandsBelow walk z above → Drawn walk.text.now (texts_of walk) item node → reads.Around tag ≡ read_as (kind_within (tight_below above) node.kind)) → NotInside walk item
 around-otherwise walk item tag read z above node b d i = let q : reads.Inside ≡ reads.Around tag = i ∙ sym (read z above node b d) in cc
 
--- a task marker is the first event of what is behind it
+-- a task marker is the first event of the nodes after it
 pub task-otherwise : (walk : Walk) (item : Item) (is_checked : Bool) → task_body item.body ≡ Some is_checked → NotInside walk item
 task-otherwise walk item is_checked task z above node b d i =
     let first = task-read (tight_below above) is_checked node.kind (task-drawn walk.text.now (texts_of walk) item node d ∙ task) in

@@ -1,4 +1,4 @@
--- No item of a tree is a link reference definition, so an item that is neither an event nor an element is a paragraph of a tight list.
+-- No item of a tree is a link reference definition. So an item that is neither an event nor an element is a paragraph of a tight list.
 use Rattle.std.proofs.Common.{◌≡◌, ◌⊎◌, inl, inr, ℕ, Bool, true, false, true≢false, List, Some, None, option_map, refl, sym, ap, Option}
 use Rattle.std.proofs.lemmas.Option.{same_Some}
 use Rattle.std.specs.Char.{encode_utf8}
@@ -142,7 +142,7 @@ pub task-drawn : (text : List ℕ) (texts : List CowStr) (item : Item) (node : B
 task-drawn text texts item node d =
     kind-task text texts item.start item.end item.body node.kind (within-kind item.start item.end node (kind_over text texts item.start item.end (shape item.body)) d.shown)
 
--- a task marker is read as the first event of what is behind it
+-- a task marker is read as the first event of the nodes after it
 pub task-read : (tight is_checked : Bool) (kind : BlockKind) → task_kind kind ≡ Some is_checked → reads.First (TaskListMarker is_checked) ≡ read_as (kind_within tight kind)
 task-read tight is_checked (TaskMarker c) e = ap (λ z. reads.First (TaskListMarker z)) (sym (same_Some c is_checked e))
 task-read tight is_checked Paragraph e = absurd (let q : None ≡ Some is_checked = e in cc)
@@ -169,7 +169,7 @@ task-read tight is_checked (Text bytes) e = absurd (let q : None ≡ Some is_che
 task-read tight is_checked (OwnedText bytes) e = absurd (let q : None ≡ Some is_checked = e in cc)
 task-read tight is_checked (Html bytes) e = absurd (let q : None ≡ Some is_checked = e in cc)
 
--- where a node is no leaf, or no element, no paragraph, heading or title begins, but perhaps a definition list
+-- at a node that is not a leaf, or not an element, no paragraph, heading or title begins, but perhaps a definition list
 pub no-element : (tight : Bool) (kind : BlockKind) (titled : Bool) (other : ℕ) → is_definition kind ≡ false → (is_leaf kind ≡ false) ⊎ (None ≡ tag_in (read_as (kind_within tight kind)))
     → (starts_as (starts_of (kind_within tight kind) titled) (read_as (kind_within tight kind)) other ≡ 0) ⊎ (is_list kind ≡ true)
 no-element true Paragraph titled other n e = inl refl

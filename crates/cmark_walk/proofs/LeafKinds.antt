@@ -1,4 +1,4 @@
--- Which nodes are leaves, and what is inside them.
+-- The nodes that are leaves, and the nodes inside them.
 use Rattle.std.proofs.Common.{◌≡◌, Bool, true, false, if◌then◌else◌, List, [], ◌∷◌, refl, ap, ◌∙◌}
 use Rattle.cmark_grammar.specs.BlockDocument.{BlockKind, Paragraph, TightParagraph, Heading, ThematicBreak, IndentedCode, FencedCode, HtmlBlock, LinkDefinition, MetadataBlock, BlockQuote, BlockList, ListItem, TaskMarker, FootnoteDefinition, DefinitionList, DefinitionListTitle, DefinitionListDefinition, Text, OwnedText, Html, BlockDocument, Nil, Node, Table, TableHead, TableRow, TableCell}
 use Rattle.cmark_grammar.specs.BlockReading.{Around, Inside, Alone, First, Silent, read_as}
@@ -6,7 +6,7 @@ use Rattle.cmark_grammar.specs.DrawnDocument.{kind_within, settled}
 use Rattle.cmark_grammar.specs.LeafText.{Stretch, Leaf}
 use Rattle.cmark_grammar.specs.SpanDocuments.{Segment, Content, is_leaf, is_cell, leaf_of, stretches_of, inside_of}
 
--- a paragraph is one in a tight list too
+-- a paragraph is a leaf in a tight list too
 pub leaf-within : (tight : Bool) (kind : BlockKind) → is_leaf (kind_within tight kind) ≡ is_leaf kind
 leaf-within true Paragraph = refl
 leaf-within false Paragraph = refl
@@ -40,7 +40,7 @@ inside-leaf kind content others e = ap (λ b. if b then Content (leaf_of kind co
 pub inside-block : (kind : BlockKind) (content : BlockDocument) (others : List Segment) → is_leaf kind ≡ false → inside_of kind content others ≡ others
 inside-block kind content others e = ap (λ b. if b then Content (leaf_of kind content) ∷ [] else others) e
 
--- what is read as what is inside it is a leaf
+-- a node that is read as the events inside it is a leaf
 pub only-leaves-inside : (kind : BlockKind) → Inside ≡ read_as kind → is_leaf kind ≡ true
 only-leaves-inside Paragraph e = refl
 only-leaves-inside TightParagraph e = refl

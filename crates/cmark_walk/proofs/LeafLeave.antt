@@ -22,7 +22,7 @@ use Rattle.cmark_walk.specs.Walking.{Drawn, Gives, Goes, HoldsLines, IsFirst, Is
 use Rattle.cmark_walk.proofs.WalkSteps.{Focus, IsFocusAt, IsItem, at-item, at_range, beyond, left-staged, moved, over-range, passed, remains-before, staged}
 use Rattle.cmark_walk.proofs.LeaveSteps.{EndsAs, leaving-none, leaving-some}
 
--- the lines of the leaf are met, and what stands behind them is left
+-- the lines of the leaf are met, and the events after them are left
 pub meets-leaf : (walk : Walk) (item : Item) (ix : TreeIndex) (cell : Bool) (lines : List LeafLine) → IsFocusAt walk ix → IsItem walk.tree ix item
     → ((text : List ℕ) (texts : List CowStr) (node : BlockNode) → Drawn text texts item node → cell ≡ is_cell node.kind) → walk.stage ≡ stage.Lines → HoldsLines walk lines
     → (left : List Segment) → Remains walk left → Gives left (met.Leaf cell) lines (staged walk stage.Behind)
@@ -43,7 +43,7 @@ meets-leaf walk item ix cell lines at is in-cell now holds left r = (
 )
 
 module _ (walk : Walk) (item : Item) (ix : TreeIndex) (at : IsFocusAt walk ix) (is : IsItem walk.tree ix item) where
-  -- the focus is one of its siblings
+  -- the focus is among its siblings
   pub leaf-here : Goes walk → IsAtSibling walk.tree ix.ix
   leaf-here g =
       let f = at-item walk item ix at is g.1.z g.1.here g.1.above g.1.stands in

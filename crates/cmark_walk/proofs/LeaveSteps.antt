@@ -1,4 +1,4 @@
--- A step of a walk from behind the last sibling past the parent.
+-- A step of a walk from after the last sibling past the parent.
 use Rattle.std.proofs.Common.{◌≡◌, ℕ, List, [], ◌∷◌, ◌++◌, Option, Some, None, refl, sym, ap, ◌∙◌, subst}
 use Rattle.std.proofs.lemmas.Option.{same_Some}
 use Rattle.cmark_tree.specs.declared.tree.Tree.{Tree}
@@ -27,7 +27,7 @@ use Rattle.cmark_walk.specs.Reads.{end_in, tag_in}
 use Rattle.cmark_walk.specs.Walking.{Drawn, Draws, DrawsAbove, Outer, AreElements, IsElement, StandsBelow, StandsAt, IsStaged, Remains, Goes, IsFirst, left_from, leaving, tight_below, texts_of}
 use Rattle.cmark_walk.proofs.WalkSteps.{at_range, moved, over-range, left-staged, remains-before, IsItem}
 
--- behind the last of the siblings, with a parent
+-- after the last of the siblings, with a parent
 pub record Behind (walk : Walk) (ix : TreeIndex) (z : Zip Item) (here : BlockDocument) (above : List Outer) : Type 0 where
   pub level : Level Item
   pub up : List (Level Item)
@@ -78,7 +78,7 @@ pub behind : (walk : Walk) (ix : TreeIndex) (z : Zip Item) (here : BlockDocument
 behind walk ix z here above s n p =
     behind-split walk ix z here z.up above refl (here-none walk.text.now (texts_of walk) z.right here s.draws (n z s.below.holds)) s.below.draws_above s.below.elements (p z s.below.holds)
 
--- behind the last of the siblings the walk is in no leaf
+-- after the last of the siblings the walk is in no leaf
 stage-none : (now : Stage) (here : BlockDocument) → here ≡ document.Nil → IsStaged now here → now ≡ stage.Before
 stage-none stage.Before here e s = refl
 stage-none (stage.Marked is_checked start end) here e s = absurd (subst (IsStaged (stage.Marked is_checked start end)) e s)
@@ -101,7 +101,7 @@ leaving-none (reads.Alone ev) node e = refl
 leaving-none (reads.First ev) node e = refl
 leaving-none reads.Silent node e = refl
 
--- what has an end is an element, and an element has one
+-- a node with an end is an element, and an element has an end
 pub ends-element : (end : TagEnd) (R : Reads) → Some end ≡ end_in R → IsElement R
 ends-element end (reads.Around tag) e = tt
 ends-element end reads.Inside e = let q : Some end ≡ None = e in cc
@@ -199,7 +199,7 @@ module _ (walk : Walk) (ix : TreeIndex) (t : Tree Item) (none : IsNone-at walk) 
         let d = drawn-item r.z r.here r.above r.stands b in
         element-ends (read_as (kind_within (tight_below b.outer) b.parent.node.kind)) b.element (ends (over-parent r.z r.here r.above b) b.outer b.parent.node (at-parent r.z r.here r.above r.stands b) d)
 
--- behind the last of the first siblings nothing is left
+-- after the last of the first siblings nothing is left
 no-parent : (up : List (Level Item)) → None ≡ parent_of up → up ≡ []
 no-parent [] e = refl
 no-parent (v ∷ up) e = absurd (let q : None ≡ Some (record { ix = v.place.ix }) = e in cc)

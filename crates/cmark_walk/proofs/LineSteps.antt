@@ -62,13 +62,13 @@ abbrev pub IsNextAt : Walk → TreeIndex → Option TreeIndex → Type 0
 IsNextAt walk ix next = (e : Entry Item) → entry_at walk.tree ix.ix ≡ Some e → next ≡ index_at e.next
 
 module _ (walk : Walk) where
-  -- the first node inside the focus, where that has no text of its own
+  -- the first node inside the focus, if the focus has no text of its own
   pub begins-lines : (item : Item) (ix : TreeIndex) (child : Option TreeIndex) (lines : List LeafLine) → IsFocusAt walk ix → IsItemAt walk ix item → own_text_end item.body ≡ None → IsChildAt walk ix child → lines ≡ [] → Gathered walk lines child
   begins-lines item ix child lines at is own c none z here above s =
       let l = leads-inside walk ix item child at is own c z here above s in
       subst (λ ls. Gathering walk (content_of here) ls child) (sym none) (record { rest = l.forest; left = content_of here; stands = l.stands; draws = l.draws; next_is = l.link_is; are = refl })
 
-  -- a node that is to come is one of the tree
+  -- a node that is to come is a node of the tree
   node-at : (content : BlockDocument) (lines : List LeafLine) (line : TreeIndex) (rest : Forest (Placed Item)) → Stands (entry_at walk.tree) rest → Some line ≡ focus_of rest → HasNode walk.tree line.ix
   node-at content lines line Nil st e = absurd (let q : Some line ≡ None = e in cc)
   node-at content lines line (Node p f g) st e =

@@ -1,4 +1,4 @@
--- Where the links of a node lead: to the nodes behind it, and to those inside it.
+-- The nodes that a node's links lead to: those after it, and those inside it.
 use Rattle.std.proofs.Common.{◌≡◌, List, Option, Some, None, refl, sym, ap, ◌∙◌, subst}
 use Rattle.std.proofs.lemmas.Option.{same_Some}
 use Rattle.cmark_tree.specs.declared.tree_index.TreeIndex.{TreeIndex}
@@ -22,7 +22,7 @@ abbrev pub IsChild : Walk → TreeIndex → Option TreeIndex → Type 0
 IsChild walk ix child = (e : Entry Item) → entry_at walk.tree ix.ix ≡ Some e → child ≡ index_at e.child
 
 module _ (walk : Walk) where
-  -- a link leads to these nodes, or to nothing where there are none
+  -- a link leads to these nodes, or to nothing if there are none
   pub record Leads (link : Option TreeIndex) (nodes : BlockDocument) : Type 0 where
     pub forest : Forest (Placed Item)
     pub stands : Stands (entry_at walk.tree) forest
@@ -43,11 +43,11 @@ module _ (walk : Walk) where
           link_is = n entry (subst (λ k. entry_at walk.tree k ≡ Some entry) same st.0) ∙ focus_read walk.tree.nodes g st.2;
         }
 
-    -- to the nodes behind the focus
+    -- to the nodes after the focus
     pub leads-behind : (next : Option TreeIndex) → IsFocusAt walk ix → IsNext walk ix next → (z : Zip Item) (here : BlockDocument) (above : List Outer) → StandsAt walk z here above → Leads next (behind_first here)
     leads-behind next at n z here above s = behind-at next z.right here (in_right walk.tree.nodes walk.tree.first z s.below.holds.forest) s.draws (at z s.below.holds) n
 
-    -- to the nodes inside the focus, where that has no text of its own
+    -- to the nodes inside the focus, if it has no text of its own
     pub leads-inside : (item : Item) (child : Option TreeIndex) → IsFocusAt walk ix → IsItem walk.tree ix item → own_text_end item.body ≡ None → IsChild walk ix child
         → (z : Zip Item) (here : BlockDocument) (above : List Outer) → StandsAt walk z here above → Leads child (content_of here)
     leads-inside item child at is none c z here above s =
@@ -86,11 +86,11 @@ module _ (walk : Walk) where
       let entry : Entry Item = record { item = p.item; child = first f; next = first g } in
       node-at to f st.1 (sym e ∙ c entry (subst (λ k. entry_at walk.tree k ≡ Some entry) same st.0) ∙ focus_read walk.tree.nodes f st.1)
 
-  -- the first node below the focus is one of the tree
+  -- the first node below the focus is a node of the tree
   pub leads-child : (ix to : TreeIndex) (child : Option TreeIndex) → IsFocusAt walk ix → IsChild walk ix child → child ≡ Some to → (z : Zip Item) (here : BlockDocument) (above : List Outer) → StandsAt walk z here above → HasNode walk.tree to.ix
   leads-child ix to child at c e z here above s = child-at ix to child z.right (in_right walk.tree.nodes walk.tree.first z s.below.holds.forest) (at z s.below.holds) c e
 
-  -- some nodes begin with one that has this item
+  -- some nodes begin with a node of this item
   pub record Begins (item : Item) (nodes : BlockDocument) : Type 0 where
     pub node : BlockNode
     pub inside : BlockDocument

@@ -1,4 +1,4 @@
--- Definition lists and their titles among the kinds of nodes, and how many starts stand before a text.
+-- Definition lists and their titles among the kinds of nodes, and the number of starts before a text.
 use Rattle.std.proofs.Common.{◌≡◌, Bool, true, false, true≢false, refl, sym}
 use Rattle.cmark_grammar.specs.BlockDocument.{BlockKind, Paragraph, TightParagraph, Heading, LinkDefinition, TableCell, DefinitionList, DefinitionListTitle}
 use Rattle.cmark_grammar.specs.BlockReading.{is_leaf, is_title, read_as, starts_of, title_as}
@@ -17,7 +17,7 @@ pub title-leaf : (kind : BlockKind) → is_title kind ≡ true → is_leaf kind 
 title-leaf DefinitionListTitle e = refl
 title-leaf _ e = absurd (true≢false (sym e))
 
--- before the text of a leaf that is an element stands its own start
+-- before the text of a leaf that is an element comes its own start
 pub leaf-starts : (kind : BlockKind) (titled : Bool) → is_leaf kind ≡ true → starts_of kind titled ≡ 1
 leaf-starts Paragraph titled e = refl
 leaf-starts TightParagraph titled e = refl
@@ -26,7 +26,7 @@ leaf-starts TableCell titled e = refl
 leaf-starts DefinitionListTitle titled e = refl
 leaf-starts _ titled e = absurd (true≢false (sym e))
 
--- where another node is read, no title begins
+-- if another node is read, no title begins
 pub no-title : (tight : Bool) (kind : BlockKind) (other : Bool) → is_definition kind ≡ false → is_title kind ≡ false → title_as (is_title (kind_within tight kind)) (read_as (kind_within tight kind)) other ≡ false
 no-title true Paragraph other d t = refl
 no-title false Paragraph other d t = refl

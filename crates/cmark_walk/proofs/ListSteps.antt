@@ -1,4 +1,4 @@
--- A definition list in front of whose first title a task marker stands, and a step into it.
+-- A definition list whose first title has a task marker before it, and a step into it.
 use Rattle.std.proofs.Common.{◌≡◌, if◌then◌else◌, ℕ, Bool, false, true, List, ◌∷◌, ◌++◌, Option, Some, None, refl, sym, ap, ◌∙◌, subst, append_assoc}
 use Rattle.std.proofs.lemmas.Option.{same_Some}
 use Rattle.cmark_tree.specs.declared.tree.Tree.{Tree}
@@ -68,7 +68,7 @@ module _ (walk : Walk) (ix : TreeIndex) (at : IsFocusAt walk ix) (found : Option
   nothing-inside none z here above s l tight =
       ap (λ d. begins_title (settled tight d)) (leads-nowhere walk found (content_of here) (leads-listed z here above s l) none)
 
-  -- the first node below the focus is one of the tree
+  -- the first node below the focus is a node of the tree
   pub child-node : (child : TreeIndex) → found ≡ Some child → Goes walk → HasNode walk.tree child.ix
   child-node child e g = leads-child walk ix child found at c e g.1.z g.1.here g.1.above g.1.stands
 
@@ -118,7 +118,7 @@ module _ (walk : Walk) (ix : TreeIndex) (at : IsFocusAt walk ix) where
     inside-of : (left : List Segment) (r : Remains walk left) (h : Here walk ix at r.z r.here) → StandsAt (moved walk t) (down walk h.item ix t r.z r.here h.focus) h.focus.inside (below h.focus.node h.focus.after r.above)
     inside-of left r h = into walk h.item ix t r.z r.here r.above r.stands h.is h.focus (list-no-leaf h.focus.node.kind (subst BeginsWithList h.focus.here_is (listed r))) (list-element left r h) push
 
-    -- with no title the marker stands before all that is inside
+    -- without a title the marker comes before all events inside
     untitled-left : (node : BlockNode) (inside after : BlockDocument) (above : List Outer) → begins_title (settled (tight_within (tight_below above) node.kind) inside) ≡ false
         → left_from (stage.Listed is_checked start end) (document.Node node inside after) above ≡ Given marker ∷ left_from stage.Before inside (below node after above)
     untitled-left node inside after above none =
@@ -146,7 +146,7 @@ module _ (walk : Walk) (ix : TreeIndex) (at : IsFocusAt walk ix) where
               refl,
         )
 
-    -- a title stands first, and the marker behind its start
+    -- a title comes first, and the marker after its start
     title-around : (k : BlockKind) (node : BlockNode) (content rest : BlockDocument) (E A L : List Segment) → k ≡ document.DefinitionListTitle
         → first_of_segments (if begins_title (document.Node (as_kind k node) content rest) then 1 else 0) (Given marker) ((segments (document.Node (as_kind k node) content rest) ++ E) ++ A) ++ L
         ≡ Given (over node (event.Start tag.DefinitionListTitle)) ∷ (Given marker ∷ (Content (leaf_of k content) ∷ ((leaving (read_as k) node ++ segments rest) ++ (E ++ (A ++ L)))))

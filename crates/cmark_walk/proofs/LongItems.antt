@@ -20,7 +20,7 @@ use Rattle.cmark_walk.specs.declared.walk.Walk.{Walk}
 use Rattle.cmark_walk.specs.Walking.{Drawn, IsElement, IsLeafElement, IsLongGlance, Outer, ReadsAs, StandsBelow, has_texts, is_long, is_synthesized, task_body, texts_of, tight_below}
 use Rattle.cmark_walk.proofs.Paths.{spelt-kind, within-kind}
 
--- one that is no task marker and no text that is written nowhere is an element with a text of its own
+-- an item that is neither a task marker nor a text without source is an element with a text of its own
 pub long-texts : (b : ItemBody) → is_long b ≡ true → None ≡ task_body b → false ≡ is_synthesized b → has_texts b ≡ true
 long-texts (body.TaskListMarker is_checked) l t s = absurd (let q : None ≡ Some is_checked = t in cc)
 long-texts (body.SynthesizeText x) l t s = absurd (true≢false (sym s))
@@ -34,7 +34,7 @@ kind-texts text texts start end (body.SynthesizeText x) kind e leaf l = absurd (
 kind-texts text texts start end (body.SynthesizeChar x) kind e leaf l = absurd (true≢false (sym leaf ∙ ap is_leaf (sym (same_Some (document.OwnedText (encode_utf8 x)) kind e))))
 kind-texts text texts start end _ kind e leaf l = l
 
--- an element that is not seen to be one without a text of its own
+-- an element that is not known to be one without a text of its own
 not-plain : (g : Glance) (R : Reads) (b : ItemBody) → ((tag : PlainTag) → g ≡ glance.Around tag → ⊥) → ReadsAs g R → IsElement R → IsLongGlance g b → is_long b ≡ true
 not-plain (glance.Around tag) R b n r e l = absurd (n tag refl)
 not-plain (glance.Alone short) R b n r e l = absurd (subst IsElement (sym r) e)
@@ -48,7 +48,7 @@ leaf-texts walk item g n e read l =
     kind-texts walk.text.now (texts_of walk) item.start item.end item.body e.node.kind (within-kind item.start item.end e.node (kind_over walk.text.now (texts_of walk) item.start item.end (shape item.body)) e.drawn.shown) e.leaf
     (not-plain g _ item.body n (read e.z e.above e.node e.stands e.drawn) e.element l)
 
--- an item of none of the kinds that are read as something else than what is inside them alone
+-- an item of none of the kinds that are read otherwise than as the events inside them
 pub record IsOther (b : ItemBody) : Type 0 where
   pub text : (x0 : _) → b ≡ body.Text x0 → ⊥
   pub html : b ≡ body.Html → ⊥

@@ -1,4 +1,4 @@
--- A task marker, and the paragraph, heading or definition list behind it.
+-- A task marker, and the paragraph, heading or definition list after it.
 use Rattle.std.proofs.Common.{◌≡◌, ◌⊎◌, inl, inr, if◌then◌else◌, ℕ, Bool, true, false, true≢false, List, [], ◌∷◌, ◌++◌, Option, Some, None, refl, sym, ap, ◌∙◌, subst, append_assoc}
 use Rattle.std.proofs.lemmas.Option.{same_Some}
 use Rattle.cmark_tree.specs.declared.tree.Tree.{Tree}
@@ -48,10 +48,10 @@ meets-marker walk is_checked start end now left r = (
   },
 )
 
--- ## What is behind the focus
+-- ## The nodes after the focus
 
 module _ (walk : Walk) (ix : TreeIndex) where
-  -- none stands there
+  -- there is none
   pub none-behind : (next : Option TreeIndex) → IsFocusAt walk ix → IsNext walk ix next → None ≡ next → IsLeafBehind walk ix None
   none-behind next at n none z here above s =
       inl (ap (λ d. starts_before (settled (tight_below above) d)) (leads-nowhere walk next (behind_first here) (leads-behind walk ix next at n z here above s) none))
@@ -60,7 +60,7 @@ module _ (walk : Walk) (ix : TreeIndex) where
   no-list-behind next at n none z here above s l =
       subst BeginsWithList (leads-nowhere walk next (behind_first here) (leads-behind walk ix next at n z here above s) none) l
 
-  -- the node behind the focus is one of the tree
+  -- the node after the focus is a node of the tree
   pub later-node : (next : TreeIndex) (found : Option TreeIndex) → IsFocusAt walk ix → IsNext walk ix found → found ≡ Some next → Goes walk → HasNode walk.tree next.ix
   later-node next found at n e g = leads-node walk next found (behind_first g.1.here) (leads-behind walk ix found at n g.1.z g.1.here g.1.above g.1.stands) e
 
@@ -111,7 +111,7 @@ item-has-at walk item ix P (Node p f g) st fo is has =
     let at : entry_at walk.tree ix.ix ≡ Some entry = subst (λ k. entry_at walk.tree k ≡ Some entry) same st.0 in
     subst P (sym (is entry at)) (has entry at)
 
--- the item at the focus has what the entry of the focus has
+-- the item at the focus has the properties of the entry of the focus
 pub item-has : (walk : Walk) (item : Item) (ix : TreeIndex) (P : Item → Type 0) → IsAt walk ix → IsItem walk.tree ix item → ((e : Entry Item) → entry_at walk.tree ix.ix ≡ Some e → P e.item) → P item
 item-has walk item ix P at is has =
     item-has-at walk item ix P at.0.1.z.right (in_right walk.tree.nodes walk.tree.first at.0.1.z at.0.1.stands.below.holds.forest) (at.1 at.0.1.z at.0.1.stands.below.holds) is has
@@ -120,7 +120,7 @@ item-has walk item ix P at is has =
 pub item-task : (walk : Walk) (item : Item) (ix : TreeIndex) (is_checked : Bool) → IsAt walk ix → IsItem walk.tree ix item → IsTaskAt walk ix is_checked → task_body item.body ≡ Some is_checked
 item-task walk item ix is_checked at is task = item-has walk item ix (λ i. task_body i.body ≡ Some is_checked) at is task
 
--- the paragraph or heading behind the focus is an element
+-- the paragraph or heading after the focus is an element
 element-behind : (walk : Walk) (z : Zip Item) (above : List Outer) (leaf : Item) (after : BlockDocument) → StandsBelow walk z above → BeginsAs walk above leaf after → IsLeafElement walk leaf
 element-behind walk z above leaf document.Nil s b = absurd b
 element-behind walk z above leaf (document.Node node inside after) s b = record { z = z; above = above; node = node; stands = s; drawn = b.0; leaf = b.1; element = b.2 }
@@ -145,12 +145,12 @@ module _ (walk : Walk) (item : Item) (ix : TreeIndex) (t : Tree Item) (at : IsFo
   behind-is : (z : Zip Item) (here : BlockDocument) (f : Focus walk item ix z here) → behind_first here ≡ f.after
   behind-is z here f = ap behind_first f.here_is
 
-  -- no text stands behind starts, but perhaps that of a definition list
+  -- no text comes after starts, except perhaps the text of a definition list
   no-starts : (above : List Outer) (after : BlockDocument) → BeginsBehind walk above None after → (BeginsWithList after → ⊥) → starts_before (settled (tight_below above) after) ≡ 0
   no-starts above after (inl e) n = e
   no-starts above after (inr l) n = absurd (n l)
 
-  -- where none begins behind it
+  -- if no leaf begins after it
   pub passes-marker : IsLeafBehind walk ix None → IsListBehind walk ix None → (left : List Segment) → Remains walk left → IsFirst left marker (moved walk t)
   passes-marker none no-list left r =
       let f = at-focus walk item ix t at is before r.z r.here r.above r.stands in
@@ -164,7 +164,7 @@ module _ (walk : Walk) (item : Item) (ix : TreeIndex) (t : Tree Item) (at : IsFo
   abbrev pub into_leaf : Walk
   into_leaf = staged (moved walk t) (stage.Marked is_checked item.start item.end)
 
-  -- where a paragraph or a heading does
+  -- if a paragraph or a heading does
   entered-left : (tag : TextTag) (leaf : Item) (z : Zip Item) (above : List Outer) (after : BlockDocument) → StandsBelow walk z above → Reads-at walk leaf (reads.Around (shown_tag tag)) → BeginsAs walk above leaf after
       → first_of_segments (starts_before (settled (tight_below above) after)) (Given marker) (segments (settled (tight_below above) after)) ++ left_above above
       ≡ Given (at_range (event.Start (shown_tag tag)) leaf) ∷ left_from (stage.Marked is_checked item.start item.end) after above
@@ -210,7 +210,7 @@ module _ (walk : Walk) (item : Item) (ix : TreeIndex) (t : Tree Item) (at : IsFo
   abbrev pub into_list : Walk
   into_list = staged (moved walk t) (stage.Listed is_checked item.start item.end)
 
-  -- where a definition list does
+  -- if a definition list does
   listed-around : (tight titled : Bool) (k : BlockKind) (z : ℕ) (node : BlockNode) (content : BlockDocument) (I A L : List Segment) → k ≡ document.DefinitionList tight
       → first_of_segments (starts_as (starts_of k titled) (read_as k) z) (Given marker) (read_with (read_as k) z (as_kind k node) (inside_of k content I) A) ++ L
       ≡ Given (over node (event.Start tag.DefinitionList)) ∷ (first_of_segments (if titled then 1 else 0) (Given marker) ((I ++ leaving (read_as k) node) ++ A) ++ L)

@@ -1,4 +1,4 @@
--- What remains of a walk is all that remains: its tree and the place where it stands decide it.
+-- The rest of a walk is the whole rest: its tree and its place determine it.
 use Rattle.std.proofs.Common.{◌≡◌, ℕ, List, [], ◌∷◌, ◌++◌, Option, Some, None, length, length-append, arith, refl, sym, ap, ◌∙◌, subst}
 use Rattle.std.proofs.lemmas.List.{same_from_push}
 use Rattle.std.proofs.lemmas.Option.{same_Some}
@@ -26,7 +26,7 @@ module _ {T : Type 0} where
   place-one : (p q : Placed T) → p.ix ≡ q.ix → p.item ≡ q.item → p ≡ q
   place-one p q e f = ap {A = ℕ} {B = Placed T} (λ n. record { ix = n; item = p.item }) e ∙ ap {A = T} {B = Placed T} (λ x. record { ix = q.ix; item = x }) f
 
-  -- the links at a place decide what stands there
+  -- the links at a place determine the nodes there
   pub forest-one : (nodes : Nodes T) (f g : Forest (Placed T)) → Stands (node_at nodes) f → Stands (node_at nodes) g → first f ≡ first g → f ≡ g
   forest-one nodes Nil Nil s t e = refl
   forest-one nodes Nil (Node q j b) s t e = let h = place_above nodes q j b t in absurd (omega (arith, h, e))
@@ -46,7 +46,7 @@ module _ {T : Type 0} where
   SamePath (v ∷ up) [] = ⊥
   SamePath (v ∷ up) (w ∷ others) = (v.place ≡ w.place) × (v.right ≡ w.right) × SamePath up others
 
-  -- the places of a path decide what stands after its nodes
+  -- the places of a path determine the nodes after its nodes
   pub path-one : (nodes : Nodes T) (up others : List (Level T)) (f g : Forest (Placed T)) → Stands (node_at nodes) (plug up f) → Stands (node_at nodes) (plug others g) → spine_of up ≡ spine_of others → SamePath up others
   path-one nodes [] [] f g s t e = tt
   path-one nodes [] (w ∷ others) f g s t e = absurd (longer (spine_of others) (record { ix = w.place.ix }) (sym e))
@@ -63,7 +63,7 @@ module _ {T : Type 0} where
         path-one nodes up others (join v.left (Node v.place f v.right)) (join w.left (Node w.place g w.right)) s t last.0,
       )
 
--- what stands inside an item is one document, where what is below it is
+-- the content of an item is one document, if the nodes below it are
 inside-one : (text : List ℕ) (start : ℕ) (own : Option ℕ) (below other : Type 0) (i j : BlockDocument) → (below → other → i ≡ j) → DrawsInside text start own below i → DrawsInside text start own other j → i ≡ j
 inside-one text start None below other i j same a b = same a b
 inside-one text start (Some text_end) below other i j same a b = a.is ∙ sym b.is
@@ -99,7 +99,7 @@ module _ (text : List ℕ) (texts : List CowStr) where
       let after = draws-one w.right o.after q.after (subst (λ f. Draws text texts f o.after) p.1 a.1) b.1 in
       ap (λ z. z ∷ above) (outer-one o q node after) ∙ ap (λ z. q ∷ z) (above-one up others above outer p.2 a.2 b.2)
 
--- what remains is one list
+-- the rest is one list
 pub one-remainder : (walk : Walk) (left others : List Segment) → Remains walk left → Remains walk others → left ≡ others
 one-remainder walk left others r q =
     let nodes = walk.tree.nodes in

@@ -40,7 +40,7 @@ stands-up walk (v ∷ up) f st =
     let here = Stands-right (entry_at walk.tree) v.left (Node v.place f v.right) (Stands-inner (entry_at walk.tree) up (join v.left (Node v.place f v.right)) st) in
     ((record { item = v.place.item; child = first f; next = first v.right }, here.0, refl), stands-up walk up (join v.left (Node v.place f v.right)) st)
 
--- the path from here outwards decides what is tight
+-- the path from here outwards determines whether paragraphs are tight
 pub record TightFrom (walk : Walk) (rest : List TreeIndex) (above : List Outer) : Type 0 where
   pub up : List (Level Item)
   pub outer : List Outer
@@ -87,12 +87,12 @@ innermost walk whole rest ix above e t = innermost-of walk rest ix above t.up t.
 pub innermost-node : (walk : Walk) (rest : List TreeIndex) (ix : TreeIndex) (above : List Outer) → Innermost walk rest ix above → HasNode walk.tree ix.ix
 innermost-node walk rest ix above m = subst (λ k. HasNode walk.tree k) m.at (node_at-within walk.tree.nodes m.place.ix m.has.0 m.has.1)
 
--- what is read there
+-- the item that is read there
 innermost-item : (walk : Walk) (rest : List TreeIndex) (ix : TreeIndex) (above : List Outer) (item : Item) (m : Innermost walk rest ix above) → ((e : Entry Item) → entry_at walk.tree ix.ix ≡ Some e → item ≡ e.item) → Drawn walk.text.now (texts_of walk) item m.node.node
 innermost-item walk rest ix above item m i =
     subst (λ k. Drawn walk.text.now (texts_of walk) k m.node.node) (sym (i m.has.0 (subst (λ k. entry_at walk.tree k ≡ Some m.has.0) m.at m.has.1) ∙ m.has.2)) m.drawn
 
--- whether what is inside an item stands in items or definitions of a tight list, or directly in one
+-- whether the content of an item is in items or definitions of a tight list, or directly in one
 abbrev pub body_within : Bool → ItemBody → Bool
 body_within tight (body.List flags delimiter number) = is_tight flags
 body_within tight (body.ListItem width) = tight
@@ -167,14 +167,14 @@ pub drawn-within : (text : List ℕ) (texts : List CowStr) (item : Item) (node :
 drawn-within text texts item node tight d =
     kind-within text texts item.start item.end tight item.body node.kind (within-kind item.start item.end node (kind_over text texts item.start item.end (shape item.body)) d.shown)
 
--- what the innermost node of a path decides
+-- the effect of the innermost node of a path
 pub decided : (walk : Walk) (whole rest : List TreeIndex) (ix : TreeIndex) (above : List Outer) (item : Item) → whole ≡ rest ++ ix ∷ [] → TightFrom walk whole above → ((e : Entry Item) → entry_at walk.tree ix.ix ≡ Some e → item ≡ e.item) → (tight : Bool) × (tight_below above ≡ body_within tight item.body)
 decided walk whole rest ix above item e t i =
     let m = innermost walk whole rest ix above e t in
     let d = innermost-item walk rest ix above item m i in
     (tight_below m.outer, m.same ∙ drawn-within walk.text.now (texts_of walk) item m.node.node (tight_below m.outer) d)
 
--- an item or a definition stands in the list in which it stands, whether that is tight
+-- an item or a definition is in its list, whether or not that is tight
 pub item-keeps : (b : ItemBody) → ((width : ℕ) × (b ≡ body.ListItem width)) ⊎ ((width : ℕ) × (b ≡ body.DefinitionListDefinition width)) → (tight : Bool) → body_within tight b ≡ tight
 item-keeps b (inl i) tight = ap (body_within tight) i.1
 item-keeps b (inr i) tight = ap (body_within tight) i.1
@@ -206,7 +206,7 @@ nothing-left (r ∷ rest) e = absurd (omega (arith, e))
 pub outermost : (walk : Walk) (rest : List TreeIndex) (above : List Outer) → length rest ≡ 0 → TightFrom walk rest above → tight_below above ≡ false
 outermost walk rest above n t = t.same ∙ none-left walk above t.up t.outer (nothing-left rest n ∙ t.spine) t.draws
 
--- what is neither a list nor an item decides against it
+-- a node that is neither a list nor an item is not tight
 pub not-within : (tight : Bool) (b : ItemBody) → ((flags : ListFlags) (delimiter number : ℕ) → b ≡ body.List flags delimiter number → ⊥) → ((flags : ListFlags) → b ≡ body.DefinitionList flags → ⊥) → ((width : ℕ) → b ≡ body.ListItem width → ⊥) → ((width : ℕ) → b ≡ body.DefinitionListDefinition width → ⊥) → body_within tight b ≡ false
 not-within tight (body.MaybeEmphasis x0 x1 x2) l d i j = refl
 not-within tight (body.MaybeMath x0 x1 x2) l d i j = refl

@@ -35,7 +35,7 @@ module _ (walk : Walk) (item : Item) (ix : TreeIndex) (t : Tree Item) (at : IsFo
       → IsShortZeroCopy (text_of walk) s item.start item.end → GivesOver walk s item.start item.end (moved walk t)
   passes-short s read next lent = record { gives = passes-alone-as walk item ix t at is before (shown_short s) read next; lent = lent }
 
--- the walk goes on
+-- the walk continues
 pub goes-short : (old new : Walk) (s : Short) (start end : ℕ) → GivesOver old s start end new → Goes old → Goes new
 goes-short old new s start end g goes = let first = g.gives goes.0 goes.1 in (first.0, first.2)
 
@@ -43,13 +43,13 @@ goes-short old new s start end g goes = let first = g.gives goes.0 goes.1 in (fi
 pub some-range : (old new : Walk) (s : Short) (start end : ℕ) → GivesOver old s start end new → GivesShort old s new
 some-range old new s start end g = record { given = record { event = shown_short s; start = start; end = end }; is = refl; gives = g.gives; lent = g.lent }
 
--- the event that it stands for is given
+-- the event of this result is given
 pub gives-made : (old new : Walk) (s : Short) (start end : ℕ) (e : Event) (met : Met) (lines : List LeafLine) → GivesOver old s start end new → shown e ≡ shown_short s → GivesRanged e start end met
     → (left : List Segment) → Remains old left → Gives left met lines new
 gives-made old new s start end e met lines g is ranged left r =
     gives-met e start end met lines left new ranged (subst (λ (x : event.Event). IsFirst left (record { event = x; start = start; end = end }) new) (sym is) (g.gives left r))
 
--- what a step gives that steps without an event stood before
+-- the result of a step after steps without an event is the result from before these
 pub after-lasting : (old walk new : Walk) (b : Brief) (lines : List LeafLine) → Lasts old walk → GivesBrief walk b lines new → GivesBrief old b lines new
 after-lasting old walk new (brief.Short s) lines l g = record { given = g.given; is = g.is; gives = λ left r. g.gives left (l.remains left r); lent = subst (λ text. IsShortZeroCopy text s g.given.start g.given.end) l.text g.lent }
 after-lasting old walk new (brief.Leaf is_cell) lines l g = λ left r. g left (l.remains left r)

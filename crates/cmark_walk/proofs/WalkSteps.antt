@@ -122,7 +122,7 @@ kind-of-node start end (Some k) node e = ap Some (ap (λ n. n.kind) (same_Some (
 pub block-below : (text : List ℕ) (texts : List CowStr) (item : Item) (node : BlockNode) → Drawn text texts item node → is_leaf node.kind ≡ false → own_text_end item.body ≡ None
 block-below text texts item node d n = kind-below text texts item.start item.end item.body node.kind (kind-of-node item.start item.end (kind_over text texts item.start item.end (shape item.body)) node d.shown) n
 
--- where there is none, what stands inside is drawn below it
+-- if there is none, the content is drawn below it
 pub drawn-below : (text : List ℕ) (start : ℕ) (own : Option ℕ) (below : Type 0) (inside : BlockDocument) → own ≡ None → DrawsInside text start own below inside → below
 drawn-below text start None below inside n d = d
 drawn-below text start (Some text_end) below inside n d = absurd (let q : Some text_end ≡ None = n in cc)
@@ -135,7 +135,7 @@ one-inside text start (Some end) text_end below inside e d = subst (λ k. IsOneT
 abbrev pub as_kind : BlockKind → BlockNode → BlockNode
 as_kind kind node = record node { kind = kind }
 
--- what is read at a node, and then
+-- the reading of a node, and then of others
 abbrev pub read_with : Reads → (element : ℕ) → BlockNode → (I A : List Segment) → List Segment
 read_with R z node I A = with_first_segment (first_event R) z node (node_segments R node I ++ A)
 
@@ -156,7 +156,7 @@ left-alone ev R z k node I A L e = subst (λ r. read_with r z (as_kind k node) I
 pub left-first : (ev : event.Event) (R : Reads) (z : ℕ) (k : BlockKind) (node : BlockNode) (I A L : List Segment) → reads.First ev ≡ R → read_with R z (as_kind k node) I A ++ L ≡ first_of_segments z (Given (over node ev)) A ++ L
 left-first ev R z k node I A L e = subst (λ r. read_with r z (as_kind k node) I A ++ L ≡ first_of_segments z (Given (over node ev)) A ++ L) e refl
 
--- what is read as its start, what is inside it and its end is an element
+-- a node that is read as its start, the events inside it and its end is an element
 pub around-element : (tag : tag.Tag) (R : Reads) → reads.Around tag ≡ R → IsElement R
 around-element tag R e = subst IsElement e tt
 
@@ -190,7 +190,7 @@ module _ (walk : Walk) (item : Item) (ix : TreeIndex) (t : Tree Item) where
     draws = f.draws_after;
   }
 
--- what a step gives, and what remains
+-- the result of a step, and the events that are left
 pub gives-met : (e : TextEvent) (start end : ℕ) (met : Met) (lines : List LeafLine) (left : List Segment) (walk : Walk) → GivesRanged e start end met → IsFirst left (record { event = shown e; start = start; end = end }) walk → Gives left met lines walk
 gives-met e start end (met.Event given) lines left walk g f = (f.0, f.1 ∙ ap (λ x. Given x ∷ f.0) (sym g), f.2)
 gives-met e start end (met.Leaf is_cell) lines left walk g f = absurd g
@@ -199,7 +199,7 @@ gives-met e start end met.Over lines left walk g f = absurd g
 pub goes-after : (left : List Segment) (given : event.Ranged) (walk : Walk) → IsFirst left given walk → Goes walk
 goes-after left given walk g = (g.0, g.2)
 
--- what is left at a stage
+-- the events that are left at a stage
 pub left-staged : (walk : Walk) (now : Stage) (left : List Segment) → walk.stage ≡ now → (r : Remains walk left) → left ≡ left_from now r.here r.above
 left-staged walk now left e r = r.are ∙ ap (λ (k : Stage). left_from k r.here r.above) e
 
@@ -228,7 +228,7 @@ module _ (walk : Walk) (item : Item) (ix : TreeIndex) (t : Tree Item) (at : IsFo
   pub at-focus : (z : Zip Item) (here : BlockDocument) (above : List Outer) → StandsAt walk z here above → Focus walk item ix z here
   at-focus z here above s = focus walk item ix z here above s (at z s.below.holds) is
 
-  -- the parts of what is left at the node
+  -- the parts of the events that are left at the node
   abbrev kind_at : (above : List Outer) → BlockNode → BlockKind
   kind_at above node = kind_within (tight_below above) node.kind
 
@@ -326,7 +326,7 @@ module _ (walk : Walk) (item : Item) (ix : TreeIndex) (t : Tree Item) (at : IsFo
         remains-before (moved walk t) (left_from stage.Before f.after r.above) (beyond walk item ix t r.z r.here f) f.after r.above before (passed walk item ix t r.z r.here r.above r.stands f next) refl,
       )
 
--- what the calls of a step ask
+-- the requirements of the calls of a step
 module _ (walk : Walk) (item : Item) (ix : TreeIndex) (at : IsFocusAt walk ix) (is : IsItem walk.tree ix item) where
   pub at-item : (z : Zip Item) (here : BlockDocument) (above : List Outer) → StandsAt walk z here above → Focus walk item ix z here
   at-item z here above s = focus walk item ix z here above s (at z s.below.holds) is
@@ -376,7 +376,7 @@ tag-around tag (reads.Alone ev) e = absurd (let q : Some tag ≡ None = e in cc)
 tag-around tag (reads.First ev) e = absurd (let q : Some tag ≡ None = e in cc)
 tag-around tag reads.Silent e = absurd (let q : Some tag ≡ None = e in cc)
 
--- what lasts while steps give nothing
+-- the facts that last while steps give nothing
 pub record Lasts (old walk : Walk) : Type 0 where
   pub remains : (left : List Segment) → Remains old left → Remains walk left
   pub goes : Goes walk

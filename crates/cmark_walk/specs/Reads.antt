@@ -1,4 +1,4 @@
--- What one item is read as.
+-- The reading of one item.
 use Rattle.std.specs.Prelude.{Option, Some, None, option_map}
 use Rattle.cmark_grammar.specs.Tag.{Tag}
 use Rattle.cmark_grammar.specs.TagEnd.{TagEnd, end_of}

@@ -1,4 +1,4 @@
--- Where a walk stands in its document, and what it still has to give.
+-- The place of a walk in its document, and the events that it still has to give.
 use Rattle.std.specs.Prelude.{◌≡◌, ◌⊎◌, if◌then◌else◌, ℕ, ◌<◌, ◌≤◌, Bool, true, false, List, [], ◌∷◌, ◌++◌, length, Option, Some, None}
 use Rattle.std.specs.Str.{IsCharBoundary}
 use Rattle.cmark_text_parts.specs.declared.text.CowStr.{CowStr}
@@ -45,7 +45,7 @@ use Rattle.cmark_walk.specs.declared.reading.Glance.TheVariants as glance
 use Rattle.cmark_walk.specs.declared.reading.Stage.{Stage}
 use Rattle.cmark_walk.specs.declared.reading.Stage.TheVariants as stage
 
--- an item is this node, whose range cuts no character of the text
+-- an item is this node, whose range has character boundaries of the text as its ends
 pub record Drawn (text : List ℕ) (texts : List CowStr) (item : Item) (node : BlockNode) : Type 0 where
   pub shown : shown_item text texts item ≡ Some node
   pub in_order : node.start ≤ node.end
@@ -53,18 +53,18 @@ pub record Drawn (text : List ℕ) (texts : List CowStr) (item : Item) (node : B
   pub starts : IsCharBoundary text node.start
   pub ends : IsCharBoundary text node.end
 
--- a node around the focus, and what stands after it
+-- a node around the focus, and the nodes after it
 pub record Outer : Type 0 where
   pub node : BlockNode
   pub after : BlockDocument
 
--- where the text of a paragraph or a title ends that has one text inside and is one node with it
+-- the end of the text of a paragraph or a title that is one node with its only text
 abbrev pub own_text_end : ItemBody → Option ℕ
 own_text_end (body.ParagraphOf text_end) = Some text_end
 own_text_end (body.DefinitionListTitleOf text_end) = Some text_end
 own_text_end _ = None
 
--- these nodes are one text, whose range cuts no character of the source
+-- these nodes are one text, whose range has character boundaries of the source as its ends
 pub record IsOneText (text : List ℕ) (start text_end : ℕ) (nodes : BlockDocument) : Type 0 where
   pub is : nodes ≡ document.Node (node (document.Text (slice text start text_end)) start text_end) document.Nil document.Nil
   pub in_order : start ≤ text_end
@@ -72,13 +72,13 @@ pub record IsOneText (text : List ℕ) (start text_end : ℕ) (nodes : BlockDocu
   pub starts : IsCharBoundary text start
   pub ends : IsCharBoundary text text_end
 
--- these nodes stand inside an item that begins at a place: its own text, or else what is drawn below it
+-- these nodes are inside an item that begins at a place: its own text, or else the nodes drawn below it
 abbrev pub DrawsInside : List ℕ → (start : ℕ) → (own_text_end : Option ℕ) → (below : Type 0) → BlockDocument → Type 0
 DrawsInside text start (Some text_end) below nodes = IsOneText text start text_end nodes
 DrawsInside text start None below nodes = below
 
 module _ (text : List ℕ) (texts : List CowStr) where
-  -- a forest is a document, in which what is inside a node stands in order within it
+  -- a forest is a document, in which the nodes inside a node are in order within it
   abbrev pub Draws : Forest (Placed Item) → BlockDocument → Type 0
   Draws forest.Nil document.Nil = Unit {0}
   Draws forest.Nil (document.Node node inside after) = ⊥
@@ -92,7 +92,7 @@ module _ (text : List ℕ) (texts : List CowStr) where
   DrawsAbove (v ∷ up) [] = ⊥
   DrawsAbove (v ∷ up) (o ∷ above) = Drawn text texts v.place.item o.node × Draws v.right o.after × DrawsAbove up above
 
--- whether a paragraph below these nodes stands directly in an item of a tight list
+-- whether a paragraph below these nodes is directly in an item of a tight list
 abbrev pub tight_below : List Outer → Bool
 tight_below [] = false
 tight_below (o ∷ above) = tight_within (tight_below above) o.node.kind
@@ -104,12 +104,12 @@ IsElement (reads.Alone event) = ⊥
 IsElement (reads.First event) = ⊥
 IsElement reads.Silent = ⊥
 
--- each of these nodes is an element: it is read as its start, what is inside it and its end
+-- each of these nodes is an element: it is read as its start, the events inside it, and its end
 abbrev pub AreElements : List Outer → Type 0
 AreElements [] = Unit {0}
 AreElements (o ∷ above) = IsElement (read_as (kind_within (tight_below above) o.node.kind)) × AreElements above
 
--- the end of an element, after what is inside it
+-- the end of an element, after the events inside it
 abbrev pub leaving : Reads → BlockNode → List Segment
 leaving (reads.Around tag) node = Given (over node (event.End (end_of tag))) ∷ []
 leaving reads.Inside node = []
@@ -117,13 +117,13 @@ leaving (reads.Alone event) node = []
 leaving (reads.First event) node = []
 leaving reads.Silent node = []
 
--- what is left after the siblings at hand
+-- the events and leaves after the current siblings
 abbrev pub left_above : List Outer → List Segment
 left_above [] = []
 left_above (o ∷ above) =
     leaving (read_as (kind_within (tight_below above) o.node.kind)) o.node ++ (segments (settled (tight_below above) o.after) ++ left_above above)
 
--- what is inside the first of these nodes
+-- the nodes inside the first of these nodes
 abbrev pub content_of : BlockDocument → BlockDocument
 content_of document.Nil = document.Nil
 content_of (document.Node node inside after) = inside
@@ -133,7 +133,7 @@ abbrev pub leaf_at : BlockDocument → Leaf
 leaf_at document.Nil = record { stretches = []; is_cell = false }
 leaf_at (document.Node node inside after) = leaf_of node.kind inside
 
--- what is left of these nodes behind the lines of the first, a leaf
+-- the events and leaves of these nodes after the lines of the first, a leaf
 abbrev pub left_behind : BlockDocument → List Outer → List Segment
 left_behind document.Nil above = []
 left_behind (document.Node node inside after) above = leaving (read_as (kind_within (tight_below above) node.kind)) node ++ segments (settled (tight_below above) after)
@@ -143,16 +143,16 @@ abbrev pub is_list : BlockKind → Bool
 is_list (document.DefinitionList tight) = true
 is_list _ = false
 
--- what is left of these nodes behind the start of the first, a definition list, and the task marker of its first title: the marker stands behind
--- the title's start, and in front of all where no title begins the list
+-- the events and leaves of these nodes after the start of the first, a definition list, with the task marker of its first title. The marker
+-- comes after the title's start, or before all others if the list does not begin with a title
 abbrev pub left_in_list : Segment → BlockDocument → List Outer → List Segment
 left_in_list marker document.Nil above = []
 left_in_list marker (document.Node node inside after) above =
     let within = settled (tight_within (tight_below above) node.kind) inside in
     first_of_segments (if begins_title within then 1 else 0) marker ((segments within ++ leaving (read_as (kind_within (tight_below above) node.kind)) node) ++ segments (settled (tight_below above) after))
 
--- what is left of the siblings at hand, from the focus on: the events and leaves of the settled document from there; in a leaf its task
--- marker and its lines, if they were not met yet, and what stands behind them; in a definition list its first title's task marker
+-- the events and leaves of the current siblings that are left from the focus on, in the settled document. In a leaf its task marker and its
+-- lines come first, unless they were met; in a definition list the task marker of its first title does
 abbrev pub left_at : Stage → BlockDocument → List Outer → List Segment
 left_at stage.Before here above = segments (settled (tight_below above) here)
 left_at (stage.Marked is_checked start end) here above = Given (record { event = event.TaskListMarker is_checked; start = start; end = end }) ∷ (Content (leaf_at here) ∷ left_behind here above)
@@ -173,7 +173,7 @@ abbrev pub BeginsWithList : BlockDocument → Type 0
 BeginsWithList document.Nil = ⊥
 BeginsWithList (document.Node node inside after) = is_list node.kind ≡ true
 
--- a walk is in a leaf, or in a definition list, only where the focus is one
+-- the stage is that of a leaf or of a definition list only if the focus is one
 abbrev pub IsStaged : Stage → BlockDocument → Type 0
 IsStaged stage.Before here = Unit {0}
 IsStaged (stage.Marked is_checked start end) here = BeginsWithLeaf here
@@ -196,7 +196,7 @@ definitions_of walk = walk.allocations.references
 abbrev pub IsDrawn : Walk → Item → Type 0
 IsDrawn walk item = (node : BlockNode) × Drawn walk.text.now (texts_of walk) item node
 
--- the walk stands below these nodes, which are elements
+-- the walk is inside these nodes, which are elements
 pub record StandsBelow (walk : Walk) (z : Zip Item) (above : List Outer) : Type 0 where
   pub holds : Holds walk.tree z
   pub draws_above : DrawsAbove walk.text.now (texts_of walk) z.up above
@@ -205,12 +205,12 @@ pub record StandsBelow (walk : Walk) (z : Zip Item) (above : List Outer) : Type 
 abbrev pub IsBelow : Walk → Type 0
 IsBelow walk = (z : Zip Item) × (above : List Outer) × StandsBelow walk z above
 
--- the walk stands in its tree as in a document, before the nodes `here` and below those of `above`
+-- the walk is in its tree as in a document, before the nodes `here` and inside those of `above`
 pub record StandsAt (walk : Walk) (z : Zip Item) (here : BlockDocument) (above : List Outer) : Type 0 where
   pub below : StandsBelow walk z above
   pub draws : Draws walk.text.now (texts_of walk) z.right here
 
--- the walk stands in a document, from where on these events and leaves are left
+-- the walk is in a document, and these events and leaves are left
 pub record Remains (walk : Walk) (left : List Segment) : Type 0 where
   pub z : Zip Item
   pub here : BlockDocument
@@ -219,40 +219,40 @@ pub record Remains (walk : Walk) (left : List Segment) : Type 0 where
   pub staged : IsStaged walk.stage here
   pub are : left ≡ left_from walk.stage here above
 
--- the walk stands in a document
+-- the walk is in a document
 abbrev pub Goes : Walk → Type 0
 Goes walk = (left : List Segment) × Remains walk left
 
--- the walk stands in a document, before this node
+-- the walk is in a document, before this node
 abbrev pub IsAt : Walk → TreeIndex → Type 0
 IsAt walk ix = Goes walk × ((z : Zip Item) → Holds walk.tree z → focus_of z.right ≡ Some ix)
 
--- the walk stands in a document, behind the last of the siblings at hand
+-- the walk is in a document, after the last of the current siblings
 abbrev pub IsPast : Walk → Type 0
 IsPast walk = Goes walk × ((z : Zip Item) → Holds walk.tree z → focus_of z.right ≡ None)
 
--- the end of an element is the first of these, or a leaf without a text, behind which an end may be next
+-- these begin with the end of an element, or with a leaf without a text, after which an end may come
 abbrev pub MayBeginWithEnd : List Segment → Type 0
 MayBeginWithEnd [] = ⊥
 MayBeginWithEnd (Given given ∷ others) = (end : TagEnd) × (given.event ≡ event.End end)
 MayBeginWithEnd (Content leaf ∷ others) = leaf.stretches ≡ []
 
--- the next event is no end
+-- the next event is not an end
 abbrev pub NoEndIsNext : Walk → Type 0
 NoEndIsNext walk = (left : List Segment) → Remains walk left → MayBeginWithEnd left → ⊥
 
--- the same is left, and it begins with no end: where a call is refused memory
+-- after a call that was refused memory: the same events and leaves are left, and the first is not an end
 pub record LeavesTheSame (old new : Walk) : Type 0 where
   pub remains : (left : List Segment) → Remains old left → Remains new left
   pub no_end : NoEndIsNext old
 
--- the walk stands in a document, in the same text and with the same definitions
+-- the walk is in a document, of the same text and with the same definitions
 pub record GoesOn (old new : Walk) : Type 0 where
   pub goes : Goes new
   pub definitions : definitions_of new ≡ definitions_of old
   pub text : text_of new ≡ text_of old
 
--- the most steps that give nothing before one that gives something: out of a paragraph of a tight list, and into the next one
+-- the largest number of steps without an event before a step with one: out of a paragraph of a tight list, and into the next one
 abbrev pub silent_steps : Stage → ℕ
 silent_steps stage.Before = 1
 silent_steps (stage.Marked is_checked start end) = 0
@@ -260,47 +260,47 @@ silent_steps (stage.Listed is_checked start end) = 0
 silent_steps stage.Lines = 0
 silent_steps stage.Behind = 2
 
--- a leaf's stretches as the lines that its text is read from
+-- the stretches of a leaf as the lines of its text
 abbrev pub lines_of : List Stretch → List LeafLine
 lines_of [] = []
 lines_of (s ∷ more) = record { start = s.start; content_end = s.end; line_end = s.end } ∷ lines_of more
 
--- these are the lines of a leaf, in order in the text, and they cut no character
+-- these are the lines of a leaf, in order in the text, and their ends are character boundaries
 pub record AreLinesOf (text : List ℕ) (leaf : Leaf) (lines : List LeafLine) : Type 0 where
   pub are : lines ≡ lines_of leaf.stretches
   pub in_turn : AreLines text 0 lines
 
--- a call gives the first of these events and leaves, and the others remain; or there is none
+-- a call gives the first of these events and leaves, and the others are left; or there is none
 abbrev pub Gives : List Segment → Met → List LeafLine → Walk → Type 0
 Gives left (met.Event given) lines walk = (others : List Segment) × (left ≡ Given (shown_ranged given) ∷ others) × Remains walk others
 Gives left (met.Leaf is_cell) lines walk = (leaf : Leaf) × (others : List Segment) × (left ≡ Content leaf ∷ others) × AreLinesOf walk.text.now leaf lines × Remains walk others × (is_cell ≡ leaf.is_cell)
 Gives left met.Over lines walk = (left ≡ []) × Remains walk []
 
--- the zero-copy law of what is met
+-- the zero-copy law of the item that is met
 abbrev pub MeetsZeroCopy : List ℕ → Met → Type 0
 MeetsZeroCopy text (met.Event given) = IsRangedZeroCopy text given
 MeetsZeroCopy text (met.Leaf is_cell) = Unit {0}
 MeetsZeroCopy text met.Over = Unit {0}
 
--- this event is the first of what is left, and the others remain
+-- this event is the first of those left, and the others remain
 abbrev pub IsFirst : List Segment → event.Ranged → Walk → Type 0
 IsFirst left given walk = (others : List Segment) × (left ≡ Given given ∷ others) × Remains walk others
 
--- the event that such an answer stands for, with some range, is the first of what is left, and the others remain
+-- the event of this result, with some range, is the first of those left, and the others remain
 pub record GivesShort (old : Walk) (short : Short) (new : Walk) : Type 0 where
   pub given : event.Ranged
   pub is : given.event ≡ shown_short short
   pub gives : (left : List Segment) → Remains old left → IsFirst left given new
   pub lent : IsShortZeroCopy (text_of old) short given.start given.end
 
--- a call gives the first of what is left, and the others remain; where that is an event of another kind, the same remains
+-- a call gives the first of those left, and the others remain; if that is an event of another kind, it is left too
 abbrev pub GivesBrief : Walk → Brief → List LeafLine → Walk → Type 0
 GivesBrief old (brief.Short short) lines new = GivesShort old short new
 GivesBrief old (brief.Leaf is_cell) lines new = (left : List Segment) → Remains old left → Gives left (met.Leaf is_cell) lines new
 GivesBrief old brief.Long lines new = (left : List Segment) → Remains old left → Remains new left
 GivesBrief old brief.Over lines new = (left : List Segment) → Remains old left → Gives left met.Over lines new
 
--- an element with a text of its own: a heading with attributes, fenced code, a table or a footnote's definition
+-- an element with a text of its own: a heading with attributes, fenced code, a table or a footnote definition
 abbrev pub has_texts : ItemBody → Bool
 has_texts (body.AttributedHeading level index) = true
 has_texts (body.FencedCodeBlock index) = true
@@ -308,7 +308,7 @@ has_texts (body.Table index) = true
 has_texts (body.FootnoteDefinition index) = true
 has_texts _ = false
 
--- a text that is written nowhere in the source
+-- a text that does not occur in the source
 abbrev pub is_synthesized : ItemBody → Bool
 is_synthesized (body.SynthesizeText index) = true
 is_synthesized (body.SynthesizeChar c) = true
@@ -323,7 +323,7 @@ abbrev pub task_body : ItemBody → Option Bool
 task_body (body.TaskListMarker is_checked) = Some is_checked
 task_body _ = None
 
--- an event of such an item is no short one
+-- the event of this item is not a short one
 abbrev pub is_long : ItemBody → Bool
 is_long (body.TaskListMarker is_checked) = true
 is_long (body.SynthesizeText index) = true
@@ -337,7 +337,7 @@ IsItemAt walk ix item = (e : Entry Item) → entry_at walk.tree ix.ix ≡ Some e
 abbrev pub IsLongItemAt : Walk → TreeIndex → Type 0
 IsLongItemAt walk ix = (e : Entry Item) → entry_at walk.tree ix.ix ≡ Some e → is_long e.item.body ≡ true
 
--- whether the event that comes next at a stage is no short one
+-- whether the next event at a stage is not a short one
 abbrev pub IsLongFrom : Stage → Walk → TreeIndex → Type 0
 IsLongFrom stage.Before walk ix = IsLongItemAt walk ix
 IsLongFrom (stage.Marked is_checked start end) walk ix = Unit {0}
@@ -345,17 +345,18 @@ IsLongFrom (stage.Listed is_checked start end) walk ix = Unit {0}
 IsLongFrom stage.Lines walk ix = ⊥
 IsLongFrom stage.Behind walk ix = ⊥
 
--- the walk stands before this node, or in it, and the event that comes next is no short one
+-- the walk is before this node, or in it, and the next event is not a short one
 pub record IsLongAt (walk : Walk) (ix : TreeIndex) : Type 0 where
   pub at : IsAt walk ix
   pub long : IsLongFrom walk.stage walk ix
 
--- that event with this range is the first of what is left, and the others remain
+-- that event with this range is the first of those left, and the others remain
 pub record GivesOver (old : Walk) (short : Short) (start end : ℕ) (new : Walk) : Type 0 where
   pub gives : (left : List Segment) → Remains old left → IsFirst left (record { event = shown_short short; start = start; end = end }) new
   pub lent : IsShortZeroCopy (text_of old) short start end
 
--- the same of a step, which may give nothing; the event of another kind is then the next one, at the focus
+-- the result of a step, which may give nothing. Else it is the first of those left, and the others remain; an event of another kind is then
+-- the next one, at the focus
 abbrev pub GivesShortStep : Walk → BriefStep → List LeafLine → Walk → Type 0
 GivesShortStep old (brief_step.Short short start end) lines new = GivesOver old short start end new
 GivesShortStep old (brief_step.Leaf is_cell) lines new = GivesBrief old (brief.Leaf is_cell) lines new
@@ -368,14 +369,14 @@ abbrev pub ComesNearer : Walk → BriefStep → Walk → Type 0
 ComesNearer old brief_step.Silent new = silent_steps new.stage < silent_steps old.stage
 ComesNearer old _ new = Unit {0}
 
--- an item is read so, or has a text of its own
+-- an item is read this way, or has a text of its own
 abbrev pub ReadsAs : Glance → Reads → Type 0
 ReadsAs (glance.Around tag) R = reads.Around (shown_plain tag) ≡ R
 ReadsAs (glance.Alone short) R = reads.Alone (shown_short short) ≡ R
 ReadsAs glance.Inside R = reads.Inside ≡ R
 ReadsAs glance.Long R = Unit {0}
 
--- what is not read so is no short event
+-- an item that is not read this way is not a short event
 abbrev pub IsLongGlance : Glance → ItemBody → Type 0
 IsLongGlance glance.Long body = is_long body ≡ true
 IsLongGlance _ body = Unit {0}
@@ -395,12 +396,12 @@ HasText walk = (z : Zip Item) (here : BlockDocument) (above : List Outer) → St
 abbrev pub IsTaskAt : Walk → TreeIndex → Bool → Type 0
 IsTaskAt walk ix is_checked = (e : Entry Item) → entry_at walk.tree ix.ix ≡ Some e → task_body e.item.body ≡ Some is_checked
 
--- the nodes behind the first of these
+-- the nodes after the first of these
 abbrev pub behind_first : BlockDocument → BlockDocument
 behind_first document.Nil = document.Nil
 behind_first (document.Node node inside after) = after
 
--- the item is a paragraph, a heading or a title among the nodes at hand, and an element
+-- the item is a paragraph, a heading or a title among the current nodes, and an element
 pub record IsLeafElement (walk : Walk) (item : Item) : Type 0 where
   pub z : Zip Item
   pub above : List Outer
@@ -416,12 +417,12 @@ BeginsAs walk above item document.Nil = ⊥
 BeginsAs walk above item (document.Node node inside after) =
     Drawn walk.text.now (texts_of walk) item node × (is_leaf node.kind ≡ true) × IsElement (read_as (kind_within (tight_below above) node.kind))
 
--- a paragraph, a heading or a title begins behind the focus, with this item, or none does, but perhaps a definition list
+-- after the focus comes a paragraph, a heading or a title, with this item; or none does, but perhaps a definition list
 abbrev pub BeginsBehind : Walk → List Outer → Option Item → BlockDocument → Type 0
 BeginsBehind walk above None after = (starts_before (settled (tight_below above) after) ≡ 0) ⊎ BeginsWithList after
 BeginsBehind walk above (Some item) after = BeginsAs walk above item after
 
--- a definition list begins behind the focus, with this item, or none does
+-- after the focus comes a definition list, with this item, or none does
 abbrev pub ListBehind : Walk → Option Item → BlockDocument → Type 0
 ListBehind walk None after = BeginsWithList after → ⊥
 ListBehind walk (Some item) document.Nil = ⊥
@@ -430,13 +431,13 @@ ListBehind walk (Some item) (document.Node node inside after) = Drawn walk.text.
 abbrev pub IsListBehind : Walk → TreeIndex → Option Item → Type 0
 IsListBehind walk ix found = (z : Zip Item) (here : BlockDocument) (above : List Outer) → StandsAt walk z here above → ListBehind walk found (behind_first here)
 
--- a title begins what is inside the focus, with this item, or none does
+-- the nodes inside the focus begin with a title, with this item, or they do not
 abbrev pub TitleIn : Walk → Option Item → BlockDocument → Type 0
 TitleIn walk None inside = (tight : Bool) → begins_title (settled tight inside) ≡ false
 TitleIn walk (Some item) document.Nil = ⊥
 TitleIn walk (Some item) (document.Node node inside after) = Drawn walk.text.now (texts_of walk) item node × (is_title node.kind ≡ true)
 
--- where the focus is a definition list
+-- the content of the focus begins with a title, if the focus is a definition list
 abbrev pub IsTitleIn : Walk → TreeIndex → Option Item → Type 0
 IsTitleIn walk ix found = (z : Zip Item) (here : BlockDocument) (above : List Outer) → StandsAt walk z here above → BeginsWithList here → TitleIn walk found (content_of here)
 

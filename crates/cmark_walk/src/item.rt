@@ -1,4 +1,4 @@
-//! What an item of a document's tree is read as: an event, or the tag and the end of an element.
+//! The reading of an item of a document's tree: an event, or the tag and the end of an element.
 
 ghost use Rattle.std.specs.Prelude.{◌≡◌, ℕ, Bool, true, List, IfOk, option_map, Some};
 ghost use Rattle.cmark_tree.specs.Zip.{Zip};
@@ -25,7 +25,7 @@ use cmark_text::{CodeBlockKind, CowStr, Event, HeadingLevel, Short, Tag, TagEnd}
 use std::alloc::{AllocError, Global};
 
 impl<'a> Walk<'a> {
-    // The event of a text that is written nowhere, such as the spaces that are left of a tab.
+    // The event of a text that does not occur in the source, for example of the spaces that are left of a tab.
     pub(crate) fn synthesized(&self, item: Item) -> Result<Event<'a>, AllocError>
         requires drawn { IsDrawn self.now item }
         requires synthesized { is_synthesized item.body ≡ true }
@@ -36,7 +36,7 @@ impl<'a> Walk<'a> {
         let text = match item.body {
             ItemBody::SynthesizeText(index) => self.allocations[index].clone(self.alloc)?,
             ItemBody::SynthesizeChar(c) => CowStr::from(c),
-            // The caller asks for no other item.
+            // The caller passes no other item.
             _ => CowStr::Borrowed(""),
         };
         let part = &self.text[item.start..item.end];
@@ -75,12 +75,12 @@ impl<'a> Walk<'a> {
                 };
                 Ok(Tag::FootnoteDefinition(label))
             }
-            // The caller asks for no other item.
+            // The caller passes no other item.
             _ => Ok(Tag::Paragraph),
         }
     }
 
-    // The end of such an element.
+    // The end of an element that has a text of its own.
     #[inline(always)]
     pub(crate) fn end(&self, item: Item) -> Option<TagEnd>
         requires below { IsBelow self.now }
@@ -121,8 +121,8 @@ impl<'a> Walk<'a> {
         }
     }
 
-    // Whether a paragraph among the siblings at hand stands directly in an item or a definition of a tight list (CommonMark 5.3).
-    // In a document the parent of these is a list, so this looks at two nodes.
+    // Whether a paragraph among the current siblings is directly in an item or a definition of a tight list (CommonMark 5.3). In a document
+    // the parent of these is a list, so only two nodes are examined.
     #[inline(always)]
     pub(crate) fn is_tight(&self) -> bool
         requires { IsBelow self.now }
@@ -141,7 +141,7 @@ impl<'a> Walk<'a> {
     }
 }
 
-// An event that owns nothing, as one of any kind.
+// An event that owns nothing, as an `Event`.
 #[inline(always)]
 pub(crate) fn event_of<'a>(alloc: Global, short: Short<'a>) -> Event<'a>
     ensures value { shown result ≡ shown_short short.entry }

@@ -1,4 +1,4 @@
-//! Which kind of node an item of a document's tree is.
+//! The kinds of nodes that items of a document's tree are.
 
 ghost use Rattle.std.specs.Prelude.{◌≡◌, ℕ, List};
 ghost use Rattle.cmark_walk.specs.Walking.{task_body, Drawn, is_list, is_synthesized, own_text_end};
@@ -20,7 +20,7 @@ pub(crate) fn task_of(item: Item) -> Option<bool>
     }
 }
 
-// Whether an item is a text that is written nowhere in the source.
+// Whether an item is a text that does not occur in the source.
 #[inline(always)]
 pub(crate) fn is_synthesized(item: Item) -> bool
     ensures { result ≡ is_synthesized item.body }
@@ -79,7 +79,7 @@ pub(crate) fn is_title(item: Item) -> bool
     )
 }
 
-// Where the text of a paragraph or a title ends that is one node with its only text: a byte offset of the source.
+// The end of the text of a paragraph or a title that is one node with its only text: a byte offset of the source.
 #[inline(always)]
 pub(crate) fn own_text_end(item: Item) -> Option<usize>
     ensures { result ≡ own_text_end item.body }

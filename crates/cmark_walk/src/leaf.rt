@@ -1,4 +1,4 @@
-//! The leaves in a walk over a document's tree: their lines, which are met all at once.
+//! The leaves in a walk over a document's tree: all their lines are met at once.
 
 ghost use Rattle.std.specs.Prelude.{◌≡◌, List, IfOk, OnErr, OnOk};
 ghost use Rattle.cmark_grammar.specs.SpanDocuments.{Segment, is_cell};
@@ -15,7 +15,7 @@ use cmark_tree::TreeIndex;
 use std::alloc::AllocError;
 
 impl<'a> Walk<'a> {
-    // The lines of the leaf in the focus, and behind them. Whether it is the cell of a table.
+    // Gives the lines of the leaf at the focus, and moves past them. Returns whether it is a table cell.
     #[inline(always)]
     pub(crate) fn meet_leaf(
         &mut self,
@@ -34,7 +34,7 @@ impl<'a> Walk<'a> {
         Ok(is_cell)
     }
 
-    // The lines of the leaf in the focus: its own text, or the nodes inside.
+    // The lines of the leaf at the focus: its own text, or the nodes inside it.
     #[inline(always)]
     fn gather(&self, ix: TreeIndex, lines: &mut Vec<LeafLine>) -> Result<(), AllocError>
         requires { IsAt self.now ix }
@@ -55,7 +55,7 @@ impl<'a> Walk<'a> {
             return Ok(());
         };
         let mut next = Some(first);
-        // No memory holds so many nodes that the count is reached.
+        // The count is not reached: no memory holds this many nodes.
         for _ in 0..u64::MAX {
             let Some(line) = next else {
                 return Ok(());

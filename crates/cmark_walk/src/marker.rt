@@ -22,8 +22,8 @@ use cmark_tree::TreeIndex;
 use std::alloc::AllocError;
 
 impl<'a> Walk<'a> {
-    // Past a task marker: to the lines of the paragraph or heading behind it, where one begins, whose first event the marker is (GFM 5.3), or
-    // into the definition list behind it, in whose first title the marker stands.
+    // Moves past a task marker, which is the first event of the paragraph, heading or title that follows (GFM 5.3). The walk is then at the
+    // lines of that leaf, or in the definition list that begins with the title.
     pub(crate) fn pass_marker(
         &mut self,
         ix: TreeIndex,
@@ -54,7 +54,7 @@ impl<'a> Walk<'a> {
         Ok(marker(is_checked, item.start, item.end))
     }
 
-    // Past a task marker to this paragraph or heading behind it, whose start is given.
+    // Moves past a task marker to this paragraph or heading after it, whose start is given.
     fn pass_to_leaf(
         &mut self,
         ix: TreeIndex,
@@ -95,8 +95,8 @@ impl<'a> Walk<'a> {
         }
     }
 
-    // Into what is inside the definition list in the focus, whose start was given: to the lines of the title with which it begins, whose
-    // first event the task marker between these byte offsets is (GFM 5.3). Where it begins with no title, the marker is given here.
+    // Moves into the definition list at the focus, whose start was given: to the lines of the title with which it begins. The task marker
+    // between these byte offsets is the title's first event (GFM 5.3). If the list does not begin with a title, the marker is given here.
     pub(crate) fn enter_list(
         &mut self,
         ix: TreeIndex,
@@ -129,7 +129,7 @@ impl<'a> Walk<'a> {
         }
     }
 
-    // The item of the title that the node in the focus begins with, if it begins with one.
+    // The item of the title with which the node at the focus begins, if it begins with one.
     fn title_in(&self, ix: TreeIndex) -> Option<Item>
         requires { IsAt self.now ix }
         ensures { IsTitleIn self.now ix result }
@@ -139,7 +139,7 @@ impl<'a> Walk<'a> {
         if is_title(item) { Some(item) } else { None }
     }
 
-    // The item of the definition list behind a node, where one stands there.
+    // The item of the definition list after a node, if there is one.
     fn definitions_behind(&self, ix: TreeIndex) -> Option<Item>
         requires { IsAt self.now ix }
         ensures { IsListBehind self.now ix result }
@@ -149,7 +149,7 @@ impl<'a> Walk<'a> {
         if is_list(item) { Some(item) } else { None }
     }
 
-    // The item of the paragraph or heading behind a node, where one begins there.
+    // The item of the paragraph or heading after a node, if there is one.
     fn leaf_behind(&self, ix: TreeIndex) -> Option<Item>
         requires { IsAt self.now ix }
         ensures { IsLeafBehind self.now ix result }
@@ -165,7 +165,7 @@ impl<'a> Walk<'a> {
         }
     }
 
-    // The task marker of the leaf in the focus, which stands between these byte offsets, and then before its lines.
+    // Gives the task marker of the leaf at the focus, which is between these byte offsets; the walk is then before the leaf's lines.
     pub(crate) fn meet_marker(&mut self, is_checked: bool, start: usize, end: usize) -> Met<'a>
         requires goes { Goes self.old }
         requires marked { self.old.stage ≡ stage.Marked is_checked start end }

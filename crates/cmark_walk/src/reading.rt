@@ -1,40 +1,39 @@
-//! What a step of a walk reads, and what it gives.
+//! The reading of an item, and the results of a walk's steps.
 
 use cmark_text::{PlainTag, Ranged, Short};
 use cmark_tree::TreeIndex;
 
-/// What a walk meets next.
+/// The next item of a walk.
 #[derive(Drop)]
 pub enum Met<'a> {
     /// An event of the blocks.
     Event(Ranged<'a>),
-    /// The content of a leaf, whose lines are handed over beside this.
+    /// The content of a leaf, whose lines are passed separately.
     Leaf {
-        /// Whether it is the cell of a table.
+        /// Whether it is a table cell.
         is_cell: bool,
     },
-    /// Nothing: the document is over.
+    /// Nothing: the document has ended.
     Over,
 }
 
-/// What a walk meets next, of which no event is made.
+/// The next item of a walk, without building an `Event`.
 #[derive(Clone, Copy)]
 pub enum Brief<'a> {
     /// An event that owns nothing.
     Short(Short<'a>),
-    /// The content of a leaf, whose lines are handed over beside this.
+    /// The content of a leaf, whose lines are passed separately.
     Leaf {
-        /// Whether it is the cell of a table.
+        /// Whether it is a table cell.
         is_cell: bool,
     },
-    /// An event of another kind, which was not met yet.
+    /// An event of another kind, which is still the next one.
     Long,
-    /// Nothing: the document is over.
+    /// Nothing: the document has ended.
     Over,
 }
 
-/// How far a walk is at the node in its focus. A leaf's lines are met all at once, so the walk goes past them without going down to
-/// them.
+/// The progress of a walk at the node in its focus. All lines of a leaf are met at once, so the walk moves past them without visiting them.
 #[derive(Clone, Copy)]
 pub(crate) enum Stage {
     /// Before it.
@@ -45,52 +44,52 @@ pub(crate) enum Stage {
         is_checked: bool,
         /// The byte offset at which the marker begins.
         start: usize,
-        /// The byte offset behind it.
+        /// The byte offset after it.
         end: usize,
     },
-    /// In it, a definition list, before its first title and the task marker that stands in that title, since it stood in the paragraph that
-    /// became the title (GFM 5.3).
+    /// In it, a definition list, before its first title and that title's task marker (GFM 5.3). The marker was in the paragraph that became
+    /// the title.
     Listed {
         /// Whether the marker's box is checked.
         is_checked: bool,
         /// The byte offset at which the marker begins.
         start: usize,
-        /// The byte offset behind it.
+        /// The byte offset after it.
         end: usize,
     },
     /// In it, a leaf, before its lines.
     Lines,
-    /// In it, a leaf, behind its lines.
+    /// In it, a leaf, after its lines.
     Behind,
 }
 
-/// How an item is read, of which no event is made.
+/// The reading of an item, without building an `Event`.
 #[derive(Clone, Copy)]
 pub(crate) enum Glance<'a> {
-    /// As its start, what is inside it, and its end.
+    /// Its start, the events inside it, and its end.
     Around(PlainTag),
-    /// As one event.
+    /// One event.
     Alone(Short<'a>),
-    /// As what is inside it.
+    /// The events inside it.
     Inside,
-    /// As something that has a text of its own, or as a task marker.
+    /// An event that has a text of its own, or a task marker.
     Long,
 }
 
-/// What a step of a walk gives, of which no event is made.
+/// The result of a walk's step, without building an `Event`.
 #[derive(Clone, Copy)]
 pub(crate) enum BriefStep<'a> {
-    /// An event that owns nothing, and the byte offsets of the text where its range begins and ends.
+    /// An event that owns nothing, and its range in byte offsets of the text.
     Short(Short<'a>, usize, usize),
     /// The lines of a leaf.
     Leaf {
-        /// Whether it is the cell of a table.
+        /// Whether it is a table cell.
         is_cell: bool,
     },
-    /// An event of another kind, which was not met yet, and the focus.
+    /// An event of another kind, which is still the next one, and the focus.
     Long(TreeIndex),
     /// Nothing: a paragraph of a tight list begins or ends.
     Silent,
-    /// Nothing: the document is over.
+    /// Nothing: the document has ended.
     Over,
 }

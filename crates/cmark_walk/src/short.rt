@@ -1,4 +1,4 @@
-//! The walk over a document's tree, of which no event is made.
+//! The walk over a document's tree, without building an `Event`.
 
 ghost use Rattle.std.specs.Prelude.{◌≡◌, List, IfOk, OnErr};
 ghost use Rattle.cmark_tree.specs.Zip.{Zip};
@@ -23,8 +23,8 @@ use cmark_tree::TreeIndex;
 use std::alloc::AllocError;
 
 impl<'a> Walk<'a> {
-    /// What `next` would give, where no event is made: one that owns nothing counts as given then, and one of another kind does not. The lines
-    /// of a leaf then stand in `lines` alone, as those of `next`.
+    /// Like `next`, but builds no `Event`: an event that owns nothing is given, and any other one is left as the next. The lines of a leaf
+    /// replace the content of `lines`, as for `next`.
     #[inline(always)]
     pub fn next_short(&mut self, lines: &mut Vec<LeafLine>) -> Result<Brief<'a>, AllocError>
         requires { Goes self.old }
@@ -35,7 +35,7 @@ impl<'a> Walk<'a> {
         ensures definitions { definitions_of self.new ≡ definitions_of self.old }
         ensures text { text_of self.new ≡ text_of self.old }
     {
-        // Only paragraphs of tight lists give nothing, each at its begin and at its end.
+        // Only paragraphs of tight lists give nothing, at their start and at their end.
         loop {
             let Ok(step) = self.short_step(lines) else {
                 return Err(AllocError);
@@ -50,7 +50,7 @@ impl<'a> Walk<'a> {
         }
     }
 
-    // Into the focus or past it, or up from behind the last sibling; nothing where a paragraph of a tight list begins or ends.
+    // Into the focus or past it, or up after the last sibling. It gives nothing if a paragraph of a tight list begins or ends.
     #[inline(always)]
     pub(crate) fn short_step(
         &mut self,
@@ -127,7 +127,7 @@ impl<'a> Walk<'a> {
         }
     }
 
-    // Up from behind the last sibling, and past the parent.
+    // Up after the last sibling, and past the parent.
     #[inline(always)]
     fn leave_short(&mut self) -> BriefStep<'a>
         requires { IsPast self.old }
@@ -147,7 +147,7 @@ impl<'a> Walk<'a> {
         }
     }
 
-    // How an item among the siblings at hand is read, where it has no text of its own.
+    // The reading of an item among the current siblings, if it has no text of its own.
     #[inline(always)]
     pub(crate) fn glance(&self, item: Item) -> Glance<'a>
         requires below { IsBelow self.now }
@@ -198,7 +198,7 @@ impl<'a> Walk<'a> {
         }
     }
 
-    // The part of the text that an item stands over.
+    // The part of the text in an item's range.
     #[inline(always)]
     fn part(&self, item: Item) -> &'a str
         requires { IsDrawn self.now item }
@@ -207,7 +207,7 @@ impl<'a> Walk<'a> {
         &self.text[item.start..item.end]
     }
 
-    // The same with what stands behind it in the text.
+    // The part of the text in an item's range, and the text after it.
     #[inline(always)]
     fn excerpt(&self, item: Item) -> Excerpt<'a>
         requires { IsDrawn self.now item }

@@ -25,11 +25,11 @@ use cmark_text::{Event, Ranged, Tag};
 use cmark_tree::{Tree, TreeIndex};
 use std::alloc::{AllocError, Global};
 
-/// A walk over the tree of a document, which meets the events of its blocks and the lines of its leaves in the order of the text.
+/// A walk over the tree of a document. It gives the events of the blocks and the lines of the leaves in the order of the text.
 ///
-/// A leaf is a paragraph, a heading, the title of definitions or the cell of a table: whether a text is content that has spans is seen from the node
-/// around it, so the texts of code, of HTML blocks and of metadata are events. A paragraph that stands directly in an item or a definition of a tight
-/// list is met as its lines alone (CommonMark 5.3).
+/// A leaf is a paragraph, a heading, the title of definitions or a table cell. The node around a text determines whether the text has
+/// spans, so the texts of code, of HTML blocks and of metadata are events. A paragraph directly in an item or a definition of a tight list
+/// is given as its lines only (CommonMark 5.3).
 #[derive(Drop)]
 pub struct Walk<'a> {
     pub(crate) text: &'a str,
@@ -40,8 +40,8 @@ pub struct Walk<'a> {
 }
 
 impl<'a> Walk<'a> {
-    /// A walk over the tree, from its first node on: where the tree is a document of the text without its link reference
-    /// definitions, what remains are the events and leaves of that document, in which the paragraphs of tight lists are settled.
+    /// A walk over the tree, from its first node on. If the tree is a document of the text without its link reference definitions, the walk
+    /// gives that document's events and leaves, with the paragraphs of tight lists settled.
     pub fn new(
         alloc: Global,
         text: &'a str,
@@ -68,16 +68,16 @@ impl<'a> Walk<'a> {
         }
     }
 
-    /// The definitions of links, the same at every point of the walk.
+    /// The definitions of links, which are the same throughout the walk.
     pub fn definitions(&self) -> &RefDefs<'a>
         ensures { result.now ≡ definitions_of self.now }
     {
         &self.allocations.refdefs
     }
 
-    /// What comes next: an event with its range, or a leaf, whose lines then stand in `lines` alone: byte offsets of the text, in
-    /// order, one line for each stretch that stands in the text without a gap. Behind the last one the document is over, and from
-    /// then on. Where memory is refused, the same remains, and what stands in `lines` is not said.
+    /// The next event with its range, or the next leaf. The lines of a leaf then replace the content of `lines`: byte offsets of the text,
+    /// in order, one line for each stretch of the text without a gap. After the last item the result is `Over`, also in all further calls.
+    /// If memory is refused, the same events and leaves remain, and the content of `lines` is unspecified.
     #[inline(always)]
     pub fn next(&mut self, lines: &mut Vec<LeafLine>) -> Result<Met<'a>, AllocError>
         requires { Goes self.old }
@@ -89,7 +89,7 @@ impl<'a> Walk<'a> {
         ensures definitions { definitions_of self.new ≡ definitions_of self.old }
         ensures text { text_of self.new ≡ text_of self.old }
     {
-        // Only paragraphs of tight lists give nothing, each at its begin and at its end.
+        // Only paragraphs of tight lists give nothing, at their start and at their end.
         loop {
             let Ok(step) = self.short_step(lines) else {
                 return Err(AllocError);
@@ -107,7 +107,7 @@ impl<'a> Walk<'a> {
         }
     }
 
-    // Past an event that may own something, at the focus.
+    // Past an event that may own a text, at the focus.
     #[inline(never)]
     fn long_step(&mut self, ix: TreeIndex) -> Result<Met<'a>, AllocError>
         requires { IsLongAt self.old ix }
@@ -131,7 +131,7 @@ impl<'a> Walk<'a> {
         }
     }
 
-    // Into the focus or past it, where it has a text of its own or is a task marker.
+    // Into the focus or past it, if it has a text of its own or is a task marker.
     fn enter(&mut self, ix: TreeIndex) -> Result<Met<'a>, AllocError>
         requires at { IsAt self.old ix }
         requires before { self.old.stage ≡ stage.Before }
@@ -151,7 +151,7 @@ impl<'a> Walk<'a> {
         self.enter_element(ix, item)
     }
 
-    // Past a text that is written nowhere.
+    // Past a text that does not occur in the source.
     fn pass_text(&mut self, ix: TreeIndex, item: Item) -> Result<Met<'a>, AllocError>
         requires at { IsAt self.old ix }
         requires before { self.old.stage ≡ stage.Before }

@@ -1,9 +1,10 @@
--- What a text is rendered as.
+-- The output for a text.
 use Rattle.std.specs.Prelude.{◌≡◌, ℕ, false, List, [], map, Option, None, Ok}
 use Rattle.std.specs.Iterator.{YieldsThen}
 use Rattle.std.specs.declared.ops.Range.{Range}
 use Rattle.cmark_grammar.specs.Answers.{Lookup}
 use Rattle.cmark_grammar.specs.Event.{Ranged}
+use Rattle.cmark_grammar.specs.Headline.{profile}
 use Rattle.cmark_grammar.specs.Options.{Options}
 use Rattle.cmark_grammar.specs.SpanDocuments.{IsReading}
 use Rattle.cmark_inline.specs.declared.callback.BrokenLink.{BrokenLink}
@@ -13,7 +14,6 @@ use Rattle.cmark_text.specs.declared.event.Event.{Event}
 use Rattle.cmark_text_parts.specs.declared.text.CowStr.{CowStr}
 use Rattle.cmark_parser.specs.declared.parse.OffsetIter.{OffsetIter}
 use Rattle.cmark_parser.specs.Parsing.{GivesRanged, shown_item}
-use Rattle.cmark_parser.specs.Walking.{profile}
 
 -- the output is a line for each event of the reading of the text, without a callback
 pub record AreLinesOf (text : List ℕ) (options : Options) (lookup : Lookup) (output : List ℕ) : Type 0 where
@@ -21,7 +21,7 @@ pub record AreLinesOf (text : List ℕ) (options : Options) (lookup : Lookup) (o
   pub reading : IsReading text (profile text options lookup false) [] events
   pub output_is : output ≡ lines events
 
--- what the callback answers that stands for none
+-- the steps of a callback that is absent: it always returns None
 abbrev pub says-nothing : DefaultBrokenLinkCallback → BrokenLink → Option (CowStr × CowStr) → DefaultBrokenLinkCallback → Type 0
 says-nothing before link answer after = answer ≡ None
 

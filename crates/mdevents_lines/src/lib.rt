@@ -11,8 +11,8 @@ use cmark_parser::{OffsetIter, Parser};
 use cmark_text_parts::{EntityLookup, Options};
 use std::alloc::{AllocError, Global};
 
-/// A line of JSON for each event of a text, with its range, read with these options. `entities` says what the entity names stand
-/// for. Fails where memory is refused.
+/// One line of JSON for each event of a text, with its range, read with these options. `entities` gives the texts of entity names. Fails if
+/// memory is refused.
 pub fn to_json_lines<E: EntityLookup>(
     alloc: Global,
     text: &str,
@@ -23,11 +23,11 @@ pub fn to_json_lines<E: EntityLookup>(
 {
     let parser = Parser::new_ext(alloc, text, options, entities)?;
     let mut iter = parser.into_offset_iter();
-    // The walk is lent, so that it is let go at one place: each way out of a function lets go all that it holds.
+    // The walk is passed by reference, so that it is dropped only here: the compiler writes out a drop at each exit of a function.
     lines_of(alloc, &mut iter)
 }
 
-// A line for each event that a walk still has to give.
+// One line for each event that a walk still has to give.
 fn lines_of<'a, E: EntityLookup>(
     alloc: Global,
     iter: &mut OffsetIter<'a, E>,

@@ -14,12 +14,12 @@ use mdhtml_parts::{Render, RunFault, Watched};
 use std::alloc::{AllocError, Global};
 use std::io::{Read, Write};
 
-/// Renders a text as a line of JSON for each of its events.
+/// Renders a text as one line of JSON for each of its events.
 #[derive(Drop)]
 pub struct EventLines<'a, E> {
-    /// The options that the text is read with.
+    /// The options with which the text is read.
     pub options: Options,
-    /// What the entity names stand for.
+    /// The texts of entity names.
     pub entities: &'a E,
 }
 
@@ -31,11 +31,11 @@ impl<'a, E: EntityLookup> Render for EventLines<'a, E> {
     }
 }
 
-/// Reads all of a reader's Markdown, writes a line of JSON for each of its events with these options and flushes. `entities`
-/// says what the entity names stand for.
+/// Reads all Markdown from a reader, writes a line of JSON for each of its events with these options, and flushes. `entities` gives the
+/// texts of entity names.
 ///
-/// After a fault but `Write` nothing was written, and after `Write` a beginning of the lines; `mdhtml_parts::run::run` says
-/// when each fault is answered.
+/// After `Write` a beginning of the lines was written, and after any other fault nothing. `mdhtml_parts::run::run` lists the causes of each
+/// fault.
 pub fn run<R: Read, W: Write, E: EntityLookup>(
     alloc: Global,
     reader: &mut Watched<R>,

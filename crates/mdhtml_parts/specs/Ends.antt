@@ -1,4 +1,4 @@
--- What a watched end shows.
+-- The observable state of a watched end.
 use Rattle.std.specs.Prelude.{ℕ}
 use Rattle.mdhtml_parts.specs.declared.watched.Watched.{Watched}
 use Rattle.mdhtml_parts.specs.declared.watched.Notes.{Notes}
@@ -7,7 +7,7 @@ use Rattle.mdhtml_parts.specs.declared.watched.Notes.{Notes}
 abbrev pub watched_end : {E : Type 0} → Watched E → E
 watched_end watched = watched.end
 
--- what became of its calls since the last reset
+-- the outcomes of its calls since the last reset
 abbrev pub watched_notes : {E : Type 0} → Watched E → Notes
 watched_notes watched = watched.notes
 

@@ -1,4 +1,4 @@
--- The exit status and the message of a fault, the limits, and what the notes show where a fault is answered.
+-- The exit status and the message of each fault, the limits, and the notes that go with each fault.
 use Rattle.std.specs.Prelude.{◌≡◌, ◌⊎◌, ◌≤◌, ◌<◌, ℕ, true, false, List, codes}
 use Rattle.mdhtml_parts.specs.declared.fault.RunFault.{RunFault}
 use Rattle.mdhtml_parts.specs.declared.fault.RunFault.TheVariants.{Memory, Read, NotUtf8, Entities, Write}
@@ -18,20 +18,20 @@ message_of NotUtf8 = codes "input is not UTF-8"
 message_of Entities = codes "bad entity file"
 message_of Write = codes "write failed"
 
--- as many interrupted calls in a row end a reading or a writing
+-- the number of interrupted calls in a row that ends a reading or a writing
 abbrev pub patience : ℕ
 patience = 1048576
 
--- as many bytes of input are read at most
+-- the most bytes of input that are read
 abbrev pub input_limit : ℕ
 input_limit = 2147483648
 
--- no read failed, fewer in a row were interrupted than a reading bears, and no more bytes came than the limit allows
+-- no read failed, fewer than `patience` in a row were interrupted, and at most `limit` bytes were read
 abbrev pub ReadsOn : ℕ → Notes → Type 0
 ReadsOn limit notes = (notes.failed ≡ false) × (notes.interrupted < patience) × (notes.moved ≤ limit)
 
--- A reading ends with Read where a read failed, too many in a row were interrupted, or more bytes came than the limit
--- allows. It ends out of memory where none of that happened: bytes came, and the last call did not find the end.
+-- A reading ends with Read if a read failed, if `patience` reads in a row were interrupted, or if more than `limit` bytes came. It ends
+-- with Memory only if nothing of this happened, bytes came, and the last call did not find the end.
 abbrev pub ReadStops : ℕ → Notes → RunFault → Type 0
 ReadStops limit notes Memory = (0 < notes.moved) × (notes.ended ≡ false) × ReadsOn limit notes
 ReadStops limit notes Read = (notes.failed ≡ true) ⊎ ((patience ≤ notes.interrupted) ⊎ (limit < notes.moved))
@@ -39,7 +39,7 @@ ReadStops limit notes NotUtf8 = ⊥
 ReadStops limit notes Entities = ⊥
 ReadStops limit notes Write = ⊥
 
--- a writing ends with Write alone: a call failed, or too many writes in a row were interrupted
+-- a writing ends only with Write: a call failed, or `patience` writes in a row were interrupted
 abbrev pub WriteStops : Notes → RunFault → Type 0
 WriteStops notes Memory = ⊥
 WriteStops notes Read = ⊥

@@ -1,4 +1,4 @@
--- What a watched end notes of its calls.
+-- The notes of a watched end on its calls.
 use Rattle.std.specs.Prelude.{ℕ, ◌≤◌, ◌+◌, ◌-◌, ◌^◌, min, true, false, Result, Ok, Err, ◌==◌, if◌then◌else◌}
 use Rattle.std.specs.IoError.{error_kind}
 use Rattle.std.specs.declared.io.Error.{Error}
@@ -10,11 +10,11 @@ use Rattle.mdhtml_parts.specs.declared.watched.Notes.{Notes}
 abbrev pub no_notes : Notes
 no_notes = record { failed = false; ended = false; interrupted = 0; moved = 0 }
 
--- a count that has reached the greatest u64 stays there
+-- a count that has reached the greatest u64 does not grow
 abbrev pub counted : ℕ → ℕ → ℕ
 counted count more = min (count + more) (2 ^ 64 - 1)
 
--- the notes were cleared in between, so they are of later calls alone
+-- the notes were cleared in between, so they are about later calls only
 abbrev pub Cleared : (resets_old resets_new : ℕ) → Type 0
 Cleared resets_old resets_new = counted resets_old 1 ≤ resets_new
 
@@ -30,7 +30,7 @@ noted_end notes = record { failed = notes.failed; ended = true; interrupted = 0;
 abbrev pub noted_failed : Notes → Notes
 noted_failed notes = record { failed = true; ended = false; interrupted = 0; moved = notes.moved }
 
--- after a read or a write that answered an error: an interrupted one did not fail
+-- after a read or a write that returned an error: an interrupted call did not fail
 abbrev pub noted_error : Notes → ErrorKind → Notes
 noted_error notes Interrupted = record { failed = notes.failed; ended = false; interrupted = counted notes.interrupted 1; moved = notes.moved }
 noted_error notes _ = noted_failed notes
@@ -45,7 +45,7 @@ abbrev pub noted_write : Notes → Result ℕ Error → Notes
 noted_write notes (Ok count) = if count == 0 then noted_failed notes else noted_moved notes count
 noted_write notes (Err error) = noted_error notes (error_kind error)
 
--- a flush that answered any error failed
+-- a flush that returned any error failed
 abbrev pub noted_flush : Notes → Result (Unit {0}) Error → Notes
 noted_flush notes (Ok u) = noted_end notes
 noted_flush notes (Err error) = noted_failed notes

@@ -1,4 +1,4 @@
--- What a run did.
+-- The effects of a run.
 use Rattle.std.specs.Prelude.{◌≡◌, ◌⊎◌, ℕ, true, List, ◌++◌, Option, Result, Ok, Err, IsUtf8}
 use Rattle.std.specs.Io.KnownBytes.{Appends, Consumes, IsAtEnd, Keeps}
 use Rattle.mdhtml_parts.specs.Faults.{ReadStops, WriteStops, input_limit}
@@ -6,7 +6,7 @@ use Rattle.mdhtml_parts.specs.declared.fault.RunFault.{RunFault}
 use Rattle.mdhtml_parts.specs.declared.fault.RunFault.TheVariants.{Memory, Read, NotUtf8, Entities, Write}
 use Rattle.mdhtml_parts.specs.declared.watched.Notes.{Notes}
 
--- a reader gave these bytes and is at its end: the bytes are all that it had, where it tells what it has left
+-- a reader gave these bytes and is at its end: the bytes are all that it had, if it tells what it has left
 abbrev pub ReadsAll : Option (List ℕ) → Option (List ℕ) → List ℕ → Type 0
 ReadsAll old new bytes = Consumes old new bytes × IsAtEnd new
 
@@ -14,19 +14,19 @@ ReadsAll old new bytes = Consumes old new bytes × IsAtEnd new
 abbrev pub AppendsFrontOf : Option (List ℕ) → Option (List ℕ) → List ℕ → Type 0
 AppendsFrontOf old new bytes = (front : List ℕ) × (rest : List ℕ) × (bytes ≡ front ++ rest) × Appends old new front
 
--- a run that renders texts so, and may refuse memory to some: what the reader had left and the writer held, before and after, and the
--- notes of both after
+-- a run whose renderer makes these outputs, and may refuse memory to some texts; the bytes that the reader had left and that the writer
+-- held, before and after; and the notes of both after the run
 module _ (renders : List ℕ → List ℕ → Type 0) (refuses : List ℕ → Type 0) (left_old left_new held_old held_new : Option (List ℕ)) (reader writer : Notes) where
-  -- all was read, it is a text, and the output is what it is rendered as
+  -- all was read, it is UTF-8, and the output is an output for it
   abbrev pub ReadsAndRenders : List ℕ → List ℕ → Type 0
   ReadsAndRenders input output = ReadsAll left_old left_new input × IsUtf8 input × renders input output
 
-  -- memory was refused while bytes came, or all was read, it is a text, and the renderer refused it
+  -- memory was refused while bytes came, or all was read, it is UTF-8, and the renderer refused it
   abbrev pub RefusedMemory : Type 0
   RefusedMemory =
       ReadStops input_limit reader Memory ⊎ ((input : List ℕ) × ReadsAll left_old left_new input × IsUtf8 input × refuses input)
 
-  -- nothing was written but after Write, and then a beginning of the output
+  -- after Write a beginning of the output was written, and after any other fault nothing
   abbrev pub StopsWith : RunFault → Type 0
   StopsWith Memory = Keeps held_old held_new × RefusedMemory
   StopsWith Read = Keeps held_old held_new × ReadStops input_limit reader Read

@@ -1,4 +1,4 @@
-//! What can end a run.
+//! The faults that can end a run.
 
 ghost use Rattle.std.specs.Prelude.{◌≡◌, Some};
 ghost use Rattle.std.specs.Fmt.{padded};
@@ -8,19 +8,19 @@ use std::alloc::AllocError;
 use std::error::Error;
 use std::fmt::{self, Display, Formatter, Write};
 
-/// What ended a run before all was written. Its text is the message, without the program's name.
+/// The fault that ended a run before all was written. Its text is the message, without the program's name.
 #[derive(Clone, Copy, Debug, PartialEq, Eq)]
 pub enum RunFault {
     /// Memory was refused. Nothing was written.
     Memory = 1,
-    /// A read failed, too many in a row were interrupted, or the input is too long. Nothing was written.
+    /// A read failed, too many reads in a row were interrupted, or the input is too long. Nothing was written.
     Read = 2,
     /// The input is not UTF-8. Nothing was written.
     NotUtf8 = 3,
-    /// The file of entities cannot be read, or is no object of texts. Nothing was written.
+    /// The file of entities cannot be read, or is not a JSON object whose values are texts. Nothing was written.
     Entities = 4,
-    /// A write or the flush failed, a write took no byte, or too many in a row were interrupted. A beginning of the output
-    /// was written.
+    /// A write or the flush failed, a write took no byte, or too many writes in a row were interrupted. A beginning of the output was
+    /// written.
     Write = 5,
 }
 

@@ -1,5 +1,5 @@
-//! What the programs share that turn Markdown into something else: reading to the end, writing to the end, and a run from
-//! one to the other, with what can end it.
+//! The parts that are shared by the programs which convert Markdown: reading to the end, writing to the end, a run from one to the other,
+//! and its faults.
 #![tactic(auto)]
 
 mod fault;

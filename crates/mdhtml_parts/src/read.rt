@@ -11,16 +11,15 @@ use crate::watched::{PATIENCE, Watched};
 use std::alloc::Global;
 use std::io::Read;
 
-/// How many bytes one read asks for, as std's buffered readers do: they stand on the stack and are cleared first, which a short text
-/// pays for too.
+/// The number of bytes that one read asks for, as in std's buffered readers. They are on the stack and are cleared first, which costs time
+/// even for a short text.
 const CHUNK: usize = 8_192;
 
-/// All bytes that a reader has left, `limit` at most.
+/// All bytes that a reader has left, at most `limit`.
 ///
-/// The notes of the reader start afresh. Answers `Read` where a read failed, where `PATIENCE` reads in a row were
-/// interrupted, or where more than `limit` bytes came, and `Memory` where memory was refused to bytes that came. The bytes that
-/// were read before are then lost.
-// The chunk stands on the stack while the text is read, and not while it is rendered.
+/// The notes of the reader are cleared first. Fails with `Read` if a read failed, if `PATIENCE` reads in a row were interrupted, or if more
+/// than `limit` bytes came. Fails with `Memory` if memory for bytes that came was refused. After a failure the bytes read so far are lost.
+// The chunk is on the stack while the text is read, and not while it is rendered.
 #[inline(never)]
 pub fn read_all<R: Read>(
     alloc: Global,

@@ -12,14 +12,14 @@ use crate::write::write_text;
 use std::alloc::Global;
 use std::io::{Read, Write};
 
-/// How many bytes of input are read at most.
+/// The most bytes of input that are read.
 pub const INPUT_LIMIT: u64 = 2_147_483_648;
 
-/// Reads all of a reader's text, writes what it is rendered as and flushes.
+/// Reads all of a reader's text, writes the output for it and flushes.
 ///
-/// The notes of both ends start afresh. Nothing is written before all was read and found to be UTF-8, and the output is
-/// there in full. So after a fault but `Write` nothing was written, and after `Write` a beginning of the output.
-/// [`RunFault`] says when each fault is answered; more than [`INPUT_LIMIT`] bytes of input are a `Read`.
+/// The notes of both ends are cleared first. Nothing is written before all was read, was found to be UTF-8, and was rendered. So after
+/// `Write` a beginning of the output was written, and after any other fault nothing. [`RunFault`] lists the causes of each fault; more than
+/// [`INPUT_LIMIT`] bytes of input are a `Read`.
 pub fn run<R: Read, W: Write, P: Render>(
     alloc: Global,
     reader: &mut Watched<R>,

@@ -1,4 +1,4 @@
-//! A reader or a writer that notes what became of its calls.
+//! A reader or a writer that notes the outcomes of its calls.
 
 ghost use Rattle.std.specs.Prelude.{◌≡◌};
 ghost use Rattle.std.specs.Io.{ReadsAtMost, WritesAtMost};
@@ -9,19 +9,19 @@ ghost use Rattle.mdhtml_parts.specs.Notes.{counted, no_notes, noted_moved, noted
 use std::io;
 use std::io::{ErrorKind, Read, Write};
 
-/// So many interrupted calls in a row end a reading or a writing.
+/// The number of interrupted calls in a row that ends a reading or a writing.
 pub const PATIENCE: u64 = 1_048_576;
 
-/// What became of the calls of a [`Watched`] since its last reset.
+/// The outcomes of the calls of a [`Watched`] since its last reset.
 #[derive(Clone, Copy)]
 pub struct Notes {
-    /// Whether a call failed. A write of no byte and an interrupted flush failed, an interrupted read or write did not.
+    /// Whether a call failed. A write of no byte and an interrupted flush count as failed; an interrupted read or write does not.
     pub failed: bool,
-    /// Whether the last call was a read that found the end, as it gave no byte, or a flush that succeeded.
+    /// Whether the last call was a read that found the end, because it gave no byte, or a flush that succeeded.
     pub ended: bool,
-    /// How many calls in a row were interrupted last, up to the greatest `u64`.
+    /// The number of interrupted calls in a row up to the last call, at most the greatest `u64`.
     pub interrupted: u64,
-    /// How many bytes were read or written, up to the greatest `u64`.
+    /// The number of bytes that were read or written, at most the greatest `u64`.
     pub moved: u64,
 }
 
@@ -74,7 +74,7 @@ impl Notes {
         }
     }
 
-    /// The notes after a read or a write that answered an error of this kind.
+    /// The notes after a read or a write that returned an error of this kind.
     fn after_error(self, kind: ErrorKind) -> Notes
         ensures { result ≡ noted_error self kind }
     {
@@ -95,7 +95,7 @@ impl Notes {
 pub struct Watched<E> {
     end: E,
     notes: Notes,
-    /// How often the notes were cleared, up to the greatest `u64`.
+    /// How often the notes were cleared, at most the greatest `u64`.
     resets: u64,
 }
 
@@ -119,21 +119,21 @@ impl<E> Watched<E> {
         &self.end
     }
 
-    /// What became of the calls since the last reset.
+    /// The outcomes of the calls since the last reset.
     pub fn notes(&self) -> Notes
         ensures { result ≡ watched_notes self.now }
     {
         self.notes
     }
 
-    /// How often the notes were cleared, up to the greatest `u64`. Where it grew, the notes are of later calls alone.
+    /// How often the notes were cleared, at most the greatest `u64`. If it grew, the notes are about later calls only.
     pub fn resets(&self) -> u64
         ensures { result ≡ watched_resets self.now }
     {
         self.resets
     }
 
-    /// Forgets what became of the calls so far.
+    /// Clears the notes.
     pub fn reset(&mut self)
         ensures end { watched_end self.new ≡ watched_end self.old }
         ensures notes { watched_notes self.new ≡ no_notes }

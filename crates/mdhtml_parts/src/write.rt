@@ -13,8 +13,8 @@ use std::io::Write;
 
 /// Writes all of a text, and flushes.
 ///
-/// The notes of the writer start afresh. Answers `Write` where a write or the flush failed, where a write took no byte,
-/// or where `PATIENCE` writes in a row were interrupted. A beginning of the text was then written.
+/// The notes of the writer are cleared first. Fails with `Write` if a write or the flush failed, if a write took no byte, or if `PATIENCE`
+/// writes in a row were interrupted. A beginning of the text was then written.
 pub fn write_text<W: Write>(writer: &mut Watched<W>, text: &[u8]) -> Result<(), RunFault>
     ensures all { OnOk result (Appends (W.contents (watched_end writer.old)) (W.contents (watched_end writer.new)) text.now) }
     ensures front { OnErr result (AppendsFrontOf (W.contents (watched_end writer.old)) (W.contents (watched_end writer.new)) text.now) }

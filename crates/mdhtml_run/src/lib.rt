@@ -6,7 +6,7 @@ ghost use Rattle.cmark_text_parts.specs.Shown.{shown_options};
 ghost use Rattle.mdhtml_parts.specs.Ends.{watched_end, watched_notes, watched_resets};
 ghost use Rattle.mdhtml_parts.specs.Notes.{Cleared};
 ghost use Rattle.mdhtml_parts.specs.Runs.{Runs};
-ghost use Rattle.cmark_parser.specs.Rendering.{IsHtmlOf};
+ghost use Rattle.cmark_grammar.specs.Headline.{IsHtmlOf};
 ghost use Rattle.mdhtml_run.specs.Safe.{IsSafeAnswer};
 
 use cmark_parser::{to_html, to_safe_html};
@@ -18,9 +18,9 @@ use std::io::{Read, Write};
 /// Renders a text as HTML.
 #[derive(Drop)]
 pub struct Html<'a, E> {
-    /// The options that the text is read with.
+    /// The options with which the text is read.
     pub options: Options,
-    /// What the entity names stand for.
+    /// The texts of entity names.
     pub entities: &'a E,
 }
 
@@ -32,14 +32,14 @@ impl<'a, E: EntityLookup> Render for Html<'a, E> {
     }
 }
 
-/// Renders a text as HTML of which nothing runs, whoever wrote the text.
+/// Renders a stranger's text as safe HTML: nothing in it runs.
 #[derive(Drop)]
 pub struct SafeHtml<'a, E> {
-    /// The options that the text is read with.
+    /// The options with which the text is read.
     pub options: Options,
-    /// What the entity names stand for.
+    /// The texts of entity names.
     pub entities: &'a E,
-    /// The names of further schemes that addresses may have, with white space between them.
+    /// The names of further schemes that addresses may have, separated by white space.
     pub further: &'a str,
 }
 
@@ -51,11 +51,10 @@ impl<'a, E: EntityLookup> Render for SafeHtml<'a, E> {
     }
 }
 
-/// Reads all of a reader's Markdown, writes its HTML with these options and flushes. `entities` says what the entity names
-/// stand for.
+/// Reads all of a reader's Markdown, writes its HTML with these options and flushes. `entities` has the texts of entity names.
 ///
-/// After a fault but `Write` nothing was written, and after `Write` a beginning of the HTML; `mdhtml_parts::run::run` says
-/// when each fault is answered.
+/// `mdhtml_parts::run::run` says when each fault is returned. After `RunFault::Write` a beginning of the HTML was written, and
+/// after any other fault nothing.
 pub fn run<R: Read, W: Write, E: EntityLookup>(
     alloc: Global,
     reader: &mut Watched<R>,
@@ -73,10 +72,10 @@ pub fn run<R: Read, W: Write, E: EntityLookup>(
     mdhtml_parts::run::run(alloc, reader, writer, &Html { options, entities })
 }
 
-/// Does what [`run`] does, but writes safe HTML if `safe` is true: HTML of which nothing runs, whoever wrote the Markdown. Its
-/// addresses are relative, or have the scheme `http`, `https` or `mailto`.
+/// Does what [`run`] does, but writes safe HTML if `safe` is true: nothing in it runs, whoever wrote the Markdown. Its addresses
+/// are relative, or have the scheme `http`, `https` or `mailto`.
 ///
-/// After a fault but `Write` nothing was written, and after `Write` a beginning of the HTML.
+/// The faults, and what they leave, are those of [`run`].
 pub fn run_filtered<R: Read, W: Write, E: EntityLookup>(
     alloc: Global,
     reader: &mut Watched<R>,
@@ -102,7 +101,7 @@ pub fn run_filtered<R: Read, W: Write, E: EntityLookup>(
     run(alloc, reader, writer, options, entities)
 }
 
-/// The same where safe HTML is asked for.
+/// Does what [`run_filtered`] does if `safe` is true.
 fn run_safe<R: Read, W: Write, E: EntityLookup>(
     alloc: Global,
     reader: &mut Watched<R>,

@@ -1,4 +1,4 @@
--- Lines whose answer is computed.
+-- Command lines whose results are computed.
 use Rattle.std.proofs.Common.{◌≡◌, ◌∷◌, [], true, false, List, Some, None, codes, refl}
 use Rattle.clap.specs.Words.{Kinds, Row, Text, fault_of, matches_of, takes}
 use Rattle.clap.specs.declared.error.kind.ErrorKind.TheVariants.{ArgumentConflict, DisplayHelp, DisplayVersion, TooManyValues, UnknownArgument}

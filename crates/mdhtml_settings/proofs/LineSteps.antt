@@ -1,4 +1,4 @@
--- What is known of the command whatever the words are.
+-- Facts about the command that hold for all words.
 use Rattle.std.proofs.Common.{◌≡◌, ◌∙◌, ◌⊎◌, ◌≤◌, ◌<◌, ◌∷◌, [], arith, length, map, true, false, true≢false, List, None, Result, Ok, Err, IfOk, inl, inr, refl, sym, ap}
 use Rattle.std.specs.declared.alloc.AllocError.{AllocError}
 use Rattle.clap.specs.Words.{AddsArg, App, HasMatchesOf, IsAmong, Kinds, Text, app_of, fault_of, found_of, is_simple, is_simple_and_free, matches_of, rows_of, rule_of, with_rule}
@@ -43,13 +43,13 @@ may_fail kinds kind Bad (inl out) has = absurd (has.1 out)
 may_fail kinds kind Bad (inr among) has = (kind, among, has.0)
 may_fail kinds kind Memory among has = tt
 
--- and out of memory is Memory
+-- refused memory becomes the fault Memory
 pub is_memory : (kind : ErrorKind) (fault : LineFault) → kind ≡ OutOfMemory → HasLineFault kind fault → fault ≡ Memory
 is_memory kind (Help text) out asks = absurd (true≢false (sym asks ∙ ap asks_for_text out))
 is_memory kind Bad out has = absurd (has.1 out)
 is_memory kind Memory out has = refl
 
--- the program's own name alone asks for nothing, and is taken
+-- the program's name alone gives no flags, and is accepted
 pub no_bits : (program : Program) (word : Text) → bits_given flags (matches_of (line_command program) (word ∷ [])) ≡ 0
 unfolding clap_on_literals
 no_bits Mdhtml word = refl

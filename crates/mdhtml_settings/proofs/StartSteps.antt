@@ -9,12 +9,12 @@ use Rattle.mdhtml_settings.specs.declared.starting.RunSettings.{RunSettings}
 use Rattle.mdhtml_settings.specs.declared.starting.Stop.{Stop}
 use Rattle.mdhtml_settings.specs.declared.starting.Stop.TheVariants.{Fault}
 
--- a line that is refused memory stops the program by that fault
+-- a line for which memory was refused stops the program with that fault
 pub stops_for_memory : (result : Result RunSettings Stop) (fault : LineFault) → IsErrAnd result (λ stop. stop ≡ stop_of fault) → fault ≡ line.Memory → IfErr result (λ stop. stop ≡ Fault Memory)
 stops_for_memory (Ok settings) fault stops is = tt
 stops_for_memory (Err stop) fault stops is = stops ∙ ap stop_of is
 
--- what is shown as nothing is nothing
+-- an option that is shown as None is None
 pub none_shown : {A B : Type 0} (f : A → B) (o : Option A) → option_map f o ≡ None → o ≡ None
 none_shown f None e = refl
 none_shown f (Some a) e = cc

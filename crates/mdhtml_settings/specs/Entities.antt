@@ -1,4 +1,4 @@
--- What a file of entities says: one JSON object (RFC 8259) whose values are all texts.
+-- The meaning of a file of entities: one JSON object (RFC 8259) whose values are all texts.
 use Rattle.std.specs.Prelude.{◌≡◌, ◌&&◌, ℕ, Bool, true, false, List, Option, Some, None, is_some, option_and_then, IsUtf8}
 use Rattle.std.specs.Option.{option_map_or}
 use Rattle.cmark_grammar.specs.Answers.{Lookup}
@@ -18,17 +18,17 @@ are_texts (member name value rest) = is_text value && are_texts rest
 abbrev pub holds_texts : Data → Bool
 holds_texts value = option_map_or are_texts (as_object value) false
 
--- the bytes are one JSON object of these names and texts; of a name that stands twice it has the last text
+-- the bytes are one JSON object of these names and texts; a name that occurs twice has its last text
 pub record Spells (bytes : List ℕ) (names : Members) : Type 0 where
   pub utf8 : IsUtf8 bytes
   pub is_object : read bytes ≡ Some (object names)
   pub texts : are_texts names ≡ true
 
--- the text that is found, or else that of the eleven names
+-- the text that is found, or else the text of one of the eleven names
 abbrev pub or_basic : Option (List ℕ) → Lookup
 or_basic (Some text) name = Some text
 or_basic None name = basic_entity name
 
--- a name has the text that it has in the object, and one that the object lacks that of the eleven names
+-- a name has its text in the object; a name that the object lacks has its text among the eleven
 abbrev pub entity_of : Members → Lookup
 entity_of names name = or_basic (option_and_then as_str (get_member name names)) name

@@ -1,4 +1,4 @@
--- What the words of a command line ask for. How words are read is what `clap` says of a simple command.
+-- The meaning of the words of a command line. `clap`'s definition of a simple command says how words are read.
 use Rattle.std.specs.Prelude.{◌≡◌, ◌⊎◌, ◌∷◌, [], ℕ, Bool, true, false, List, Some, Option, fold, codes, if◌then◌else◌, Result, MatchResult}
 use Rattle.std.specs.Option.{option_map_or}
 use Rattle.std.specs.Str.{bytes_eq}
@@ -20,7 +20,7 @@ use Rattle.mdhtml_settings.specs.declared.program.Program.TheVariants.{Mdhtml, M
 abbrev pub option_bits : Options → ℕ
 option_bits options = options.0
 
--- each flag, behind its two hyphens, and the bits that it sets: those of its option
+-- each flag, without its two hyphens, and the bits that it sets: the bits of its option
 abbrev pub flags : List (Text × ℕ)
 flags =
     (codes "tables", 2) ∷
@@ -58,7 +58,7 @@ with_flag_rules = fold (λ app flag. with_rule app (flag_rule flag.0))
 abbrev pub file_rule : Rule
 file_rule = record (new_rule (codes "entities")) { long = Some (codes "entities"); action = Some Set; value_names = 1 }
 
--- a command that answers `--version`
+-- a command that has `--version`
 abbrev pub with_version : App → App
 with_version = on_top (λ shape. record shape { has_version = true })
 
@@ -74,7 +74,7 @@ abbrev pub writes_html : Program → Bool
 writes_html Mdhtml = true
 writes_html Mdevents = false
 
--- the flag for safe HTML, which a program that writes HTML has
+-- the flag for safe HTML, which a program has if it writes HTML
 abbrev pub safe_flag : Text
 safe_flag = codes "safe"
 
@@ -82,17 +82,17 @@ abbrev pub with_safe_rule : (writes_html : Bool) → App → App
 with_safe_rule true app = with_rule app (flag_rule safe_flag)
 with_safe_rule false app = app
 
--- the command of a program: that of its name, with the flag for safe HTML, and the file
+-- the command of a program: the flags of the options, the flag for safe HTML if the program writes HTML, and the file
 abbrev pub line_command : Program → App
 line_command program = with_rule (with_safe_rule (writes_html program) (options_command (name_of program))) file_rule
 
--- ---- what its words ask for
+-- ---- the meaning of its words
 
 -- a flag that was given has the value `true`
 abbrev pub is_given : Text → List Row → Bool
 is_given name rows = option_map_or (λ value. bytes_eq value (codes "true")) (first_of name rows) false
 
--- the bits, with those of the flag where it was given
+-- the bits, with the bits of the flag if it was given
 abbrev pub bits_with : List Row → ℕ → Text × ℕ → ℕ
 bits_with rows bits flag = if is_given flag.0 rows then bit_or bits flag.1 else bits
 
@@ -115,19 +115,19 @@ asks_for_text DisplayHelp = true
 asks_for_text DisplayVersion = true
 asks_for_text _ = false
 
--- the fault of a line that is refused with this kind
+-- the fault of a line that is refused with this error
 abbrev pub HasLineFault : ErrorKind → LineFault → Type 0
 HasLineFault kind (Help text) = asks_for_text kind ≡ true
 HasLineFault kind Bad = (asks_for_text kind ≡ false) × (kind ≡ OutOfMemory → ⊥)
 HasLineFault kind Memory = (asks_for_text kind ≡ true) ⊎ (kind ≡ OutOfMemory)
 
--- with these kinds alone the words can be refused: a text comes only where they ask for one, and Bad only where they are
--- refused otherwise; memory may be refused at any time
+-- the faults of words that can be refused only with these kinds: a text only if they ask for it, and Bad only if they are refused for
+-- another reason; Memory at any time
 abbrev pub MayFail : Kinds → LineFault → Type 0
 MayFail kinds (Help text) = (kind : ErrorKind) × IsAmong kind kinds × (asks_for_text kind ≡ true)
 MayFail kinds Bad = (kind : ErrorKind) × IsAmong kind kinds × (asks_for_text kind ≡ false)
 MayFail kinds Memory = Unit {0}
 
--- and settings come only where there is no such kind
+-- settings are returned only if there is no such kind
 abbrev pub AnswersBy : Kinds → Result Settings LineFault → Type 0
 AnswersBy kinds result = MatchResult result (λ settings. kinds ≡ []) (MayFail kinds)

@@ -1,4 +1,4 @@
--- What a look-up answers.
+-- The results of a look-up.
 use Rattle.std.specs.Prelude.{◌≡◌, ℕ, List, option_and_then}
 use Rattle.cmark_grammar.specs.Answers.{Lookup}
 use Rattle.serde_json.specs.Data.{Members}
@@ -10,6 +10,6 @@ use Rattle.mdhtml_settings.specs.declared.entities.NamedEntities.{NamedEntities}
 abbrev pub looked_up : NamedEntities → Lookup
 looked_up entities name = or_basic (option_and_then as_str (get name (view entities.file))) name
 
--- the bytes spell names, and it answers for these and the eleven
+-- the bytes spell names, and the look-up is the one of these names and the eleven
 abbrev pub HasNamesOf : (bytes : List ℕ) → NamedEntities → Type 0
 HasNamesOf bytes found = (names : Members) × Spells bytes names × ((name : List ℕ) → looked_up found name ≡ entity_of names name)

@@ -1,4 +1,4 @@
--- Why a program makes no run.
+-- The reasons for which a program makes no run.
 use Rattle.std.specs.Prelude.{◌≡◌, [], Result, MatchResult}
 use Rattle.std.specs.declared.io.ErrorKind.{ErrorKind}
 use Rattle.std.specs.declared.io.ErrorKind.TheVariants.{OutOfMemory}
@@ -17,7 +17,7 @@ stop_of (line.Help text) = Help text
 stop_of line.Bad = BadLine
 stop_of line.Memory = Fault Memory
 
--- before a run memory may be refused, and the file may be no file of entities
+-- before a run memory may be refused, or the file of entities may be unusable
 abbrev pub IsEarly : RunFault → Type 0
 IsEarly Memory = Unit {0}
 IsEarly Read = ⊥
@@ -30,7 +30,7 @@ IsStop (Help text) = Unit {0}
 IsStop BadLine = Unit {0}
 IsStop (Fault fault) = IsEarly fault
 
--- the fault of words that the system does not give: want of memory, or a word that is no text
+-- the fault of words that the system does not give: refused memory, or a word that is not UTF-8
 abbrev pub words_fault_of : ErrorKind → LineFault
 words_fault_of OutOfMemory = line.Memory
 words_fault_of _ = line.Bad
@@ -40,12 +40,12 @@ abbrev pub file_fault_of : ErrorKind → RunFault
 file_fault_of OutOfMemory = Memory
 file_fault_of _ = Entities
 
--- words that can be refused with these kinds alone stop a program so, and else memory or the file does
+-- words that can be refused only with these kinds stop a program with their fault; otherwise memory or the file does
 abbrev pub MayStop : Kinds → Stop → Type 0
 MayStop kinds (Help text) = MayFail kinds (line.Help text)
 MayStop kinds BadLine = MayFail kinds line.Bad
 MayStop kinds (Fault fault) = IsEarly fault
 
--- a run comes only where there is no such kind
+-- a run is returned only if there is no such kind
 abbrev pub StartsBy : Kinds → Result RunSettings Stop → Type 0
 StartsBy kinds result = MatchResult result (λ settings. kinds ≡ []) (MayStop kinds)

@@ -1,4 +1,4 @@
-//! What a program ends with: a text that its words asked for, a line on standard error, an exit status.
+//! The end of a program: a text that its words asked for, a line on standard error, an exit status.
 
 ghost use Rattle.std.specs.Process.{exit_status};
 ghost use Rattle.mdhtml_parts.specs.Ends.{watched_end, watched_notes};
@@ -10,13 +10,13 @@ use mdhtml_parts::{Watched, status, write_text};
 use std::io::{Eprint, Write};
 use std::process::ExitCode;
 
-/// The status that a program ends with where the words are not the command's.
+/// The exit status of a command line that is refused.
 const BAD_LINE_STATUS: u8 = 2;
 
-/// Ends a program, which came to its end or was stopped, and returns its exit status.
+/// Ends a program, and returns its exit status.
 ///
-/// A text that the words asked for goes to the writer. What else stopped the program is said on standard error, in one
-/// line behind its name; where standard error is closed too, the status alone tells of it.
+/// A text that the words asked for goes to the writer. Any other reason to stop is written to standard error, in one line after
+/// the program's name. If standard error is closed too, only the status tells of it.
 pub fn finish<H: Eprint, W: Write>(
     host: &H,
     program: Program,

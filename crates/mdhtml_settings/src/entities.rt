@@ -14,10 +14,10 @@ use mdhtml_parts::RunFault;
 use serde_json::Value;
 use std::alloc::Global;
 
-/// The names of a file, and behind them those of [`BasicEntities`].
+/// The names of a file, and after them those of [`BasicEntities`].
 #[derive(Drop)]
 pub struct NamedEntities {
-    /// The object of the file, or null where there is no file.
+    /// The object of the file, or null if there is no file.
     file: Value,
     basic: BasicEntities,
 }
@@ -45,7 +45,7 @@ impl EntityLookup for NamedEntities {
     }
 }
 
-/// Whether a value is an object whose values are all texts.
+/// Returns whether a value is an object whose values are all texts.
 fn is_object_of_texts(value: &Value) -> bool
     ensures { result ≡ holds_texts (view value.now) }
 {
@@ -60,7 +60,7 @@ fn is_object_of_texts(value: &Value) -> bool
     true
 }
 
-/// The fault of a text that is not read as JSON.
+/// Returns the fault of a text that is not read as JSON.
 fn json_fault(error: &serde_json::Error) -> RunFault
     ensures memory { IsMemory error.now → result ≡ Memory }
     ensures bad { ¬ IsMemory error.now → result ≡ Entities }
@@ -72,9 +72,9 @@ fn json_fault(error: &serde_json::Error) -> RunFault
 }
 
 /// Reads a file of entities from its bytes: one JSON object whose values are all texts, each for the name that is its key.
-/// A name that stands twice keeps its last text.
+/// A name that occurs twice has its last text.
 ///
-/// Answers `Entities` where the bytes are no such object, and `Memory` where memory was refused.
+/// Returns `Entities` if the bytes are no such object, and `Memory` if memory was refused.
 pub fn read_entities(alloc: Global, bytes: &[u8]) -> Result<NamedEntities, RunFault>
     ensures names { IfOk result (λ found. (names : Members) × Spells bytes.now names
         × ((name : List ℕ) → looked_up found name ≡ entity_of names name)) }

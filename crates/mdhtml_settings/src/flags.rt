@@ -72,12 +72,12 @@ pub static FLAGS: [LineFlag; 18] = [
     LineFlag {
         name: "gfm",
         option: Options::ENABLE_GFM,
-        help: "Alerts: > [!NOTE]",
+        help: "Alerts alone: > [!NOTE]",
     },
     LineFlag {
         name: "definition-list",
         option: Options::ENABLE_DEFINITION_LIST,
-        help: "Definition lists: a title, and definitions behind :",
+        help: "Definition lists: a title, and definitions after :",
     },
     LineFlag {
         name: "superscript",
@@ -136,24 +136,24 @@ fn flag_arg<'a>(alloc: Global, flag: LineFlag) -> Arg<'a>
         .help(flag.help)
 }
 
-/// The first value of an argument, as a text.
+/// Returns the first value of an argument, as a text.
 pub fn text_given<'a>(matches: &ArgMatches<'a>, name: &str) -> Option<&'a str>
     ensures { option_map (λ s. s.now) result ≡ first_of name.now (rows_of (found_of matches.now)) }
 {
     matches.get_str(name)
 }
 
-/// Whether the words had the flag `--name`.
+/// Returns whether the words had the flag `--name`.
 ///
 /// The value of a flag is the text `true` or `false`. It is compared as a text, since the clauses of `get_flag` leave open
-/// what it answers for any other.
+/// its result for any other text.
 pub fn has_flag(matches: &ArgMatches<'_>, name: &str) -> bool
     ensures { result ≡ is_given name.now (rows_of (found_of matches.now)) }
 {
     matches!(text_given(matches, name), Some("true"))
 }
 
-/// The options of those of these flags that the words had.
+/// Returns the options of the given flags that the words had.
 pub fn options_given(matches: &ArgMatches<'_>, flags: &[LineFlag]) -> Options
     ensures { option_bits result ≡ bits_given (map shown_flag flags.now) (rows_of (found_of matches.now)) }
 {

@@ -1,5 +1,4 @@
-//! What the programs are told beside the text: the words of the command line, and the file of entities that they name; and
-//! what they end with.
+//! The command line of the programs, the file of entities that it names, and their exit statuses.
 #![tactic(auto)]
 
 mod ending;

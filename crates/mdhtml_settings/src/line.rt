@@ -14,13 +14,13 @@ use cmark_text_parts::Options;
 use std::alloc::{AllocError, Global};
 use std::convert::AsStr;
 
-/// The version that `--version` answers: that of the crate whose calls stand here.
+/// The version that `--version` writes: the version of the crate that this repository ports.
 const VERSION: &str = "0.13.6";
 
 /// The flag for safe HTML, without its hyphens.
 const SAFE: &str = "safe";
 
-/// What the words of a command line ask for.
+/// The settings that the words of a command line ask for.
 #[derive(Drop)]
 pub struct Settings {
     /// The options whose flags were given.
@@ -32,7 +32,7 @@ pub struct Settings {
 }
 
 impl Settings {
-    /// Those that no word asks for.
+    /// The settings of a command line without flags.
     fn none() -> Settings
         ensures options { option_bits result.options ≡ 0 }
         ensures safe { result.safe ≡ false }
@@ -46,12 +46,12 @@ impl Settings {
     }
 }
 
-/// Why the words of a command line give no settings.
+/// The reasons why the words of a command line give no settings.
 #[derive(Drop)]
 pub enum LineFault {
-    /// They ask for the help or the version. The text is the answer, with its last line ended.
+    /// The words ask for the help or the version. This is the text, with its last line ended.
     Help(String),
-    /// They are not the command's: a flag that it lacks, one given twice, a file that is missing, or a word beside them.
+    /// The command refuses the words: an unknown flag, a flag given twice, `--entities` without a file, or another word.
     Bad,
     /// Memory was refused.
     Memory,
@@ -67,7 +67,7 @@ impl From<AllocError> for LineFault {
     }
 }
 
-/// The command whose words are read.
+/// Returns the command that reads the words.
 fn line_reader<'a>(alloc: Global, program: Program) -> Result<Command<'a>, AllocError>
     ensures { IfOk result (λ c. app_of c ≡ line_command program) }
 {
@@ -77,7 +77,7 @@ fn line_reader<'a>(alloc: Global, program: Program) -> Result<Command<'a>, Alloc
     with_safe_flag(alloc, command, program)?.arg(file_arg(alloc))
 }
 
-/// The command of this name with the flags of the options.
+/// Returns the command of this name with the flags of the options.
 fn options_reader<'a>(
     alloc: Global,
     name: &'a str,
@@ -89,7 +89,7 @@ fn options_reader<'a>(
     with_flags(alloc, command, FLAGS.as_slice())
 }
 
-/// The command with the flag for safe HTML, if the program writes HTML.
+/// Adds the flag for safe HTML, if the program writes HTML.
 fn with_safe_flag<'a>(
     alloc: Global,
     command: Command<'a>,
@@ -114,7 +114,7 @@ fn safe_arg<'a>(alloc: Global) -> Arg<'a>
         .help("Safe HTML, for a text of a stranger")
 }
 
-/// The argument of the file with the texts of entity names.
+/// The argument for the file with the texts of entity names.
 fn file_arg<'a>(alloc: Global) -> Arg<'a>
     ensures rule { rule_of result ≡ file_rule }
     ensures local { result.global ≡ false }
@@ -126,7 +126,7 @@ fn file_arg<'a>(alloc: Global) -> Arg<'a>
         .help("The texts of entity names: a JSON object of texts")
 }
 
-/// What the matches of the words ask for.
+/// Returns the settings that the matches of the words ask for.
 fn settings_of(alloc: Global, matches: &ArgMatches<'_>) -> Result<Settings, AllocError>
     ensures options { IfOk result (λ s. option_bits s.options ≡ bits_given flags (rows_of (found_of matches.now))) }
     ensures safe { IfOk result (λ s. s.safe ≡ is_safe_given (rows_of (found_of matches.now))) }
@@ -143,7 +143,7 @@ fn settings_of(alloc: Global, matches: &ArgMatches<'_>) -> Result<Settings, Allo
     })
 }
 
-/// The fault of a line that has no matches.
+/// Returns the fault of a command line that has no matches.
 fn line_fault(alloc: Global, error: &Error) -> LineFault
     ensures { HasLineFault (kind_of error.now) result }
 {
@@ -159,9 +159,9 @@ fn line_fault(alloc: Global, error: &Error) -> LineFault
     }
 }
 
-/// Reads the words of a program's command line, of which the first is its own name: flags, one for each option, and
-/// `--entities FILE`; a program that writes HTML takes `--safe` too. `-h` and `--help` ask for the help, `-V` and `--version`
-/// for the version.
+/// Reads the words of a program's command line. The first word is the program's own name. The others are flags, one for each
+/// option, and `--entities FILE`; a program that writes HTML takes `--safe` too. `-h` and `--help` ask for the help, `-V` and
+/// `--version` for the version.
 ///
 /// ```text
 /// parse_line(alloc, Program::Mdhtml, &["mdhtml", "--tables"])?.options == Options::ENABLE_TABLES
@@ -179,14 +179,15 @@ pub fn parse_line<'a, S: AsStr>(
     ensures faults { AnswersBy (fault_of (line_command program) (map S.text words.entry.now)) result }
     ensures passes { takes (line_command program) (map S.text words.entry.now) ≡ true → IfErr result (λ f. f ≡ Memory) }
 {
-    // The program's own name alone asks for nothing, as most runs do: no command is made to read it.
+    // Most runs have no word but the program's own name. They need no command.
     if let [_] = words {
         return Ok(Settings::none());
     }
     read_words(alloc, program, words)
 }
 
-/// The same, by a command that reads the words. It is apart, so that a run without words needs no stack for the command.
+/// Does what [`parse_line`] does, by a command that reads the words. It is a function of its own, so that a run without words
+/// needs no stack for the command.
 #[inline(never)]
 fn read_words<'a, S: AsStr>(
     alloc: Global,

@@ -1,4 +1,4 @@
-//! What a program does before its run: it reads the words of its command line, and the file that they name.
+//! The start of a program: it reads the words of its command line, and the file that they name.
 
 ghost use Rattle.std.specs.Prelude.{◌≡◌, ◌⊎◌, ℕ, List, true, map, None, Some, is_some, IfOk, IfErr, IfSome, IsOk};
 ghost use Rattle.clap.specs.Words.{fault_of, matches_of, takes};
@@ -27,25 +27,25 @@ use std::io::{ErrorKind, Read};
 use std::rt::Files;
 use std::{env, fs, io};
 
-/// What a run is told beside the text.
+/// The settings of a run.
 #[derive(Drop)]
 pub struct RunSettings {
     /// The options whose flags were given.
     pub options: Options,
     /// Whether `--safe` was given, which asks for safe HTML.
     pub safe: bool,
-    /// The names of the file that was given, and the eleven that are known.
+    /// The names of the file that was given, and the eleven of `BasicEntities`.
     pub entities: NamedEntities,
 }
 
-/// Why a program makes no run.
+/// The reasons why a program makes no run.
 #[derive(Drop)]
 pub enum Stop {
     /// The words ask for a text: the help or the version.
     Help(String),
-    /// The words are not the command's.
+    /// The command refuses the words.
     BadLine,
-    /// Memory was refused, or the file of entities is none.
+    /// Memory was refused, or the file of entities is no such file.
     Fault(RunFault),
 }
 
@@ -83,10 +83,10 @@ impl From<LineFault> for Stop {
     }
 }
 
-/// Reads a file of entities to its end, at most as many bytes as the program takes of a text.
+/// Reads a file of entities to its end, at most [`INPUT_LIMIT`] bytes.
 ///
-/// The notes of the reader start afresh. Answers `Entities` where the file cannot be read, is too long, or is no such object as
-/// [`read_entities`] takes, and `Memory` where memory was refused.
+/// The notes of the reader start afresh. Returns `Entities` if the file cannot be read, is too long, or is no object that
+/// [`read_entities`] takes, and `Memory` if memory was refused.
 #[inline(never)]
 pub fn read_entity_file<R: Read>(
     alloc: Global,
@@ -106,7 +106,7 @@ pub fn read_entity_file<R: Read>(
     read_entities(alloc, bytes.as_slice())
 }
 
-/// The fault of words that the system does not give.
+/// Returns the fault if the system does not give the words.
 fn words_fault(kind: ErrorKind) -> LineFault
     ensures { result ≡ words_fault_of kind }
 {
@@ -116,7 +116,7 @@ fn words_fault(kind: ErrorKind) -> LineFault
     }
 }
 
-/// The fault of a file of entities that cannot be opened.
+/// Returns the fault if a file of entities cannot be opened.
 fn file_fault(kind: ErrorKind) -> RunFault
     ensures { result ≡ file_fault_of kind }
 {
@@ -126,7 +126,7 @@ fn file_fault(kind: ErrorKind) -> RunFault
     }
 }
 
-/// The words that the program was started with, its own name first. A word that is not UTF-8 makes the line a bad one.
+/// Returns the words that the program was started with, its own name first. A word that is not UTF-8 gives `LineFault::Bad`.
 fn started_with<H: Env + AllocGlobal>(host: &H) -> Result<Vec<String>, LineFault> {
     match env::args(host) {
         Ok(words) => Ok(words.collect(host.alloc())?),
@@ -134,7 +134,7 @@ fn started_with<H: Env + AllocGlobal>(host: &H) -> Result<Vec<String>, LineFault
     }
 }
 
-/// The file of this path, if there is a path.
+/// Opens the file of this path, if there is a path.
 fn opened<H: Files>(host: &H, path: Option<String>) -> Result<Option<Watched<H::File>>, RunFault>
     ensures file { IfOk result (λ file. is_some file ≡ is_some path) }
     ensures succeeds { path ≡ None → IsOk result }
@@ -149,7 +149,7 @@ fn opened<H: Files>(host: &H, path: Option<String>) -> Result<Option<Watched<H::
     }
 }
 
-/// The look-up of a file of entities, or of the eleven names alone where there is none.
+/// Returns the look-up of a file of entities, or of the eleven names alone if there is no file.
 fn look_up<R: Read + Drop>(
     alloc: Global,
     file: Option<Watched<R>>,
@@ -165,7 +165,8 @@ fn look_up<R: Read + Drop>(
     read_entity_file(alloc, &mut reader)
 }
 
-/// What a run of a program is told by these words, of which the first is its own name, and by the file of entities that they name.
+/// Returns the settings of a run by these words, and by the file of entities that they name. The first word is the program's own
+/// name.
 pub fn start_with<H: Files + AllocGlobal, S: AsStr>(
     host: &H,
     program: Program,
@@ -190,7 +191,7 @@ pub fn start_with<H: Files + AllocGlobal, S: AsStr>(
     })
 }
 
-/// The same by the words that the program was started with.
+/// Does what [`start_with`] does, by the words that the program was started with.
 pub fn start<H: Env + Files + AllocGlobal>(host: &H, program: Program) -> Result<RunSettings, Stop>
     ensures { IfErr result IsStop }
 {

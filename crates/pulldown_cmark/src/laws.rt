@@ -1,4 +1,4 @@
-//! Theorems over readings and walks, each the contract of a function that does nothing.
+//! Theorems about readings and walks. Each is the contract of a function that does nothing.
 
 ghost use Rattle.std.specs.Prelude.{◌≡◌, ◌≤◌, ◌+◌, ◌*◌, length, ℕ, false, List, [], None, Some, Ok, Err, Option, Result, map};
 ghost use Rattle.std.specs.Iterator.{Drains, Yields};
@@ -8,6 +8,7 @@ ghost use Rattle.cmark_grammar.specs.Answers.{Lookup};
 ghost use Rattle.cmark_grammar.specs.BlockDocument.{BlockDocument};
 ghost use Rattle.cmark_grammar.specs.Derivation.{Derives};
 ghost use Rattle.cmark_grammar.specs.Event.{Ranged};
+ghost use Rattle.cmark_grammar.specs.Headline.{profile_within};
 ghost use Rattle.cmark_grammar.specs.Options.{Options as Extensions};
 ghost use Rattle.cmark_grammar.specs.Questions.{Exchange};
 ghost use Rattle.cmark_grammar.specs.Ranges.{count_tables};
@@ -16,7 +17,6 @@ ghost use Rattle.cmark_inline_model.specs.GivenAnswers.{answers_of};
 ghost use Rattle.cmark_text.specs.declared.event.Event.{Event as Given};
 ghost use Rattle.cmark_parser.specs.Parsing.{AreZeroCopy, CutNone, Gives, GivesRanged, IsOver, IsRangedOver, ReadsWithin, callback_of, ranged_text, shown_item, walk_of};
 ghost use Rattle.cmark_parser.specs.Walked.{IsBegun, IsBegunRanged, IsCutShort, IsCutShortRanged, IsDrained, IsDrainedRanged};
-ghost use Rattle.cmark_parser.specs.Walking.{profile_within};
 ghost use Rattle.cmark_parser.specs.declared.parse.OffsetIter.{OffsetIter as Ranges};
 ghost use Rattle.cmark_parser.specs.declared.parse.Parser.{Parser as Walk};
 
@@ -79,8 +79,9 @@ pub fn given_events_are_few<'a, E: EntityLookup, F: BrokenLinkCallback<'a> + Dro
         → length items ≤ 11 * length text + 524288 * count_tables document }
 {}
 
-/// The events that a walk gave before memory was refused are the first ones of a reading, however the callback would answer from there on. The
-/// reading's next event is no end of an element, and the walk gives nothing more.
+/// The events that a walk gave before memory was refused are the first ones of a reading, however the callback would answer from the refused
+/// call on. The questions of the walk, with those of the refused call, are the first ones of a reading with these events, however the
+/// callback would answer later ones. The next event of both is no end of an element, and the walk gives nothing more.
 pub fn a_refused_walk_gives_a_beginning<'a, E: EntityLookup, F: BrokenLinkCallback<'a> + Drop>()
     ensures events { (limit : ℕ) (parser before last : Walk E F) (text : List ℕ) (options : Extensions) (lookup : Lookup) (events : List Given) (e : AllocError)
         → ReadsWithin E.replacement limit text options lookup parser → Yields (Gives F.answers E.replacement) parser (map Ok events) before → Gives F.answers E.replacement before (Some (Err e)) last

@@ -1,4 +1,4 @@
-//! A pull parser for Markdown: from a text to the events that its document is read as, and from events to HTML.
+//! A pull parser for Markdown: it turns a text into the events of its document, and events into HTML.
 #![tactic(auto)]
 
 pub mod html;

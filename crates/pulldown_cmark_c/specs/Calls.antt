@@ -1,4 +1,4 @@
--- What the numbers of a call from C stand for: its options, and the version.
+-- The meaning of the numbers in a call from C: the options, and the version.
 use Rattle.std.specs.Prelude.{◌==◌, ℕ, Bool, ◌+◌, ◌*◌}
 use Rattle.std.specs.Int.Bits.{bit_and}
 use Rattle.cmark_grammar.specs.Options.{Options}
@@ -7,7 +7,7 @@ use Rattle.cmark_grammar.specs.Options.{Options}
 abbrev pub has : ℕ → ℕ → Bool
 has set bits = bit_and set bits == bits
 
--- which options a set of bits stands for; no other bit has a meaning
+-- the options of a set of bits; no other bit has a meaning
 abbrev pub options_of : ℕ → Options
 options_of set = record {
   tables = has set 2;

@@ -2,9 +2,9 @@
 
 ghost use Rattle.std.specs.Prelude.{◌≡◌, [], IsUtf8};
 ghost use Rattle.cmark_grammar.specs.Entities.{basic_entity};
+ghost use Rattle.cmark_grammar.specs.Headline.{IsHtmlOf};
 ghost use Rattle.cmark_room.specs.Statuses.{Answers, Refused};
 ghost use Rattle.mdevents_lines.specs.Renders.{AreLinesOf};
-ghost use Rattle.cmark_parser.specs.Rendering.{IsHtmlOf};
 ghost use Rattle.mdhtml_run.specs.Safe.{IsSafeAnswer};
 ghost use Rattle.pulldown_cmark_c.specs.Calls.{options_of, version_number};
 

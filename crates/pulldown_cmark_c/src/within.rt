@@ -1,7 +1,7 @@
 //! The HTML within a reference expansion limit that C sets.
 
 ghost use Rattle.cmark_grammar.specs.Entities.{basic_entity};
-ghost use Rattle.cmark_parser.specs.Rendering.{IsHtmlWithin};
+ghost use Rattle.cmark_grammar.specs.Headline.{IsHtmlWithin};
 ghost use Rattle.cmark_room.specs.Statuses.{Answers};
 ghost use Rattle.cmark_text_parts.specs.Shown.{shown_options};
 ghost use Rattle.pulldown_cmark_c.specs.Calls.{options_of};

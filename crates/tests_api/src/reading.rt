@@ -8,7 +8,7 @@ use pulldown_cmark::{BasicEntities, OffsetIter, Parser, RefDefs};
 use std::alloc::AllocError;
 use std::test::Fail;
 
-// A test that holds a parser has one way out for it: what the parser says is gathered by functions that borrow it.
+// A test that holds a parser has one exit for it: what it checks is gathered by functions that borrow the parser.
 
 /// Whether a label is defined with this destination, title and range.
 fn is_defined(
@@ -37,7 +37,7 @@ fn pass_four_events(parser: &mut Parser<'_, BasicEntities>)
     }
 }
 
-/// Whether the label `foo` is defined by the first of the two, before the first event and behind the fourth, and `d` never.
+/// Whether the label `foo` is defined by the first of the two, before the first event and after the fourth, and `d` never.
 fn keeps_its_definitions(parser: &mut Parser<'_, BasicEntities>) -> Result<bool, AllocError>
     requires goes { CanGo (λ _. basic_entity) parser.old }
     requires ready { IsReady (λ _. ⊤) parser.old }
@@ -130,7 +130,7 @@ fn definitions_are_there_at_every_point(rt: HostRuntime) -> Result<(), Fail> {
     Ok(())
 }
 
-/// The ranges of the next five events; `None` where there is no further one.
+/// The ranges of the next five events; `None` for each that is missing.
 fn next_ranges(iter: &mut OffsetIter<'_, BasicEntities>) -> [Option<(usize, usize)>; 5]
     requires goes { CanGoRanged (λ _. basic_entity) iter.old }
     requires ready { IsRangedReady (λ _. ⊤) iter.old }

@@ -1,5 +1,5 @@
-//! From events to HTML, of iterators that no parser made. What the HTML of each event is, is computed from its definition
-//! (`HtmlSamples` of `cmark_grammar`), of which `push_html` gives exactly the value; here stands what it does to the string.
+//! From events to HTML, for iterators that are not parsers. The HTML of each event is computed from its definition (`HtmlSamples` of
+//! `cmark_grammar`), and `push_html` gives exactly that value. These tests show its effect on the string.
 
 use cmark_html::push_html;
 use cmark_text::{CowStr, Event, LinkType, Tag, TagEnd};

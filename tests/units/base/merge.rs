@@ -1,16 +1,16 @@
-//! Merged texts, of iterators that no parser made.
+//! Merged texts, for iterators that are not parsers.
 
 use cmark_merge::{TextMergeStream, TextMergeWithOffset};
 use cmark_text::{CowStr, Event};
 use std::alloc::AllocError;
 use std::ops::Range;
 
-/// A borrowed text at a place.
+/// A borrowed text with a range.
 fn text_at(text: &str, range: Range<usize>) -> Result<(Event<'_>, Range<usize>), AllocError> {
     Ok((Event::Text(CowStr::Borrowed(text)), range))
 }
 
-/// Whether an event is this text, in a value of its own or borrowed.
+/// Whether an event is this text, owned or borrowed.
 fn is_text(event: &Event<'_>, text: &str, is_owned: bool) -> bool {
     match event {
         Event::Text(CowStr::Boxed(found)) => is_owned && found.as_str() == text,
@@ -19,7 +19,7 @@ fn is_text(event: &Event<'_>, text: &str, is_owned: bool) -> bool {
     }
 }
 
-/// Whether an item is what stands at this place of the merged items.
+/// Whether an item is the merged item with this index.
 fn is_merged(place: usize, item: &Result<(Event<'_>, Range<usize>), AllocError>) -> bool {
     match item {
         Ok((event, range)) if place == 0 => {
@@ -52,7 +52,7 @@ fn merges_runs_with_their_ranges(rt: HostRuntime) {
     assert_eq!(rt; count, 3);
 }
 
-/// Whether an item is what stands at this place behind the runs of empty texts.
+/// Whether an item is the one with this index after the runs of empty texts.
 fn is_kept(place: usize, item: &Result<Event<'_>, AllocError>) -> bool {
     match item {
         Ok(Event::Rule) => place < 2,

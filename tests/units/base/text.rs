@@ -129,7 +129,7 @@ fn link_labels(rt: HostRuntime) -> Result<(), AllocError> {
     Ok(())
 }
 
-/// The same of footnote labels.
+/// Whether two footnote labels are equal, and whether their hashes are.
 fn compared_footnotes(alloc: Global, one: &str, other: &str) -> Result<(bool, bool), AllocError> {
     let one = FootnoteLabel::new(alloc, one)?;
     let other = FootnoteLabel::new(alloc, other)?;

@@ -4,7 +4,7 @@ use cmark_definitions::{Definition, is_settled, link_definition, scan_definition
 use cmark_text::{BasicEntities, CowStr};
 use std::test::Fail;
 
-/// A definition's label, destination and title, and where it ends.
+/// A definition's label, destination and title, and its end.
 fn parts<'a>(found: Definition<'a>) -> (&'a str, &'a str, Option<&'a str>, usize) {
     (found.label, found.destination, found.title, found.end)
 }

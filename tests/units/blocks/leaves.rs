@@ -1,5 +1,4 @@
-// Lines of leaves, drawn from the beginning of a document: what the last node is then. The texts are of CommonMark 2.2, 2.5, 4.2, 4.6
-// and 4.8.
+// Lines of leaves at the beginning of a document, and the last node after them. The texts are from CommonMark 2.2, 2.5, 4.2, 4.6 and 4.8.
 
 use cmark_builder::Builder;
 use cmark_items::{Item, ItemBody};
@@ -15,14 +14,14 @@ fn first_line(text: &str) -> LineRest<'_> {
     LineRest::new(text.as_bytes(), 0)
 }
 
-/// The node that was drawn last.
+/// The node that was appended last.
 fn last_item(builder: Builder<'_>) -> Option<Item> {
     let (tree, _) = builder.finish();
     let ix = tree.cur()?;
     Some(*tree.item(ix))
 }
 
-/// Whether a node is there, and is a text over these bytes whose first byte is not escaped.
+/// Whether there is a node, and it is a text with these bytes whose first byte is not escaped.
 fn is_text(found: Option<Item>, start: usize, end: usize) -> bool {
     match found {
         Some(item) => {

@@ -8,7 +8,7 @@ use cmark_lines::{
 use cmark_text::{BlockQuoteKind, HeadingLevel, Options};
 use std::test::Fail;
 
-/// The line behind the marker of the container that it begins; the line itself, where it begins none.
+/// The line after the marker of the container that it begins; the line itself if it begins no container.
 fn inside<'a>(rest: LineRest<'a>) -> LineRest<'a> {
     match what_opens(rest, Options::empty()) {
         Opening::Nests(ContainerStart::BlockQuote(inside)) => inside,
@@ -29,7 +29,7 @@ fn item(rest: LineRest<'_>) -> Option<(u8, Option<u64>, usize)> {
     }
 }
 
-/// The footnote definition that the line begins with these options, if it begins one, and the line behind its marker.
+/// The footnote definition that the line begins with these options, if it begins one, and the line after its marker.
 fn footnote<'a>(rest: LineRest<'a>, options: Options) -> Option<(FootnoteStart, LineRest<'a>)> {
     match what_opens(rest, options) {
         Opening::Nests(ContainerStart::Footnote(footnote, inside)) => Some((footnote, inside)),

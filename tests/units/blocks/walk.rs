@@ -1,4 +1,4 @@
-// A walk over a tree that is made by hand.
+// A walk over a tree that is built by hand.
 
 use cmark_items::{Allocations, Item, ItemBody, ListFlags};
 use cmark_leaf_text::LeafLine;
@@ -39,7 +39,7 @@ fn list(alloc: Global) -> Result<Walk<'static>, AllocError> {
     Ok(Walk::new(alloc, "a", tree, Allocations::new(alloc)))
 }
 
-// Whether the next thing that is met is this event, over the whole text.
+// Whether the next event of the walk is this one, over the whole text.
 fn gives(
     walk: &mut Walk<'static>,
     lines: &mut Vec<LeafLine>,

@@ -1,4 +1,4 @@
-//! Callbacks that are asked for references without a definition.
+//! Callbacks for references without a definition.
 
 ghost use Rattle.std.specs.Prelude.{◌≡◌};
 
@@ -12,10 +12,10 @@ use std::alloc::{AllocError, Global};
 use std::collections::BTreeMap;
 use std::test::Fail;
 
-/// Where a question stood, and of which kind it was.
+/// The range and the kind of a question.
 type Asked = (usize, usize, LinkType);
 
-/// Notes each question, and answers each with the same destination and title, or not at all.
+/// Records each question, and gives for each the same destination and title, or nothing.
 #[derive(Drop)]
 struct Noting<'q> {
     asked: &'q mut Vec<Asked>,
@@ -42,7 +42,7 @@ impl<'input> BrokenLinkCallback<'input> for Noting<'_> {
     }
 }
 
-/// The HTML of a text whose references are answered so, and the questions that were put.
+/// The HTML of a text with these answers, and the questions that were put.
 fn answered(
     alloc: Global,
     text: &str,
@@ -114,7 +114,7 @@ fn is_asked(link: &BrokenLink<'_>, label: &str, start: usize, end: usize) -> boo
         && link.span.end == end
 }
 
-/// Answers the one question that it waits for, and notes that it was put.
+/// Gives a destination for the question that it waits for, and records that it was put.
 #[derive(Drop)]
 struct World<'q> {
     questions: &'q mut usize,

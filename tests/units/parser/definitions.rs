@@ -1,4 +1,4 @@
-//! Tests of the table of link reference definitions that a parser hands out.
+//! Tests of the table of link reference definitions that a parser returns.
 
 use pulldown_cmark::{BasicEntities, Parser};
 use std::alloc::{AllocError, Global};
@@ -6,7 +6,7 @@ use std::test::Fail;
 
 const TEXT: &str = "[Foo  Bar]: /first\n[foo bar]: /second\n[\u{1e9e}]: /sharp\n\n[FOO BAR]\n";
 
-/// Each label as the table spells it, and its destination, in one text.
+/// Each label in the spelling of the table, and its destination, in one text.
 fn spelled(alloc: Global, text: &str) -> Result<String, AllocError> {
     let parser = Parser::new(alloc, text, &BasicEntities)?;
     let mut all = String::new(alloc);
@@ -19,7 +19,7 @@ fn spelled(alloc: Global, text: &str) -> Result<String, AllocError> {
     Ok(all)
 }
 
-/// The destination of a label, or that there is none.
+/// The destination of a label, or a text that says there is none.
 fn destination(alloc: Global, text: &str, label: &str) -> Result<String, AllocError> {
     let parser = Parser::new(alloc, text, &BasicEntities)?;
     match parser.reference_definitions().get(label)? {

@@ -1,4 +1,4 @@
-//! Spans that options ask for, and the limit of what references expand to.
+//! Spans of options, and the reference expansion limit.
 
 use bitflags::Flags;
 use pulldown_cmark::html::push_html;

@@ -8,7 +8,7 @@ use std::test::Fail;
 /// The most steps of the searches for each byte that any text is known to take. The contract of `Parser::steps` allows 128.
 const MOST: u128 = 8;
 
-/// Families of texts: a front, a part that is repeated, a middle, and another part that is repeated as often.
+/// Families of texts: a beginning, a part that is repeated, a middle, and another part with the same number of repetitions.
 const FAMILIES: &[(&str, &str, &str, &str)] = &[
     ("", "*a **a ", "b", " a** a*"),
     ("", "a_ ", "", ""),

@@ -1,4 +1,4 @@
-//! Texts and answers that are made to take long, to take much, or to break off.
+//! Texts and callbacks that try to make the parser slow, to make it use much memory, or to break it.
 
 ghost use Rattle.std.specs.Prelude.{◌≡◌};
 
@@ -18,7 +18,7 @@ const STEPS_A_BYTE: u128 = 128;
 /// The most events for each byte of a text.
 const EVENTS_A_BYTE: usize = 32;
 
-/// Answers each question with the same long destination, and notes where it was asked.
+/// Gives the same long destination for each question, and records the offset of the question.
 #[derive(Drop)]
 struct Long<'q> {
     url: &'q str,
@@ -40,7 +40,7 @@ impl<'input, 'q: 'input> BrokenLinkCallback<'input> for Long<'q> {
     }
 }
 
-/// Whether a range lies in a text and cuts no character.
+/// Whether a range is inside a text and ends at character boundaries.
 fn fits(text: &str, range: &Range<usize>) -> bool {
     range.start <= range.end
         && range.end <= text.len()
@@ -48,7 +48,7 @@ fn fits(text: &str, range: &Range<usize>) -> bool {
         && text.is_char_boundary(range.end)
 }
 
-/// What a walk has begun and not ended, and how many events it gave.
+/// The elements that a walk has open, and the number of its events.
 #[derive(Drop)]
 struct Walked {
     opened: Vec<(TagEnd, Range<usize>)>,
@@ -56,7 +56,7 @@ struct Walked {
 }
 
 impl Walked {
-    /// Takes an event; whether it ends what began last, if it ends something, with the same range.
+    /// Takes an event. Returns false if it is an end whose element or range differs from that of the start that it closes.
     fn take(&mut self, event: Event<'_>, range: Range<usize>) -> Result<bool, AllocError> {
         self.events = self.events.saturating_add(1);
         match event {
@@ -77,7 +77,7 @@ impl Walked {
     }
 }
 
-/// How many events a walk gives, if it is balanced, each range fits, and neither the steps nor the events are too many.
+/// The number of events of a walk, if it is balanced, each range fits, and neither the steps nor the events are too many.
 fn walk<'input, F: BrokenLinkCallback<'input> + Drop>(
     alloc: Global,
     text: &'input str,
@@ -101,7 +101,7 @@ fn walk<'input, F: BrokenLinkCallback<'input> + Drop>(
     Ok(if few && walked.opened.is_empty() { Some(walked.events) } else { None })
 }
 
-/// The same without a callback.
+/// The same for a walk without a callback.
 fn walk_alone(alloc: Global, text: &str, options: Options) -> Result<Option<usize>, AllocError> {
     let none: Option<DefaultBrokenLinkCallback> = None;
     walk(alloc, text, options, none)
@@ -201,7 +201,7 @@ fn a_long_answer_takes_all_of_the_limit(rt: HostRuntime) -> Result<(), Fail> {
     Ok(())
 }
 
-/// How many beginnings a text has, if the walk of each is balanced, with a callback that answers and without one.
+/// The number of beginnings of a text, if the walk of each is balanced, with a callback that answers and without a callback.
 fn cuts(alloc: Global, text: &str, options: Options) -> Result<Option<usize>, AllocError> {
     let mut count = 0;
     for end in 0..text.len() + 1 {

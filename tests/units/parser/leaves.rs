@@ -4,7 +4,7 @@ use pulldown_cmark::{BasicEntities, CowStr, Event, Parser};
 use std::alloc::AllocError;
 use std::test::Fail;
 
-/// Of HTML inside a line, whether it is a part of the source.
+/// For inline HTML, whether it is a part of the source.
 fn is_part(item: &Result<Event<'_>, AllocError>) -> Option<bool> {
     match item {
         Ok(Event::InlineHtml(html)) => Some(matches!(html, CowStr::Borrowed(_))),

@@ -11,7 +11,7 @@ use pulldown_cmark::{
 use std::alloc::{AllocError, Global};
 use std::test::Fail;
 
-/// Counts the questions, and answers each with the same destination.
+/// Counts the questions, and gives the same destination for each.
 #[derive(Drop)]
 struct Counting<'q> {
     asked: &'q mut usize,

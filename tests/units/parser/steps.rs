@@ -1,10 +1,10 @@
-//! What the searches of the spans take.
+//! The steps of the searches of spans.
 
 use pulldown_cmark::{BasicEntities, Parser, Steps};
 use std::alloc::{AllocError, Global};
 use std::test::Fail;
 
-/// What the searches have taken at the end of a walk, if they stayed within 128 steps a byte at each moment.
+/// The steps of the searches at the end of a walk, if they stayed within 128 steps per byte at each moment.
 fn steps_of(alloc: Global, text: &str) -> Result<Option<Steps>, AllocError> {
     let most = (text.len() as u128) * 128;
     let mut parser = Parser::new(alloc, text, &BasicEntities)?;
@@ -21,7 +21,7 @@ fn steps_of(alloc: Global, text: &str) -> Result<Option<Steps>, AllocError> {
     Ok(None)
 }
 
-/// So many copies of a text behind another one.
+/// `front`, followed by `count` copies of `part`.
 fn many(alloc: Global, front: &str, part: &str, count: usize) -> Result<String, AllocError> {
     let mut text = String::new(alloc);
     text.push_str(front)?;

@@ -1,4 +1,4 @@
-//! A walk that goes on with ranges, and merged texts with theirs.
+//! A walk that continues with ranges, and merged texts with their ranges.
 
 use pulldown_cmark::{BasicEntities, Event, Parser, TextMergeWithOffset};
 use std::test::Fail;

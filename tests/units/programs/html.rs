@@ -1,4 +1,4 @@
-//! Runs of the program's own `run`, whose reads and writes go as a list of answers says.
+//! Runs of the program's own `run`, whose reads and writes follow a list of outcomes.
 
 ghost use Rattle.std.specs.Prelude.{◌≡◌};
 
@@ -15,14 +15,14 @@ const TEXT: &[u8] = b"# a\n\n- *b* [c](d)\n- `e`\n";
 const HTML: &[u8] =
     b"<h1>a</h1>\n<ul>\n<li><em>b</em> <a href=\"d\">c</a></li>\n<li><code>e</code></li>\n</ul>\n";
 
-/// What a run ended with, and what it wrote.
+/// The result of a run, and its output.
 #[derive(Drop)]
 struct Outcome {
     result: Result<(), RunFault>,
     written: Vec<u8>,
 }
 
-/// A run whose reads and writes go as the answers say.
+/// A run whose reads and writes have these outcomes.
 fn run_on(
     alloc: Global,
     input: &[u8],
@@ -36,7 +36,7 @@ fn run_on(
     Ok(Outcome { result, written })
 }
 
-/// So many times the same answer, and then another one.
+/// The same outcome several times, and then another one.
 fn after(
     alloc: Global,
     count: usize,

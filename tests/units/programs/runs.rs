@@ -1,4 +1,4 @@
-//! Tests of what the programs share: runs whose reads and writes go as a list of answers says.
+//! Tests of the parts that the programs share: runs whose reads and writes follow a list of outcomes.
 
 ghost use Rattle.std.specs.Prelude.{◌≡◌, ◌++◌, codes};
 
@@ -12,7 +12,7 @@ const HELLO: &[u8] = b"hello world";
 
 const HELLO_OUTPUT: &[u8] = b"<p>hello world</p>\n";
 
-/// Renders a text as one paragraph of it, as it stands.
+/// Renders a text as one paragraph with the text as it is.
 struct Paragraph;
 
 impl Render for Paragraph {
@@ -27,14 +27,14 @@ impl Render for Paragraph {
     }
 }
 
-/// What a run ended with, and what it wrote.
+/// The result of a run, and its output.
 #[derive(Drop)]
 struct Outcome {
     result: Result<(), RunFault>,
     written: Vec<u8>,
 }
 
-/// A run whose reads and writes go as the answers say.
+/// A run whose reads and writes have these outcomes.
 fn run_on(
     alloc: Global,
     input: &[u8],
@@ -48,7 +48,7 @@ fn run_on(
     Ok(Outcome { result, written })
 }
 
-/// So many times the same answer, and then another one.
+/// The same outcome several times, and then another one.
 fn after(
     alloc: Global,
     count: usize,
@@ -152,7 +152,7 @@ fn takes_an_interrupted_flush_for_a_failure(rt: HostRuntime) -> Result<(), Fail>
     Ok(())
 }
 
-/// A run whose reads, or writes, are interrupted so often in a row before one moves two bytes.
+/// A run that begins with `reads` interrupted reads and `writes` interrupted writes; the next of each moves two bytes.
 fn interrupted(
     alloc: Global,
     reads: usize,

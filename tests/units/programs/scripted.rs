@@ -1,4 +1,4 @@
-//! A reader and writer that does what a list of answers says, and that tells its bytes.
+//! A reader and writer whose calls follow a list of outcomes, and whose bytes are visible.
 
 ghost use Rattle.std.specs.Prelude.{◌≡◌, Some, []};
 
@@ -6,18 +6,18 @@ use std::alloc::Global;
 use std::io;
 use std::io::{ErrorKind, Read, Write};
 
-/// What becomes of a call.
+/// The outcome of a call.
 #[derive(Clone, Copy)]
 pub enum Answer {
-    /// It moves so many bytes at most. A read moves one at least, unless it is at the end.
+    /// It moves at most this number of bytes. A read moves at least one byte, unless it is at the end.
     Bytes(usize),
-    /// It is interrupted, and moves none.
+    /// It is interrupted, and moves no byte.
     Interrupted,
-    /// It fails, and moves none.
+    /// It fails, and moves no byte.
     Failed,
 }
 
-/// A reader of `input` and a writer into `held`. Where the answers are used up, each call moves all that it can.
+/// A reader of `input` and a writer into `held`. After the list of outcomes is used up, each call moves all that it can.
 #[derive(Drop)]
 pub struct Scripted<'a> {
     /// The bytes that are left to read.
@@ -29,7 +29,7 @@ pub struct Scripted<'a> {
 }
 
 impl<'a> Scripted<'a> {
-    /// A reader of `input`, and a writer that holds nothing, with an answer for each of the first calls.
+    /// A reader of `input`, and a writer that holds nothing, with an outcome for each of the first calls.
     pub fn new(alloc: Global, input: &'a [u8], answers: &'a [Answer]) -> Scripted<'a>
         ensures input { result.input.now ≡ input.now }
         ensures held { result.held.items ≡ [] }
@@ -42,7 +42,7 @@ impl<'a> Scripted<'a> {
         }
     }
 
-    /// How many bytes the next call moves at most.
+    /// The most bytes that the next call moves.
     fn answer(&mut self) -> io::Result<usize>
         ensures input { self.new.input.now ≡ self.old.input.now }
         ensures held { self.new.held.items ≡ self.old.held.items }

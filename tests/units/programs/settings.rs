@@ -9,7 +9,7 @@ use mdhtml_settings::{LineFault, Program, Settings, parse_line, read_entities};
 use std::alloc::Global;
 use std::test::Fail;
 
-/// What the words of the command `mdhtml` ask for.
+/// The settings that the words of the command `mdhtml` ask for.
 fn read(alloc: Global, words: &[&str]) -> Result<Settings, LineFault> {
     parse_line(alloc, Program::Mdhtml, words)
 }

@@ -8,7 +8,7 @@ use cmark_text::{BasicEntities, CowStr};
 use std::alloc::{AllocError, Global};
 use std::test::Fail;
 
-/// The tag in front, where each later line has a prefix of so many bytes.
+/// The tag at the start, if each later line has a prefix of `width` bytes.
 fn scan_within(alloc: Global, width: usize, bytes: &[u8]) -> Result<Option<HtmlTag>, AllocError> {
     scan_html_block_inner(alloc, bytes, &|rest: &[u8]| width.min(rest.len()))
 }
@@ -184,7 +184,7 @@ fn unescapes_pipes_in_a_table(rt: HostRuntime) -> Result<(), Fail> {
     Ok(())
 }
 
-/// The size of the block quote's prefix in front, if it stands there.
+/// The size of the block quote's prefix at the start, if there is one.
 fn quote_prefix(rest: &[u8]) -> Option<usize> {
     match rest {
         [b'>', blank, ..] if *blank == b' ' => Some(2),

@@ -1,4 +1,4 @@
-//! Tests of emphasis and quotes, with ample memory. The examples are of CommonMark 6.2 where nothing else is said.
+//! Tests of emphasis and quotes, with ample memory. The examples are from CommonMark 6.2 unless a comment says otherwise.
 
 use bitflags::Flags;
 use cmark_emphasis::{
@@ -37,7 +37,7 @@ const NESTED: [Run; 3] = [
     },
 ];
 
-/// `~~a~.~~`, where the single tilde makes the double ones inactive (this profile's own).
+/// `~~a~.~~`, in which the single tilde makes the double ones inactive (this profile's own).
 const SHUT: [Run; 3] = [
     Run {
         delimiter: b'~',

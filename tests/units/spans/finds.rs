@@ -1,4 +1,4 @@
-//! Tests of what is found in a leaf's text, with ample memory. Most texts are examples of CommonMark 6.
+//! Tests of the searches in a leaf's text, with ample memory. Most texts are examples of CommonMark 6.
 
 use bitflags::Flags;
 use cmark_finds::{
@@ -12,7 +12,7 @@ use cmark_links::{
 use cmark_text::{BasicEntities, CowStr, Options};
 use std::test::Fail;
 
-/// Where the content of a code span begins and ends, and where the span ends.
+/// The start and the end of a code span's content, and the end of the span.
 fn places(span: CodeSpan) -> (usize, usize, usize) {
     (span.content_start, span.content_end, span.end)
 }
@@ -88,7 +88,7 @@ fn other_html(rt: HostRuntime) -> Result<(), Fail> {
     Ok(())
 }
 
-/// The destination and the title of a link's tail, and where it ends.
+/// The destination and the title of a link's tail, and its end.
 fn parts<'t>(tail: LinkTail<'t>) -> (&'t str, Option<&'t str>, usize) {
     (tail.destination, tail.title, tail.end)
 }
@@ -175,7 +175,7 @@ fn bracketed_labels(rt: HostRuntime) -> Result<(), Fail> {
     Ok(())
 }
 
-/// Whether a line break is hard, and where it begins and ends.
+/// Whether a line break is hard, and its start and end.
 fn around(found: LineBreak) -> (bool, usize, usize) {
     (found.is_hard, found.start, found.end)
 }
@@ -218,7 +218,7 @@ fn special_places(rt: HostRuntime) -> Result<(), Fail> {
     Ok(())
 }
 
-/// Skips a byte behind each `*`, and ends at the first `_`.
+/// Skips a byte after each `*`, and ends at the first `_`.
 fn at_underscore(at: usize, byte: u8) -> LoopInstruction<Option<u8>> {
     match byte {
         b'_' => LoopInstruction::BreakAtWith(at, Some(byte)),

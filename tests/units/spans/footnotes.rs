@@ -8,7 +8,7 @@ use cmark_text::{CowStr, FootnoteLabel, LinkLabel, Options};
 use std::alloc::Global;
 use std::test::Fail;
 
-/// A callback that answers always, and counts what it is asked.
+/// A callback that always answers, and counts the questions.
 #[derive(Drop)]
 struct Answering {
     asked: u32,
@@ -26,8 +26,7 @@ impl<'input> BrokenLinkCallback<'input> for Answering {
     }
 }
 
-/// What a source reads as with the footnote `A  b` and the definition `[x]: /x`, and how often was asked and how often the footnote
-/// was used.
+/// The events of a source with the footnote `A  b` and the definition `[x]: /x`, and the numbers of questions and of uses of the footnote.
 #[derive(Drop)]
 struct Found {
     events: String,

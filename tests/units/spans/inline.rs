@@ -13,7 +13,7 @@ use std::alloc::{AllocError, Global};
 use std::fmt::Write;
 use std::test::Fail;
 
-/// Whether a line lies in the source behind a place and cuts no character.
+/// Whether a line is in the source at or after an offset, with character boundaries at its ends.
 fn is_line(source: &str, from: usize, line: LeafLine) -> bool {
     from <= line.start
         && line.start <= line.content_end
@@ -39,7 +39,7 @@ pub fn whole<'a>(alloc: Global, source: &'a str) -> Result<Option<LeafText<'a>>,
     Ok(Some(leaf))
 }
 
-/// A leaf of two lines behind `> `, the second one from this place on.
+/// A leaf of two lines after `> `, the second one from this offset on.
 fn quoted<'a>(
     alloc: Global,
     source: &'a str,
@@ -63,7 +63,7 @@ fn quoted<'a>(
     Ok(Some(leaf))
 }
 
-/// The events of a leaf where no footnote is defined.
+/// The events of a leaf without defined footnotes.
 fn events<'a, F: BrokenLinkCallback<'a>>(
     alloc: Global,
     found: Option<LeafText<'a>>,
@@ -75,7 +75,7 @@ fn events<'a, F: BrokenLinkCallback<'a>>(
     events_with(alloc, found, references, &mut none, options, callback)
 }
 
-/// The events of a leaf, one a line: its range and what it is. Nothing, where there is no leaf.
+/// The events of a leaf, one per line: its range and its description. `None` if there is no leaf.
 pub fn events_with<'a, F: BrokenLinkCallback<'a>>(
     alloc: Global,
     found: Option<LeafText<'a>>,
@@ -113,7 +113,7 @@ pub fn events_with<'a, F: BrokenLinkCallback<'a>>(
     Ok(out)
 }
 
-/// What the searches in a leaf of one line have looked at.
+/// The steps of the searches in a leaf of one line.
 fn steps_of(alloc: Global, source: &str, options: Options) -> Result<Steps, Fail> {
     let leaf = whole(alloc, source)?.ok_or("no leaf")?;
     let references = RefDefs::new(alloc);
@@ -188,7 +188,7 @@ fn definitions(
     Ok(references)
 }
 
-/// A callback that writes down what it is asked, and answers always or never.
+/// A callback that records the questions, and always or never answers.
 #[derive(Drop)]
 struct Noted {
     asked: String,
@@ -215,7 +215,7 @@ impl<'input> BrokenLinkCallback<'input> for Noted {
     }
 }
 
-/// What is asked about a source that is one leaf.
+/// The questions about a source that is one leaf.
 fn asked_of(
     alloc: Global,
     source: &'static str,
@@ -255,7 +255,7 @@ fn of(alloc: Global, source: &str, options: Options) -> Result<String, Fail> {
     )
 }
 
-/// The events of a source of two lines in a block quote, the second one from this place on.
+/// The events of a source of two lines in a block quote, the second one from this offset on.
 fn in_quote(alloc: Global, source: &str, second: usize, options: Options) -> Result<String, Fail> {
     let references = RefDefs::new(alloc);
     let leaf = quoted(alloc, source, second)?;
@@ -459,7 +459,7 @@ fn spent_expansion_limit(rt: HostRuntime) -> Result<(), Fail> {
     Ok(())
 }
 
-/// Answers always the same.
+/// A callback that always gives the same answer.
 #[derive(Drop)]
 struct Website;
 
@@ -491,7 +491,7 @@ fn answered_questions(rt: HostRuntime) -> Result<(), Fail> {
     Ok(())
 }
 
-/// Answers `u0`, `u1` and so on.
+/// A callback that gives `u0`, `u1` and so on.
 #[derive(Drop)]
 struct Counted {
     count: u8,

@@ -1,4 +1,4 @@
-//! The prefixes of containers in front of a line (CommonMark 5).
+//! The prefixes of containers at the beginning of a line (CommonMark 5).
 
 ghost use Rattle.std.specs.Prelude.{◌≡◌, ℕ, Bool, List, Option, false, option_map, IfSome};
 ghost use Rattle.cmark_grammar.specs.Containers.{keeps, Item, Footnote};
@@ -16,7 +16,7 @@ use crate::line_rest::LineRest;
 use cmark_text_parts::BlockQuoteKind;
 
 impl<'a> LineRest<'a> {
-    /// The line behind a block quote's prefix, if it has one.
+    /// The line after a block quote's prefix, if it has one.
     #[inline]
     pub(crate) fn behind_block_quote(self) -> Option<LineRest<'a>>
         ensures { option_map row_of result ≡ block_quote_entered (row_of self.entry) }
@@ -29,8 +29,8 @@ impl<'a> LineRest<'a> {
         Some(self.with_front(front))
     }
 
-    /// The kind of alert that a block quote is which begins with this line behind its marker, if it is one (this profile's
-    /// own). With `gfm` false there are no alerts.
+    /// The kind of the alert, if this line, after a block quote's marker, is an alert's tag (this profile's own). With `gfm` false there
+    /// are no alerts.
     #[inline]
     pub fn alert_kind(&self, gfm: bool) -> Option<BlockQuoteKind>
         ensures { (options : Options) → options.gfm ≡ gfm → option_map shown_block_quote_kind result ≡ alert_in options (row_of self.now) }
@@ -42,9 +42,9 @@ impl<'a> LineRest<'a> {
         ahead.scan_blockquote_tag()
     }
 
-    /// The task marker that this line begins with behind an item's marker, if it does (GFM 5.3): whether its box is checked, and
-    /// the line behind the box. Text stands on that line, behind a space or a tab (that it must is this profile's own). With
-    /// `tasklists` false there are no task markers.
+    /// The task marker at the beginning of this line, if there is one (GFM 5.3): whether its box is checked, and the line after the box.
+    /// The line comes after an item's marker. The rest after the box begins with a space or a tab and has text (this is this profile's
+    /// own). With `tasklists` false there are no task markers.
     #[inline]
     pub fn task_marker(self, tasklists: bool) -> Option<(bool, LineRest<'a>)>
         ensures task { (options : Options) → options.tasklists ≡ tasklists → option_map is_checked result ≡ task_in options (row_of self.entry) }
@@ -58,7 +58,7 @@ impl<'a> LineRest<'a> {
         Some((checked, self.with_front(front)))
     }
 
-    /// The line behind so many columns of spaces and tabs, or behind fewer if nothing follows them.
+    /// The line after `width` columns of spaces and tabs, or after fewer if nothing follows them.
     #[inline]
     pub(crate) fn behind_width(self, width: usize) -> Option<LineRest<'a>>
         ensures { (delimiter : ℕ) (number : Option ℕ) (task : Option Bool) → option_map row_of result ≡ keeps (Item delimiter number width task) false (row_of self.entry) }
@@ -70,8 +70,8 @@ impl<'a> LineRest<'a> {
         Some(self.with_front(front))
     }
 
-    /// The line behind a footnote definition's prefix, if it keeps the line: behind four columns of spaces and tabs, or behind fewer
-    /// if nothing follows them; as such definitions were read before, the line as it is, which they hold, if it is not blank (this profile's own).
+    /// The line after a footnote definition's prefix, if it keeps the line: after four columns of spaces and tabs, or after fewer if
+    /// nothing follows them. In the old style it is the whole line, marked as held, if the line is not blank (this profile's own).
     #[inline]
     pub(crate) fn behind_footnote(self, old: bool) -> Option<LineRest<'a>>
         ensures { (label : List ℕ) (size : ℕ) → option_map row_of result ≡ keeps (Footnote label old size) false (row_of self.entry) }
@@ -87,8 +87,8 @@ impl<'a> LineRest<'a> {
         Some(self.with_front(front))
     }
 
-    /// How many bytes the label has of the footnote definition that the line begins, indented by at most three columns, and the line behind the
-    /// blanks that follow the marker (this profile's own).
+    /// The number of bytes of a footnote definition's label, and the line after the blanks that follow the marker (this profile's own). The
+    /// line begins the definition, indented by at most three columns.
     pub(crate) fn behind_footnote_marker(self) -> Option<(usize, LineRest<'a>)>
         ensures label { option_map (label_shown (row_of self.entry)) result ≡ begun_label (row_of self.entry) }
         ensures inside { IfSome result (EntersFootnote (row_of self.entry)) }
@@ -100,7 +100,8 @@ impl<'a> LineRest<'a> {
         Some((size, self.with_front(front)))
     }
 
-    /// The width of the definition that the line begins, indented by at most three columns, and the line behind the marker (this profile's own).
+    /// The width in columns of the definition that the line begins, indented by at most three columns, and the line after the marker (this
+    /// profile's own).
     #[inline]
     pub(crate) fn behind_definition(self) -> Option<(usize, LineRest<'a>)>
         ensures width { option_map width_of result ≡ definition_behind (row_of self.entry) }
@@ -112,7 +113,7 @@ impl<'a> LineRest<'a> {
         Some((width, self.with_front(front)))
     }
 
-    /// The list item that the line begins, indented by at most three columns, and the line behind the marker.
+    /// The list item that the line begins, indented by at most three columns, and the line after the marker.
     #[inline(always)]
     pub(crate) fn behind_item(self) -> Option<(ItemStart, LineRest<'a>)>
         ensures item { option_map shown_begun result ≡ begun_item (row_of self.entry) }

@@ -1,5 +1,5 @@
-//! The markers in front of a line, behind the prefixes that were taken. Where columns of a tab are left, or a blank stands
-//! in front, there is none.
+//! The markers at the beginning of a line, after the prefixes that were taken. If columns of a tab are left, or a blank comes first, there
+//! is no marker.
 
 ghost use Rattle.std.specs.Prelude.{◌≡◌, ◌≤◌, ℕ, None, IfSome, option_map};
 ghost use Rattle.std.specs.Bool.{OnFalse};
@@ -16,8 +16,8 @@ use cmark_scan_parts::scan_footnote_marker;
 use cmark_text_parts::BlockQuoteKind;
 
 impl<'a> LineStart<'a> {
-    /// Takes the marker of a block quote (CommonMark 5.1): `>` and one column of space, if there is one. Where the line
-    /// does not go on with `>`, nothing is taken.
+    /// Takes the marker of a block quote (CommonMark 5.1): `>` and one column of space, if there is one. If the line does not continue with
+    /// `>`, nothing is taken. Returns whether it was taken.
     #[inline]
     pub fn scan_blockquote_marker(&mut self) -> bool
         ensures found { (at line_end : ℕ) → result ≡ begins_block_quote (row_from at line_end self.old) }
@@ -32,8 +32,8 @@ impl<'a> LineStart<'a> {
         true
     }
 
-    /// Takes the rest of the line, if it is the tag of an alert (this profile's own): exactly `[!NOTE]`, `[!TIP]`,
-    /// `[!IMPORTANT]`, `[!WARNING]` or `[!CAUTION]`, in any case, and blanks. Else nothing is taken.
+    /// Takes the rest of the line, if it is the tag of an alert (this profile's own): `[!NOTE]`, `[!TIP]`, `[!IMPORTANT]`, `[!WARNING]` or
+    /// `[!CAUTION]`, in any case, and then only blanks. Else nothing is taken.
     pub fn scan_blockquote_tag(&mut self) -> Option<BlockQuoteKind>
         ensures found { (at line_end : ℕ) → option_map shown_block_quote_kind result ≡ alert_in (row_from at line_end self.old) }
         ensures rest { (at line_end : ℕ) → row_from at line_end self.new ≡ behind_alert (row_from at line_end self.old) }
@@ -45,12 +45,11 @@ impl<'a> LineStart<'a> {
         Some(kind)
     }
 
-    /// Takes the marker of a list item and the blanks after it that count (CommonMark 5.2). Returns the marker's character
-    /// (the bullet, or what is after the number), its number, 0 for a bullet, and the item's width in columns.
+    /// Takes the marker of a list item and the blanks after it that count (CommonMark 5.2). Returns the marker's character (the bullet, or
+    /// the byte after the number), its number, 0 for a bullet, and the item's width in columns.
     ///
-    /// The width is the sum of the indent, which was taken before, the marker and those blanks, and is at most `usize::MAX`.
-    /// If no list item begins, or there is a thematic break, nothing is taken. Before `10) x`, with no indent, the result is
-    /// `(b')', 10, 4)`.
+    /// The width is the sum of the indent, which was taken before, the marker and those blanks, and is at most `usize::MAX`. If no list
+    /// item begins, or there is a thematic break, nothing is taken. Before `10) x`, with no indent, the result is `(b')', 10, 4)`.
     pub fn scan_list_marker_with_indent(&mut self, indent: usize) -> Option<(u8, u64, usize)>
         ensures found { (at line_end : ℕ) → result ≡ option_map plain_numbers (item_numbers indent (item_in (row_from at line_end self.old))) }
         ensures rest { (at line_end : ℕ) → row_from at line_end self.new ≡ entered (item_in (row_from at line_end self.old)) (row_from at line_end self.old) }
@@ -60,7 +59,8 @@ impl<'a> LineStart<'a> {
         Some((delimiter, number.unwrap_or(0), width))
     }
 
-    /// The same, with no number for a bullet. Before `10) x`, with no indent, the result is `(b')', Some(10), 4)`.
+    /// Like `scan_list_marker_with_indent`, with `None` as the number of a bullet. Before `10) x`, with no indent, the result is `(b')',
+    /// Some(10), 4)`.
     #[inline]
     pub fn scan_item_marker(&mut self, indent: usize) -> Option<(u8, Option<u64>, usize)>
         ensures found { (at line_end : ℕ) → result ≡ item_numbers indent (item_in (row_from at line_end self.old)) }
@@ -80,9 +80,9 @@ impl<'a> LineStart<'a> {
         ))
     }
 
-    /// Takes the marker of a definition and the blanks behind it that count (this profile's own), and answers the
-    /// definition's width in columns: the indent, which was taken before, the marker `:` and those blanks. None has to
-    /// stand there. At most `usize::MAX` is answered. Where the line does not go on with `:`, nothing is taken.
+    /// Takes the marker of a definition and the blanks after it that count (this profile's own). Returns the definition's width in columns,
+    /// at most `usize::MAX`: the indent, which was taken before, the marker `:` and those blanks. No blank is required. If the line does
+    /// not continue with `:`, nothing is taken.
     #[inline]
     pub fn scan_definition_list_definition_marker_with_indent(
         &mut self,
@@ -100,8 +100,8 @@ impl<'a> LineStart<'a> {
         Some(indent.saturating_add(width))
     }
 
-    /// Takes the box of a task marker (GFM 5.3), `[ ]`, `[x]` or `[X]`, and answers whether it is checked. Where there is
-    /// none, or no blank and text behind it, nothing is taken.
+    /// Takes the box of a task marker (GFM 5.3), `[ ]`, `[x]` or `[X]`, and returns whether it is checked. If there is no box, or no blank
+    /// and text after it, nothing is taken.
     #[inline]
     pub fn scan_task_list_marker(&mut self) -> Option<bool>
         ensures found { (at line_end : ℕ) → result ≡ task_in (row_from at line_end self.old) }
@@ -113,8 +113,8 @@ impl<'a> LineStart<'a> {
         Some(checked)
     }
 
-    /// Takes the marker of a footnote definition (this profile's own), `[^`, a label on one line and `]:`, and all blanks behind it. Answers how many bytes
-    /// the label has, which stands behind the first two bytes. Where there is none, nothing is taken.
+    /// Takes the marker of a footnote definition (this profile's own), `[^`, a label on one line and `]:`, and all blanks after it. Returns
+    /// the number of bytes of the label, which begins after the first two bytes. If there is no marker, nothing is taken.
     pub fn scan_footnote_marker(&mut self) -> Option<usize>
         ensures found { (at line_end : ℕ) → option_map (marked (words_of (row_from at line_end self.old))) result ≡ footnote_at (row_from at line_end self.old) }
         ensures closed { (at line_end : ℕ) → IfSome result (IsClosed (words_of (row_from at line_end self.old))) }
@@ -127,8 +127,8 @@ impl<'a> LineStart<'a> {
         Some(size)
     }
 
-    /// Takes the blanks behind a marker that count (CommonMark 5.2): of five or more columns, and in front of a blank rest,
-    /// one. Answers how many columns that are; where nothing at all is left of the line, one is answered all the same.
+    /// Takes the blanks after a marker that count (CommonMark 5.2): five or more columns count as one, and so does a blank rest of the
+    /// line. Returns the number of columns that count; if nothing at all is left of the line, it is 1 too.
     #[inline]
     fn scan_padding(&mut self) -> usize
         ensures count { (at : ℕ) → result ≡ padding (columns_from at self.old) }

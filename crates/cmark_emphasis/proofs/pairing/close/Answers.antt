@@ -47,7 +47,7 @@ next c =
 near : (c : goal.After-rest_of_closer-closer) → IsNearest (shown_run c.loop-found.closer) c.loop-found.bottoms.inactive_below c.loop-found.stack.items c.in-Some.found
 near c = subst (λ l. IsNearest (shown_run c.loop-found.closer) c.loop-found.bottoms.inactive_below l c.in-Some.found) c.deref.ensures.value c.in-Some.ensures.value
 
--- what is paid for
+-- the runs examined are paid for
 paid : (c : goal.After-rest_of_closer-closer) → c.nearest.new.examined + 15 * length c.put_on.new.stack.items + total_of c.args.bottoms.now ≤ c.args.examined.now + 15 * length c.args.stack.now.items + total_of c.lower.new.self + put_back c.rest_of_closer-closer.result.left
 paid c =
     let n = near c in
@@ -57,7 +57,7 @@ paid c =
     (total_of c.args.bottoms.now) c.loop-found.examined c.nearest.new.examined (c.args.examined.now + 15 * length c.args.stack.now.items) (closing (shown_run n.opener) (shown_run c.loop-found.closer) n.agree).left (nearest_in _ _ _ _ n) c.truncate.ensures.items
     c.in_ok-put_on.ensures.value c.rest_of_opener.ensures.value (c.lower.ensures.falls c.loop-found.stack.items c.loop-found.invariant.bottoms) (c.in-Some.ensures.counts ∙ ap (λ l. c.loop-found.examined + (length l - c.in-Some.found)) c.deref.ensures.value) c.loop-found.invariant.pays)
 
--- what it seeks on among
+-- the open runs among which the search continues
 seeks-on : (c : goal.After-rest_of_closer-closer) (standing : List Standing) → AreStanding c.args.bottoms.now c.args.stack.now.items standing
     → IsSeeking (shown_run c.args.run) standing c.args.examined.now c.lower.new.self c.put_on.new.stack.items (shown_run c.rest_of_closer-closer.result) c.nearest.new.examined
 seeks-on c standing are =
@@ -111,7 +111,7 @@ returns-in_err-put_on-clause-counts c =
     let all : length c.deref.result.now ≡ length c.loop-found.stack.items = ap length c.deref.ensures.value in
     omega (arith, c.in-Some.ensures.counts, c.loop-found.invariant.pays, most, all, put_back-most c.loop-found.closer.left)
 
--- a search that found none
+-- a search that found nothing
 none-paid : (c : goal.After-note) → c.nearest.new.examined + 15 * length c.loop-found.stack.items + total_of c.args.bottoms.now ≤ c.args.examined.now + 15 * length c.args.stack.now.items + total_of c.note.new.self + put_back c.loop-found.closer.left
 none-paid c =
     let closer = shown_run c.loop-found.closer in

@@ -5,7 +5,7 @@ use Rattle.cmark_finds.specs.Special.{has_byte}
 use Rattle.cmark_finds.proofs.SpecialSteps.{may_be_special}
 use Rattle.cmark_finds.proofs.special.special_bytes.Given as goal
 
--- the table is right for each byte that is not to come
+-- the table is right for each byte that is already set
 abbrev pub invariant-loop-byte : goal.invariant-loop-byte
 invariant-loop-byte l = record {
   done : (k : ℕ) → k < 256 → is_one_of (drop l.byte-index may_be_special) k ≡ false → has_byte l.table k ≡ is_special (shown_options l.options) k;

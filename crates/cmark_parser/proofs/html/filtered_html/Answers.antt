@@ -1,6 +1,6 @@
 use Rattle.std.proofs.Common.{string_bytes}
 use Rattle.std.proofs.lemmas.Result.{IfOk-weaker}
-use Rattle.cmark_parser.specs.Walking.{usual_limit}
+use Rattle.cmark_grammar.specs.Headline.{usual_limit}
 use Rattle.cmark_parser.proofs.RenderSteps.{rendered}
 use Rattle.cmark_parser.proofs.html.filtered_html.Goals as goal
 

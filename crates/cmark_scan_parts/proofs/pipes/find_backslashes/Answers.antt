@@ -6,12 +6,12 @@ use Rattle.cmark_grammar.specs.Unescaped.{escaped_pipe}
 use Rattle.cmark_scan_parts.proofs.PipeSteps.{first_stays, one_backslash, second_stays, two_backslashes}
 use Rattle.cmark_scan_parts.proofs.pipes.find_backslashes.Goals as goal
 
--- what stays in front, where it is known whether the byte is a second one
+-- the bytes at the beginning are kept, if it is known whether the byte is a second one
 stay_as : (text : List ℕ) (at : ℕ) (old new : Bool) → old ≡ new → with_literal_pipes text ≡ take at text ++ literal_pipes_from old (drop at text)
     → with_literal_pipes text ≡ take at text ++ literal_pipes_from new (drop at text)
 stay_as text at old new is e = e ∙ ap (λ p. take at text ++ literal_pipes_from p (drop at text)) is
 
--- what the code found in front of its bytes
+-- the bytes that the code found at the beginning
 found_in : (needle bytes text : List ℕ) (at : ℕ) (result value : Bool) → bytes ≡ text → result ≡ starts needle (take (length bytes - at) (drop at bytes)) → result ≡ value → starts needle (drop at text) ≡ value
 found_in needle bytes text at result value same is e = ap (λ l. starts needle (drop at l)) (sym same) ∙ ap (starts needle) (sym (take_rest bytes at)) ∙ sym is ∙ e
 

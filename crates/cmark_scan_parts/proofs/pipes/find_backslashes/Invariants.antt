@@ -2,7 +2,7 @@ use Rattle.std.proofs.Common.{◌≡◌, ◌-◌, ◌++◌, length, take, drop}
 use Rattle.cmark_grammar.specs.LabelsOverLines.{literal_pipes_from, with_literal_pipes}
 use Rattle.cmark_scan_parts.proofs.pipes.find_backslashes.Given as goal
 
--- the bytes in front stay
+-- the bytes at the beginning are kept
 abbrev pub invariant-loop-start : goal.invariant-loop-start
 invariant-loop-start l = record {
   same : l.bytes ≡ l.text;

@@ -41,7 +41,7 @@ loop-next-preserved c =
           let l : (c.loop-next.count + c.in-Some.next.now.run.run_length) + places_taken (siblings_from (c.loop-next.count + c.in-Some.next.now.run.run_length) c.in-Some.others.now) ≡ places_taken (siblings_from 0 (drop c.args.first c.args.placed.now)) = omega (arith, t, all) in l),
     )
 
--- the runs that are gathered are those of the siblings
+-- the gathered runs are the runs of the siblings
 gathered : (c : goal.In_default) → map shown_run c.loop-next.runs.items ≡ runs_of (siblings_from 0 (drop c.args.first c.args.placed.now))
 gathered c =
     let none : c.loop-next.rest.now ≡ [] = none-left c.loop-next.rest.now c.in_default.ensures.cases in

@@ -4,11 +4,11 @@ use Rattle.std.proofs.lemmas.List.{get_or-append-add, get_or-take, length-append
 use Rattle.std.specs.Str.{IsCharBoundary}
 use Rattle.cmark_text.proofs.escape.append_excerpt.Goals as goal
 
--- of an old text and sixteen bytes behind it, what is cut behind as many of these as the part has
+-- the old text and sixteen bytes after it, cut so that only the bytes of the part remain
 cut_behind : (old ahead : List ℕ) (len : ℕ) → len ≤ 16 → take (length old + len) (old ++ take 16 ahead) ≡ old ++ take len ahead
 cut_behind old ahead len few = take-append-add old (take 16 ahead) len ∙ ap (λ l. old ++ l) (take-take len 16 ahead few)
 
--- no character is cut there
+-- the cut is at a character boundary
 boundary_behind : (old ahead : List ℕ) (len : ℕ) → len ≤ 16 → 16 ≤ length ahead → IsCharBoundary ahead len → IsCharBoundary (old ++ take 16 ahead) (length old + len)
 boundary_behind old ahead len few enough boundary =
     let many : length (take 16 ahead) ≡ 16 = length-take-le 16 ahead enough in

@@ -7,7 +7,7 @@ use Rattle.cmark_text.specs.Marks.{is_body_text_mark}
 use Rattle.cmark_text.specs.declared.escape.TheConstants.{BODY_TEXT_MARKS}
 use Rattle.cmark_text.proofs.escape.find_mark_within.Goals as goal
 
--- what is read of the front of a list is read of the list, or 0
+-- a byte that is looked up in the front of a list is a byte of the list, or 0
 small_in_front : (bs : List ℕ) (n k : ℕ) → ((j : ℕ) → get_or bs j 0 < 256) → get_or (take n bs) k 0 < 256
 small_in_front bs zero k small = lit< tt
 small_in_front [] (suc n) k small = lit< tt

@@ -16,6 +16,6 @@ invariant-loop-bytes g l = record {
   room : length l.chunk ≡ CHUNK;
 }
 
--- each read moves a byte, or is one more of those in a row that were interrupted
+-- each read moves a byte, or adds one to the interrupted reads in a row
 abbrev pub decreases-loop-bytes : goal.decreases-loop-bytes
 decreases-loop-bytes g l = (l.limit - vec_len l.bytes) * 1048577 + (1048576 - l.reader.notes.interrupted)

@@ -13,6 +13,6 @@ invariant-loop-at g l = record {
   fresh : Cleared l.fn.writer.resets l.writer.resets;
 }
 
--- each write moves a byte, or is one more of those in a row that were interrupted
+-- each write moves a byte, or adds one to the interrupted writes in a row
 abbrev pub decreases-loop-at : goal.decreases-loop-at
 decreases-loop-at g l = (length l.text - l.at) * 1048577 + (1048576 - l.writer.notes.interrupted)

@@ -4,6 +4,6 @@ use Rattle.mdhtml_settings.specs.Entities.{holds_texts}
 use Rattle.mdhtml_settings.proofs.EntitySteps.{all_texts}
 use Rattle.mdhtml_settings.proofs.entities.is_object_of_texts.Given as goal
 
--- all values are texts where those that are left are
+-- all values are texts exactly if the remaining ones are
 abbrev pub invariant-loop-member : goal.invariant-loop-member
 invariant-loop-member l = holds_texts (view l.value) ≡ all_texts l.member-iterator

@@ -3,7 +3,7 @@ use Rattle.clap.specs.Words.{found_of, rows_of}
 use Rattle.mdhtml_settings.specs.Line.{bits_with, option_bits, shown_flag}
 use Rattle.mdhtml_settings.proofs.flags.options_given.Given as goal
 
--- the flags that are left make of the bits what all flags make of none
+-- the remaining flags, added to the bits so far, give the bits of all flags
 abbrev pub invariant-loop-flag : goal.invariant-loop-flag
 invariant-loop-flag l =
     let rows = rows_of (found_of l.matches) in

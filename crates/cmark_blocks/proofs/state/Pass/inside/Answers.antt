@@ -10,7 +10,7 @@ use Rattle.cmark_blocks.proofs.FeedSteps.{is-zero}
 use Rattle.cmark_blocks.proofs.KeepingSteps.{shows-all, shows-some}
 use Rattle.cmark_blocks.proofs.state.Pass.inside.Goals as goal
 
--- where no container is open, none is in the grammar's list
+-- if no container is open, the grammar's list is empty
 nothing-open : (cs : List OpenContainer) (ms : List model.OpenContainer) → length cs ≡ 0 → ShowsContainers cs ms → ms ≡ []
 nothing-open [] [] e s = refl
 nothing-open [] (m ∷ ms) e s = absurd s

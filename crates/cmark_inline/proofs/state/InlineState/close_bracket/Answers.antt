@@ -1,12 +1,12 @@
 use Rattle.std.specs.Prelude.{false, Option, IfSome, is_some}
 use Rattle.std.proofs.Common.{arith, ◌≡◌, ◌+◌, ◌++◌, ◌∷◌, [], refl, sym, ap, subst, ◌∙◌, inl}
-use Rattle.cmark_grammar.specs.BracketDecisions.{is_there}
+use Rattle.cmark_grammar.specs.BracketDecisions.{decide, is_there}
 use Rattle.cmark_leaf_text.specs.Reads.{IsPart, is_cell_of}
 use Rattle.cmark_text_parts.specs.Shown.{shown_options}
 use Rattle.cmark_grammar.specs.Labels.{normal_form}
 use Rattle.cmark_inline.specs.Footnoted.{KeepsLabel, footnote_of, forms_footnote}
 use Rattle.cmark_inline.specs.Hiding.{WritesReference, WritesWikilink}
-use Rattle.cmark_inline.specs.Closers.{LeavesFootnote, LeavesWikilink, LinksTaken}
+use Rattle.cmark_inline.specs.Closers.{AsksOfLink, LeavesFootnote, LeavesWikilink, LinksTaken}
 use Rattle.cmark_slots.specs.Doubled.{nearest}
 use Rattle.cmark_slots.specs.Slots.{HoldNoLink}
 use Rattle.cmark_inline.specs.Stands.{Moves, Stands}
@@ -14,13 +14,14 @@ use Rattle.cmark_slots.specs.declared.bracket.Bracket.{Bracket}
 use Rattle.cmark_inline.specs.declared.state.InlineState.{InlineState}
 use Rattle.cmark_inline.specs.declared.step.Cursor.{Cursor}
 use Rattle.cmark_slots.specs.declared.slot.SlotKind.TheVariants as kind
+use Rattle.cmark_inline.proofs.AsksSteps.{asks-none, links-ask}
 use Rattle.cmark_inline.proofs.ClosingReads.{SameRows, puts-one, rows-brackets, rows-doubled, rows-on, rows-same, rows-unlinked, text-reads}
-use Rattle.cmark_inline.proofs.CloserMakes.{footnote-closes, inside-up, linked-closes, remembers-on, taken-stage, text-closes, tried-stage, wikilink-closes, IsTriedStage}
+use Rattle.cmark_inline.proofs.CloserMakes.{footnote-closes, inside-up, linked-asks, linked-closes, remembers-on, taken-stage, text-closes, tried-stage, wikilink-closes, IsTriedStage}
 use Rattle.cmark_inline.specs.Sound.{IsTakenFrom}
 use Rattle.cmark_inline.proofs.Keeping.{keeps-pending, keeps-puts, some-taken}
 use Rattle.cmark_slots.specs.Standing.{AreEnded}
 use Rattle.std.proofs.lemmas.Result.{IfOk-weaker}
-use Rattle.cmark_inline.proofs.LastCalls.{ok-by-three}
+use Rattle.cmark_inline.proofs.LastCalls.{ok-by-three, on-err}
 use Rattle.cmark_inline.proofs.UsesCounted.{kept-rise, none-counted}
 use Rattle.cmark_inline.proofs.state.InlineState.close_bracket.Goals as goal
 
@@ -312,3 +313,48 @@ returns-in-Some-3-clause-rise g c = c.footnote.ensures.rise
 
 pub returns-clause-rise : goal.returns-clause-rise
 returns-clause-rise g c = c.footnote.ensures.rise
+
+pub returns-in_err-flush-clause-stops : goal.returns-in_err-flush-clause-stops
+returns-in_err-flush-clause-stops g c = on-err c.from_residual.result _ (λ reader read place closer s bs r at shows.
+    asks-none g.F.BrokenLinkCallback.answers (decide reader read s closer) c.args.callback.now c.args.callback.now refl)
+
+pub returns-in_err-next-clause-stops : goal.returns-in_err-next-clause-stops
+returns-in_err-next-clause-stops g c = on-err c.from_residual-in_err-next.result _ (λ reader read place closer s bs r at shows.
+    asks-none g.F.BrokenLinkCallback.answers (decide reader read s closer) c.args.callback.now c.args.callback.now refl)
+
+pub returns-in_err-next-2-clause-stops : goal.returns-in_err-next-2-clause-stops
+returns-in_err-next-2-clause-stops g c = on-err c.from_residual-in_err-next-2.result _ (λ reader read place closer s bs r at shows.
+    asks-none g.F.BrokenLinkCallback.answers (decide reader read s closer) c.args.callback.now c.args.callback.now refl)
+
+pub returns-in_err-next-3-clause-stops : goal.returns-in_err-next-3-clause-stops
+returns-in_err-next-3-clause-stops g c = on-err c.from_residual-in_err-next-3.result _ (λ reader read place closer s bs r at shows.
+    let o = shown_options c.args.reader.now.options in
+    let l = g.E.EntityLookup.replacement c.args.reader.now.entities.now in
+    let refs = c.args.reader.now.references.now in
+    let notes = c.args.footnotes.now in
+    let took : InlineState = c.take_bracket-taken.new.self in
+    let st : InlineState = c.wikilink.new.self in
+    let i = taken-stage o l refs notes c.args.leaf.now c.args.text.now c.requires.same reader read place closer s bs c.args.here.at r at c.args.self.now shows c.flush.new.self took c.take_bracket-taken.result c.in_ok-flush.ensures.others c.take_bracket-taken.ensures.others c.take_bracket-taken.ensures.takes in
+    let j = tried-stage o l refs notes c.args.leaf.now c.args.text.now c.requires.same reader read place closer s bs c.args.here.at r at c.args.self.now shows took st c.take_bracket-taken.result i (c.in_ok-next.ensures.others c.in_default.is) (c.in_ok-next.ensures.tries c.in_default.is) (ap is_some (sym c.in_default.is) ∙ c.in_ok-next.ensures.forms) in
+    let same : c.footnote.new.self ≡ st = c.in_ok-next-2.ensures.others c.in_default-2.is in
+    linked-asks o l refs notes c.args.leaf.now c.args.text.now c.requires.same reader read place closer s bs c.args.here.at r at c.args.self.now shows
+    g.F.BrokenLinkCallback.answers c.args.callback.now c.link.new.callback st c.take_bracket-taken.result j
+    (ap is_some (sym c.in_default-2.is) ∙ c.in_ok-next-2.ensures.forms)
+    (subst (λ (x : InlineState). AsksOfLink g.F.BrokenLinkCallback.answers o l refs c.args.leaf.now c.args.text.now c.take_bracket-taken.result c.args.here.at x c.args.callback.now c.link.new.callback) same c.in_err-next-3.ensures.stops))
+
+pub returns-clause-stops : goal.returns-clause-stops
+returns-clause-stops g c = on-err c.put.result _ (λ reader read place closer s bs r at shows.
+    let o = shown_options c.args.reader.now.options in
+    let l = g.E.EntityLookup.replacement c.args.reader.now.entities.now in
+    let refs = c.args.reader.now.references.now in
+    let notes = c.args.footnotes.now in
+    let took : InlineState = c.take_bracket-taken.new.self in
+    let st : InlineState = c.wikilink.new.self in
+    let i = taken-stage o l refs notes c.args.leaf.now c.args.text.now c.requires.same reader read place closer s bs c.args.here.at r at c.args.self.now shows c.flush.new.self took c.take_bracket-taken.result c.in_ok-flush.ensures.others c.take_bracket-taken.ensures.others c.take_bracket-taken.ensures.takes in
+    let j = tried-stage o l refs notes c.args.leaf.now c.args.text.now c.requires.same reader read place closer s bs c.args.here.at r at c.args.self.now shows took st c.take_bracket-taken.result i (c.in_ok-next.ensures.others c.in_default.is) (c.in_ok-next.ensures.tries c.in_default.is) (ap is_some (sym c.in_default.is) ∙ c.in_ok-next.ensures.forms) in
+    let same : c.footnote.new.self ≡ st = c.in_ok-next-2.ensures.others c.in_default-2.is in
+    linked-asks o l refs notes c.args.leaf.now c.args.text.now c.requires.same reader read place closer s bs c.args.here.at r at c.args.self.now shows
+    g.F.BrokenLinkCallback.answers c.args.callback.now c.link.new.callback st c.take_bracket-taken.result j
+    (ap is_some (sym c.in_default-2.is) ∙ c.in_ok-next-2.ensures.forms)
+    (subst (λ (x : InlineState). AsksOfLink g.F.BrokenLinkCallback.answers o l refs c.args.leaf.now c.args.text.now c.take_bracket-taken.result c.args.here.at x c.args.callback.now c.link.new.callback) same
+    (links-ask g.F.BrokenLinkCallback.answers o l refs c.args.leaf.now c.args.text.now c.args.here.at c.take_bracket-taken.result c.footnote.new.self c.link.new.self _ c.args.callback.now c.link.new.callback c.in_ok-next-3.ensures.links)))

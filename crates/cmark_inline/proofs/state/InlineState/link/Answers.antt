@@ -1,5 +1,7 @@
 use Rattle.std.proofs.Common.{◌∙◌, ap, arith, refl, subst}
 use Rattle.cmark_text_parts.specs.Shown.{shown_options}
+use Rattle.cmark_inline.proofs.LastCalls.{on-err}
+use Rattle.cmark_inline.proofs.AsksSteps.{bracket-asks, decides-asks}
 use Rattle.cmark_inline.proofs.CloserSteps.{links-none, links-some}
 use Rattle.cmark_inline.specs.Sound.{IsTakenFrom}
 use Rattle.std.specs.Prelude.{IfSome, Option}
@@ -64,3 +66,15 @@ returns-clause-spent g c = λ none. let same = c.target.ensures.spent none in (s
 
 pub returns-in_err-form-clause-spent : goal.returns-in_err-form-clause-spent
 returns-in_err-form-clause-spent g c = λ none. let same = c.target.ensures.spent none in (same.0, c.form.ensures.expansion_left ∙ same.1)
+
+pub returns-in_err-target-clause-stops : goal.returns-in_err-target-clause-stops
+returns-in_err-target-clause-stops g c = on-err c.from_residual.result _
+    (bracket-asks g.F.BrokenLinkCallback.answers (shown_options c.args.reader.now.options) (g.E.EntityLookup.replacement c.args.reader.now.entities.now) c.args.reader.now.references.now c.args.leaf.now c.args.text.now c.args.close c.args.taken c.in-Some.bracket c.args.self.now c.args.callback.now c.target.new.callback
+    c.in-Some.is c.in_err-target.ensures.stops)
+
+pub returns-in_err-form-clause-stops : goal.returns-in_err-form-clause-stops
+returns-in_err-form-clause-stops g c = on-err c.from_residual-in_err-form.result _
+    (bracket-asks g.F.BrokenLinkCallback.answers (shown_options c.args.reader.now.options) (g.E.EntityLookup.replacement c.args.reader.now.entities.now) c.args.reader.now.references.now c.args.leaf.now c.args.text.now c.args.close c.args.taken c.in-Some.bracket c.args.self.now c.args.callback.now c.target.new.callback
+    c.in-Some.is
+    (decides-asks g.F.BrokenLinkCallback.answers (shown_options c.args.reader.now.options) (g.E.EntityLookup.replacement c.args.reader.now.entities.now) c.args.reader.now.references.now c.args.leaf.now c.args.text.now c.args.close c.in-Some.bracket c.args.self.now
+    c.target.new.self c.in_ok-target.field-0 c.args.callback.now c.target.new.callback c.in_ok-target.ensures.decides))

@@ -7,8 +7,10 @@ use Rattle.cmark_leaf_text.specs.Reads.{text_of}
 use Rattle.cmark_text_parts.specs.Shown.{shown_options}
 use Rattle.cmark_inline_model.specs.SlotRows.{marked, marks_by, quoted}
 use Rattle.cmark_inline.specs.CursorProgress.{HasCome}
+use Rattle.cmark_inline.specs.Resolved.{Stops}
 use Rattle.cmark_slots.specs.SlotViews.{shown_slots}
-use Rattle.cmark_inline.proofs.ComeLoops.{begin-comes, comes-further}
+use Rattle.cmark_inline.proofs.LastCalls.{on-err}
+use Rattle.cmark_inline.proofs.ComeLoops.{begin-comes, comes-further, loop-stops, step-stops}
 use Rattle.cmark_inline.proofs.ComeEnds.{end-reads, end-takes, end-uses}
 use Rattle.cmark_inline.specs.Asking.{AsksUpTo, closing_brackets}
 use Rattle.cmark_slots.specs.MarkedSlots.{AreWhole, EndWithin, HaveBytes, places_of, siblings_from}
@@ -330,3 +332,28 @@ pub returns-clause-rise : goal.returns-clause-rise
 returns-clause-rise g c =
     subst (λ (t : List ℕ). RiseUpTo (closing_brackets t) c.args.footnotes.now c.loop-cursor.footnotes) c.as_str-text.ensures
     (rise-all c.as_str-text.result.now c.loop-cursor.cursor.at c.args.footnotes.now c.loop-cursor.footnotes c.loop-cursor.invariant.14)
+
+pub returns-in_err-cursor-clause-stops : goal.returns-in_err-cursor-clause-stops
+returns-in_err-cursor-clause-stops g c = λ set. on-err c.from_residual.result _
+    (let i = c.loop-cursor.invariant in
+    subst (λ n. Stops g.F.BrokenLinkCallback.answers (shown_options c.args.reader.now.options) (g.E.EntityLookup.replacement c.args.reader.now.entities.now) c.args.reader.now.references.now c.args.footnotes.now c.args.leaf.now n c.args.callback.now c.step.new.callback) c.clear.ensures.expansion_left
+    (step-stops g.F.BrokenLinkCallback.answers (shown_options c.args.reader.now.options) (g.E.EntityLookup.replacement c.args.reader.now.entities.now) c.args.reader.now.references.now c.args.footnotes.now c.loop-cursor.footnotes c.args.leaf.now c.clear.new.self.expansion_left c.args.callback.now
+    c.loop-cursor.sought c.loop-cursor.cursor c.loop-cursor.self c.loop-cursor.callback c.step.new.callback i.7 (i.10 set) (c.in_err-cursor.ensures.stops set)))
+
+pub returns-in_err-flush-clause-stops : goal.returns-in_err-flush-clause-stops
+returns-in_err-flush-clause-stops g c = λ set. on-err c.from_residual-in_err-flush.result _
+    (subst (λ n. Stops g.F.BrokenLinkCallback.answers (shown_options c.args.reader.now.options) (g.E.EntityLookup.replacement c.args.reader.now.entities.now) c.args.reader.now.references.now c.args.footnotes.now c.args.leaf.now n c.args.callback.now c.loop-cursor.callback) c.clear.ensures.expansion_left
+    (loop-stops g.F.BrokenLinkCallback.answers (shown_options c.args.reader.now.options) (g.E.EntityLookup.replacement c.args.reader.now.entities.now) c.args.reader.now.references.now c.args.footnotes.now c.loop-cursor.footnotes c.args.leaf.now c.clear.new.self.expansion_left c.args.callback.now
+    c.loop-cursor.sought c.loop-cursor.cursor c.loop-cursor.self c.loop-cursor.callback (c.loop-cursor.invariant.10 set)))
+
+pub returns-in_err-resolve-clause-stops : goal.returns-in_err-resolve-clause-stops
+returns-in_err-resolve-clause-stops g c = λ set. on-err c.from_residual-in_err-resolve.result _
+    (subst (λ n. Stops g.F.BrokenLinkCallback.answers (shown_options c.args.reader.now.options) (g.E.EntityLookup.replacement c.args.reader.now.entities.now) c.args.reader.now.references.now c.args.footnotes.now c.args.leaf.now n c.args.callback.now c.loop-cursor.callback) c.clear.ensures.expansion_left
+    (loop-stops g.F.BrokenLinkCallback.answers (shown_options c.args.reader.now.options) (g.E.EntityLookup.replacement c.args.reader.now.entities.now) c.args.reader.now.references.now c.args.footnotes.now c.loop-cursor.footnotes c.args.leaf.now c.clear.new.self.expansion_left c.args.callback.now
+    c.loop-cursor.sought c.loop-cursor.cursor c.loop-cursor.self c.loop-cursor.callback (c.loop-cursor.invariant.10 set)))
+
+pub returns-in_err-resolve-2-clause-stops : goal.returns-in_err-resolve-2-clause-stops
+returns-in_err-resolve-2-clause-stops g c = λ set. on-err c.from_residual-in_err-resolve-2.result _
+    (subst (λ n. Stops g.F.BrokenLinkCallback.answers (shown_options c.args.reader.now.options) (g.E.EntityLookup.replacement c.args.reader.now.entities.now) c.args.reader.now.references.now c.args.footnotes.now c.args.leaf.now n c.args.callback.now c.loop-cursor.callback) c.clear.ensures.expansion_left
+    (loop-stops g.F.BrokenLinkCallback.answers (shown_options c.args.reader.now.options) (g.E.EntityLookup.replacement c.args.reader.now.entities.now) c.args.reader.now.references.now c.args.footnotes.now c.loop-cursor.footnotes c.args.leaf.now c.clear.new.self.expansion_left c.args.callback.now
+    c.loop-cursor.sought c.loop-cursor.cursor c.loop-cursor.self c.loop-cursor.callback (c.loop-cursor.invariant.10 set)))

@@ -2,9 +2,11 @@ use Rattle.std.specs.Prelude.{Result, Ok, Err, OnOk, OnErr}
 use Rattle.std.proofs.Common.{◌≡◌, ◌≤◌, arith, refl, subst, sym}
 use Rattle.cmark_leaf_text.specs.Reads.{text_of}
 use Rattle.cmark_leaf_text.specs.declared.leaf_text.LeafText.{LeafText}
+use Rattle.cmark_text_parts.specs.Shown.{shown_options}
 use Rattle.cmark_inline.specs.Asking.{closing_brackets}
 use Rattle.cmark_inline.specs.Counted.{Counts}
 use Rattle.cmark_inline.specs.declared.steps.Steps.{Steps}
+use Rattle.cmark_inline.proofs.ComeLoops.{none-stops}
 use Rattle.cmark_inline.proofs.Questions.{up-to}
 use Rattle.cmark_inline.proofs.UsesCounted.{kept-rise}
 use Rattle.cmark_inline.proofs.state.InlineState.resolve.Goals as goal
@@ -31,3 +33,7 @@ returns-clause-counts g c = either-counted c.args.leaf.now c.args.self.now.steps
 
 pub returns-then-self-clause-rise : goal.returns-then-self-clause-rise
 returns-then-self-clause-rise g c = kept-rise (closing_brackets (text_of c.args.leaf.now)) c.args.footnotes.now c.args.footnotes.now (λ folded. refl)
+
+pub returns-then-self-clause-stops : goal.returns-then-self-clause-stops
+returns-then-self-clause-stops g c = λ set.
+    none-stops g.F.BrokenLinkCallback.answers (shown_options c.args.reader.now.options) (g.E.EntityLookup.replacement c.args.reader.now.entities.now) c.args.reader.now.references.now c.args.footnotes.now c.args.leaf.now c.args.self.now.expansion_left c.args.callback.now

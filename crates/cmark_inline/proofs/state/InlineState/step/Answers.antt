@@ -10,9 +10,10 @@ use Rattle.cmark_inline.specs.SpecialReads.{ReadsSpecial}
 use Rattle.cmark_inline.specs.Stands.{Flushes, Moves}
 use Rattle.cmark_inline.specs.declared.state.InlineState.{InlineState}
 use Rattle.cmark_inline.specs.declared.step.Cursor.{Cursor}
-use Rattle.cmark_inline.proofs.ComeCalls.{IsNextAt, both-ok, close-comes, rest-comes, span-comes, special-there}
-use Rattle.std.proofs.lemmas.Result.{IfOk-weaker}
+use Rattle.cmark_inline.proofs.ComeCalls.{IsNextAt, both-ok, close-comes, close-stops, rest-comes, span-comes, span-stops, special-there}
+use Rattle.std.proofs.lemmas.Result.{IfOk-weaker, on_err_weaker}
 use Rattle.cmark_grammar.specs.SpecialBytes.{is_special}
+use Rattle.cmark_inline.proofs.LastCalls.{on-err}
 use Rattle.cmark_inline.proofs.PaidSteps.{all-on}
 use Rattle.cmark_inline.proofs.StillUnclosed.{still-unclosed}
 use Rattle.cmark_inline.proofs.UsesCounted.{none-between, one-between}
@@ -243,3 +244,27 @@ returns-then-bytes-at-eq93-clause-rise_here g c =
     let lt : at < length text = subst (λ (t : List ℕ). at < length t) is c.if-at-bytes.false in
     let byte : get_or text at 0 ≡ 93 = ap (λ (t : List ℕ). get_or t at 0) (sym is) ∙ c.if-bytes-at-eq93.true in
     IfOk-weaker c.close_bracket.result _ _ (λ next m. one-between text c.args.cursor.at at next.at c.args.footnotes.now c.close_bracket.new.footnotes behind m.further lt byte c.close_bracket.ensures.rise) c.close_bracket.ensures.moves
+
+pub returns-then-bytes-at-eq93-clause-stops : goal.returns-then-bytes-at-eq93-clause-stops
+returns-then-bytes-at-eq93-clause-stops g c = λ set.
+    let n = c.next-at.ensures in
+    let is = c.as_bytes-bytes.ensures.value in
+    let rows : List ℕ = c.args.reader.now.special.now in
+    let at : ℕ = c.next-at.result in
+    let there : IsNextAt rows c.args.text.now c.args.cursor.at at = subst (λ (t : List ℕ). IsNextAt rows t c.args.cursor.at at) is (record { value = n.value; plain = n.plain; order = n.behind; within = n.within; ascii = n.ascii }) in
+    let lt : at < length c.args.text.now = subst (λ (t : List ℕ). at < length t) is c.if-at-bytes.false in
+    let byte : get_or c.args.text.now at 0 ≡ 93 = ap (λ (t : List ℕ). get_or t at 0) (sym is) ∙ c.if-bytes-at-eq93.true in
+    on_err_weaker c.close_bracket.result
+    (close-stops g.F.BrokenLinkCallback.answers (shown_options c.args.reader.now.options) (g.E.EntityLookup.replacement c.args.reader.now.entities.now) c.args.reader.now.references.now c.args.footnotes.now c.args.leaf.now rows c.args.text.now c.requires.same
+    c.args.cursor c.args.self.now at set there c.args.sought.now c.args.callback.now c.close_bracket.new.callback lt byte) c.close_bracket.ensures.stops
+
+pub returns-clause-stops : goal.returns-clause-stops
+returns-clause-stops g c = λ set.
+    let n = c.next-at.ensures in
+    let is = c.as_bytes-bytes.ensures.value in
+    let rows : List ℕ = c.args.reader.now.special.now in
+    let at : ℕ = c.next-at.result in
+    let there : IsNextAt rows c.args.text.now c.args.cursor.at at = subst (λ (t : List ℕ). IsNextAt rows t c.args.cursor.at at) is (record { value = n.value; plain = n.plain; order = n.behind; within = n.within; ascii = n.ascii }) in
+    on-err c.span.result _
+    (span-stops g.F.BrokenLinkCallback.answers (shown_options c.args.reader.now.options) (g.E.EntityLookup.replacement c.args.reader.now.entities.now) c.args.reader.now.references.now c.args.footnotes.now c.args.leaf.now rows c.args.text.now c.requires.same
+    c.args.cursor c.args.self.now at set there c.args.sought.now c.args.callback.now)

@@ -9,8 +9,10 @@ use Rattle.cmark_inline.specs.Stands.{IsLinkReference, IsTarget}
 use Rattle.cmark_inline.specs.declared.reference.LinkReference.{LinkReference}
 use Rattle.cmark_inline.specs.declared.link.Target.{Target}
 use Rattle.cmark_inline.specs.declared.state.InlineState.{InlineState}
+use Rattle.cmark_inline.proofs.LastCalls.{on-err}
+use Rattle.cmark_inline.proofs.AsksSteps.{target-none}
 use Rattle.cmark_inline.proofs.Keeping.{spans-both, spans-label}
-use Rattle.cmark_inline.proofs.TargetMakes.{inline-decides, label-within, led-decides, led-target, none-decides, spent-decides}
+use Rattle.cmark_inline.proofs.TargetMakes.{inline-decides, label-within, led-asks, led-decides, led-target, none-decides, spent-decides}
 use Rattle.cmark_inline.proofs.state.InlineState.target.Goals as goal
 
 pub returns-in-Some-clause-decides : goal.returns-in-Some-clause-decides
@@ -102,3 +104,21 @@ returns-then-self-eq0-clause-others g c = spans-label c.args.self.now c.remember
 
 pub returns-in_err-found-clause-others : goal.returns-in_err-found-clause-others
 returns-in_err-found-clause-others g c = spans-both c.args.self.now c.remember_label.new.self c.reference.new.self c.remember_label.ensures.others c.reference.ensures.others
+
+pub returns-in_err-target-clause-stops : goal.returns-in_err-target-clause-stops
+returns-in_err-target-clause-stops g c = on-err c.from_residual.result _
+    (target-none g.F.BrokenLinkCallback.answers (shown_options c.args.reader.now.options) (g.E.EntityLookup.replacement c.args.reader.now.entities.now) c.args.reader.now.references.now c.args.leaf.now c.args.text.now c.args.close c.args.bracket c.args.self.now c.args.callback.now c.args.callback.now refl)
+
+pub returns-in_err-found-clause-stops : goal.returns-in_err-found-clause-stops
+returns-in_err-found-clause-stops g c = on-err c.from_residual-in_err-found.result _
+    (let link_reference = subst (λ (o : Option LinkReference). IfSome o (IsLinkReference c.args.text.now c.args.close)) c.in-Some-link_reference_at.is c.link_reference_at.ensures.ends in
+    let same = ap (λ (s : InlineState). s.expansion_left) c.remember_label.ensures.others in
+    let some = c.if-self-eq0.false in
+    led-asks g.F.BrokenLinkCallback.answers (shown_options c.args.reader.now.options) (g.E.EntityLookup.replacement c.args.reader.now.entities.now) c.args.reader.now.references.now c.args.leaf.now c.args.text.now c.requires.same c.args.bracket c.args.close c.args.self.now
+    (ap (option_map (shown_target c.args.text.now)) (sym c.in_default.is) ∙ c.in_ok-target.ensures.value) c.requires.bracket.before
+    c.in-Some-link_reference_at.link_reference link_reference.ends.0 link_reference.resume.0
+    (ap (option_map (shown_link_reference c.args.text.now)) (sym c.in-Some-link_reference_at.is) ∙ c.link_reference_at.ensures.value
+    ∙ ap (λ z. reference_behind (shown_options c.args.reader.now.options) z (slice c.args.text.now c.args.bracket.inside c.args.close) (drop (c.args.close + 1) c.args.text.now)) c.closes_label-closes_label.ensures)
+    c.args.callback.now c.reference.new.callback
+    (ne_eqb c.args.self.now.expansion_left 0 (λ e. some (same ∙ e)))
+    c.in_err-found.ensures.stops)

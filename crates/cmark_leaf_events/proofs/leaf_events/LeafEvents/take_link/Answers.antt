@@ -5,7 +5,7 @@ use Rattle.cmark_references.specs.Links.{shown_link}
 use Rattle.cmark_slots.specs.SlotViews.{linked_or_none}
 use Rattle.cmark_leaf_events.proofs.leaf_events.LeafEvents.take_link.Goals as goal
 
--- the others stay where one is set
+-- the other elements are unchanged if one is set
 set-apart : {X : Type 0} (xs : List X) (index i : ℕ) (x : X) → index ≢ i → slice_get (set xs index x) i ≡ slice_get xs i
 set-apart [] zero i x ne = refl
 set-apart [] (suc index) i x ne = refl

@@ -4,7 +4,7 @@ use Rattle.cmark_leaf_text.specs.declared.stretch.Stretch.{Stretch}
 use Rattle.cmark_leaf_text.proofs.StretchSteps.{place-order}
 use Rattle.cmark_leaf_text.proofs.leaf_text.LeafText.first_from.Goals as goal
 
--- a later byte stands no earlier in the source
+-- a later byte of the text is not earlier in the source
 order : (source : List ℕ) (ss : List Stretch) (a b : ℕ) → AreStretches source 0 0 ss → a ≤ b → b < length (joined source ss) → place_in ss a ≤ place_in ss b
 order source ss a b all le lt = place-order source 0 0 ss a b all (let q : 0 ≤ a = omega arith in q) le (let q : b < 0 + length (joined source ss) = omega (arith, lt) in q)
 

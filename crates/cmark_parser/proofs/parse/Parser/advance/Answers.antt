@@ -36,5 +36,7 @@ returns-in-Ok-None-clause-gives g c =
 
 pub returns-in-Err-clause-gives : goal.returns-in-Err-clause-gives
 returns-in-Err-clause-gives g c =
+    let replacement = g.E.EntityLookup.replacement in
+    let old = c.args.self.now in
     let e = c.in-Err.ensures in
-    gives-error g.F.BrokenLinkCallback.answers g.E.EntityLookup.replacement c.args.self.now _ c.in-Err.error c.if-self.false refl e.ends e.asked e.source e.definitions e.footnotes e.counted
+    gives-error g.F.BrokenLinkCallback.answers replacement old _ c.in-Err.error c.if-self.false refl e.ends (e.stops (reader_for replacement old) (read-by replacement old c.if-self.false c.requires.goes)) e.source e.definitions e.footnotes e.counted

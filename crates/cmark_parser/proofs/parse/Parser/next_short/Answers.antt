@@ -12,7 +12,7 @@ returns-then-is_last-clause-gives g c =
     let old = c.args.self.now in
     let e = c.next_short-given.ensures in
     gives-or-err g.F.BrokenLinkCallback.answers replacement old _ c.if-not-self.true e.source e.definitions e.footnotes e.counted c.next_short-given.result (sym c.if-is_last.true ∙ c.is_last.ensures)
-    (e.given (reader_for replacement old) (read-by replacement old c.if-not-self.true c.requires.goes)) e.fewer e.ends e.asked
+    (e.given (reader_for replacement old) (read-by replacement old c.if-not-self.true c.requires.goes)) e.fewer e.ends (e.stops (reader_for replacement old) (read-by replacement old c.if-not-self.true c.requires.goes))
 
 pub returns-else-is_last-clause-gives : goal.returns-else-is_last-clause-gives
 returns-else-is_last-clause-gives g c =
@@ -20,7 +20,7 @@ returns-else-is_last-clause-gives g c =
     let old = c.args.self.now in
     let e = c.next_short-given.ensures in
     gives-or-err g.F.BrokenLinkCallback.answers replacement old _ c.if-not-self.true e.source e.definitions e.footnotes e.counted c.next_short-given.result (c.if-not-self.true ∙ sym c.if-is_last.false ∙ c.is_last.ensures)
-    (e.given (reader_for replacement old) (read-by replacement old c.if-not-self.true c.requires.goes)) e.fewer e.ends e.asked
+    (e.given (reader_for replacement old) (read-by replacement old c.if-not-self.true c.requires.goes)) e.fewer e.ends (e.stops (reader_for replacement old) (read-by replacement old c.if-not-self.true c.requires.goes))
 
 pub returns-clause-gives : goal.returns-clause-gives
 returns-clause-gives g c = gives-over g.F.BrokenLinkCallback.answers g.E.EntityLookup.replacement c.args.self.now c.if-not-self.false c.requires.goes.counted

@@ -1,6 +1,8 @@
-use Rattle.std.proofs.Common.{[], refl}
+use Rattle.std.proofs.Common.{refl}
 use Rattle.cmark_parser.specs.Parsing.{reader_for}
-use Rattle.cmark_parser.proofs.ParseSteps.{gives-error, gives-next-start, going, link-going, link-walked, read-by}
+use Rattle.cmark_parser.proofs.ParseSteps.{SaysIfAny, gives-error, gives-next-start, going, link-going, link-walked, read-by}
+use Rattle.cmark_span_walk.proofs.Readings.{passes-none}
+use Rattle.cmark_span_walk.proofs.StopSteps.{stops-here}
 use Rattle.cmark_parser.proofs.parse.Parser.pass_link.Goals as goal
 
 pub pass_link-requires : goal.pass_link-requires
@@ -18,5 +20,11 @@ returns-in-Ok-clause-gives g c =
 
 pub returns-in-Err-clause-gives : goal.returns-in-Err-clause-gives
 returns-in-Err-clause-gives g c =
+    let Says = SaysIfAny g.F.BrokenLinkCallback.answers in
+    let replacement = g.E.EntityLookup.replacement in
+    let old = c.args.self.now in
+    let reader = reader_for replacement old in
+    let going = link-going old c.requires.ahead in
     let e = c.in-Err.ensures in
-    gives-error g.F.BrokenLinkCallback.answers g.E.EntityLookup.replacement c.args.self.now _ c.in-Err.error (link-going c.args.self.now c.requires.ahead) refl e.ends ([], e.callback) e.source e.definitions e.footnotes e.counted
+    gives-error g.F.BrokenLinkCallback.answers replacement old _ c.in-Err.error going refl e.ends
+    (stops-here Says replacement reader old.spans old.spans _ (passes-none Says replacement reader old.spans (read-by replacement old going c.requires.goes)) e.callback) e.source e.definitions e.footnotes e.counted

@@ -1,6 +1,7 @@
 use Rattle.std.proofs.Common.{ℕ, ◌≤◌, ◌*◌, List, [], length, true≢false, refl, sym, ap, subst, ◌∙◌}
 use Rattle.cmark_inline.specs.Counted.{total}
 use Rattle.cmark_inline.specs.Resolved.{ResolvesAs}
+use Rattle.cmark_inline.proofs.ReadingFrom.{nothing-stops}
 use Rattle.cmark_inline_model.specs.TextPlaces.{place_in}
 use Rattle.cmark_leaf_text.specs.Reads.{text_of}
 use Rattle.cmark_leaf_text.specs.Stretches.{leaf_bytes}
@@ -90,3 +91,21 @@ returns-in_default-resolve-clause-asked g c = asked-up-to g.F.BrokenLinkCallback
 
 pub returns-clause-asked : goal.returns-clause-asked
 returns-clause-asked g c = asked-up-to g.F.BrokenLinkCallback.answers _ c.args.self.now.callback c.resolve.new.callback c.in-Ok-resolve.ensures.asks
+
+pub returns-in_default-clause-stops : goal.returns-in_default-clause-stops
+returns-in_default-clause-stops g c = λ reader leaf others before placed same.
+    nothing-stops g.F.BrokenLinkCallback.answers reader leaf (length reader.source) placed.placed.turn c.args.self.now.inline.expansion_left c.args.self.now.callback
+
+pub returns-in_default-resolve-clause-stops : goal.returns-in_default-resolve-clause-stops
+returns-in_default-resolve-clause-stops g c = λ reader leaf others before placed same.
+    let walk = c.args.self.now in
+    let read = c.read.new.self in
+    let e = c.in-Ok.ensures in
+    let source = same.source ∙ sym e.source in
+    let text = text-same reader leaf placed.placed read walk.lines.items (sym source) before.lines.are (e.text ∙ ap (leaf_bytes walk.leaf.source.now) c.as_slice.ensures.value ∙ ap (λ s. leaf_bytes s walk.lines.items) (sym e.source)) in
+    let stand = place-same reader leaf placed.placed read c.as_slice.result.now (c.as_slice.ensures.value ∙ before.lines.are) text e.places in
+    let places = read-places reader leaf placed.placed read placed.pipes text (sym before.cell ∙ sym e.cell) stand in
+    c.in_default-resolve.ensures.stops before.blocks.special reader leaf (place_in reader leaf)
+    (leaf-same (shown_options walk.options) (g.E.EntityLookup.replacement walk.entities.now) c.definitions.result.now _ walk.footnotes reader leaf read source same.options_are same.lookup_is same.definitions c.definitions.ensures same.footnotes_are
+    same.callback places)
+    places

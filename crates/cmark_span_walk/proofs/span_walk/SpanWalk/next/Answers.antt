@@ -9,6 +9,7 @@ use Rattle.cmark_walk.proofs.WalkSteps.{on-err}
 use Rattle.cmark_span_walk.specs.Walking.{ArePlaced, GivesSpan, HasRange, events_left, source_of}
 use Rattle.cmark_span_walk.proofs.EndSteps.{blocks-begin, leaf-keeps, text-begins}
 use Rattle.cmark_span_walk.proofs.Readings.{asked-on, asked-same, ends-on, event-passes, leaf-passes, met-same, over-ends, passes-none, passes-on}
+use Rattle.cmark_span_walk.proofs.StopSteps.{stops-here, stops-leaf}
 use Rattle.cmark_span_walk.proofs.Walks.{before-leaf, behind-at, lasts-leaf, lasts-none, met-by, over-at, less-since, met-fewer}
 use Rattle.cmark_span_walk.proofs.span_walk.SpanWalk.next.Goals as goal
 
@@ -181,3 +182,27 @@ returns-in-Event-clause-fewer g c =
     let out = e.outside (ap is_some c.in_default-span.is) in
     let gives = subst (λ m. walking.Gives s.0 m c.next.new.lines.items c.next.new.self) c.in-Event.is (c.in-Ok-next.ensures.given s.0 s.1.blocks.remains) in
     met-fewer mid c.next.new.self c.next.new.lines out c.in-Ok-next.ensures.text c.args.self.now c.loop-span.self _ s.0 (GivenOf (shown_ranged c.in-Event.given)) gives.0 s.1 gives.1 c.loop-span.invariant.lasts e.most e.few e.slots e.around.budget refl
+
+pub returns-in_default-clause-stops : goal.returns-in_default-clause-stops
+returns-in_default-clause-stops g c = λ reader r.
+    stops-here g.F.BrokenLinkCallback.answers g.E.EntityLookup.replacement reader c.args.self.now c.loop-span.self c.next_span.new.self (c.loop-span.invariant.reads reader r) c.in_default.ensures.around.callback
+
+pub returns-in_default-next-clause-stops : goal.returns-in_default-next-clause-stops
+returns-in_default-next-clause-stops g c = λ reader r.
+    stops-here g.F.BrokenLinkCallback.answers g.E.EntityLookup.replacement reader c.args.self.now c.loop-span.self _ (c.loop-span.invariant.reads reader r) c.in-Ok.ensures.around.callback
+
+pub returns-in_err-enter_leaf-in-Leaf-clause-stops : goal.returns-in_err-enter_leaf-in-Leaf-clause-stops
+returns-in_err-enter_leaf-in-Leaf-clause-stops g c = λ reader r. on-err c.from_residual.result _
+    (let head = c.loop-span.self in
+    let mid = c.next_span.new.self in
+    let m = c.in-Ok-next.ensures in
+    let out = c.in-Ok.ensures.outside (ap is_some c.in_default-span.is) in
+    let p = c.loop-span.invariant.reads reader r in
+    let none = subst (λ o. GivesSpan g.F.BrokenLinkCallback.answers g.E.EntityLookup.replacement reader head o mid) c.in_default-span.is (c.in-Ok.ensures.given reader p.read_by) in
+    let q = passes-on g.F.BrokenLinkCallback.answers g.E.EntityLookup.replacement reader c.args.self.now head mid [] p none in
+    let by = q.read_by in
+    let met = subst (λ m. walking.Gives by.left m c.next.new.lines.items c.next.new.self) c.in-Leaf.is (m.given by.left by.stands.blocks.remains) in
+    let here = before-leaf mid c.next.new.self c.next.new.lines out m.text c.in-Leaf.is_cell _ by.left met.0 met.1 by.stands met.2 met.3 met.4 met.5 refl in
+    let placed : ArePlaced reader (Content met.0 ∷ met.1) = subst (ArePlaced reader) met.2 by.placed in
+    stops-leaf g.F.BrokenLinkCallback.answers g.E.EntityLookup.replacement reader c.args.self.now mid c.enter_leaf.new.self met.0 met.1 out q met.2
+    (c.in_err-enter_leaf-in-Leaf.ensures.stops reader met.0 met.1 here placed.0 (met-same g.F.BrokenLinkCallback.answers g.E.EntityLookup.replacement reader mid c.next.new.self c.next.new.lines out m.text m.definitions _ by.same)))

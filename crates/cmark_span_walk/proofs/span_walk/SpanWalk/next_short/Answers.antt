@@ -15,6 +15,7 @@ use Rattle.cmark_walk.proofs.WalkSteps.{on-err}
 use Rattle.cmark_span_walk.specs.Walking.{ArePlaced, GivesInLeaf, HasRange, KeepsBehindLeaf, LeavesFewer, LeavesLeaf}
 use Rattle.cmark_span_walk.proofs.EndSteps.{blocks-begin, leaf-keeps, text-begins}
 use Rattle.cmark_span_walk.proofs.Readings.{asked-on, asked-same, ends-on, event-passes, leaf-passes, long-passes, met-same, over-ends, passes-none, passes-on, plain-passes, plain-range}
+use Rattle.cmark_span_walk.proofs.StopSteps.{stops-here, stops-leaf}
 use Rattle.cmark_span_walk.proofs.Walks.{before-leaf, behind-at, lasts-leaf, lasts-none, less-since, met-by, met-fewer, most-since, over-at, same-at}
 use Rattle.cmark_span_walk.proofs.span_walk.SpanWalk.next_short.Goals as goal
 
@@ -354,3 +355,31 @@ pub returns-in_err-enter_leaf-in-Leaf-clause-asked : goal.returns-in_err-enter_l
 returns-in_err-enter_leaf-in-Leaf-clause-asked g c =
     on-err c.from_residual.result _
     (asked-on g.F.BrokenLinkCallback.answers c.args.self.now.callback c.loop-span.self.callback c.next_in_leaf.new.self.callback c.enter_leaf.new.self.callback c.loop-span.invariant.asked c.in-Ok.ensures.around.callback c.in_err-enter_leaf-in-Leaf.ensures.asked)
+
+pub returns-in_default-clause-stops : goal.returns-in_default-clause-stops
+returns-in_default-clause-stops g c = λ reader r.
+    stops-here g.F.BrokenLinkCallback.answers g.E.EntityLookup.replacement reader c.args.self.now c.loop-span.self c.next_in_leaf.new.self (c.loop-span.invariant.reads reader r) c.in_default.ensures.around.callback
+
+pub returns-in_default-next_short-clause-stops : goal.returns-in_default-next_short-clause-stops
+returns-in_default-next_short-clause-stops g c = λ reader r.
+    stops-here g.F.BrokenLinkCallback.answers g.E.EntityLookup.replacement reader c.args.self.now c.loop-span.self _ (c.loop-span.invariant.reads reader r) c.in-Ok.ensures.around.callback
+
+pub returns-in_err-enter_leaf-in-Leaf-clause-stops : goal.returns-in_err-enter_leaf-in-Leaf-clause-stops
+returns-in_err-enter_leaf-in-Leaf-clause-stops g c = λ reader r. on-err c.from_residual.result _
+    (let head = c.loop-span.self in
+    let mid = c.next_in_leaf.new.self in
+    let walk = c.next_short.new.self in
+    let lines = c.next_short.new.lines in
+    let e = c.in-Ok.ensures in
+    let m = c.in-Ok-next_short.ensures in
+    let out = subst (λ (n : Next). LeavesLeaf n mid) c.in-Over.is e.outside in
+    let p = c.loop-span.invariant.reads reader r in
+    let none = subst (λ (n : Next). GivesInLeaf g.F.BrokenLinkCallback.answers g.E.EntityLookup.replacement reader head n mid) c.in-Over.is (e.given reader p.read_by) in
+    let q = passes-on g.F.BrokenLinkCallback.answers g.E.EntityLookup.replacement reader c.args.self.now head mid [] p none in
+    let by = q.read_by in
+    let given = subst (λ (b : Brief). walking.GivesBrief mid.walk b lines.items walk) c.in-Leaf.is m.given in
+    let met = given by.left by.stands.blocks.remains in
+    let here = before-leaf mid walk lines out m.text c.in-Leaf.is_cell _ by.left met.0 met.1 by.stands met.2 met.3 met.4 met.5 refl in
+    let placed : ArePlaced reader (Content met.0 ∷ met.1) = subst (ArePlaced reader) met.2 by.placed in
+    stops-leaf g.F.BrokenLinkCallback.answers g.E.EntityLookup.replacement reader c.args.self.now mid c.enter_leaf.new.self met.0 met.1 out q met.2
+    (c.in_err-enter_leaf-in-Leaf.ensures.stops reader met.0 met.1 here placed.0 (met-same g.F.BrokenLinkCallback.answers g.E.EntityLookup.replacement reader mid walk lines out m.text m.definitions _ by.same)))

@@ -17,7 +17,7 @@ pub returns-in_err-push-clause-text : goal.returns-in_err-push-clause-text
 returns-in_err-push-clause-text c =
     on-err c.from_residual.result _ (has-own-text c.args.self.now c.item-leaf.result.now c.args.ix c.in-Some.text_end c.requires.1 c.item-leaf.ensures (sym c.own_text_end.ensures ∙ c.in-Some.is))
 
--- where it has none, the nodes inside are the lines
+-- if it has no text of its own, the nodes inside are the lines
 pub child-requires : goal.child-requires
 child-requires c = focus-node c.args.self.now c.args.ix c.requires
 
