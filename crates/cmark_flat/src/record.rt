@@ -1,6 +1,6 @@
 //! Records as bytes.
 
-ghost use Rattle.std.specs.Prelude.{◌≡◌, ◌++◌, OnOk};
+ghost use Rattle.std.specs.Prelude.{◌≡◌, ◌≤◌, ◌++◌, length, take, drop, OnOk};
 ghost use Rattle.cmark_flat.specs.Records.{head, record_bytes, shown_record, wide};
 
 use std::alloc::AllocError;
@@ -59,4 +59,20 @@ pub fn put(out: &mut Vec<u8>, given: Record<'_>) -> Result<(), AllocError>
     };
     put_head(out, mark, given.start, given.end, given.text.len())?;
     out.extend_from_slice(given.text.as_bytes())
+}
+
+/// The records from this place on.
+pub fn rest_from<'a, 'b>(records: &'b [Record<'a>], at: usize) -> &'b [Record<'a>]
+    requires { at ≤ length records.now }
+    ensures { result.now ≡ drop at records.now }
+{
+    &records[at..]
+}
+
+/// This many records from the front.
+pub fn front_of<'a, 'b>(records: &'b [Record<'a>], count: usize) -> &'b [Record<'a>]
+    requires { count ≤ length records.now }
+    ensures { result.now ≡ take count records.now }
+{
+    &records[..count]
 }
