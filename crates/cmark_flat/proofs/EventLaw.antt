@@ -1,4 +1,4 @@
--- The records of an event are read xs this event.
+-- Decoding the records of an event gives this event.
 use Rattle.std.proofs.Common.{◌≡◌, ℕ, zero, suc, ◌+◌, ◌^◌, ◌<◌, Bool, true, false, cond, ltb, List, [], ◌∷◌, ◌++◌, length, map, Option, Some, None, refl, sym, ap, subst, ◌∙◌, arith}
 use Rattle.std.specs.List.{flat_map, AllByRecursion}
 use Rattle.std.proofs.lemmas.Bool.{lt-ltb}
@@ -105,8 +105,8 @@ id_again (Some id) rest h = refl
 heading_again : (a : Attributes) → heading_parts_of (heading_parts a) ≡ Some a
 heading_again a =
     let attributes : List FlatRecord = flat_map attribute_parts a.others in
-    let behind : List FlatRecord = map class_part a.classes ++ attributes in
-    ap (λ o. o >>= λ id. classes_at id.1 >>= λ classes. attributes_of classes.1 >>= λ others. Some (record { id = id.0; classes = classes.0; others = others })) (id_again a.id behind (no_id a.classes a.others))
+    let after_id : List FlatRecord = map class_part a.classes ++ attributes in
+    ap (λ o. o >>= λ id. classes_at id.1 >>= λ classes. attributes_of classes.1 >>= λ others. Some (record { id = id.0; classes = classes.0; others = others })) (id_again a.id after_id (no_id a.classes a.others))
     ∙ ap (λ o. o >>= λ classes. attributes_of classes.1 >>= λ others. Some (record { id = a.id; classes = classes.0; others = others })) (classes_again a.classes attributes (no_class a.others))
     ∙ ap (λ o. o >>= λ others. Some (record { id = a.id; classes = a.classes; others = others })) (attributes_again a.others)
 

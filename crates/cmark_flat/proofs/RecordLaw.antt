@@ -70,14 +70,14 @@ from_range r rest = refl
 
 record_again : (r : FlatRecord) (rest : List ℕ) → Fits r → record_at (record_bytes r ++ rest) ≡ Some (r, rest)
 record_again r rest fits =
-    let behind_size : List ℕ = r.text ++ rest in
-    let behind_end : List ℕ = wide (length r.text) ++ behind_size in
-    let behind_start : List ℕ = wide r.end ++ behind_end in
+    let after_size : List ℕ = r.text ++ rest in
+    let after_end : List ℕ = wide (length r.text) ++ after_size in
+    let after_start : List ℕ = wide r.end ++ after_end in
     from_range r rest
     ∙ ap (λ bytes. wide_at bytes >>= with_start r.kind r.tag r.datum) (regrouped (wide r.start) (wide r.end) (wide (length r.text)) r.text rest)
-    ∙ ap (λ o. o >>= with_start r.kind r.tag r.datum) (wide_again r.start behind_start fits.start)
-    ∙ ap (λ o. o >>= with_end r.kind r.tag r.datum r.start) (wide_again r.end behind_end fits.end)
-    ∙ ap (λ o. o >>= with_size r.kind r.tag r.datum r.start r.end) (wide_again (length r.text) behind_size fits.size)
+    ∙ ap (λ o. o >>= with_start r.kind r.tag r.datum) (wide_again r.start after_start fits.start)
+    ∙ ap (λ o. o >>= with_end r.kind r.tag r.datum r.start) (wide_again r.end after_end fits.end)
+    ∙ ap (λ o. o >>= with_size r.kind r.tag r.datum r.start r.end) (wide_again (length r.text) after_size fits.size)
     ∙ ap (λ o. o >>= with_text r.kind r.tag r.datum r.start r.end) (text_again r.text rest fits.utf8)
 
 pub nothing_left : (most : ℕ) → records_within most [] ≡ Some []
