@@ -1,4 +1,4 @@
-//! What the numbers in a record stand for.
+//! The values that the numbers in a record stand for.
 
 ghost use Rattle.std.specs.Prelude.{◌≡◌, option_map};
 ghost use Rattle.cmark_flat.specs.Decode.{alignment_of, flag_of, level_of, link_of, metadata_of, plain_end, plain_tag, quote_of};
@@ -76,7 +76,7 @@ pub fn metadata_of(number: u8) -> Option<MetadataBlockKind>
     }
 }
 
-/// How a link or an image is written.
+/// The link type of a link or an image.
 pub fn link_of(number: u8) -> Option<LinkType>
     ensures { Reads shown_link_type result (link_of number) }
 {

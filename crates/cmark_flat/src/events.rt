@@ -58,7 +58,7 @@ fn ranged_at<'a>(alloc: Global, records: &[Record<'a>]) -> Result<Ranged<'a>, De
     ranged_of(alloc, own, front_of(after, count))
 }
 
-/// How many further records come first.
+/// The number of further records that come first.
 fn parts_len(records: &[Record<'_>]) -> usize
     ensures value { result ≡ prefix_len (λ r. is_further (shown_record r)) records.now }
     ensures within { result ≤ length records.now }

@@ -80,7 +80,7 @@ pub const METADATA_BLOCK_TAG: u8 = 24;
 
 pub const NO_TAG: u8 = 0;
 
-// What a further record has.
+// The contents of further records.
 pub const TITLE_PART: u8 = 1;
 
 pub const LABEL_PART: u8 = 2;

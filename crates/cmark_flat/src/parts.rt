@@ -1,4 +1,4 @@
-//! What further records have.
+//! The contents of further records.
 
 ghost use Rattle.std.specs.Prelude.{◌≡◌, ◌≤◌, length, map, option_map, IfSome};
 ghost use Rattle.cmark_flat.specs.Decode.{attribute_at, attribute_of, attributes_of, classes_at, first_of, heading_parts_of, id_at, linked_of, part_text, value_of};
@@ -65,7 +65,7 @@ fn attribute_of<'a>(
     Some((CowStr::Borrowed(name), value))
 }
 
-/// The attribute that two further records say.
+/// The attribute of the two further records that come first.
 fn attribute_at<'a>(parts: &[Record<'a>]) -> Option<(CowStr<'a>, Option<CowStr<'a>>)>
     ensures reads { Reads shown_attribute result (attribute_at (map shown_record parts.now)) }
     ensures two { IfSome result (λ x. 2 ≤ length parts.now) }
@@ -76,7 +76,7 @@ fn attribute_at<'a>(parts: &[Record<'a>]) -> Option<(CowStr<'a>, Option<CowStr<'
     attribute_of(name, value)
 }
 
-/// The attributes of a heading but its id and its classes.
+/// The attributes of a heading, without its id and its classes.
 fn attributes_of<'a>(
     alloc: Global,
     parts: &[Record<'a>],
@@ -140,7 +140,7 @@ pub struct HeadingParts<'a> {
     pub attrs: Vec<(CowStr<'a>, Option<CowStr<'a>>)>,
 }
 
-/// What the further records of a heading have.
+/// The attributes of a heading, its id and its classes included, from its further records.
 pub fn heading_parts_of<'a>(
     alloc: Global,
     parts: &[Record<'a>],
@@ -155,7 +155,7 @@ pub fn heading_parts_of<'a>(
     Ok(HeadingParts { id, classes, attrs })
 }
 
-/// What leads somewhere: a link or an image.
+/// The parts of a link or an image.
 #[derive(Drop)]
 pub struct Linked<'a> {
     pub link_type: LinkType,
@@ -164,7 +164,7 @@ pub struct Linked<'a> {
     pub id: CowStr<'a>,
 }
 
-/// Where a link or an image leads.
+/// The link or image of a record and its further records.
 pub fn linked_of<'a>(own: &Record<'a>, parts: &[Record<'a>]) -> Option<Linked<'a>>
     ensures { Reads (λ x. shown_linked x.link_type x.dest_url x.title x.id) result (linked_of (shown_record own.now) (map shown_record parts.now)) }
 {

@@ -69,7 +69,7 @@ pub fn rest_from<'a, 'b>(records: &'b [Record<'a>], at: usize) -> &'b [Record<'a
     &records[at..]
 }
 
-/// This many records from the front.
+/// The first `count` records.
 pub fn front_of<'a, 'b>(records: &'b [Record<'a>], count: usize) -> &'b [Record<'a>]
     requires { count ≤ length records.now }
     ensures { result.now ≡ take count records.now }

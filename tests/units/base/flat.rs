@@ -1,6 +1,6 @@
 //! Flat records, compared with bytes that are written here by the layout of the crate's README.
 
-use cmark_flat::{append_event, append_given};
+use cmark_flat::{DecodeError, append_event, append_given, decode, render};
 use cmark_text::{Alignment, CodeBlockKind, CowStr, Event, HeadingLevel, LinkType, Tag, TagEnd};
 use std::alloc::{AllocError, Global};
 use std::test::Fail;
@@ -98,5 +98,79 @@ fn writes_links_lists_tables_and_ends(rt: HostRuntime) -> Result<(), Fail> {
     let end = Event::End(TagEnd::Heading(HeadingLevel::H6));
     assert!(rt; gives(alloc, end, &[(2, 2, 6, 3, 200, "")])?);
     assert!(rt; gives(alloc, Event::TaskListMarker(true), &[(13, 0, 1, 3, 200, "")])?);
+    Ok(())
+}
+
+#[test]
+fn decodes_events(rt: HostRuntime) -> Result<(), Fail> {
+    let alloc = rt.alloc();
+    let rows = [
+        (1, 2, 2, 3, 200, ""),
+        (0, 3, 0, 0, 0, "i"),
+        (0, 4, 0, 0, 0, "c"),
+        (0, 5, 0, 0, 0, "n"),
+        (0, 7, 0, 0, 0, ""),
+        (3, 0, 0, 5, 6, "a"),
+        (2, 2, 2, 3, 200, ""),
+    ];
+    let bytes = bytes_of(alloc, &rows)?;
+    let Ok(events) = decode(alloc, bytes.as_slice()) else {
+        return Err(Fail::from("malformed"));
+    };
+    let [start, text, end] = events.as_slice() else {
+        return Err(Fail::from("three events"));
+    };
+    let heading = Event::Start(Tag::Heading {
+        level: HeadingLevel::H2,
+        id: Some(text_of("i")),
+        classes: vec![in alloc; text_of("c")]?,
+        attrs: vec![in alloc; (text_of("n"), None)]?,
+    });
+    assert!(rt; start.event == heading && start.range == (3..200));
+    assert!(rt; text.event == Event::Text(text_of("a")) && text.range == (5..6));
+    assert!(rt; end.event == Event::End(TagEnd::Heading(HeadingLevel::H2)));
+    Ok(())
+}
+
+#[test]
+fn renders_records(rt: HostRuntime) -> Result<(), Fail> {
+    let alloc = rt.alloc();
+    let rows = [
+        (1, 1, 0, 0, 9, ""),
+        (1, 22, 0, 0, 9, "/u"),
+        (0, 1, 0, 0, 0, "t"),
+        (0, 2, 0, 0, 0, ""),
+        (3, 0, 0, 1, 2, "a<"),
+        (2, 22, 0, 0, 9, ""),
+        (2, 1, 0, 0, 9, ""),
+    ];
+    let bytes = bytes_of(alloc, &rows)?;
+    let Ok(html) = render(alloc, bytes.as_slice()) else {
+        return Err(Fail::from("malformed"));
+    };
+    assert!(rt; html.as_str() == "<p><a href=\"/u\" title=\"t\">a&lt;</a></p>\n");
+    Ok(())
+}
+
+#[test]
+fn refuses_what_is_no_record_of_an_event(rt: HostRuntime) -> Result<(), Fail> {
+    let alloc = rt.alloc();
+    for rows in [
+        [(0, 1, 0, 0, 0, ""), (10, 0, 0, 0, 1, "")],
+        [(14, 0, 0, 0, 1, ""), (10, 0, 0, 0, 1, "")],
+        [(1, 25, 0, 0, 1, ""), (10, 0, 0, 0, 1, "")],
+        [(1, 2, 7, 0, 1, ""), (10, 0, 0, 0, 1, "")],
+        [(1, 22, 0, 0, 1, ""), (0, 2, 0, 0, 0, "")],
+        [(1, 1, 0, 0, 1, ""), (0, 1, 0, 0, 0, "")],
+        [(1, 6, 0, 0, 1, ""), (0, 8, 0, 1, 0, "")],
+        [(10, 0, 0, 0, 1, ""), (12, 0, 0, 0, 1, "a")],
+    ] {
+        let bytes = bytes_of(alloc, &rows)?;
+        let found = render(alloc, bytes.as_slice());
+        assert!(rt; matches!(&found, Err(DecodeError::Malformed)));
+    }
+    let whole = bytes_of(alloc, &[(3, 0, 0, 0, 1, "a")])?;
+    let short = &whole.as_slice()[..whole.len() - 1];
+    assert!(rt; matches!(&render(alloc, short), Err(DecodeError::Malformed)));
     Ok(())
 }
