@@ -60,7 +60,7 @@ link_again Email = refl
 link_again (WikiLink false) = refl
 link_again (WikiLink true) = refl
 
--- a record of its own: what it has does not depend on its range
+-- a record with any range
 abbrev own : (kind tag datum start end : ℕ) → List ℕ → FlatRecord
 own kind tag datum start end text = record { kind = kind; tag = tag; datum = datum; start = start; end = end; text = text }
 

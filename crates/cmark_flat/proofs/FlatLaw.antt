@@ -19,7 +19,7 @@ use Rattle.cmark_flat.specs.Records.{FlatRecord, spelled}
 use Rattle.cmark_flat.proofs.EventLaw.{events_again}
 use Rattle.cmark_flat.proofs.RecordLaw.{Fits, records_again}
 
--- what a text of a record is
+-- a text that a record can have
 abbrev Holds : List ℕ → Type 0
 Holds text = (length text < 2 ^ 64) × (is_utf8 text ≡ true)
 

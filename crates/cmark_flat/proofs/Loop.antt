@@ -6,11 +6,11 @@ use Rattle.cmark_flat.specs.Decode.{◌>>=◌, attribute_at, attributes_of, each
 use Rattle.cmark_flat.specs.Records.{shown_record}
 use Rattle.cmark_flat.specs.declared.record.Record.{Record}
 
--- what was read before, and what is still read
+-- the elements read before, then those that are still to be read
 abbrev pub with_front : {B : Type 0} → List B → Option (List B) → Option (List B)
 with_front front read = read >>= λ xs. Some (front ++ xs)
 
--- an element, and what is still read
+-- an element, then those that are still to be read
 abbrev pub with_first : {B : Type 0} → Option B → Option (List B) → Option (List B)
 with_first first read = first >>= λ x. read >>= λ xs. Some (x ∷ xs)
 
@@ -39,9 +39,9 @@ pub nothing_before : {B : Type 0} (read : Option (List B)) → with_front [] rea
 nothing_before None = refl
 nothing_before (Some xs) = refl
 
--- ---- classes, and what comes after them
+-- ---- classes, and the records after them
 
--- what was read before, and what is still read
+-- the elements read before, then those that are still to be read
 abbrev pub with_classes : {C R : Type 0} → List C → Option (List C × List R) → Option (List C × List R)
 with_classes front read = read >>= λ x. Some (front ++ x.0, x.1)
 

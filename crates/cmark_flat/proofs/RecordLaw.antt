@@ -11,7 +11,7 @@ use Rattle.std.proofs.lemmas.Nat.{from_le_bytes-to_le_bytes_8}
 use Rattle.cmark_flat.specs.Records.{FlatRecord, record_bytes, spelled, wide}
 use Rattle.cmark_flat.specs.Decode.{◌>>=◌, byte_at, zero_at, unused_at, wide_at, text_at, record_at, records_of, records_within, some_if}
 
--- what a record's fields hold
+-- the fields are in range, and the text is UTF-8
 pub record Fits (r : FlatRecord) : Type 0 where
   pub start : r.start < 2 ^ 64
   pub end : r.end < 2 ^ 64
@@ -51,7 +51,7 @@ text_again text rest utf8 =
 regrouped : (a b c d rest : List ℕ) → a ++ b ++ c ++ d ++ rest ≡ a ++ (b ++ (c ++ (d ++ rest)))
 regrouped a b c d rest = append_assoc (a ++ b ++ c) d rest ∙ append_assoc (a ++ b) c (d ++ rest) ∙ append_assoc a b (c ++ (d ++ rest))
 
--- what is read of a record after its range starts
+-- the rest of a record, from its start, its end, its size and its text on
 abbrev with_text : (kind tag datum start end : ℕ) → List ℕ × List ℕ → Option (FlatRecord × List ℕ)
 with_text kind tag datum start end text = Some (record { kind = kind; tag = tag; datum = datum; start = start; end = end; text = text.0 }, text.1)
 

@@ -1,4 +1,4 @@
--- The records that bytes stand for, and the events that records stand for. What is not written so is nothing.
+-- The records that bytes stand for, and the events that records stand for. Other bytes and other records stand for nothing (None).
 use Rattle.std.specs.Prelude.{ℕ, zero, suc, Bool, true, false, ◌==◌, ◌&&◌, not, nat_lt, if◌then◌else◌, List, [], ◌∷◌, length, take, drop, Option, Some, None}
 use Rattle.std.specs.Int.{w64, from_le_bytes}
 use Rattle.std.specs.Str.{is_utf8}
@@ -16,7 +16,7 @@ use Rattle.cmark_grammar.specs.TagEnd.{TagEnd}
 use Rattle.cmark_flat.specs.Numbers as number
 use Rattle.cmark_flat.specs.Records.{FlatRecord}
 
--- what f makes of x, if there is one
+-- f of the value, if there is one
 infixl 10 ◌>>=◌
 abbrev pub ◌>>=◌ : {A B : Type 0} → Option A → (A → Option B) → Option B
 None >>= f = None
@@ -30,7 +30,7 @@ some_if false x = None
 abbrev pub is_empty : {A : Type 0} → List A → Bool
 is_empty xs = length xs == 0
 
--- what f makes of each element, if it makes something of all
+-- f of each element, if f has a value for all of them
 abbrev pub each : {A B : Type 0} → (A → Option B) → List A → Option (List B)
 each f [] = Some []
 each f (x ∷ xs) = f x >>= λ y. each f xs >>= λ ys. Some (y ∷ ys)
@@ -200,7 +200,7 @@ attribute_of name value = do
   has ← value_of value
   Some (record { name = called; value = has })
 
--- the attribute that two further records say
+-- the attribute of the two further records that come first
 abbrev pub attribute_at : List FlatRecord → Option Attribute
 attribute_at [] = None
 attribute_at (name ∷ []) = None
@@ -212,7 +212,7 @@ attributes_of [] = Some []
 attributes_of (name ∷ []) = None
 attributes_of (name ∷ value ∷ parts) = attribute_of name value >>= λ first. attributes_of parts >>= λ others. Some (first ∷ others)
 
--- the classes that come first, and what comes after them
+-- the classes that come first, and the records after them
 abbrev pub classes_at : List FlatRecord → Option (List (List ℕ) × List FlatRecord)
 classes_at [] = Some ([], [])
 classes_at (r ∷ parts) =
@@ -220,7 +220,7 @@ classes_at (r ∷ parts) =
     then (part_text number.class_part r >>= λ first. classes_at parts >>= λ others. Some (first ∷ others.0, others.1))
     else Some ([], r ∷ parts)
 
--- an id that comes first, and what comes after it
+-- an id that comes first, and the records after it
 abbrev pub id_at : List FlatRecord → Option (Option (List ℕ) × List FlatRecord)
 id_at [] = Some (None, [])
 id_at (r ∷ parts) =

@@ -1,4 +1,4 @@
--- What the records of events are read as.
+-- The law that decoding flat records gives back the events.
 use Rattle.std.specs.Prelude.{◌≡◌, ◌<◌, ◌^◌, ℕ, List, length, IfSome, Some, None, IsUtf8}
 use Rattle.std.specs.List.{AllByRecursion}
 use Rattle.cmark_grammar.specs.Attributes.{Attribute, Attributes}
@@ -59,10 +59,10 @@ IsProperEvent (InlineHtml text) = IsText text
 IsProperEvent (FootnoteReference label) = IsText label
 IsProperEvent e = Unit {0}
 
--- what values of the library are: levels are 1 to 6, texts are UTF-8, and numbers have 64 bits
+-- levels are 1 to 6, texts are UTF-8, and numbers have 64 bits, as in values of the library
 abbrev pub IsProper : Ranged → Type 0
 IsProper r = IsWide r.start × IsWide r.end × IsProperEvent r.event
 
--- the bytes of proper events stand for these events and no others
+-- decoding the flat records of proper events gives these events
 abbrev pub FlatIsDecoded : Type 0
 FlatIsDecoded = (events : List Ranged) → AllByRecursion IsProper events → decode (flat events) ≡ Some events

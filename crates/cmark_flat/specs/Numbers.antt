@@ -120,7 +120,7 @@ metadata_block_tag = 24
 abbrev pub no_tag : ℕ
 no_tag = 0
 
--- what a further record has
+-- the contents of further records
 abbrev pub title_part : ℕ
 title_part = 1
 

@@ -24,7 +24,7 @@ unused = 0 ∷ 0 ∷ 0 ∷ 0 ∷ 0 ∷ []
 unfoldable pub wide : ℕ → List ℕ
 wide n = to_le_bytes w64 n
 
--- what is written of a record before its text
+-- the bytes of a record before its text
 abbrev pub head : (kind tag datum start end size : ℕ) → List ℕ
 head kind tag datum start end size = kind ∷ tag ∷ datum ∷ unused ++ wide start ++ wide end ++ wide size
 

@@ -2,7 +2,7 @@
 
 ghost use Rattle.cmark_flat.specs.Laws.{FlatIsDecoded};
 
-/// The bytes of events stand for these events: decoding gives back what was written, whatever the events.
+/// Decoding the flat records of proper events gives these events and their ranges.
 pub fn flat_events_are_decoded()
     ensures { FlatIsDecoded }
 {}
