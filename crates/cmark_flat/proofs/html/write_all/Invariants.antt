@@ -1,0 +1,12 @@
+use Rattle.std.proofs.Common.{◌≡◌, ◌++◌, map, string_bytes}
+use Rattle.cmark_flat.specs.Render.{bare}
+use Rattle.cmark_grammar.specs.Html.{at_line_start, moved_all, pieces}
+use Rattle.cmark_html.specs.Writer.{writing}
+use Rattle.cmark_text.specs.Ranged.{shown_ranged}
+use Rattle.cmark_flat.proofs.html.write_all.Given as goal
+
+abbrev pub invariant-loop-ranged : goal.invariant-loop-ranged
+invariant-loop-ranged l = record {
+  written : string_bytes l.out ≡ string_bytes l.initial.out ++ pieces (bare (map shown_ranged l.yielded));
+  kept : writing l.writer ≡ moved_all at_line_start (bare (map shown_ranged l.yielded));
+}
