@@ -102,6 +102,14 @@ pub fn html(text: &str, options: Options) -> Result<String, OutOfMemory> {
     native::html(text, options.bits())
 }
 
+/// The HTML of a text within a reference expansion limit, in bytes.
+///
+/// References copy the destinations and titles of definitions. Once these have `limit` bytes, further references remain text. [`html`] takes
+/// 100,000, or the length of the text if that is more. Like [`html`], this is not for a stranger's text.
+pub fn html_within(text: &str, options: Options, limit: usize) -> Result<String, OutOfMemory> {
+    native::html_within(text, options.bits(), limit)
+}
+
 /// HTML that is safe to show, also if the text comes from a stranger.
 ///
 /// HTML in the text is shown as text, and a heading has no attribute but its anchor. Addresses are relative or begin with `http:`,
@@ -152,6 +160,21 @@ mod tests {
     fn a_text_may_be_empty() {
         assert_eq!(html("", Options::NONE), Ok(String::new()));
         assert_eq!(events_json("", Options::NONE), Ok(String::new()));
+    }
+
+    #[test]
+    fn references_stay_below_the_limit() {
+        let text = "[x] [x]\n\n[x]: /u";
+        let one = "<p><a href=\"/u\">x</a> [x]</p>\n";
+        assert_eq!(html_within(text, Options::NONE, 1).unwrap(), one);
+        assert_eq!(
+            html_within(text, Options::NONE, 0).unwrap(),
+            "<p>[x] [x]</p>\n"
+        );
+        assert_eq!(
+            html_within(text, Options::NONE, 100_000),
+            html(text, Options::NONE)
+        );
     }
 
     #[test]

@@ -15,6 +15,15 @@ extern "C" {
         room_len: usize,
         size: *mut usize,
     ) -> u32;
+    fn pcm_html_within(
+        text: *const u8,
+        text_len: usize,
+        options: u32,
+        limit: usize,
+        room: *mut u8,
+        room_len: usize,
+        size: *mut usize,
+    ) -> u32;
     fn pcm_safe_html_with(
         text: *const u8,
         text_len: usize,
@@ -76,6 +85,25 @@ pub fn html(text: &str, options: u32) -> Result<String, OutOfMemory> {
                 text.as_ptr(),
                 text.len(),
                 options,
+                room.as_mut_ptr(),
+                room.len(),
+                &mut size,
+            )
+        };
+        (status, size)
+    })
+}
+
+pub fn html_within(text: &str, options: u32, limit: usize) -> Result<String, OutOfMemory> {
+    answer(room_for_html(text), |room| {
+        let mut size = 0;
+        // SAFETY: as for `html`.
+        let status = unsafe {
+            pcm_html_within(
+                text.as_ptr(),
+                text.len(),
+                options,
+                limit,
                 room.as_mut_ptr(),
                 room.len(),
                 &mut size,
