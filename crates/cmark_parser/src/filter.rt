@@ -8,7 +8,7 @@ ghost use Rattle.cmark_text.specs.Shown.{shown};
 ghost use Rattle.cmark_parser.specs.Filters.{filtered_by};
 ghost use Rattle.cmark_parser.specs.Rendering.{leads_to};
 
-use cmark_safe::{safe_destination, safe_event, safe_short};
+use cmark_safe::{is_raw, safe_destination, safe_event, safe_short};
 use cmark_text::{Event, Short};
 use std::alloc::{AllocError, Global};
 
@@ -43,6 +43,10 @@ impl Filter for Filtering<'_> {
 
     #[inline(always)]
     fn short_of<'a>(&self, short: Short<'a>) -> Short<'a> {
+        // Most events are the same in safe HTML: the filter is asked for none of them.
+        if !is_raw(&short) {
+            return short;
+        }
         match self {
             Filtering::AsTheyAre => short,
             Filtering::Safe(_) => safe_short(short),

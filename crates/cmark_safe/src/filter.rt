@@ -1,6 +1,6 @@
 //! The safe form of an event.
 
-ghost use Rattle.std.specs.Prelude.{◌≡◌, ℕ, List, IfErr, IfOk, IsSome, option_map, string_bytes};
+ghost use Rattle.std.specs.Prelude.{◌≡◌, ℕ, List, IfErr, IfOk, IsSome, option_map, string_bytes, false};
 ghost use Rattle.cmark_grammar.specs.Tag as grammar;
 ghost use Rattle.cmark_text.specs.Short.{shown_short};
 ghost use Rattle.cmark_text.specs.Shown.{shown, shown_end, shown_tag};
@@ -33,6 +33,20 @@ pub fn safe_event<'a>(
         Event::InlineHtml(text) => Ok(Event::Text(text)),
         Event::FootnoteReference(name) => own_name(alloc, name).map(Event::FootnoteReference),
         other => Ok(other),
+    }
+}
+
+/// Whether the safe form of an event that owns nothing may differ from it: only raw HTML differs.
+#[inline(always)]
+pub fn is_raw(short: &Short<'_>) -> bool
+    ensures { result ≡ false → (further : List ℕ) → safe further (shown_short short.now) ≡ shown_short short.now }
+{
+    match short {
+        Short::Html(_) => true,
+        Short::InlineHtml(_) => true,
+        Short::Start(PlainTag::HtmlBlock) => true,
+        Short::End(TagEnd::HtmlBlock) => true,
+        _ => false,
     }
 }
 

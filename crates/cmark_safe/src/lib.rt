@@ -6,5 +6,5 @@ pub mod laws;
 mod scheme;
 mod stream;
 
-pub use filter::{safe_destination, safe_event, safe_short};
+pub use filter::{is_raw, safe_destination, safe_event, safe_short};
 pub use stream::{SafeEvents, SafeItem};

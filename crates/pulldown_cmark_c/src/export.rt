@@ -1,4 +1,4 @@
-//! What C calls.
+//! The calls from C.
 
 ghost use Rattle.std.specs.Prelude.{◌≡◌, [], IsUtf8};
 ghost use Rattle.cmark_grammar.specs.Entities.{basic_entity};
@@ -15,10 +15,10 @@ use mdevents_run::EventLines;
 use mdhtml_run::{Html, SafeHtml};
 use std::alloc::Global;
 
-/// Writes the HTML of a text, read with the options of these bits, at the beginning of `room`, and into `size` how many bytes
-/// it has, also where the room is too small. The entity names that are known are the eleven of `BasicEntities`.
+/// Writes the HTML of a text at the beginning of `room`, and its length in bytes into `size`, even if the room is too small.
+/// `options` has the bits of `Options`. The known entity names are the eleven of `BasicEntities`.
 ///
-/// `alloc` takes no place among the parameters of C.
+/// Returns a status of `cmark_room`. `alloc` is not among the parameters of C.
 #[unsafe(no_mangle)]
 pub extern "C" fn pcm_html(
     alloc: Global,
@@ -36,7 +36,7 @@ pub extern "C" fn pcm_html(
     answer(alloc, &html, text, room, size)
 }
 
-/// Writes the HTML of a text of which nothing runs, whoever wrote the text, and else what `pcm_html` says.
+/// Writes safe HTML, for a stranger's text: nothing in it runs. Otherwise it does what `pcm_html` does.
 #[unsafe(no_mangle)]
 pub extern "C" fn pcm_safe_html(
     alloc: Global,
@@ -50,8 +50,8 @@ pub extern "C" fn pcm_safe_html(
     safe_answer(alloc, text, options, "", room, size)
 }
 
-/// The same, where addresses may have these further schemes too, which are names with white space between them. Where their list is not
-/// UTF-8, the status is that of a text that is not.
+/// Does what `pcm_safe_html` does, but addresses may also have one of the schemes of `schemes`: names separated by white space.
+/// If this list is not UTF-8, the status is that of a text that is not UTF-8, `room` is unchanged and `size` is 0.
 #[unsafe(no_mangle)]
 pub extern "C" fn pcm_safe_html_with(
     alloc: Global,
@@ -71,7 +71,7 @@ pub extern "C" fn pcm_safe_html_with(
     safe_answer(alloc, text, options, further, room, size)
 }
 
-/// The same with a list that is UTF-8.
+/// Writes safe HTML as `pcm_safe_html` does. `further` names further schemes.
 fn safe_answer(
     alloc: Global,
     text: &[u8],
@@ -92,7 +92,7 @@ fn safe_answer(
     answer(alloc, &renderer, text, room, size)
 }
 
-/// Writes a line of JSON for each event of a text, as `mdevents` does, and else what `pcm_html` says.
+/// Writes a line of JSON for each event of a text, as `mdevents` does. Otherwise it does what `pcm_html` does.
 #[unsafe(no_mangle)]
 pub extern "C" fn pcm_events_json(
     alloc: Global,
@@ -110,7 +110,7 @@ pub extern "C" fn pcm_events_json(
     answer(alloc, &lines, text, room, size)
 }
 
-/// The version of the library, as the header's `PCM_VERSION`.
+/// Returns the version of the library, as the header's `PCM_VERSION`.
 #[unsafe(no_mangle)]
 pub extern "C" fn pcm_version() -> u32
     ensures { result ≡ version_number 0 13 6 }

@@ -1,4 +1,4 @@
-//! The parser for C, as `include/pulldown_cmark.h` tells of it.
+//! The parser for C; `include/pulldown_cmark.h` is its header.
 #![tactic(auto)]
 
 mod export;

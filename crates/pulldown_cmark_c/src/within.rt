@@ -1,4 +1,4 @@
-//! The HTML within a reference expansion limit that C sets.
+//! HTML within a reference expansion limit of the caller.
 
 ghost use Rattle.cmark_grammar.specs.Entities.{basic_entity};
 ghost use Rattle.cmark_grammar.specs.Headline.{IsHtmlWithin};
@@ -13,7 +13,7 @@ use cmark_text_parts::{BasicEntities, Options};
 use mdhtml_parts::Render;
 use std::alloc::{AllocError, Global};
 
-/// Renders a text as HTML within a limit.
+/// Renders a text as HTML within a reference expansion limit, in bytes.
 #[derive(Drop)]
 struct Within {
     options: Options,
@@ -28,8 +28,8 @@ impl Render for Within {
     }
 }
 
-/// Writes the HTML within a reference expansion limit, and else does what `pcm_html` does. Once the destinations and titles of references
-/// have `limit` bytes, no definition is looked up.
+/// Writes the HTML within a reference expansion limit, and otherwise does what `pcm_html` does. Once the destinations and titles of
+/// references total `limit` bytes, no definition is looked up.
 #[unsafe(no_mangle)]
 pub extern "C" fn pcm_html_within(
     alloc: Global,
