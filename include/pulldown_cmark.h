@@ -1,6 +1,6 @@
 /* Markdown to HTML and to events, for C and C++.
 
-   The six functions that are declared here are proved: if one returns PCM_DONE, it has written exactly the output that its comment
+   The eight functions that are declared here are proved: if one returns PCM_DONE, it has written exactly the output that its comment
    describes. The proof assumes the following of the caller, which C cannot check:
 
    - No pointer is NULL, even if its length is 0; then any valid address will do, for example that of a spare byte. The inline functions
@@ -39,7 +39,8 @@ enum pcm_status {
     PCM_DONE = 0,      /* The output is in room[0] to room[*size - 1]; the rest of room is unchanged. */
     PCM_TOO_LONG = 1,  /* The output has *size bytes, which is more than room_len. room is unchanged. */
     PCM_NOT_UTF8 = 2,  /* The text is not UTF-8. room is unchanged, and *size is 0. */
-    PCM_NO_MEMORY = 3  /* Memory was refused. room is unchanged, and *size is 0. */
+    PCM_NO_MEMORY = 3, /* Memory was refused. room is unchanged, and *size is 0. */
+    PCM_MALFORMED = 4  /* Only pcm_render: the bytes are not the records of events. room is unchanged, and *size is 0. */
 };
 
 /* The rules beyond CommonMark that apply. Combine options with |. */
@@ -85,6 +86,94 @@ uint32_t pcm_safe_html_with(const uint8_t *text, size_t text_len, uint32_t optio
 /* Like pcm_html, but writes the events of the text in place of its HTML. Each event, in order, is a line of JSON as the program mdevents
    writes it, {"range":[FROM,TO],"event":[NAME,DATA..]}, and ends with a line feed. The range is in bytes of the text. */
 uint32_t pcm_events_json(const uint8_t *text, size_t text_len, uint32_t options, uint8_t *room, size_t room_len, size_t *size);
+
+/* Flat records: the events of a text as bytes. Each record has a head of PCM_HEAD bytes and then its text; the next record starts at the
+   byte after the text:
+
+   offset  bytes  field
+        0      1  the kind of the event, or PCM_FURTHER
+        1      1  the tag, if the kind is PCM_START or PCM_END; the part (enum pcm_part) of a further record; else 0
+        2      1  data: a number that the kind or the tag explains; else 0
+        3      5  0
+        8      8  start, the byte offset in the text at which the event's range starts
+       16      8  end, the byte offset at which it ends
+       24      8  length, the number of bytes of the record's text
+       32 length  the record's text, UTF-8
+
+   Numbers of eight bytes have their lowest byte first. The text of a start is the info string of a fenced code block, the label of a
+   footnote definition, the destination of a link or an image, or a byte for each column of a table. The data of a start are the level of a
+   heading, the kind of a block quote, the link type, or the kind of a metadata block; a fenced code block and an ordered list have 1. An
+   end has the data of a heading, a block quote, a list or a metadata block. A checked task list marker has the data 1. Further records
+   follow the start that they belong to; their kind, data, start and end are 0, but PCM_PART_FIRST_NUMBER has its number as the start.
+   crates/cmark_flat/README.md has the tables. */
+#define PCM_HEAD 32
+
+/* The kinds of records. */
+enum pcm_kind {
+    PCM_FURTHER = 0, /* a further record of the start before it */
+    PCM_START = 1,
+    PCM_END = 2,
+    PCM_TEXT = 3,
+    PCM_CODE = 4,
+    PCM_INLINE_MATH = 5,
+    PCM_DISPLAY_MATH = 6,
+    PCM_HTML = 7,
+    PCM_INLINE_HTML = 8,
+    PCM_FOOTNOTE_REFERENCE = 9,
+    PCM_SOFT_BREAK = 10,
+    PCM_HARD_BREAK = 11,
+    PCM_RULE = 12,
+    PCM_TASK_LIST_MARKER = 13
+};
+
+/* The tags of elements. */
+enum pcm_tag {
+    PCM_TAG_PARAGRAPH = 1,
+    PCM_TAG_HEADING = 2,
+    PCM_TAG_BLOCK_QUOTE = 3,
+    PCM_TAG_CODE_BLOCK = 4,
+    PCM_TAG_HTML_BLOCK = 5,
+    PCM_TAG_LIST = 6,
+    PCM_TAG_ITEM = 7,
+    PCM_TAG_FOOTNOTE_DEFINITION = 8,
+    PCM_TAG_DEFINITION_LIST = 9,
+    PCM_TAG_DEFINITION_LIST_TITLE = 10,
+    PCM_TAG_DEFINITION_LIST_DEFINITION = 11,
+    PCM_TAG_TABLE = 12,
+    PCM_TAG_TABLE_HEAD = 13,
+    PCM_TAG_TABLE_ROW = 14,
+    PCM_TAG_TABLE_CELL = 15,
+    PCM_TAG_EMPHASIS = 16,
+    PCM_TAG_STRONG = 17,
+    PCM_TAG_STRIKETHROUGH = 18,
+    PCM_TAG_SUPERSCRIPT = 19,
+    PCM_TAG_SUBSCRIPT = 20,
+    PCM_TAG_HIGHLIGHT = 21,
+    PCM_TAG_LINK = 22,
+    PCM_TAG_IMAGE = 23,
+    PCM_TAG_METADATA_BLOCK = 24
+};
+
+/* The parts of a start that are in further records. */
+enum pcm_part {
+    PCM_PART_TITLE = 1, /* the title of a link or an image */
+    PCM_PART_LABEL = 2, /* its id, the label that it names */
+    PCM_PART_HEADING_ID = 3, /* the id of a heading */
+    PCM_PART_CLASS = 4, /* a class of a heading */
+    PCM_PART_ATTRIBUTE = 5, /* the name of a heading's attribute */
+    PCM_PART_VALUE = 6, /* the value of the attribute before it */
+    PCM_PART_NO_VALUE = 7, /* the attribute before it has no value */
+    PCM_PART_FIRST_NUMBER = 8 /* the first number of an ordered list, in the place of the start */
+};
+
+/* Like pcm_html, but writes the events of the text as flat records in place of its HTML. */
+uint32_t pcm_events(const uint8_t *text, size_t text_len, uint32_t options, uint8_t *room, size_t room_len, size_t *size);
+
+/* Writes the HTML of the events that flat records stand for: those of pcm_events, or records that a filter has changed. Returns
+   PCM_MALFORMED if the bytes are not the records of events: a record is cut short or out of order, a length leads past the end, a text is
+   not UTF-8, or a number has no meaning. Never returns PCM_NOT_UTF8. The events need not be balanced. The HTML is not safe to show for a
+   text of a stranger, as with pcm_html. */
+uint32_t pcm_render(const uint8_t *records, size_t records_len, uint8_t *room, size_t room_len, size_t *size);
 
 /* Returns the version of the library, to be compared with PCM_VERSION. A library without proofs, which make quick builds, returns
    another number: the version with the bit PCM_NOT_PROVED. */
@@ -179,6 +268,46 @@ static inline uint32_t pcm_events_to(const char *text, size_t text_len, uint32_t
     }
     pcm_free(lines);
     return status;
+}
+
+/* A flat record, as pcm_next_record reads it. */
+struct pcm_record {
+    uint8_t kind, tag, data;
+    uint64_t start, end;
+    const uint8_t *text; /* inside of the records */
+    size_t len;
+};
+
+/* A number of eight bytes, the lowest first. */
+static inline uint64_t pcm_wide(const uint8_t *bytes)
+{
+    uint64_t number = 0;
+    int i;
+    for (i = 7; i >= 0; i--)
+        number = number << 8 | bytes[i];
+    return number;
+}
+
+/* Reads the record at records[*at], and moves *at to the byte after it. records has size bytes, and *at is at most size. Returns 1, or 0 at
+   the end and if a record is cut short; then *at is size only at the end. */
+static inline int pcm_next_record(const uint8_t *records, size_t size, size_t *at, struct pcm_record *record)
+{
+    const uint8_t *head = records + *at;
+    uint64_t len;
+    if (size - *at < PCM_HEAD)
+        return 0;
+    len = pcm_wide(head + 24);
+    if (size - *at - PCM_HEAD < len)
+        return 0;
+    record->kind = head[0];
+    record->tag = head[1];
+    record->data = head[2];
+    record->start = pcm_wide(head + 8);
+    record->end = pcm_wide(head + 16);
+    record->text = head + PCM_HEAD;
+    record->len = (size_t)len;
+    *at += PCM_HEAD + record->len;
+    return 1;
 }
 
 #ifdef __cplusplus

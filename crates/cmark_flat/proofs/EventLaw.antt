@@ -1,12 +1,12 @@
 -- Decoding the records of an event gives this event.
-use Rattle.std.proofs.Common.{◌≡◌, ℕ, zero, suc, ◌+◌, ◌^◌, ◌<◌, Bool, true, false, cond, ltb, List, [], ◌∷◌, ◌++◌, length, map, Option, Some, None, refl, sym, ap, subst, ◌∙◌, arith}
+use Rattle.std.proofs.Common.{◌≡◌, ℕ, true, false, cond, List, [], ◌∷◌, ◌++◌, map, Option, Some, None, refl, sym, ap, subst, ◌∙◌}
 use Rattle.std.specs.List.{flat_map, AllByRecursion}
 use Rattle.std.proofs.lemmas.Bool.{lt-ltb}
 use Rattle.std.proofs.lemmas.List.Concat.{flat_map-cons}
 use Rattle.cmark_grammar.specs.Alignment.{Alignment, Unaligned, Left, Center, Right}
 use Rattle.cmark_grammar.specs.Attributes.{Attribute, Attributes}
 use Rattle.cmark_grammar.specs.BlockQuoteKind.{BlockQuoteKind, Note, Tip, Important, Warning, Caution}
-use Rattle.cmark_grammar.specs.CodeBlockKind.{CodeBlockKind, Indented, Fenced}
+use Rattle.cmark_grammar.specs.CodeBlockKind.{Indented, Fenced}
 use Rattle.cmark_grammar.specs.Event.{Event, Ranged, Start, End, Text, Code, InlineMath, DisplayMath, Html, InlineHtml, FootnoteReference, SoftBreak, HardBreak, Rule, TaskListMarker}
 use Rattle.cmark_grammar.specs.LinkType.{LinkType, Inline, Reference, ReferenceUnknown, Collapsed, CollapsedUnknown, Shortcut, ShortcutUnknown, Autolink, Email, WikiLink}
 use Rattle.cmark_grammar.specs.MetadataBlockKind.{MetadataBlockKind, YamlStyle, PlusesStyle}
@@ -16,7 +16,7 @@ use Rattle.cmark_grammar.specs.TagEnd as end
 use Rattle.cmark_grammar.specs.TagEnd.{TagEnd}
 use Rattle.cmark_flat.specs.Records.{FlatRecord}
 use Rattle.cmark_flat.specs.Flat.{alignment_number, attribute_parts, class_part, end_datum, end_number, event_parts, event_record, heading_parts, id_part, link_number, metadata_number, quote_number, records, tag_datum, tag_number, tag_parts, tag_text, value_part}
-use Rattle.cmark_flat.specs.Decode.{◌>>=◌, Group, alignment_of, attribute_of, attributes_of, classes_at, each, end_of, event_of, groups, heading_parts_of, id_at, is_further, later, level_of, link_of, linked_of, metadata_of, parts_at, quote_of, ranged_of, some_if, tag_of, value_of}
+use Rattle.cmark_flat.specs.Decode.{◌>>=◌, Group, alignment_of, attributes_of, classes_at, each, end_of, event_of, groups, heading_parts_of, id_at, is_further, later, level_of, link_of, linked_of, metadata_of, parts_at, quote_of, ranged_of, tag_of, value_of}
 use Rattle.cmark_flat.specs.Laws.{IsLevel, IsProper, IsProperEnd, IsProperEvent, IsProperTag}
 use Rattle.cmark_flat.specs.Numbers as number
 

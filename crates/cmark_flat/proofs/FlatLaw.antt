@@ -1,21 +1,21 @@
 -- Decoding the bytes of proper events gives these events.
-use Rattle.std.proofs.Common.{◌≡◌, ℕ, suc, ◌+◌, ◌^◌, ◌<◌, Bool, true, false, List, [], ◌∷◌, ◌++◌, length, map, Option, Some, None, refl, sym, ap, subst, ◌∙◌, arith}
+use Rattle.std.proofs.Common.{◌≡◌, ℕ, suc, ◌^◌, ◌<◌, true, List, [], ◌∷◌, ◌++◌, length, map, Option, Some, None, refl, sym, ap, subst, ◌∙◌, arith}
 use Rattle.std.specs.Prelude.{IfSome}
 use Rattle.std.specs.List.{flat_map, AllByRecursion}
-use Rattle.std.specs.Str.{IsAscii, IsUtf8, is_utf8}
+use Rattle.std.specs.Str.{IsAscii, is_utf8}
 use Rattle.std.proofs.lemmas.List.Concat.{flat_map-cons}
 use Rattle.std.proofs.lemmas.Str.Ascii.{IsAscii-cons, IsAscii-nil}
 use Rattle.std.proofs.lemmas.Str.{IsUtf8-from_ascii, IsUtf8-nil, is_utf8-from_IsUtf8}
 use Rattle.cmark_grammar.specs.Alignment.{Alignment, Unaligned, Left, Center, Right}
-use Rattle.cmark_grammar.specs.Attributes.{Attribute, Attributes}
-use Rattle.cmark_grammar.specs.CodeBlockKind.{CodeBlockKind, Indented, Fenced}
+use Rattle.cmark_grammar.specs.Attributes.{Attribute}
+use Rattle.cmark_grammar.specs.CodeBlockKind.{Indented, Fenced}
 use Rattle.cmark_grammar.specs.Event.{Event, Ranged, Start, End, Text, Code, InlineMath, DisplayMath, Html, InlineHtml, FootnoteReference, SoftBreak, HardBreak, Rule, TaskListMarker}
 use Rattle.cmark_grammar.specs.Tag as tag
 use Rattle.cmark_grammar.specs.Tag.{Tag, Linked}
 use Rattle.cmark_flat.specs.Decode.{◌>>=◌, each, groups, ranged_of}
-use Rattle.cmark_flat.specs.Flat.{alignment_number, attribute_parts, class_part, event_parts, event_record, event_text, flat, id_part, part, records, tag_parts, tag_text, value_part}
+use Rattle.cmark_flat.specs.Flat.{alignment_number, attribute_parts, class_part, event_parts, event_text, id_part, part, records, tag_parts, tag_text, value_part}
 use Rattle.cmark_flat.specs.Laws.{FlatIsDecoded, IsProper, IsProperAttribute, IsProperEvent, IsProperTag, IsText}
-use Rattle.cmark_flat.specs.Records.{FlatRecord, spelled}
+use Rattle.cmark_flat.specs.Records.{FlatRecord}
 use Rattle.cmark_flat.proofs.EventLaw.{events_again}
 use Rattle.cmark_flat.proofs.RecordLaw.{Fits, records_again}
 

@@ -1,12 +1,12 @@
 -- Reading groups of records one after the other, as the loop does.
-use Rattle.std.proofs.Common.{◌≡◌, ℕ, suc, ◌+◌, ◌<◌, ◌≤◌, Bool, true, false, cond, List, [], ◌∷◌, ◌++◌, Option, Some, None, drop, length, map, take, refl, sym, ap, subst, ◌∙◌, arith}
+use Rattle.std.proofs.Common.{◌≡◌, ℕ, suc, ◌+◌, ◌<◌, ◌≤◌, Bool, true, false, cond, List, [], ◌∷◌, ◌++◌, Option, Some, drop, length, map, take, refl, sym, ap, subst, ◌∙◌, arith}
 use Rattle.std.specs.List.{prefix_len}
 use Rattle.std.proofs.lemmas.List.{drop-drop, length-drop, nil_from_length}
 use Rattle.cmark_grammar.specs.Event.{Ranged as GrammarRanged}
 use Rattle.cmark_text.specs.declared.ranged.Ranged.{Ranged}
 use Rattle.cmark_text.specs.Ranged.{shown_ranged}
-use Rattle.cmark_flat.specs.Decode.{◌>>=◌, Group, each, groups, is_further, later, parts_at, ranged_at, ranged_of}
-use Rattle.cmark_flat.specs.Records.{FlatRecord, shown_record}
+use Rattle.cmark_flat.specs.Decode.{Group, each, groups, is_further, later, parts_at, ranged_at, ranged_of}
+use Rattle.cmark_flat.specs.Records.{shown_record}
 use Rattle.cmark_flat.specs.declared.record.Record.{Record}
 use Rattle.cmark_flat.specs.declared.error.DecodeError.{DecodeError}
 use Rattle.cmark_flat.specs.declared.error.DecodeError.TheVariants as errors

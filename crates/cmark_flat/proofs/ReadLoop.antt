@@ -1,5 +1,5 @@
 -- Reading records one after the other, as the loop does.
-use Rattle.std.proofs.Common.{◌≡◌, ℕ, zero, suc, false, eqb, ◌<◌, ◌≤◌, List, [], ◌∷◌, ◌++◌, Option, Some, None, length, refl, sym, ap, ◌∙◌, arith}
+use Rattle.std.proofs.Common.{◌≡◌, ℕ, zero, suc, false, eqb, ◌<◌, ◌≤◌, List, [], ◌∷◌, ◌++◌, Option, Some, None, length, sym, ap, ◌∙◌, arith}
 use Rattle.cmark_flat.specs.Decode.{◌>>=◌, record_at, records_within}
 use Rattle.cmark_flat.specs.Records.{FlatRecord}
 use Rattle.cmark_flat.proofs.Loop.{is_done, nothing_before, regroup, with_front}

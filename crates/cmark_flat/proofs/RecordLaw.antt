@@ -1,7 +1,7 @@
 -- The bytes of records are read as these records.
-use Rattle.std.proofs.Common.{◌≡◌, ℕ, zero, suc, ◌+◌, ◌-◌, ◌^◌, ◌<◌, ◌≤◌, Bool, true, false, cond, ltb, List, [], ◌∷◌, ◌++◌, length, take, drop, Option, Some, None, refl, sym, ap, subst, ◌∙◌, append_assoc, arith, length-append}
-use Rattle.std.specs.Int.{w64, from_le_bytes, to_le_bytes}
-use Rattle.std.specs.List.{flat_map, AllByRecursion}
+use Rattle.std.proofs.Common.{◌≡◌, ℕ, zero, suc, ◌+◌, ◌-◌, ◌^◌, ◌<◌, ◌≤◌, Bool, true, false, cond, ltb, List, [], ◌∷◌, ◌++◌, length, take, drop, Option, Some, None, refl, ap, ◌∙◌, append_assoc, arith, length-append}
+use Rattle.std.specs.Int.{w64, from_le_bytes}
+use Rattle.std.specs.List.{AllByRecursion}
 use Rattle.std.specs.Str.{IsUtf8, is_utf8}
 use Rattle.std.proofs.lemmas.Bool.{le-ltb}
 use Rattle.std.proofs.lemmas.List.{take_at, drop_at}
@@ -9,7 +9,7 @@ use Rattle.std.proofs.lemmas.List.Concat.{flat_map-cons}
 use Rattle.std.proofs.lemmas.Str.{IsUtf8-from_is_utf8}
 use Rattle.std.proofs.lemmas.Nat.{from_le_bytes-to_le_bytes_8}
 use Rattle.cmark_flat.specs.Records.{FlatRecord, record_bytes, spelled, wide}
-use Rattle.cmark_flat.specs.Decode.{◌>>=◌, byte_at, zero_at, unused_at, wide_at, text_at, record_at, records_of, records_within, some_if}
+use Rattle.cmark_flat.specs.Decode.{◌>>=◌, unused_at, wide_at, text_at, record_at, records_of, records_within, some_if}
 
 -- the fields are in range, and the text is UTF-8
 pub record Fits (r : FlatRecord) : Type 0 where

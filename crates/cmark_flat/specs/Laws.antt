@@ -1,9 +1,9 @@
 -- The law that decoding flat records gives back the events.
-use Rattle.std.specs.Prelude.{◌≡◌, ◌<◌, ◌^◌, ℕ, List, length, IfSome, Some, None, IsUtf8}
+use Rattle.std.specs.Prelude.{◌≡◌, ◌<◌, ◌^◌, ℕ, List, length, IfSome, Some, IsUtf8}
 use Rattle.std.specs.List.{AllByRecursion}
-use Rattle.cmark_grammar.specs.Attributes.{Attribute, Attributes}
+use Rattle.cmark_grammar.specs.Attributes.{Attribute}
 use Rattle.cmark_grammar.specs.CodeBlockKind.{CodeBlockKind, Indented, Fenced}
-use Rattle.cmark_grammar.specs.Event.{Event, Ranged, Start, End, Text, Code, InlineMath, DisplayMath, Html, InlineHtml, FootnoteReference, SoftBreak, HardBreak, Rule, TaskListMarker}
+use Rattle.cmark_grammar.specs.Event.{Event, Ranged, Start, End, Text, Code, InlineMath, DisplayMath, Html, InlineHtml, FootnoteReference}
 use Rattle.cmark_grammar.specs.Tag as tag
 use Rattle.cmark_grammar.specs.Tag.{Tag, Linked}
 use Rattle.cmark_grammar.specs.TagEnd as end

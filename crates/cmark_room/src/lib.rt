@@ -16,15 +16,13 @@ pub const NOT_UTF8: u32 = 2;
 /// Memory was refused.
 pub const NO_MEMORY: u32 = 3;
 
-/// Writes an answer at the beginning of the room, if it is large enough for all of it, and its size in any case.
-/// Returns `DONE` or `TOO_LONG`.
-fn hand_over(answer: &str, room: &mut [u8], size: &mut usize) -> u32
+/// Writes an output to the beginning of `room`, if it fits, and its size in bytes to `size` in any case. Returns `DONE` or `TOO_LONG`.
+pub fn hand_over(answer: &[u8], room: &mut [u8], size: &mut usize) -> u32
     ensures either { (result ≡ 0) ⊎ (result ≡ 1) }
     ensures size { size.new ≡ length answer.now }
     ensures done { result ≡ 0 → (length answer.now ≤ length room.old) × (room.new ≡ answer.now ++ drop (length answer.now) room.old) }
     ensures too_long { result ≡ 1 → (length room.old < length answer.now) × (room.new ≡ room.old) }
 {
-    let answer = answer.as_bytes();
     *size = answer.len();
     if answer.len() > room.len() {
         return TOO_LONG;
@@ -54,5 +52,5 @@ pub fn answer<P: Render>(
     let Ok(answer) = renderer.render(alloc, text) else {
         return NO_MEMORY;
     };
-    hand_over(answer.as_str(), room, size)
+    hand_over(answer.as_str().as_bytes(), room, size)
 }

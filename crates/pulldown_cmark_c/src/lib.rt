@@ -2,4 +2,5 @@
 #![tactic(auto)]
 
 mod export;
+mod flat;
 mod within;

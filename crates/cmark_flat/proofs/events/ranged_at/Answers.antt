@@ -1,5 +1,5 @@
-use Rattle.std.proofs.Common.{◌≡◌, map, sym, subst, ◌∙◌}
-use Rattle.cmark_flat.specs.Decode.{ranged_at, ranged_of}
+use Rattle.std.proofs.Common.{map, sym, subst}
+use Rattle.cmark_flat.specs.Decode.{ranged_of}
 use Rattle.cmark_flat.specs.Gives.{Gives}
 use Rattle.cmark_flat.specs.Records.{shown_record}
 use Rattle.cmark_text.specs.Ranged.{shown_ranged}

@@ -1,5 +1,5 @@
-use Rattle.std.proofs.Common.{◌≡◌, ◌++◌, length, map, Some}
-use Rattle.cmark_flat.specs.Decode.{◌>>=◌, classes_at}
+use Rattle.std.proofs.Common.{◌≡◌, length, map}
+use Rattle.cmark_flat.specs.Decode.{classes_at}
 use Rattle.cmark_flat.specs.Records.{shown_record}
 use Rattle.cmark_text_parts.specs.Shown.{text_bytes}
 use Rattle.cmark_flat.proofs.Loop.{with_classes}

@@ -1,5 +1,4 @@
-use Rattle.std.proofs.Common.{◌≡◌, Some, true, ap, sym, ◌∙◌}
-use Rattle.std.specs.Str.{is_utf8}
+use Rattle.std.proofs.Common.{Some, ap, sym, ◌∙◌}
 use Rattle.std.proofs.lemmas.Str.{is_utf8-from_IsUtf8}
 use Rattle.cmark_flat.specs.Decode.{some_if}
 use Rattle.cmark_flat.proofs.RecordLaw.{not_utf8}

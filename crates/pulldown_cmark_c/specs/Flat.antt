@@ -1,0 +1,42 @@
+-- The outputs of the calls for flat records.
+use Rattle.std.specs.Prelude.{◌≡◌, ◌≤◌, ◌≢◌, ℕ, false, List, [], map, Option, Some, None, Ok}
+use Rattle.std.specs.Iterator.{YieldsThen}
+use Rattle.std.specs.declared.ops.Range.{Range}
+use Rattle.cmark_flat.specs.Flat.{flat}
+use Rattle.cmark_flat.specs.Render.{rendered}
+use Rattle.cmark_grammar.specs.Answers.{Lookup}
+use Rattle.cmark_grammar.specs.Event.{Ranged}
+use Rattle.cmark_grammar.specs.Headline.{profile}
+use Rattle.cmark_grammar.specs.Options.{Options}
+use Rattle.cmark_grammar.specs.SpanDocuments.{IsReading}
+use Rattle.cmark_inline.specs.declared.callback.BrokenLink.{BrokenLink}
+use Rattle.cmark_inline.specs.declared.callback.DefaultBrokenLinkCallback.{DefaultBrokenLinkCallback}
+use Rattle.cmark_parser.specs.declared.parse.OffsetIter.{OffsetIter}
+use Rattle.cmark_parser.specs.Parsing.{GivesRanged, shown_item}
+use Rattle.cmark_room.specs.Statuses.{IsTooLong, Refused, Wrote}
+use Rattle.cmark_text.specs.declared.event.Event.{Event}
+use Rattle.cmark_text_parts.specs.declared.text.CowStr.{CowStr}
+
+-- the output is the flat records of the reading of the text, without a callback
+pub record AreFlatOf (text : List ℕ) (options : Options) (lookup : Lookup) (output : List ℕ) : Type 0 where
+  pub events : List Ranged
+  pub reading : IsReading text (profile text options lookup false) [] events
+  pub output_is : output ≡ flat events
+
+-- the steps of a callback that is absent: it always returns None
+abbrev pub says-nothing : DefaultBrokenLinkCallback → BrokenLink → Option (CowStr × CowStr) → DefaultBrokenLinkCallback → Type 0
+says-nothing before link answer after = answer ≡ None
+
+-- a walk without a callback gave all items that were left, and the output is their flat records
+pub record AreFlatOfRest {E : Type 0} (replacement : E → Lookup) (old new : OffsetIter E DefaultBrokenLinkCallback) (output : List ℕ) : Type 0 where
+  pub items : List (Event × Range ℕ)
+  pub yields : YieldsThen (GivesRanged says-nothing replacement) old (map Ok items) None new
+  pub output_is : output ≡ flat (map shown_item items)
+
+-- the status, room and size after a call with these bytes; the output is the HTML of the events that they stand for
+pub record RenderAnswers (records old new : List ℕ) (size status : ℕ) : Type 0 where
+  pub is_status : (status ≤ 4) × (status ≢ 2)
+  pub done : status ≡ 0 → Wrote (λ answer. rendered records ≡ Some answer) old new size
+  pub too_long : status ≡ 1 → IsTooLong (λ answer. rendered records ≡ Some answer) old new size
+  pub no_memory : status ≡ 3 → Refused old new size
+  pub malformed : status ≡ 4 → (rendered records ≡ None) × Refused old new size
