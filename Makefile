@@ -99,8 +99,10 @@ gate:
 	wait $$unit; unit=$$?; cat bin/unit.log; \
 	test "$$(cat bin/gate.status) $$unit" = "0 0"
 
-# Links the object code that the gate built. Nothing is proved a second time.
+# Links the object code that the gate built. Nothing is proved a second time. If the gate kept
+# the programs from an earlier run on this machine, it leaves no object code, and they are built once more.
 programs:
+	@test -e crates/mdhtml/out/mdhtml.o -a -e crates/mdevents/out/mdevents.o || tools/build mdhtml mdevents
 	tools/link mdhtml mdevents
 
 # Edits that the prover has to refuse, over the libraries that are built.
