@@ -1,4 +1,4 @@
--- Lists of events whose starts and ends match (this profile's own). Example: the start of a paragraph, a text, the end of a paragraph.
+-- Lists of events whose starts and ends match.
 use Rattle.std.specs.Prelude.{List, [], ◌∷◌, ◌++◌}
 use Rattle.cmark_grammar.specs.Tag.{Tag}
 use Rattle.cmark_grammar.specs.TagEnd.{end_of}

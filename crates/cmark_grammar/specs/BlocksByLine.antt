@@ -1,6 +1,6 @@
--- The blocks of lines (CommonMark 3 to 5), found in one pass over the lines. Only three things are looked up in the lines ahead: a link
--- reference definition, the rows of a table, and the end of metadata. Code, HTML and metadata continue line by line. Blank lines wait until
--- a later line shows whether they belong to code.
+-- The blocks of lines, found in one pass over the lines. Only three things are looked up in the lines ahead: a link reference definition,
+-- the rows of a table, and the end of metadata. Code, HTML and metadata continue line by line. Blank lines wait until a later line shows
+-- whether they belong to code.
 use Rattle.std.specs.Prelude.{ℕ, zero, suc, Bool, true, false, ◌&&◌, nat_le, List, [], ◌∷◌, ◌++◌, length, Option, Some, None}
 use Rattle.cmark_grammar.specs.Options.{Options}
 use Rattle.cmark_grammar.specs.Places.{Place, Apart, BehindLazy, allows_lazy}

@@ -1,4 +1,4 @@
--- The blocks of lines (CommonMark 3 to 5), line by line: each line is added to the open block.
+-- The blocks of lines, line by line: each line is added to the open block.
 use Rattle.std.specs.Prelude.{ℕ, zero, suc, Bool, true, false, ◌&&◌, List, [], ◌∷◌, ◌++◌, length, Option, Some, None}
 use Rattle.cmark_grammar.specs.Rows.{Row, rows, shown}
 use Rattle.cmark_grammar.specs.Leaves.{underlines}

@@ -1,5 +1,5 @@
 -- The documents that a text derives, by the block grammar (CommonMark 3 to 5): its lines have blocks, the items are gathered into lists,
--- and the text of the leaves is read. Example: `- a` derives a list around an item, with a tight paragraph in it.
+-- and the text of the leaves is read.
 use Rattle.std.specs.Prelude.{◌≡◌, ℕ, Bool, true, false, ◌==◌, if◌then◌else◌, List, [], ◌∷◌, length, Option, Some, None}
 use Rattle.cmark_grammar.specs.Answers.{Lookup}
 use Rattle.cmark_grammar.specs.Options.{Options}

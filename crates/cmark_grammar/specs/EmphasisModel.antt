@@ -1,4 +1,4 @@
--- The pairs and the spans of a list of siblings as functions of it (CommonMark 6.2).
+-- The pairs and the spans of a list of siblings as functions of it.
 use Rattle.std.specs.Prelude.{Bool, true, false, Option, Some, None, List, [], ◌∷◌, ◌++◌}
 use Rattle.cmark_grammar.specs.Spans.{Spans, Nil, Single}
 use Rattle.cmark_grammar.specs.Emphasis.{Run, Pair, Sibling, Plain, Delimiter, Piece, Whole, Standing, agrees, pair_of, rest_of_opener, rest_of_closer, wrapped, before, row, keep, left_open, stand}

@@ -1,5 +1,4 @@
--- The HTML of a list of events: the HTML of each event, joined. It is written as the original writes it. Example: a paragraph around the
--- text `a` is `<p>a</p>` and a line feed.
+-- The HTML of a list of events: the HTML of each event, joined. It is written as the original writes it.
 use Rattle.std.specs.Prelude.{ℕ, ◌+◌, ◌-◌, Bool, true, false, not, ◌==◌, if◌then◌else◌, List, [], ◌∷◌, ◌++◌, codes, nat_eq, take_while, Option, Some, None}
 use Rattle.std.specs.Cmp.Lexicographic.{pointwise}
 use Rattle.std.specs.Fmt.{decimal}

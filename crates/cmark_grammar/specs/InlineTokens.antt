@@ -1,5 +1,4 @@
--- The token at a place of a leaf's text (CommonMark 6): the first construct that matches. All places are places of the source. Example: at
--- the first byte of `*a*` it is a delimiter run, at the second one a text.
+-- The token at a place of a leaf's text (CommonMark 6): the first construct that matches. All places are places of the source.
 use Rattle.std.specs.Prelude.{ℕ, zero, suc, ◌+◌, ◌-◌, Bool, true, false, not, ◌==◌, ◌&&◌, ◌||◌, nat_lt, if◌then◌else◌, List, [], ◌∷◌, codes, chars, length, drop, take, reverse, Option, Some, None}
 use Rattle.std.specs.List.{prefix_len}
 use Rattle.cmark_grammar.specs.Autolinks.{autolink_in}

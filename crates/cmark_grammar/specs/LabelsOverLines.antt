@@ -1,5 +1,4 @@
--- The labels of links on lines with prefixes (CommonMark 4.7 and 6.3), and in cells of tables (GFM 4.10). Example: in a cell the label of
--- `[a\|b]` is `a|b`.
+-- The labels of links on lines with prefixes (CommonMark 4.7 and 6.3), and in cells of tables (GFM 4.10).
 use Rattle.std.specs.Prelude.{ℕ, zero, suc, Bool, true, false, ◌||◌, if◌then◌else◌, List, [], ◌∷◌, Option, Some, None, option_map}
 use Rattle.cmark_grammar.specs.Letters.{and_then, starts}
 use Rattle.cmark_grammar.specs.Lines.{ends_line}

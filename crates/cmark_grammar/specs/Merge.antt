@@ -1,4 +1,4 @@
--- Adjacent texts, merged: each longest run of two or more texts becomes one text (this profile's own, as in the original).
+-- Adjacent texts, merged: each longest run of two or more texts becomes one text.
 use Rattle.std.specs.Prelude.{ℕ, List, [], ◌∷◌, ◌++◌, Option, Some, None, Result, Ok, Err}
 use Rattle.cmark_grammar.specs.Event.{Event, Text, Ranged}
 

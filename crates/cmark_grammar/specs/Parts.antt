@@ -1,5 +1,5 @@
 -- The text of a leaf, divided by its brackets: items, the elements that pairs of brackets form, and brackets that are texts (CommonMark
--- 6.3). Example: `[a](b)` is one part, a link, with an item in it.
+-- 6.3).
 use Rattle.std.specs.Prelude.{ℕ, suc, List, Option}
 use Rattle.cmark_grammar.specs.Items.{Item, Bracket}
 use Rattle.cmark_grammar.specs.Tag.{Linked}

@@ -1,5 +1,4 @@
--- The spans of a leaf, made from the parts of its text, one list of siblings after the other (CommonMark 6.2, "process emphasis"). Example:
--- in `[*a*](b) c` the link and the text after it are siblings; the items inside the link are a list of their own.
+-- The spans of a leaf, made from the parts of its text, one list of siblings after the other (CommonMark 6.2, "process emphasis").
 use Rattle.std.specs.Prelude.{◌≡◌, ℕ, zero, suc, ◌+◌, ◌-◌, Bool, true, false, ◌==◌, nat_le, if◌then◌else◌, max, List, [], ◌∷◌, drop, get_or, encode_utf8, Option, Some, None}
 use Rattle.cmark_grammar.specs.Autolinks.{has_scheme}
 use Rattle.cmark_grammar.specs.BracketDecisions.{linked}

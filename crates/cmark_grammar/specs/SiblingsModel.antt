@@ -1,4 +1,4 @@
--- The spans of a leaf, as a function of its parts (CommonMark 6.2 to 6.4).
+-- The spans of a leaf, as a function of its parts.
 use Rattle.std.specs.Prelude.{true, false, Some, None}
 use Rattle.cmark_grammar.specs.EmphasisModel.{spans_of}
 use Rattle.cmark_grammar.specs.Options.{Options}

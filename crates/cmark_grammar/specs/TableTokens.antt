@@ -1,5 +1,4 @@
--- The content of a table: its head and its rows, and their cells (GFM 4.10). Example: the row `| a | b |` has two cells, with the texts `a`
--- and `b`.
+-- The content of a table: its head and its rows, and their cells (GFM 4.10).
 use Rattle.std.specs.Prelude.{ℕ, zero, suc, ◌+◌, List, [], ◌∷◌, length, drop, take_while}
 use Rattle.cmark_grammar.specs.BlockDocument.{BlockDocument, Nil, Node, node, TableHead, TableRow, TableCell}
 use Rattle.cmark_grammar.specs.Columns.{is_blank_byte, drop_end}

@@ -1,5 +1,4 @@
--- The part of a tag that the end of the element repeats (this profile's own, as in the original). Example: the level of a heading, but not
--- its attributes.
+-- The part of a tag that the end of the element repeats. Example: the level of a heading, but not its attributes.
 use Rattle.std.specs.Prelude.{ℕ, Bool, Option, is_some}
 use Rattle.cmark_grammar.specs.BlockQuoteKind.{BlockQuoteKind}
 use Rattle.cmark_grammar.specs.MetadataBlockKind.{MetadataBlockKind}

@@ -1,4 +1,4 @@
--- The place of a task marker: directly after an item's own marker (GFM 5.3). Example: `- [x] a`.
+-- The place of a task marker: directly after an item's own marker (GFM 5.3).
 use Rattle.std.specs.Prelude.{ℕ, ◌+◌, Bool, ◌==◌, ◌&&◌, if◌then◌else◌, Option, Some, None}
 use Rattle.cmark_grammar.specs.Options.{Options}
 use Rattle.cmark_grammar.specs.Rows.{Row, indent_of, words_of}
