@@ -94,7 +94,7 @@ def events(text: Text, *, options: int = Options.NONE, broken_link: Optional[Bro
     destination and the title of the link, or ``None`` if it is no link. What it raises, this call raises.
     """
     data, bits = bytes_of(text), bits_of(options, all_entities)
-    # Of 797 Markdown files of Debian's packages at most 1 in 100 need a second call.
+    # Of the 797 Markdown files of one machine, at most 1 in 100 need a second call.
     room_len = 5 * len(data) + 1024
     kept: Text = text if isinstance(text, str) else data
     if broken_link is None:

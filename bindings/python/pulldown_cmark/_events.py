@@ -1,33 +1,72 @@
 """Events as values of Python."""
-from typing import Any, Dict, Iterable, Iterator, List, NamedTuple, Tuple, Type, Union
+from typing import TYPE_CHECKING, Any, Callable, Dict, Iterable, Iterator, List, NamedTuple, Tuple, Type, TypeVar, Union
 
 from ._ends import TagEnd
 from ._tags import Tag
 
 Value = Union[Tag, TagEnd, str, bool, None]
+_Same = TypeVar("_Same", bound="_Fields")
+
+if TYPE_CHECKING:
+
+    class _Fields:
+        """Events are named tuples. They are shown to type checkers as other objects, because mypy 1.0 does not match subclasses of a named
+        tuple with patterns."""
+
+        __match_args__ = ("name", "value", "start", "end")
+
+        @property
+        def name(self) -> str:
+            ...
+
+        @property
+        def value(self) -> Value:
+            ...
+
+        @property
+        def start(self) -> int:
+            ...
+
+        @property
+        def end(self) -> int:
+            ...
+
+        def _replace(self: _Same, *, value: Any = ..., start: int = ..., end: int = ...) -> _Same:
+            ...
+
+        def __iter__(self) -> Iterator[Any]:
+            ...
+
+        def __getitem__(self, index: slice) -> Tuple[Any, ...]:
+            ...
+
+else:
+
+    class _Fields(NamedTuple):
+        name: str
+        value: Value = None
+        start: int = 0
+        end: int = 0
 
 
-class _Fields(NamedTuple):
-    name: str
-    value: Value = None
-    start: int = 0
-    end: int = 0
+# Makes an event of a class from its name, its value and its range.
+_new: Callable[..., Any] = tuple.__new__
 
 
 class Event(_Fields):
     """One event of a text. Each kind of event has a class of its own, such as ``Text``; ``Event(name, value, start, end)`` takes it by its name.
 
-    ``name`` is the name of the class. ``value`` is the tag of a ``Start``, the end of the tag for ``End``, a ``bool`` for a
-    ``TaskListMarker``, a ``str`` for events with a text, and otherwise ``None``. ``start`` and ``end`` are the range of the event in the
-    given text, ``text[start:end]``: in characters if it is a ``str``, in bytes if it is ``bytes``. They are 0 if an event is made without them.
+    An event is a named tuple. ``name`` is the name of the class. ``value`` is the tag of a ``Start``, the end of a tag for ``End``, a
+    ``bool`` for a ``TaskListMarker``, a ``str`` for events with a text, and otherwise ``None``. ``start`` and ``end`` are the range of the
+    event in the given text, ``text[start:end]``: in characters if it is a ``str``, in bytes if it is ``bytes``. Without them they are 0.
     """
 
     __slots__ = ()
 
-    def __new__(cls, name: str, value: Value = None, start: int = 0, end: int = 0) -> "Event":
+    def __new__(cls, name: str, value: Value = None, start: int = 0, end: int = 0) -> Any:
         if name not in CLASSES:
             raise ValueError(f"there is no event {name!r}")
-        return tuple.__new__(CLASSES[name], (name, value, start, end))
+        return _new(CLASSES[name], (name, value, start, end))
 
     def __repr__(self) -> str:
         return f"{self.__class__.__name__}({self.value!r}, start={self.start}, end={self.end})"
@@ -48,8 +87,8 @@ class Start(Event):
     __match_args__ = ("value", "start", "end")
     value: Tag
 
-    def __new__(cls, value: Tag, start: int = 0, end: int = 0) -> "Start":
-        return tuple.__new__(cls, ("Start", value, start, end))
+    def __new__(cls, value: Tag, start: int = 0, end: int = 0) -> Any:
+        return _new(cls, ("Start", value, start, end))
 
 
 class End(Event):
@@ -59,8 +98,8 @@ class End(Event):
     __match_args__ = ("value", "start", "end")
     value: TagEnd
 
-    def __new__(cls, value: TagEnd, start: int = 0, end: int = 0) -> "End":
-        return tuple.__new__(cls, ("End", value, start, end))
+    def __new__(cls, value: TagEnd, start: int = 0, end: int = 0) -> Any:
+        return _new(cls, ("End", value, start, end))
 
 
 class _WithText(Event):
@@ -71,7 +110,7 @@ class _WithText(Event):
     value: str
 
     def __new__(cls, value: str, start: int = 0, end: int = 0) -> Any:
-        return tuple.__new__(cls, (cls.__name__, value, start, end))
+        return _new(cls, (cls.__name__, value, start, end))
 
 
 class Text(_WithText):
@@ -124,7 +163,7 @@ class _WithoutValue(Event):
     value: None
 
     def __new__(cls, start: int = 0, end: int = 0) -> Any:
-        return tuple.__new__(cls, (cls.__name__, None, start, end))
+        return _new(cls, (cls.__name__, None, start, end))
 
     def __repr__(self) -> str:
         return f"{self.__class__.__name__}(start={self.start}, end={self.end})"
@@ -158,8 +197,8 @@ class TaskListMarker(Event):
     __match_args__ = ("value", "start", "end")
     value: bool
 
-    def __new__(cls, value: bool, start: int = 0, end: int = 0) -> "TaskListMarker":
-        return tuple.__new__(cls, ("TaskListMarker", value, start, end))
+    def __new__(cls, value: bool, start: int = 0, end: int = 0) -> Any:
+        return _new(cls, ("TaskListMarker", value, start, end))
 
 
 # The class of each kind of event, by its name. The order is that of the numbers of flat records, from 1.

@@ -7,7 +7,7 @@ from typing import Callable, Dict, Iterable, Iterator, List, NamedTuple, Optiona
 from . import _ends as ends
 from . import _tags as tags
 from ._ends import TagEnd
-from ._events import KINDS, WITH_TEXT, End, Event, Start, TaskListMarker, Value
+from ._events import KINDS, WITH_TEXT, Event, Start, TaskListMarker, Value
 from ._kinds import Alignment, BlockQuoteKind, Fenced, Indented, LinkType, MetadataBlockKind, WikiLink
 from ._lines import Lines, Text, continuations
 from ._tags import Tag
@@ -189,7 +189,8 @@ def _made(records: bytes, offsets: Iterable[int], moved: List[int]) -> Iterator[
 
     This loop is what events cost, so it calls as little as it can.
     """
-    read, known, new = _CODED.unpack_from, _KNOWN.get, tuple.__new__
+    new: Callable[..., Event] = tuple.__new__
+    read, known = _CODED.unpack_from, _KNOWN.get
     for at in offsets:
         code, start, end, size = read(records, at)
         if moved:

@@ -28,11 +28,11 @@ def bytes_of(what: str, value: object) -> bytes:
 
 def _number_of(what: str, value: object, values: Sequence[object]) -> int:
     """The number of a value among those that are possible."""
-    if not isinstance(value, tuple(map(type, values))):
-        raise TypeError(f"{what} is one of {', '.join(map(repr, values))}, not of type {type(value).__name__}")
-    if value not in values:
-        raise ValueError(f"{what} is none of {', '.join(map(repr, values))}: {value!r}")
-    return values.index(value)
+    is_possible = isinstance(value, tuple(map(type, values)))
+    if is_possible and value in values:
+        return values.index(value)
+    said = f"{what} is one of {', '.join(map(repr, values))}, not {value!r}"
+    raise ValueError(said) if is_possible else TypeError(said)
 
 
 def _items(what: str, values: object) -> Iterable[Any]:
