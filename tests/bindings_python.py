@@ -5,7 +5,7 @@ import os
 
 import pulldown_cmark
 from programs import BITS, NONE
-from pulldown_cmark import Event, Fenced, Indented, Options, Paragraph, Start, Tag, TagEnd, WikiLink, events, html
+from pulldown_cmark import Event, Fenced, Indented, Options, Paragraph, Start, Tag, TagEnd, WikiLink, events, html, render
 
 
 # References within a limit of bytes; footnotes, inline links and wikilinks do not count.
@@ -69,11 +69,11 @@ def raised(call, *words, **options):
 
 
 def forked(texts, wanted):
-    """The number of texts for which a forked process gives other HTML, or 1 if it ends by a signal."""
+    """The number of texts for which a forked process gives other HTML, also from events, or 1 if it ends by a signal."""
     child = os.fork()
     if child == 0:
         try:
-            os._exit(sum(html(text).encode() != wanted["mdhtml", 0, text] for text in texts))
+            os._exit(sum((html(text).encode(), render([*events(text)]).encode()) != (wanted["mdhtml", 0, text],) * 2 for text in texts))
         finally:
             os._exit(255)
     _, status = os.waitpid(child, 0)
