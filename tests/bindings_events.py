@@ -16,8 +16,9 @@ from bindings_python import plain, raised
 from programs import ALL, NONE
 from pulldown_cmark import (
     BlockQuote, BrokenLink, Code, CodeBlock, End, Event, Events, Fenced, FootnoteDefinition, HardBreak, Heading, HeadingEnd, Image, Indented, Lines, Link, LinkDef,
-    LinkEnd, List, ListEnd, MetadataBlock, Options, Paragraph, Place, SoftBreak, Start, Table, Tag, TagEnd, TaskListMarker, Text, WikiLink, events, html, merged, references, render,
+    List, ListEnd, MetadataBlock, Options, Paragraph, Place, SoftBreak, Start, Table, Tag, TagEnd, TaskListMarker, Text, WikiLink, events, html, merged, references, render,
 )  # fmt: skip
+from pulldown_cmark._writing import records_of
 
 # What values a field may have, by its name. `attrs`, `classes` and `alignments` are lists of these.
 WORDS = ("", "a", "é & <b>", "ö\n\"'", "x\0y")
@@ -257,6 +258,7 @@ def try_changed(judge, library, draw):
         given = [made(draw.choice(NAMES), draw) for _ in range(draw.randrange(12))]
         records = written(given)
         judge(f"{given!r} read again", [it[:2] for it in Events(records, "")], [it[:2] for it in given])
+        judge(f"the records of {given!r}", records_of(given), records)
         judge(f"the HTML of {given!r}", (bindings_flat.DONE, render(given).encode()), library.render(records))
         judge(f"the HTML of {given!r} by an iterator", render(iter(given)), render(given))
     lifted = [it._replace(value=it.value._replace(level=it.value.level + 1)) if isinstance(it.value, (Heading, HeadingEnd)) else it for it in events("# a\n\nb\n===\n\n## c")]
@@ -321,6 +323,8 @@ def try_callback(judge, texts, wanted):
     links = [it.value for it in found if isinstance(it, Start) and isinstance(it.value, Link)]
     judge("the links", links, [Link("ShortcutUnknown", "/1", "", "a"), Link("ReferenceUnknown", "/2?é", 'x "y"', "c"), Link("Shortcut", "/e", "", "e")])
     judge("bytes have ranges in bytes", asking("é [a]".encode(), {})[1], [BrokenLink("ShortcutUnknown", "a", 3, 6)])
+    said, asked, _ = asking("[a][b][c]", {"b": ("/b", ""), "c": ("/c", "")})
+    judge("a question that comes after an answer", (said, [it[1:] for it in asked]), ('<p><a href="/b">a</a><a href="/c">c</a></p>\n', [("b", 0, 6), ("c", 3, 9), ("c", 6, 9)]))
     judge("an image", asking("![a]", {"a": ("/1", "t")})[0], '<p><img src="/1" alt="a" title="t" /></p>\n')
     judge("nested brackets", asking("[a [b] c]", {"b": ("/b", ""), "a [b] c": ("/o", "")})[0], '<p>[a <a href="/b">b</a> c]</p>\n')
     judge("with options", asking("~~[a]~~ &ouml;", {"a": ("/1", "")}, options=Options.STRIKETHROUGH)[0], '<p><del><a href="/1">a</a></del> &amp;ouml;</p>\n')
@@ -365,6 +369,7 @@ def try_references(judge, texts):
     judge("definitions", found, [LinkDef("a", "/a", "é", 7, 18), LinkDef("B c", "d e", None, 21, 33)])
     judge("the ranges of definitions", [text[it.range] for it in found], ["[a]: /a 'é'", "[B c]: <d e>"])
     judge("definitions of bytes", [it.start for it in references(text.encode())], [8, 23])
+    judge("definitions in the order of the text", [it.label for it in references("[b]: /1\n[a]: /2\n[C]: /3")], ["b", "a", "C"])
     judge("an empty title", references("[a]: /a ''"), [LinkDef("a", "/a", "", 0, 10)])
     judge("no definition", [references(""), references("`[a]: /a`")], [[], []])
     judge("a definition with an option", [references("[^a]: /a"), references("[^a]: /a", options=Options.FOOTNOTES)], [[LinkDef("^a", "/a", None, 0, 8)], []])

@@ -8,7 +8,7 @@ from . import _ends as ends
 from . import _tags as tags
 from ._ends import TagEnd
 from ._events import KINDS, WITH_TEXT, Event, Start, TaskListMarker, Value
-from ._kinds import Alignment, BlockQuoteKind, Fenced, Indented, LinkType, MetadataBlockKind, WikiLink
+from ._kinds import Alignment, BlockQuoteKind, Fenced, Indented, LinkType, MetadataBlockKind, NoFields, WikiLink
 from ._lines import Lines, Text, continuations
 from ._tags import Tag
 
@@ -18,9 +18,9 @@ HEAD = struct.Struct("<BBB5xQQQ")
 _CODED = struct.Struct("<I4xQQQ")
 _CHAIN = struct.Struct("<B23xQ")
 _LENGTH = struct.Struct("<24xQ")
-DEFINITION, QUESTION, ANSWER = 14, 15, 16
-FURTHER, TITLE, LABEL, HEADING_ID, CLASS, ATTRIBUTE, VALUE, NO_VALUE, FIRST_NUMBER = range(9)
-START, END = 1, 2
+# Kinds of records beside those of the other events, and the parts that further records have.
+FURTHER, START, END, QUESTION, ANSWER = 0, 1, 2, 15, 16
+TITLE, LABEL, HEADING_ID, CLASS, ATTRIBUTE, VALUE, NO_VALUE, FIRST_NUMBER = range(1, 9)
 
 # The kinds and elements, in the order of their numbers.
 LINK_TYPES: Tuple[LinkType, ...] = (
@@ -37,10 +37,6 @@ TAGS: Tuple[Type[Tag], ...] = (
 )  # fmt: skip
 # The number of each element, by its name.
 NUMBERS: Dict[str, int] = {it.__name__: number for number, it in enumerate(TAGS, 1)}
-# The elements whose tags have no fields.
-PLAIN_TAGS: Tuple[Type[Tag], ...] = tuple(it for it in TAGS if it not in (
-    tags.Heading, tags.BlockQuote, tags.CodeBlock, tags.List, tags.FootnoteDefinition, tags.Table, tags.Link, tags.Image, tags.MetadataBlock
-))  # fmt: skip
 
 
 def code_of(kind: int, name: str = "", data: int = 0) -> int:
@@ -58,8 +54,9 @@ def _ends_with_data() -> Iterator[Tuple[int, TagEnd]]:
 
 def _known() -> Iterator[Tuple[int, Value]]:
     """The codes that say everything about the value of their event, and these values."""
-    for plain in PLAIN_TAGS:
-        yield code_of(START, plain.__name__), plain()
+    for tag in TAGS:
+        if issubclass(tag, NoFields):
+            yield code_of(START, tag.__name__), tag()
     for number, kind in enumerate(QUOTES):
         yield code_of(START, "BlockQuote", number), tags.BlockQuote(kind)
     for number, style in enumerate(METADATA):
