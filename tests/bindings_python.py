@@ -5,7 +5,7 @@ import os
 
 import pulldown_cmark
 from programs import BITS, NONE
-from pulldown_cmark import Event, Options, Tag, events, html
+from pulldown_cmark import Event, Fenced, Indented, Options, Paragraph, Start, Tag, TagEnd, WikiLink, events, html, render
 
 
 # References within a limit of bytes; footnotes, inline links and wikilinks do not count.
@@ -23,12 +23,18 @@ LIMITS = (
 )
 
 
+def plain(value):
+    """A value as mdevents writes it."""
+    if isinstance(value, (Tag, TagEnd)):
+        return [value.name, *map(plain, value)]
+    if isinstance(value, (Fenced, Indented, WikiLink)):
+        return [type(value).__name__, *value]
+    return [*map(plain, value)] if isinstance(value, tuple) else value
+
+
 def line_of(event):
     """An event as mdevents writes it."""
-    if isinstance(event.value, Tag):
-        data = [[event.value.name, *event.value.data]]
-    else:
-        data = [] if event.value is None else [event.value]
+    data = [] if event.value is None else [plain(event.value)]
     return json.dumps({"range": [event.start, event.end], "event": [event.name, *data]}, ensure_ascii=False, separators=(",", ":")) + "\n"
 
 
@@ -63,11 +69,11 @@ def raised(call, *words, **options):
 
 
 def forked(texts, wanted):
-    """The number of texts for which a forked process gives other HTML, or 1 if it ends by a signal."""
+    """The number of texts for which a forked process gives other HTML, also from events, or 1 if it ends by a signal."""
     child = os.fork()
     if child == 0:
         try:
-            os._exit(sum(html(text).encode() != wanted["mdhtml", 0, text] for text in texts))
+            os._exit(sum((html(text).encode(), render([*events(text)]).encode()) != (wanted["mdhtml", 0, text],) * 2 for text in texts))
         finally:
             os._exit(255)
     _, status = os.waitpid(child, 0)
@@ -87,7 +93,7 @@ def faults(texts, wanted):
         judge(f"HTML of {kind.__name__}", html(kind(b"*a*")), "<p><em>a</em></p>\n")
     judge("an empty text", (html(""), list(events(""))), ("", []))
     judge("a text with a NUL is read to its end", [it.end for it in events("a\0b")][-1], 3)
-    judge("an event", next(events("a")), Event("Start", Tag("Paragraph"), 0, 1))
+    judge("an event", (events("a")[0], type(events("a")[0])), (Event("Start", Paragraph(), 0, 1), Start))
     for text, bits, limit, expected in LIMITS:
         judge(f"{text!r} within {limit} bytes", html(text, options=bits, expansion_limit=limit), expected)
     judge("a limit of more bytes than there are", html("[x]\n\n[x]: /u", expansion_limit=1 << 80), '<p><a href="/u">x</a></p>\n')

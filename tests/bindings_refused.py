@@ -9,7 +9,7 @@ import json
 import os
 import sys
 
-from pulldown_cmark import events, html
+from pulldown_cmark import events, html, references, render
 
 library = ctypes.CDLL(os.environ["PULLDOWN_CMARK_LIBRARY"])
 library.refuse.argtypes, library.refuse.restype = [ctypes.c_long], None
@@ -34,7 +34,16 @@ def refused(call):
 
 def main():
     for options, text in json.load(sys.stdin):
-        counts = [refused(lambda: html(text, options=options)), refused(lambda: list(events(text, options=options)))]
+        library.refuse(0)
+        given = [*events(text, options=options)]
+        calls = [
+            lambda: html(text, options=options),
+            lambda: list(events(text, options=options)),
+            lambda: references(text, options=options),
+            lambda: html(f"[a] {text}", options=options, broken_link=lambda link: ("/u", link.reference)),
+            lambda: render(given),
+        ]
+        counts = [refused(it) for it in calls]
         assert all(counts), counts
         print(*counts)
 

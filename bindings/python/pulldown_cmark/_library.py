@@ -5,12 +5,12 @@ import functools
 import operator
 import os
 import pathlib
-from typing import Iterable, Optional, Union
+from typing import Any, Callable, Dict, List, Union
 
-Text = Union[str, bytes, bytearray, memoryview]
+from ._lines import Text
 
 # The statuses of a call, as pulldown_cmark.h defines them.
-_DONE, _TOO_LONG, _NOT_UTF8, _NO_MEMORY = range(4)
+_DONE, _TOO_LONG, _NOT_UTF8, _NO_MEMORY, _MALFORMED = range(5)
 
 
 class Options(enum.IntFlag):
@@ -36,6 +36,8 @@ class Options(enum.IntFlag):
     EMAIL_AUTOLINKS = 131072
 
 
+# The bit of the library for all entity names of HTML.
+_ALL_ENTITIES = 1 << 30
 # The bits of all options.
 _ALL = functools.reduce(operator.or_, map(int, Options.__members__.values()))
 
@@ -47,23 +49,31 @@ def _loaded() -> ctypes.CDLL:
     return ctypes.CDLL(named or (str(beside) if beside.exists() else "libpulldown_cmark.so.0"))
 
 
-_library = _loaded()
-_library.pcm_version.restype = ctypes.c_uint32
-_library.pcm_version.argtypes = []
+library = _loaded()
 _TEXT = [ctypes.c_char_p, ctypes.c_size_t, ctypes.c_uint32]
+_MORE = [ctypes.c_char_p, ctypes.c_size_t]
 _ROOM = [ctypes.c_void_p, ctypes.c_size_t, ctypes.POINTER(ctypes.c_size_t)]
-for _call in (_library.pcm_html, _library.pcm_events_json):
-    _call.restype = ctypes.c_uint32
-    _call.argtypes = _TEXT + _ROOM
-_library.pcm_safe_html_with.restype = ctypes.c_uint32
-_library.pcm_safe_html_with.argtypes = _TEXT + [ctypes.c_char_p, ctypes.c_size_t] + _ROOM
-_library.pcm_html_within.restype = ctypes.c_uint32
-_library.pcm_html_within.argtypes = _TEXT + [ctypes.c_size_t] + _ROOM
+# The calls of the library, and what they are given.
+_CALLS: Dict[str, List[Any]] = {
+    "pcm_version": [],
+    "pcm_html": _TEXT + _ROOM,
+    "pcm_html_within": [*_TEXT, ctypes.c_size_t, *_ROOM],
+    "pcm_safe_html_with": _TEXT + _MORE + _ROOM,
+    "pcm_events": _TEXT + _ROOM,
+    "pcm_events_answered": _TEXT + _MORE + _ROOM,
+    "pcm_references": _TEXT + _ROOM,
+    "pcm_render": _MORE + _ROOM,
+}
+for _name, _given in _CALLS.items():
+    if not hasattr(library, _name):
+        raise ImportError(f"the shared library is older than this package: it has no {_name}")
+    getattr(library, _name).restype = ctypes.c_uint32
+    getattr(library, _name).argtypes = _given
 
 
 def library_version() -> str:
     """The version of the shared library. It ends with ``+not.proved`` if the library was built without proofs."""
-    version = _library.pcm_version()
+    version = library.pcm_version()
     label = "+not.proved" if version >> 31 else ""
     return f"{version >> 16 & 0x7FFF}.{version >> 8 & 255}.{version & 255}{label}"
 
@@ -77,12 +87,12 @@ def bytes_of(text: Text) -> bytes:
     raise TypeError(f"Markdown is str or bytes, not {type(text).__name__}")
 
 
-def bits_of(options: int) -> int:
-    """The bits of a set of options."""
+def bits_of(options: int, all_entities: bool) -> int:
+    """The bits of a set of options, and of all entity names."""
     bits = operator.index(options)
     if bits & ~_ALL:
         raise ValueError(f"there is no option of the bits {bits & ~_ALL}")
-    return bits
+    return bits | (_ALL_ENTITIES if all_entities else 0)
 
 
 def limit_of(limit: int) -> int:
@@ -94,14 +104,16 @@ def limit_of(limit: int) -> int:
     return min(bytes_left, ctypes.c_size_t(-1).value)
 
 
-def answer(call: "ctypes._CFuncPtr", data: bytes, options: int, *more: Union[bytes, int]) -> bytes:
-    """The output of a call of the library for these bytes and further arguments. Python's lock is released while it runs."""
-    bits, size = bits_of(options), ctypes.c_size_t()
-    room_len = len(data) + len(data) // 4 + 64
+def answer(call: Callable[..., int], room_len: int, data: bytes, *more: Union[bytes, int]) -> bytes:
+    """The output of a call of the library for these bytes and further arguments. Python's lock is released while it runs.
+
+    The first buffer has ``room_len`` bytes; if that is too little, there is a second call.
+    """
+    size = ctypes.c_size_t()
     while True:
         room = bytearray(room_len)
         place = ctypes.addressof(ctypes.c_char.from_buffer(room))
-        status = call(data, len(data), bits, *more, place, room_len, ctypes.byref(size))
+        status = call(data, len(data), *more, place, room_len, ctypes.byref(size))
         if status == _DONE:
             return ctypes.string_at(place, size.value)
         if status == _NOT_UTF8:
@@ -109,32 +121,6 @@ def answer(call: "ctypes._CFuncPtr", data: bytes, options: int, *more: Union[byt
             raise UnicodeError("the text is not UTF-8")
         if status == _NO_MEMORY:
             raise MemoryError("the library was refused memory")
+        if status == _MALFORMED:
+            raise ValueError("the records are malformed")
         room_len = size.value
-
-
-def html(text: Text, *, options: int = Options.NONE, safe: bool = False, schemes: Iterable[str] = (), expansion_limit: Optional[int] = None) -> str:
-    """The HTML of a text of Markdown, read with these options.
-
-    It is not safe to show if the text comes from a stranger: raw HTML is kept as it is, links may lead to ``javascript:``, and headings may
-    have attributes such as ``onclick``. With ``safe=True`` it is safe: HTML is shown as text, a heading has no attribute but its anchor, and
-    anchors and names of footnotes begin with ``user-content-``. Addresses are relative or begin with ``http:``, ``https:``, ``mailto:`` or
-    one of ``schemes``; ``javascript``, ``vbscript``, ``data`` and ``file`` are never taken from ``schemes``.
-
-    Once the destinations and titles of references have ``expansion_limit`` bytes in all, further references stay text. The default limit is
-    100,000 bytes, or the length of the text if that is more. Safe HTML has no other limit: both together raise ``ValueError``.
-
-    Raises ``UnicodeError`` if the text is not UTF-8 or cannot be encoded as UTF-8, and ``MemoryError`` if memory is refused.
-    """
-    if safe and expansion_limit is not None:
-        raise ValueError("safe HTML takes no limit")
-    if safe:
-        names = " ".join(schemes).encode("utf-8")
-        return answer(_library.pcm_safe_html_with, bytes_of(text), options, names, len(names)).decode("utf-8")
-    if expansion_limit is not None:
-        return answer(_library.pcm_html_within, bytes_of(text), options, limit_of(expansion_limit)).decode("utf-8")
-    return answer(_library.pcm_html, bytes_of(text), options).decode("utf-8")
-
-
-def event_lines(data: bytes, options: int) -> bytes:
-    """A line of JSON for each event."""
-    return answer(_library.pcm_events_json, data, options)

@@ -1,0 +1,57 @@
+"""Checks the links inside a Markdown file, its references and their definitions."""
+import re
+import sys
+from typing import Iterator, List, Tuple
+
+from outline import outline
+from pulldown_cmark import BrokenLink, Image, Lines, Link, LinkDef, Options, Start, events, references
+
+OPTIONS = Options.TABLES | Options.FOOTNOTES
+
+
+def slug(title: str) -> str:
+    """The anchor that GitHub gives a heading."""
+    return re.sub(r"[^\w\- ]", "", title.lower()).replace(" ", "-")
+
+
+def folded(label: str) -> str:
+    """A label as definitions are compared: without regard to case and to the kind of white space."""
+    return " ".join(label.split()).casefold()
+
+
+def without(text: str, definitions: List[LinkDef]) -> str:
+    """The text with blanks in place of these definitions, so that only later definitions of their labels are left."""
+    pieces, at = [], 0
+    for it in definitions:
+        pieces += [text[at : it.start], re.sub(r"[^\r\n]", " ", text[it.range])]
+        at = it.end
+    return "".join(pieces) + text[at:]
+
+
+def faults(text: str) -> Iterator[Tuple[int, str]]:
+    """The faults, each with its offset in the text."""
+    missing: List[BrokenLink] = []
+    anchors = {f"#{slug(title)}" for _, _, title in outline(text)}
+    used = set()
+    for event in events(text, options=OPTIONS, broken_link=missing.append):
+        if isinstance(event, Start) and isinstance(event.value, (Link, Image)):
+            used.add(folded(event.value.id))
+            if event.value.dest_url.startswith("#") and event.value.dest_url not in anchors:
+                yield event.start, f"no heading has the anchor {event.value.dest_url}"
+    for link in missing:
+        if link.link_type != "ShortcutUnknown":
+            yield link.start, f"nothing defines [{link.reference}]"
+    definitions = references(text, options=OPTIONS)
+    for it in definitions:
+        if folded(it.label) not in used:
+            yield it.start, f"nothing refers to [{it.label}]"
+    for it in references(without(text, definitions), options=OPTIONS):
+        yield it.start, f"[{it.label}] is defined already"
+
+
+if __name__ == "__main__":
+    with open(sys.argv[1], encoding="utf-8") as file:
+        text = file.read()
+    for offset, fault in sorted(faults(text)):
+        line, column = Lines(text).place(offset)
+        print(f"{sys.argv[1]}:{line}:{column}: {fault}")
