@@ -83,21 +83,21 @@ const WRONG = [
   [() => html("a", "2"), "TypeError: options are a number, joined by |"],
   [() => html("a", 0.5), "TypeError: options are a number, joined by |"],
   [() => html("a", 0, { expansionLimit: -1 }), "RangeError: a limit is at least 0"],
-  [() => html("a", 0, { safe: true, expansionLimit: 1 }), "RangeError: of safe, expansionLimit and brokenLink one call takes only one"],
-  [() => html("a", 0, { safe: true, brokenLink: () => null }), "RangeError: of safe, expansionLimit and brokenLink one call takes only one"],
+  [() => html("a", 0, { safe: true, expansionLimit: 1 }), "RangeError: a call takes one of safe, expansionLimit and brokenLink"],
+  [() => html("a", 0, { safe: true, brokenLink: () => null }), "RangeError: a call takes one of safe, expansionLimit and brokenLink"],
   [() => events("a", 0, { brokenLink: 1 }), "TypeError: brokenLink is no function"],
   [() => html("[a]", 0, { brokenLink: () => "b" }), "MalformedError: the answer for a link is no object"],
-  [() => html("[a]", 0, { brokenLink: () => ({}) }), "MalformedError: the destination of the answer is a undefined, not a string"],
-  [() => html("[a]", 0, { brokenLink: () => ({ destUrl: "b", title: 1 }) }), "MalformedError: the title of the answer is a number, not a string"],
+  [() => html("[a]", 0, { brokenLink: () => ({}) }), "MalformedError: the destination of the answer is undefined, not a string"],
+  [() => html("[a]", 0, { brokenLink: () => ({ destUrl: "b", title: 1 }) }), "MalformedError: the title of the answer is number, not a string"],
   [() => html("[a]", 0, { brokenLink: () => { throw new EvalError("mine"); } }), "EvalError: mine"],
   [() => render(1), "TypeError: events are an iterable object, or the bytes of records"],
   [() => render(null), "TypeError: events are an iterable object, or the bytes of records"],
   [() => render([null]), "MalformedError: event 0: null is no event"],
   [() => render([{ name: "Rule", value: null }, { name: "Other" }]), 'MalformedError: event 1: there is no event "Other"'],
-  [() => render([{ name: null }]), "MalformedError: event 0: there is no event null"],
-  [() => render([{ name: "Text" }]), "MalformedError: event 0: the value of the event Text is no string"],
-  [() => render([{ name: "Code", value: 1 }]), "MalformedError: event 0: the value of the event Code is a number, not a string"],
-  [() => render([{ name: "Text", value: "\ud800" }]), "MalformedError: event 0: the value of the event Text has half of a pair of surrogates"],
+  [() => render([{ name: null }]), 'MalformedError: event 0: there is no event ""'],
+  [() => render([{ name: "Text" }]), "MalformedError: event 0: the value of the event Text is null, not a string"],
+  [() => render([{ name: "Code", value: 1 }]), "MalformedError: event 0: the value of the event Code is number, not a string"],
+  [() => render([{ name: "Text", value: "\ud800" }]), 'MalformedError: event 0: "\\ud800" has half of a pair of surrogates'],
   [() => render([{ name: "Rule", value: "a" }]), "MalformedError: event 0: the event Rule has no value"],
   [() => render([{ name: "TaskListMarker", value: 1 }]), "MalformedError: event 0: there is no value of a task list marker 1"],
   [() => render([{ name: "Rule", value: null, start: -1 }]), "MalformedError: event 0: a start is -1, not an integer from 0 to 2 ** 53 - 1"],
@@ -111,12 +111,12 @@ const WRONG = [
   [() => render([start({ name: "Heading", level: 1, attrs: ["a"] })]), "MalformedError: event 0: an attribute is no array"],
   [() => render([start({ name: "BlockQuote", kind: "Other" })]), 'MalformedError: event 0: there is no kind of a block quote "Other"'],
   [() => render([start({ name: "CodeBlock" })]), "MalformedError: event 0: there is no kind of a code block undefined"],
-  [() => render([start({ name: "CodeBlock", kind: "Fenced" })]), "MalformedError: event 0: an info string is a undefined, not a string"],
+  [() => render([start({ name: "CodeBlock", kind: "Fenced" })]), "MalformedError: event 0: an info string is undefined, not a string"],
   [() => render([start({ name: "List", firstNumber: -1 })]), "MalformedError: event 0: the first number of a list is -1, not an integer from 0 to 2 ** 53 - 1"],
   [() => render([start({ name: "Table", alignments: ["Up"] })]), 'MalformedError: event 0: there is no alignment "Up"'],
   [() => render([start({ ...LINK, linkType: "Other" })]), 'MalformedError: event 0: there is no link type "Other"'],
   [() => render([start({ ...LINK, linkType: "WikiLink" })]), "MalformedError: event 0: there is no value of `hasPothole` undefined"],
-  [() => render([start({ ...LINK, title: undefined })]), "MalformedError: event 0: a title is a undefined, not a string"],
+  [() => render([start({ ...LINK, title: undefined })]), "MalformedError: event 0: a title is undefined, not a string"],
   [() => render([start({ name: "MetadataBlock", kind: null })]), "MalformedError: event 0: there is no kind of a metadata block null"],
   [() => render(Uint8Array.of(1, 2)), "MalformedError: the bytes are not the records of events"],
 ];
@@ -159,9 +159,11 @@ const tryLinks = () => {
   judge("HTML with a callback", html(text, 0, { brokenLink }), html(defined));
   judge("the ranges that are asked for", asked.map(({ start, end }) => text.slice(start, end)).sort(), ["[a]", "[a]", "[b]", "[c][d]", "[f]"]);
   judge("the first question", asked[0], { linkType: "ShortcutUnknown", reference: "a", start: 2, end: 5 });
-  judge("link types with a callback", Array.from(events(text, 0, { brokenLink })).filter((it) => it.value?.linkType).map((it) => it.value.linkType), ["ShortcutUnknown", "CollapsedUnknown", "ReferenceUnknown", "ShortcutUnknown"]);
+  const linkTypes = Array.from(events(text, 0, { brokenLink }), (it) => it.value?.linkType).filter(Boolean);
+  judge("link types with a callback", linkTypes, ["ShortcutUnknown", "CollapsedUnknown", "ReferenceUnknown", "ShortcutUnknown"]);
   judge("a callback that answers nothing", html(text, 0, { brokenLink: () => undefined }), html(text));
-  judge("a callback that is not asked", html("[e]\n\n[e]: /e", 0, { brokenLink: () => faults.push("asked for a link that has a definition") }), '<p><a href="/e">e</a></p>\n');
+  const unasked = () => faults.push("asked about a link that has a definition");
+  judge("a callback that is not asked", html("[e]\n\n[e]: /e", 0, { brokenLink: unasked }), '<p><a href="/e">e</a></p>\n');
   const definitions = "é\n\n[b]: /b 'x'\n[A B]: <>\n[b]: /c\n";
   judge("definitions", references(definitions), [
     { label: "b", dest: "/b", title: "x", start: 3, end: 14 },

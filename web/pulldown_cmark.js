@@ -80,7 +80,7 @@ var pulldownCmark = ((records) => {
   /** The bytes of a text: a string, or its bytes in UTF-8. */
   const encoded = (text) => {
     if (text instanceof Uint8Array) return text;
-    if (typeof text !== "string") throw new TypeError(`Markdown is a string or a Uint8Array, not ${text === null ? "null" : typeof text}`);
+    if (typeof text !== "string") throw new TypeError(`Markdown is a string or a Uint8Array, not ${records.typeOf(text)}`);
     if (!records.isWellFormed(text)) throw new NotUtf8Error("the text has half of a pair of surrogates");
     return encoder.encode(text);
   };
@@ -99,7 +99,10 @@ var pulldownCmark = ((records) => {
     return bytes < most ? bytes : most;
   };
 
-  /** The sizes of the first buffers for HTML and for records, for a text of this length: most texts are read once. */
+  /**
+   * The sizes of the first buffers for HTML and for records, for a text of this length. Of 861 Markdown files of one machine, none needs a
+   * second call for its HTML, and 8 need one for their records.
+   */
   const htmlRoom = (length) => 2 * length + 256;
   const recordsRoom = (length) => 5 * length + 1024;
 
@@ -219,122 +222,147 @@ var pulldownCmark = ((records) => {
     yield* joined();
   }
 
-  /** The functions of an instance of the module. */
-  const callsOf = (instance) => {
-    const module = instance.exports;
+  /** An instance of the module: its calls with their memory. */
+  class Instance {
+    constructor({ exports }) {
+      this.calls = exports;
+    }
+
+    get bytes() {
+      return new Uint8Array(this.calls.memory.buffer);
+    }
 
     /** The address of `size` bytes of the module's memory. */
-    const take = (size) => {
-      const place = Number(module.take(BigInt(size)));
+    take(size) {
+      const place = Number(this.calls.take(BigInt(size)));
       if (!place) throw new OutOfMemoryError("out of memory");
       return place;
-    };
-
-    /** The error for a status. */
-    const failure = (status) => {
-      if (status === NOT_UTF8) return new NotUtf8Error("the text is not UTF-8");
-      if (status === MALFORMED) return new records.MalformedError("the bytes are not the records of events");
-      return new OutOfMemoryError("out of memory");
-    };
+    }
 
     /**
      * The output of a call, as `read` takes it from the module's memory. The call gets these bytes, then `more`: numbers, and lists of bytes.
-     * `length` is the size of its first buffer.
+     * `length` is the size of its first buffer. All memory is given back, also if an error is thrown.
      */
-    const answer = (call, data, more, length, read) => {
-      const held = [];
-      const keep = (size) => (held.push(take(size)), held[held.length - 1]);
+    answer(call, data, more, length, read) {
+      const held = [], given = [];
+      const keep = (size) => (held.push(this.take(size)), held[held.length - 1]);
       const put = (bytes) => {
         const place = keep(bytes.length + 1);
-        new Uint8Array(module.memory.buffer).set(bytes, place);
-        return [BigInt(place), BigInt(bytes.length)];
+        this.bytes.set(bytes, place);
+        given.push(BigInt(place), BigInt(bytes.length));
       };
       try {
-        const given = [data, ...more].flatMap((it) => (it instanceof Uint8Array ? put(it) : [it])), size = keep(8);
+        put(data);
+        for (const it of more) if (it instanceof Uint8Array) put(it); else given.push(it);
+        const size = keep(8);
         for (;;) {
-          const room = keep(length), status = call(...given, BigInt(room), BigInt(length), BigInt(size));
-          const written = Number(new DataView(module.memory.buffer).getBigUint64(size, true));
-          if (status === DONE) return read(new Uint8Array(module.memory.buffer, room, written));
+          const room = keep(length), status = this.calls[call](...given, BigInt(room), BigInt(length), BigInt(size));
+          const written = Number(new DataView(this.calls.memory.buffer).getBigUint64(size, true));
+          if (status === DONE) return read(this.bytes.subarray(room, room + written));
           if (status !== TOO_LONG) throw failure(status);
-          module.give(BigInt(held.pop()));
+          this.calls.give(BigInt(held.pop()));
           length = written;
         }
       } finally {
-        for (const place of held) module.give(BigInt(place));
+        for (const place of held) this.calls.give(BigInt(place));
       }
-    };
+    }
 
-    /** The records of the events of a text, whose links without a definition are answered by a function of the caller. */
-    const answeredRecords = (data, bits, brokenLink, placed) => {
-      const answers = new records.Writer(), asked = new Set();
-      for (;;) {
-        const given = answer(module.pcm_events_answered, data, [bits, answers.bytes], recordsRoom(data.length), copyOf);
-        const { records: found, questions } = records.withoutQuestions(given);
-        const fresh = questions.filter((it) => !asked.has(`${it.start} ${it.end}`));
-        if (!fresh.length) return found;
-        for (const question of fresh) {
-          const { start, end } = question, key = `${start} ${end}`;
-          if (asked.has(key)) continue;
-          asked.add(key);
-          records.writeAnswer(answers, question, brokenLink({ ...question, start: placed(start), end: placed(end) }));
-        }
+    /** The HTML that a call returns for a text. */
+    html(call, data, more) {
+      return this.answer(call, data, more, htmlRoom(data.length), stringOf);
+    }
+
+    /** The records that a call returns for a text. */
+    records(call, data, more) {
+      return this.answer(call, data, more, recordsRoom(data.length), copyOf);
+    }
+
+    /** The HTML of the events that some records stand for. */
+    rendered(bytes) {
+      return this.answer("pcm_render", bytes, [], bytes.length + 256, stringOf);
+    }
+  }
+
+  /** The error for a status. */
+  const failure = (status) => {
+    if (status === NOT_UTF8) return new NotUtf8Error("the text is not UTF-8");
+    if (status === MALFORMED) return new records.MalformedError("the bytes are not the records of events");
+    return new OutOfMemoryError("out of memory");
+  };
+
+  /** The records of the events of a text, whose links without a definition are answered by a function of the caller. */
+  const answeredRecords = (instance, data, bits, brokenLink, placed) => {
+    const answers = new records.Writer(), asked = new Set();
+    for (;;) {
+      const { records: found, questions } = records.withoutQuestions(instance.records("pcm_events_answered", data, [bits, answers.bytes]));
+      let isAnswered = false;
+      for (const question of questions) {
+        const { start, end } = question, range = `${start} ${end}`;
+        if (asked.has(range)) continue;
+        asked.add(range);
+        records.writeAnswer(answers, question, brokenLink({ ...question, start: placed(start), end: placed(end) }));
+        isAnswered = true;
       }
-    };
+      if (!isAnswered) return found;
+    }
+  };
 
-    /** The flat records of the events of a text. */
-    const recordsIn = (text, data, bits, brokenLink) => {
-      if (brokenLink === null) return answer(module.pcm_events, data, [bits], recordsRoom(data.length), copyOf);
-      if (typeof brokenLink !== "function") throw new TypeError("brokenLink is no function");
-      return answeredRecords(data, bits, brokenLink, placedIn(text, data.length));
-    };
+  /** The records of the events of a text. */
+  const recordsIn = (instance, text, data, bits, brokenLink) => {
+    if (brokenLink === null) return instance.records("pcm_events", data, [bits]);
+    if (typeof brokenLink !== "function") throw new TypeError("brokenLink is no function");
+    return answeredRecords(instance, data, bits, brokenLink, placedIn(text, data.length));
+  };
 
-    const rendered = (bytes) => answer(module.pcm_render, bytes, [], htmlRoom(bytes.length >> 1), stringOf);
+  /** The functions of an instance of the module. */
+  const callsOf = (exported) => {
+    const instance = new Instance(exported);
 
     /**
      * The HTML of a text, which is a string or its UTF-8 bytes. It is not safe to show if the text comes from a stranger, except with `safe`:
      * then HTML is shown as text, a heading has no attribute but its anchor, and addresses are relative or begin with http:, https:, mailto:
      * or one of `schemes`. Safe HTML may still link to bad places, track by images, or mislead a math renderer.
      * Once the destinations and titles of references have `expansionLimit` bytes in all, further references stay text. The default limit is
-     * 100,000 bytes, or the length of the text if that is more. `brokenLink` is asked for links without a definition, as by `events`. Safe
-     * HTML takes neither a limit nor `brokenLink`, and no call takes both of these.
+     * 100,000 bytes, or the length of the text if that is more. `brokenLink` is asked about links without a definition, as by `events`. With
+     * `allEntities` all names of entities are known, and otherwise eleven. Of `safe`, `expansionLimit` and `brokenLink` a call takes one.
      */
     const html = (text, options = 0, { safe = false, schemes = [], expansionLimit = null, brokenLink = null, allEntities = false } = {}) => {
-      const data = encoded(text), bits = bitsOf(options, allEntities), room = htmlRoom(data.length);
-      if (safe + (expansionLimit !== null) + (brokenLink !== null) > 1) throw new RangeError("of safe, expansionLimit and brokenLink one call takes only one");
-      if (safe && schemes.length) return answer(module.pcm_safe_html_with, data, [bits, encoded(schemes.join(" "))], room, stringOf);
-      if (safe) return answer(module.pcm_safe_html, data, [bits], room, stringOf);
-      if (expansionLimit !== null) return answer(module.pcm_html_within, data, [bits, limitOf(expansionLimit)], room, stringOf);
-      if (brokenLink !== null) return rendered(recordsIn(text, data, bits, brokenLink));
-      return answer(module.pcm_html, data, [bits], room, stringOf);
+      const data = encoded(text), bits = bitsOf(options, allEntities);
+      if ([safe, expansionLimit !== null, brokenLink !== null].filter(Boolean).length > 1) throw new RangeError("a call takes one of safe, expansionLimit and brokenLink");
+      if (safe && schemes.length) return instance.html("pcm_safe_html_with", data, [bits, encoded(schemes.join(" "))]);
+      if (safe) return instance.html("pcm_safe_html", data, [bits]);
+      if (expansionLimit !== null) return instance.html("pcm_html_within", data, [bits, limitOf(expansionLimit)]);
+      if (brokenLink !== null) return instance.rendered(recordsIn(instance, text, data, bits, brokenLink));
+      return instance.html("pcm_html", data, [bits]);
     };
 
     /**
      * The events of a text, each `{ name, value, start, end }`. The range of an event in the text is `text.slice(start, end)`: in indices for
-     * a string, and in bytes for bytes. `brokenLink` is a function that is asked once for each link without a definition. It gets
+     * a string, and in bytes for bytes. `brokenLink` is a function that is asked once about each link without a definition. It gets
      * `{ linkType, reference, start, end }` and returns `{ destUrl, title }`, or null.
      */
     const events = (text, options = 0, { brokenLink = null, allEntities = false } = {}) => {
       const data = encoded(text);
-      return new Events(recordsIn(text, data, bitsOf(options, allEntities), brokenLink), text, placedIn(text, data.length));
+      return new Events(recordsIn(instance, text, data, bitsOf(options, allEntities), brokenLink), text, placedIn(text, data.length));
     };
 
     /** The link reference definitions of a text, each `{ label, dest, title, start, end }`. The title is null if there is none. */
     const references = (text, options = 0, { allEntities = false } = {}) => {
       const data = encoded(text), bits = bitsOf(options, allEntities);
-      const found = answer(module.pcm_references, data, [bits], recordsRoom(data.length), copyOf);
-      return records.readReferences(found, placedIn(text, data.length));
+      return records.readReferences(instance.records("pcm_references", data, [bits]), placedIn(text, data.length));
     };
 
     /** The HTML of some events, as `events` returns them or changed, or of the bytes of their records. It is not safe to show for a stranger. */
     const render = (events) => {
-      if (events instanceof Uint8Array) return rendered(events);
-      if (events instanceof Events) return rendered(events.records);
+      if (events instanceof Uint8Array) return instance.rendered(events);
+      if (events instanceof Events) return instance.rendered(events.records);
       if (typeof events?.[Symbol.iterator] !== "function") throw new TypeError("events are an iterable object, or the bytes of records");
-      return rendered(records.recordsOf(events));
+      return instance.rendered(records.recordsOf(events));
     };
 
     const version = () => {
-      const number = module.pcm_version();
+      const number = instance.calls.pcm_version();
       const label = number >>> 31 ? " (not proved: what the proof rules out is checked at run time)" : "";
       return `${(number >> 16) & 0x7fff}.${(number >> 8) & 255}.${number & 255}${label}`;
     };

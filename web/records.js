@@ -12,6 +12,7 @@ var pulldownCmarkRecords = (() => {
     "Rule", "TaskListMarker",
   ];
   const WITHOUT_VALUE = ["SoftBreak", "HardBreak", "Rule"];
+  const HAS_TEXT = NAMES.map((name) => name && !["Start", "End", "TaskListMarker", ...WITHOUT_VALUE].includes(name));
   const TAGS = [
     null, "Paragraph", "Heading", "BlockQuote", "CodeBlock", "HtmlBlock", "List", "Item", "FootnoteDefinition", "DefinitionList",
     "DefinitionListTitle", "DefinitionListDefinition", "Table", "TableHead", "TableRow", "TableCell", "Emphasis", "Strong", "Strikethrough",
@@ -66,7 +67,8 @@ var pulldownCmarkRecords = (() => {
 
     /** Reads a number of eight bytes, the lowest byte first. */
     number(at) {
-      return this.view.getUint32(at, true) + this.view.getUint32(at + 4, true) * 2 ** 32;
+      const high = this.view.getUint32(at + 4, true);
+      return this.view.getUint32(at, true) + (high && high * 2 ** 32);
     }
 
     /** The byte after the record at which the reader is. */
@@ -86,11 +88,13 @@ var pulldownCmarkRecords = (() => {
     }
 
     /** Reads the further records, each with its part, its text and its start. */
-    *further() {
+    further() {
+      const found = [];
       while (!this.isAtEnd && this.kind === FURTHER) {
         const record = this.next();
-        yield { part: record.tag, text: this.text(record), start: record.start };
+        found.push({ part: record.tag, text: this.text(record), start: record.start });
       }
+      return found;
     }
   }
 
@@ -108,7 +112,7 @@ var pulldownCmarkRecords = (() => {
 
   /** The tag of a link or an image. Only a wikilink says whether it has a text of its own, a pothole. */
   const linkOf = (reader, record, name) => {
-    const destUrl = reader.text(record), [title, id] = [...reader.further()].map((it) => it.text), { data } = record;
+    const destUrl = reader.text(record), further = reader.further(), title = further[0].text, id = further[1].text, { data } = record;
     if (data < WIKILINK) return { name, linkType: LINK_TYPES[data], destUrl, title, id };
     return { name, linkType: "WikiLink", hasPothole: data === POTHOLE, destUrl, title, id };
   };
@@ -123,10 +127,8 @@ var pulldownCmarkRecords = (() => {
         return { name, kind: QUOTES[data] };
       case "CodeBlock":
         return { name, kind: data ? "Fenced" : "Indented", info: data ? reader.text(record) : null };
-      case "List": {
-        const [first = null] = data ? [...reader.further()] : [];
-        return { name, firstNumber: first && first.start };
-      }
+      case "List":
+        return { name, firstNumber: data ? reader.further()[0].start : null };
       case "FootnoteDefinition":
         return { name, label: reader.text(record) };
       case "Table":
@@ -163,7 +165,7 @@ var pulldownCmarkRecords = (() => {
     if (record.kind === START) return tagOf(reader, record);
     if (record.kind === END) return endOf(record);
     if (name === "TaskListMarker") return record.data === 1;
-    return WITHOUT_VALUE.includes(name) ? null : reader.text(record);
+    return HAS_TEXT[record.kind] ? reader.text(record) : null;
   };
 
   /** Reads an event, with its range as `placed` gives it for byte offsets. */
@@ -176,7 +178,7 @@ var pulldownCmarkRecords = (() => {
   const readReferences = (bytes, placed) => {
     const reader = new Reader(bytes), found = [];
     while (!reader.isAtEnd) {
-      const record = reader.next(), parts = [...reader.further()];
+      const record = reader.next(), parts = reader.further();
       const textOf = (part) => parts.filter((it) => it.part === part).map((it) => it.text);
       const [title = null] = textOf(TITLE), [label] = textOf(LABEL);
       found.push({ label, dest: reader.text(record), title, start: placed(record.start), end: placed(record.end) });
@@ -198,13 +200,13 @@ var pulldownCmarkRecords = (() => {
   };
 
   const isWellFormed = (text) => (text.isWellFormed ? text.isWellFormed() : !/\p{Surrogate}/u.test(text));
-  const encoder = new TextEncoder();
 
-  /** The bytes of a string in UTF-8, or an error that names the string. */
-  const encodedAs = (text, what) => {
-    if (typeof text !== "string") throw new MalformedError(`${what} is ${typeof text === "object" ? "no string" : `a ${typeof text}, not a string`}`);
-    if (!isWellFormed(text)) throw new MalformedError(`${what} has half of a pair of surrogates`);
-    return encoder.encode(text);
+  const typeOf = (value) => (value === null ? "null" : typeof value);
+
+  /** A text that a record can have, or an error that names it. */
+  const checked = (text, what) => {
+    if (typeof text !== "string") throw new MalformedError(`${what} is ${typeOf(text)}, not a string`);
+    return text;
   };
 
   /** The number of a name in its list, or an error. */
@@ -225,7 +227,7 @@ var pulldownCmarkRecords = (() => {
     return list;
   };
 
-  const NOTHING = new Uint8Array();
+  const encoder = new TextEncoder();
 
   /** Writes records into memory that grows. */
   class Writer {
@@ -252,38 +254,37 @@ var pulldownCmarkRecords = (() => {
     /** Writes a number of eight bytes, the lowest byte first. */
     number(at, number) {
       this.view.setUint32(at, number % 2 ** 32, true);
-      this.view.setUint32(at + 4, Math.floor(number / 2 ** 32), true);
+      this.view.setUint32(at + 4, number / 2 ** 32, true);
     }
 
-    record(kind, { tag = 0, data = 0, start = 0, end = 0, text = NOTHING }) {
-      this.grow(HEAD + text.length);
-      const at = this.size;
-      this.room.fill(0, at, at + HEAD);
-      this.room.set([kind, tag, data], at);
+    /** Writes a text in UTF-8, for which there is room, and returns its number of bytes. */
+    text(at, text) {
+      for (let number = 0; number < text.length; number++) {
+        const code = text.charCodeAt(number);
+        if (code > 127 || number === SHORT) {
+          if (!isWellFormed(text)) throw new MalformedError(`${JSON.stringify(text)} has half of a pair of surrogates`);
+          return encoder.encodeInto(text, this.room.subarray(at)).written;
+        }
+        this.room[at + number] = code;
+      }
+      return text.length;
+    }
+
+    record(kind, tag, data, { start, end }, text = "") {
+      this.grow(HEAD + 3 * text.length);
+      const at = this.size, size = this.text(at + HEAD, text);
+      this.view.setUint32(at, kind | (tag << 8) | (data << 16), true);
+      this.view.setUint32(at + 4, 0, true);
       this.number(at + 8, start);
       this.number(at + 16, end);
-      this.number(at + 24, text.length);
-      this.room.set(text, at + HEAD);
-      this.size = at + HEAD + text.length;
+      this.number(at + 24, size);
+      this.size = at + HEAD + size;
     }
 
-    further(part, text = NOTHING, start = 0) {
-      this.record(FURTHER, { tag: part, text, start });
+    further(part, text = "", start = 0) {
+      this.record(FURTHER, part, 0, { start, end: 0 }, text);
     }
   }
-
-  /** Writes the records of a heading. */
-  const writeHeading = (writer, range, { level, id = null, classes = [], attrs = [] }) => {
-    writer.record(START, { ...range, data: levelOf(level) });
-    if (id !== null) writer.further(HEADING_ID, encodedAs(id, "the id of a heading"));
-    for (const it of checkedList(classes, "the list of classes")) writer.further(CLASS, encodedAs(it, "a class"));
-    for (const it of checkedList(attrs, "the list of attributes")) {
-      const [name, value = null] = checkedList(it, "an attribute");
-      writer.further(ATTRIBUTE, encodedAs(name, "the name of an attribute"));
-      if (value === null) writer.further(NO_VALUE);
-      else writer.further(VALUE, encodedAs(value, "the value of an attribute"));
-    }
-  };
 
   const levelOf = (level) => {
     if (![1, 2, 3, 4, 5, 6].includes(level)) throw new MalformedError(`there is no heading of the level ${String(level)}`);
@@ -296,37 +297,51 @@ var pulldownCmarkRecords = (() => {
     return data < WIKILINK ? data : data + numberOf([false, true], hasPothole, "value of `hasPothole`");
   };
 
+  /** Writes the further records of a heading. */
+  const writeParts = (writer, { id = null, classes = [], attrs = [] }) => {
+    if (id !== null) writer.further(HEADING_ID, checked(id, "the id of a heading"));
+    for (const it of checkedList(classes, "the list of classes")) writer.further(CLASS, checked(it, "a class"));
+    for (const it of checkedList(attrs, "the list of attributes")) {
+      const [name, value = null] = checkedList(it, "an attribute");
+      writer.further(ATTRIBUTE, checked(name, "the name of an attribute"));
+      if (value === null) writer.further(NO_VALUE);
+      else writer.further(VALUE, checked(value, "the value of an attribute"));
+    }
+  };
+
   /** Writes the records of a start. */
-  const writeStart = (writer, range, value) => {
+  const writeStart = (writer, tag, range, value) => {
+    const put = (data = 0, text = "") => writer.record(START, tag, data, range, text);
     switch (value.name) {
       case "Heading":
-        return writeHeading(writer, range, value);
+        put(levelOf(value.level));
+        return writeParts(writer, value);
       case "BlockQuote":
-        return writer.record(START, { ...range, data: numberOf(QUOTES, value.kind ?? null, "kind of a block quote") });
+        return put(numberOf(QUOTES, value.kind ?? null, "kind of a block quote"));
       case "CodeBlock": {
         const data = numberOf(["Indented", "Fenced"], value.kind, "kind of a code block");
-        return writer.record(START, { ...range, data, text: data ? encodedAs(value.info, "an info string") : NOTHING });
+        return put(data, data ? checked(value.info, "an info string") : "");
       }
       case "List": {
         const first = value.firstNumber ?? null;
-        writer.record(START, { ...range, data: first === null ? 0 : 1 });
-        return first === null || writer.further(FIRST_NUMBER, NOTHING, checkedNumber(first, "the first number of a list"));
+        put(first === null ? 0 : 1);
+        return first === null || writer.further(FIRST_NUMBER, "", checkedNumber(first, "the first number of a list"));
       }
       case "FootnoteDefinition":
-        return writer.record(START, { ...range, text: encodedAs(value.label, "the label of a footnote") });
+        return put(0, checked(value.label, "the label of a footnote"));
       case "Table": {
         const columns = checkedList(value.alignments, "the list of alignments");
-        return writer.record(START, { ...range, text: Uint8Array.from(columns, (it) => numberOf(ALIGNMENTS, it, "alignment")) });
+        return put(0, columns.map((it) => String.fromCharCode(numberOf(ALIGNMENTS, it, "alignment"))).join(""));
       }
       case "Link":
       case "Image":
-        writer.record(START, { ...range, data: linkData(value), text: encodedAs(value.destUrl, "a destination") });
-        writer.further(TITLE, encodedAs(value.title, "a title"));
-        return writer.further(LABEL, encodedAs(value.id, "the id of a link"));
+        put(linkData(value), checked(value.destUrl, "a destination"));
+        writer.further(TITLE, checked(value.title, "a title"));
+        return writer.further(LABEL, checked(value.id, "the id of a link"));
       case "MetadataBlock":
-        return writer.record(START, { ...range, data: numberOf(METADATA, value.kind, "kind of a metadata block") });
+        return put(numberOf(METADATA, value.kind, "kind of a metadata block"));
       default:
-        return writer.record(START, range);
+        return put();
     }
   };
 
@@ -349,21 +364,17 @@ var pulldownCmarkRecords = (() => {
   /** Writes the records of an event. An event without a range gets the range from 0 to 0, since no HTML depends on it. */
   const writeEvent = (writer, event) => {
     if (typeof event !== "object" || event === null) throw new MalformedError(`${String(event)} is no event`);
-    const { name, value = null } = event, kind = numberOf(NAMES.slice(1), name, "event") + 1;
+    const { name, value = null } = event, kind = numberOf(NAMES, name ?? "", "event");
     const range = { start: checkedNumber(event.start ?? 0, "a start"), end: checkedNumber(event.end ?? 0, "an end") };
-    if (kind === START || kind === END) {
-      if (typeof value !== "object" || value === null) throw new MalformedError(`the value of the event ${name} is no tag`);
-      const tag = numberOf(TAGS.slice(1), value.name, "tag") + 1;
-      if (kind === START) writeStart(writer, { ...range, tag }, value);
-      else writer.record(END, { ...range, tag, data: endData(value) });
-    } else if (name === "TaskListMarker") {
-      writer.record(kind, { ...range, data: numberOf([false, true], value, "value of a task list marker") });
-    } else if (WITHOUT_VALUE.includes(name)) {
+    if (HAS_TEXT[kind]) return writer.record(kind, 0, 0, range, checked(value, `the value of the event ${name}`));
+    if (name === "TaskListMarker") return writer.record(kind, 0, numberOf([false, true], value, "value of a task list marker"), range);
+    if (WITHOUT_VALUE.includes(name)) {
       if (value !== null) throw new MalformedError(`the event ${name} has no value`);
-      writer.record(kind, range);
-    } else {
-      writer.record(kind, { ...range, text: encodedAs(value, `the value of the event ${name}`) });
+      return writer.record(kind, 0, 0, range);
     }
+    if (typeof value !== "object" || value === null) throw new MalformedError(`the value of the event ${name} is no tag`);
+    const tag = numberOf(TAGS, value.name ?? "", "tag");
+    return kind === START ? writeStart(writer, tag, range, value) : writer.record(END, tag, endData(value), range);
   };
 
   /** The records of some events. An error has the number of the event at which it was found. */
@@ -382,13 +393,13 @@ var pulldownCmarkRecords = (() => {
   };
 
   /** Writes the answer to a question: a destination and a title, or null. */
-  const writeAnswer = (writer, { start, end }, answer) => {
-    if (answer === null || answer === undefined) return writer.record(ANSWER, { start, end });
+  const writeAnswer = (writer, question, answer) => {
+    if (answer === null || answer === undefined) return writer.record(ANSWER, 0, 0, question);
     if (typeof answer !== "object") throw new MalformedError("the answer for a link is no object");
-    writer.record(ANSWER, { start, end, data: 1, text: encodedAs(answer.destUrl, "the destination of the answer") });
-    return writer.further(TITLE, encodedAs(answer.title ?? "", "the title of the answer"));
+    writer.record(ANSWER, 0, 1, question, checked(answer.destUrl, "the destination of the answer"));
+    return writer.further(TITLE, checked(answer.title ?? "", "the title of the answer"));
   };
 
-  return { Reader, Writer, MalformedError, FURTHER, readEvent, readReferences, withoutQuestions, recordsOf, writeAnswer, isWellFormed };
+  return { Reader, Writer, MalformedError, FURTHER, readEvent, readReferences, withoutQuestions, recordsOf, writeAnswer, isWellFormed, typeOf };
 })();
 if (typeof module !== "undefined") module.exports = pulldownCmarkRecords;
