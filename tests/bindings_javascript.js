@@ -180,6 +180,8 @@ const tryTexts = () => {
   judge("lines and columns", placesIn(found), [[1, 1], [3, 1], [5, 1], [7, 1], [7, 3]]);
   judge("lines and columns of bytes", placesIn(ofBytes), [[1, 1], [3, 1], [5, 1], [7, 1], [7, 4]]);
   judge("an entity that is not one of eleven", html("&ouml;&copy;"), "<p>&amp;ouml;©</p>\n");
+  const ofOtherRealm = require("vm").runInNewContext("Uint8Array.of(42, 97, 42)");
+  judge("bytes of another realm", [html(ofOtherRealm), render(events(ofOtherRealm))], ["<p><em>a</em></p>\n", "<p><em>a</em></p>\n"]);
   judge("no events", [events("").length, [...events("")], events("").at(0)], [0, [], undefined]);
   judge("a text with a byte order mark", [...events("\ufeffa")].map((it) => it.value), [{ name: "Paragraph" }, "\ufeffa", { name: "Paragraph" }]);
 };

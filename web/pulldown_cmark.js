@@ -52,12 +52,12 @@ var pulldownCmark = ((records) => {
     document.head.append(script);
   });
 
-  /** The module's bytes in base64, from the file for this engine. A page may have loaded one of the files by itself. */
+  /** The module's bytes in base64, from the file for this engine. A page or a worker may have loaded one of the files by itself. */
   const chosen = async () => {
     const file = hasVectors() ? "module_simd.js" : "module.js";
-    if (typeof document === "undefined") return require(`./${file}`).bytes;
-    if (typeof pulldownCmarkModule === "undefined") await added(file);
-    return pulldownCmarkModule.bytes;
+    if (typeof pulldownCmarkModule === "undefined" && typeof document !== "undefined") await added(file);
+    const { bytes } = typeof pulldownCmarkModule === "undefined" ? require(`./${file}`) : pulldownCmarkModule;
+    return bytes;
   };
 
   const bytesOf = (base64) => {
@@ -77,9 +77,12 @@ var pulldownCmark = ((records) => {
   const stringOf = (bytes) => decoder.decode(bytes);
   const copyOf = (bytes) => bytes.slice();
 
+  /** Whether a value is a Uint8Array, also one of another realm, such as a frame's. */
+  const isBytes = (value) => Object.prototype.toString.call(value) === "[object Uint8Array]";
+
   /** The bytes of a text: a string, or its bytes in UTF-8. */
   const encoded = (text) => {
-    if (text instanceof Uint8Array) return text;
+    if (isBytes(text)) return text;
     if (typeof text !== "string") throw new TypeError(`Markdown is a string or a Uint8Array, not ${records.typeOf(text)}`);
     if (!records.isWellFormed(text)) throw new NotUtf8Error("the text has half of a pair of surrogates");
     return encoder.encode(text);
@@ -253,7 +256,7 @@ var pulldownCmark = ((records) => {
       };
       try {
         put(data);
-        for (const it of more) if (it instanceof Uint8Array) put(it); else given.push(it);
+        for (const it of more) if (isBytes(it)) put(it); else given.push(it);
         const size = keep(8);
         for (;;) {
           const room = keep(length), status = this.calls[call](...given, BigInt(room), BigInt(length), BigInt(size));
@@ -355,7 +358,7 @@ var pulldownCmark = ((records) => {
 
     /** The HTML of some events, as `events` returns them or changed, or of the bytes of their records. It is not safe to show for a stranger. */
     const render = (events) => {
-      if (events instanceof Uint8Array) return instance.rendered(events);
+      if (isBytes(events)) return instance.rendered(events);
       if (events instanceof Events) return instance.rendered(events.records);
       if (typeof events?.[Symbol.iterator] !== "function") throw new TypeError("events are an iterable object, or the bytes of records");
       return instance.rendered(records.recordsOf(events));
