@@ -1,6 +1,6 @@
 /* Markdown to HTML and to events, for C and C++.
 
-   The eight functions that are declared here are proved: if one returns PCM_DONE, it has written exactly the output that its comment
+   The ten functions that are declared here are proved: if one returns PCM_DONE, it has written exactly the output that its comment
    describes. The proof assumes the following of the caller, which C cannot check:
 
    - No pointer is NULL, even if its length is 0; then any valid address will do, for example that of a spare byte. The inline functions
@@ -40,7 +40,7 @@ enum pcm_status {
     PCM_TOO_LONG = 1,  /* The output has *size bytes, which is more than room_len. room is unchanged. */
     PCM_NOT_UTF8 = 2,  /* The text is not UTF-8. room is unchanged, and *size is 0. */
     PCM_NO_MEMORY = 3, /* Memory was refused. room is unchanged, and *size is 0. */
-    PCM_MALFORMED = 4  /* Only pcm_render: the bytes are not the records of events. room is unchanged, and *size is 0. */
+    PCM_MALFORMED = 4  /* Only pcm_render and pcm_events_answered: the given records are malformed. room is unchanged, and *size is 0. */
 };
 
 /* The rules beyond CommonMark that apply. Combine options with |. */
@@ -123,7 +123,11 @@ enum pcm_kind {
     PCM_SOFT_BREAK = 10,
     PCM_HARD_BREAK = 11,
     PCM_RULE = 12,
-    PCM_TASK_LIST_MARKER = 13
+    PCM_TASK_LIST_MARKER = 13,
+    /* Records that are no events, and that pcm_render does not accept. */
+    PCM_DEFINITION = 14, /* a link reference definition: see pcm_references */
+    PCM_QUESTION = 15, /* a question and its answer: see pcm_events_answered */
+    PCM_ANSWER = 16
 };
 
 /* The tags of elements. */
@@ -154,10 +158,10 @@ enum pcm_tag {
     PCM_TAG_METADATA_BLOCK = 24
 };
 
-/* The parts of a start that are in further records. */
+/* The parts of a start, a definition or an answer that are in further records. */
 enum pcm_part {
-    PCM_PART_TITLE = 1, /* the title of a link or an image */
-    PCM_PART_LABEL = 2, /* its id, the label that it names */
+    PCM_PART_TITLE = 1, /* the title of a link or an image, of a definition, or of an answer */
+    PCM_PART_LABEL = 2, /* the id of a link or an image, the label that it names; the label of a definition */
     PCM_PART_HEADING_ID = 3, /* the id of a heading */
     PCM_PART_CLASS = 4, /* a class of a heading */
     PCM_PART_ATTRIBUTE = 5, /* the name of a heading's attribute */
@@ -175,11 +179,30 @@ uint32_t pcm_events(const uint8_t *text, size_t text_len, uint32_t options, uint
    text of a stranger, as with pcm_html. */
 uint32_t pcm_render(const uint8_t *records, size_t records_len, uint8_t *room, size_t room_len, size_t *size);
 
+/* Like pcm_html, but writes the link reference definitions of the text in place of its HTML: of each label the first one, in no particular
+   order. Each is a record of the kind PCM_DEFINITION. Its start and end are the range of the definition in the text, and its text is the
+   destination. A further record PCM_PART_TITLE follows if it has a title, and then PCM_PART_LABEL, which has the label. */
+uint32_t pcm_references(const uint8_t *text, size_t text_len, uint32_t options, uint8_t *room, size_t room_len, size_t *size);
+
+/* Like pcm_events, but a link whose label no definition has gets an answer of the caller. Each such link is a question, and answers has the
+   caller's answers to them:
+
+   - The records of the questions follow those of the events, in the order in which they were put. Their kind is PCM_QUESTION. Start and end
+     are the range of the link in the text, the data is the link type that it has if it is answered, and the text is the label.
+   - An answer is a record of the kind PCM_ANSWER with the start and the end of its question. If the data is 1, the link leads to the
+     record's text, and a further record PCM_PART_TITLE has its title, which may be empty. If the data is 0, it is no link, and its text
+     is empty.
+   - The first answer with the range of a question counts. A question without an answer is no link. Other answers have no effect.
+
+   An answer may lead to further questions, so a caller answers the new ones and calls again, until no question is new. Mostly this is one
+   call for a text without questions, and two for others. Returns PCM_MALFORMED if answers are not such records. */
+uint32_t pcm_events_answered(const uint8_t *text, size_t text_len, uint32_t options, const uint8_t *answers, size_t answers_len, uint8_t *room, size_t room_len, size_t *size);
+
 /* Returns the version of the library, to be compared with PCM_VERSION. A library without proofs, which make quick builds, returns
    another number: the version with the bit PCM_NOT_PROVED. */
 uint32_t pcm_version(void);
 
-/* The rest of this file are inline functions over five of the functions above. They are tested, not proved. A text of length 0 may be NULL. */
+/* The rest of this file are inline functions over some of the functions above. They are tested, not proved. A text of length 0 may be NULL. */
 
 /* The type of pcm_html, pcm_safe_html and pcm_events_json. */
 typedef uint32_t (*pcm_call)(const uint8_t *, size_t, uint32_t, uint8_t *, size_t, size_t *);

@@ -2,6 +2,9 @@ pub mod Numbers
 pub mod Records
 pub mod Flat
 pub mod Decode
+pub mod Definitions
+pub mod Questions
+pub mod Replies
 pub mod Render
 pub mod Gives
 pub mod Laws

@@ -44,6 +44,15 @@ rule_kind = 12
 abbrev pub task_list_marker_kind : ℕ
 task_list_marker_kind = 13
 
+abbrev pub definition_kind : ℕ
+definition_kind = 14
+
+abbrev pub question_kind : ℕ
+question_kind = 15
+
+abbrev pub answer_kind : ℕ
+answer_kind = 16
+
 -- the tags of elements; a record of another kind than a start, an end or a further record has none
 abbrev pub paragraph_tag : ℕ
 paragraph_tag = 1

@@ -229,7 +229,7 @@ fn metadata_number(kind: MetadataBlockKind) -> u8
 }
 
 /// The number of a link type.
-fn link_number(link_type: LinkType) -> u8
+pub fn link_number(link_type: LinkType) -> u8
     ensures { result ≡ link_number (shown_link_type link_type) }
 {
     match link_type {

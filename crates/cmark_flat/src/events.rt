@@ -59,7 +59,7 @@ fn ranged_at<'a>(alloc: Global, records: &[Record<'a>]) -> Result<Ranged<'a>, De
 }
 
 /// The number of further records that come first.
-fn parts_len(records: &[Record<'_>]) -> usize
+pub fn parts_len(records: &[Record<'_>]) -> usize
     ensures value { result ≡ prefix_len (λ r. is_further (shown_record r)) records.now }
     ensures within { result ≤ length records.now }
 {

@@ -3,6 +3,7 @@
 
 mod codes;
 mod decode_numbers;
+mod definitions;
 mod error;
 mod events;
 mod html;
@@ -10,11 +11,16 @@ mod laws;
 mod numbers;
 mod parts;
 mod put;
+mod questions;
 mod read;
 mod record;
+mod replies;
 
+pub use definitions::append_definition;
 pub use error::DecodeError;
 pub use events::decode;
 pub use html::render;
 pub use laws::flat_events_are_decoded;
 pub use put::{append_event, append_given};
+pub use questions::append_question;
+pub use replies::{Answer, Reply, decode_replies};

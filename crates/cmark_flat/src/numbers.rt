@@ -29,6 +29,12 @@ pub const RULE_KIND: u8 = 12;
 
 pub const TASK_LIST_MARKER_KIND: u8 = 13;
 
+pub const DEFINITION_KIND: u8 = 14;
+
+pub const QUESTION_KIND: u8 = 15;
+
+pub const ANSWER_KIND: u8 = 16;
+
 // The tags of elements; a record of another kind than a start, an end or a further record has none.
 pub const PARAGRAPH_TAG: u8 = 1;
 

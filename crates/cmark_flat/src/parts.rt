@@ -15,7 +15,7 @@ use cmark_text::{CowStr, LinkType};
 use std::alloc::Global;
 
 /// The text of a further record of this kind.
-fn part_text<'a>(kind: u8, part: &Record<'a>) -> Option<&'a str>
+pub fn part_text<'a>(kind: u8, part: &Record<'a>) -> Option<&'a str>
     ensures { Reads (λ x. x.now) result (part_text kind (shown_record part.now)) }
 {
     if part.tag == kind && part.datum == NO_DATA && part.start == 0 && part.end == 0 {

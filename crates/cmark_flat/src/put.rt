@@ -154,7 +154,7 @@ fn put_alignments(out: &mut Vec<u8>, alignments: &[Alignment]) -> Result<(), All
 }
 
 /// Appends a further record with a text.
-fn put_part(out: &mut Vec<u8>, tag: u8, text: &str) -> Result<(), AllocError>
+pub fn put_part(out: &mut Vec<u8>, tag: u8, text: &str) -> Result<(), AllocError>
     ensures { OnOk result (out.new.items ≡ out.old.items ++ record_bytes (part tag text.now)) }
 {
     let record = Record {
@@ -169,7 +169,7 @@ fn put_part(out: &mut Vec<u8>, tag: u8, text: &str) -> Result<(), AllocError>
 }
 
 /// Appends the further records of a start.
-fn put_parts(out: &mut Vec<u8>, tag: &Tag<'_>) -> Result<(), AllocError>
+pub fn put_parts(out: &mut Vec<u8>, tag: &Tag<'_>) -> Result<(), AllocError>
     ensures { OnOk result (out.new.items ≡ out.old.items ++ spelled (tag_parts (shown_tag tag.now))) }
 {
     match tag {

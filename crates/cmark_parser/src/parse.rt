@@ -1,6 +1,6 @@
 //! The parser: iterators over the events of a text's document.
 
-ghost use Rattle.std.specs.Prelude.{◌≡◌, ◌*◌, ◌≤◌, length, true, None, IfOk, is_some, option_map};
+ghost use Rattle.std.specs.Prelude.{◌≡◌, ◌*◌, ◌≤◌, length, true, None, IfOk, is_some, option_copied, option_map};
 ghost use Rattle.std.specs.Iterator.{at_most};
 ghost use Rattle.std.specs.Option.{ForSome};
 ghost use Rattle.cmark_grammar.specs.Options.{no_options};
@@ -150,6 +150,13 @@ impl<'input, E: EntityLookup, F: BrokenLinkCallback<'input> + Drop> Parser<'inpu
         self.spans.definitions()
     }
 
+    /// The callback, as the questions so far left it, if there is one.
+    pub fn callback(&self) -> Option<&F>
+        ensures { option_copied result ≡ callback_of self.now }
+    {
+        self.spans.callback().callback.as_ref()
+    }
+
     /// What the searches of the spans have taken so far: never more than 128 steps for each byte of the text.
     pub fn steps(&self) -> Steps
         ensures steps { result ≡ steps_of self.now }
@@ -284,13 +291,20 @@ pub struct OffsetIter<'input, E, F = DefaultBrokenLinkCallback> {
 }
 
 impl<'input, E: EntityLookup, F: BrokenLinkCallback<'input> + Drop> OffsetIter<'input, E, F> {
-    ghost use Rattle.cmark_parser.specs.Parsing.{CanGoRanged, ranged_definitions, ranged_steps, ranged_text};
+    ghost use Rattle.cmark_parser.specs.Parsing.{CanGoRanged, callback_of, ranged_definitions, ranged_steps, ranged_text, walk_of};
 
     /// The link reference definitions of the text, as those of the parser.
     pub fn reference_definitions(&self) -> &RefDefs<'input>
         ensures { result.now ≡ ranged_definitions self.now }
     {
         self.parser.reference_definitions()
+    }
+
+    /// The callback, as that of the parser.
+    pub fn callback(&self) -> Option<&F>
+        ensures { option_copied result ≡ callback_of (walk_of self.now) }
+    {
+        self.parser.callback()
     }
 
     /// What the searches of the spans have taken so far, as that of the parser.

@@ -212,6 +212,13 @@ impl<'input, 'e, E: EntityLookup, F: BrokenLinkCallback<'input> + Drop> SpanWalk
         }
     }
 
+    /// What is asked for references without a definition, as the questions so far left it.
+    pub fn callback(&self) -> &F
+        ensures { result.now ≡ callback_of self.now }
+    {
+        &self.callback
+    }
+
     /// The link whose start comes next, if the walk stands in a leaf in which a link or an autolink comes next. Nothing counts as given then:
     /// [`pass_link`](SpanWalk::pass_link) goes on behind the start.
     #[inline(always)]

@@ -15,8 +15,8 @@ use cmark_room::{NO_MEMORY, NOT_UTF8, hand_over};
 use cmark_text_parts::{BasicEntities, EntityLookup, Options};
 use std::alloc::{AllocError, Global};
 
-/// The bytes are not the flat records of events.
-const MALFORMED: u32 = 4;
+/// The bytes are not the flat records that a call reads.
+pub const MALFORMED: u32 = 4;
 
 /// Like `pcm_html`, but writes the events of the text as flat records in place of its HTML.
 #[unsafe(no_mangle)]

@@ -3,4 +3,5 @@
 
 mod export;
 mod flat;
+mod links;
 mod within;
