@@ -158,5 +158,11 @@ pub fn to_html_within(text: &str, options: Options, limit: usize) -> Result<Stri
 ///
 /// [`Error::OutOfMemory`] if memory is refused.
 pub fn to_safe_html(text: &str, options: Options, schemes: &[&str]) -> Result<String, Error> {
-    native::safe_html(text, options.library_bits(), &schemes.join(" "))
+    let mut listed = String::new();
+    for scheme in schemes {
+        listed.try_reserve(scheme.len() + 1)?;
+        listed.push_str(scheme);
+        listed.push(' ');
+    }
+    native::safe_html(text, options.library_bits(), &listed)
 }

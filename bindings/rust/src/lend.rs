@@ -6,7 +6,8 @@ use std::ops::Range;
 /// A text of an event with this range: a slice of the source if the text is found there, else a copy.
 ///
 /// The text is looked for at four places of the range only, so this takes time for the text and not for the range: in its middle, as the
-/// text of a code span is; before its last byte, as the destination of a link is; at its end; after its first byte, as a label is.
+/// text of a code span is; before its last byte, as the destination of a link is; at its end; after the run of one byte with which it
+/// begins, as the info string of a fence is.
 pub(crate) fn text<'i>(
     source: &'i str,
     range: &Range<usize>,
@@ -17,7 +18,8 @@ pub(crate) fn text<'i>(
     }
     let more = range.len().wrapping_sub(bytes.len());
     if more <= range.len() {
-        for before in [more / 2, more.saturating_sub(1), more, 1.min(more)] {
+        let run = run_of_one_byte(source.as_bytes(), range);
+        for before in [more / 2, more.saturating_sub(1), more, run.min(more)] {
             let start = range.start + before;
             if let Some(found) = lent(source, start..start + bytes.len(), bytes) {
                 return Ok(CowStr::Borrowed(found));
@@ -25,6 +27,13 @@ pub(crate) fn text<'i>(
         }
     }
     copy(bytes)
+}
+
+/// The number of bytes at the start of a range that are the same.
+fn run_of_one_byte(source: &[u8], range: &Range<usize>) -> usize {
+    let bytes = source.get(range.clone()).unwrap_or_default();
+    let first = bytes.first();
+    bytes.iter().take_while(|it| Some(*it) == first).count()
 }
 
 /// A text of an event, which is borrowed if it is the bytes of the event's range.

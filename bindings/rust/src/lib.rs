@@ -41,6 +41,8 @@ mod event;
 pub mod html;
 mod kinds;
 mod lend;
+#[cfg(test)]
+mod malformed;
 mod merge;
 #[allow(unsafe_code)]
 mod native;

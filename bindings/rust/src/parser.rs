@@ -71,8 +71,13 @@ impl<'input, F: BrokenLinkCallback<'input>> Parser<'input, F> {
     /// The callback returns a destination and a title, or `None` if the brackets remain text. It is asked when the first event is read, and
     /// about each link at most once. The text is read once more after each round of answers: twice for most texts.
     ///
-    /// The questions are those that pulldown-cmark asks, with one exception. Once the answers of a callback have as many bytes as the text,
-    /// and at least 100,000, further references remain text. The callback may then have been asked about some of those references too.
+    /// The questions are those that pulldown-cmark asks, with two exceptions, where the callback may be asked about a link that the last
+    /// reading does not look up:
+    ///
+    /// - Once the destinations and titles of references have as many bytes as the text, and at least 100,000, further references remain
+    ///   text. The callback may have been asked about some of those.
+    /// - With [`Options::ENABLE_WIKILINKS`], the answer to a link inside a wikilink means that this is no wikilink. The callback may have
+    ///   been asked about a link right after it, such as `[c]` in `![[a][b]][c]`.
     ///
     /// ```
     /// use pulldown_cmark::{html, BrokenLink, Options, Parser};
