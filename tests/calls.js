@@ -2,18 +2,19 @@
 //
 //     node tests/calls.js [FOLDER..]
 //
-// Each FOLDER has pulldown_cmark.js with its modules; the default is web/. The texts are one of 21 bytes, one of 938 bytes, and the first 22,000
-// bytes of docs/GRAMMAR.md. All ways are called in turn in one run, and the best of some rounds counts. Each line has the microseconds of a
-// call for each text. Events are read to the last one. It is not part of make test.
+// Each FOLDER has pulldown_cmark.js with its modules; the default is web/. The texts are one of 21 bytes, the first 938 characters of README.md,
+// and the first 22,000 of docs/GRAMMAR.md. Each way has a process of its own, and the processes take turns. After some calls for the compilers of
+// Node, each process measures many rounds of a few milliseconds; the best round of all counts, so that other work on the machine matters little.
+// Each line has the microseconds of a call for each text. Events are read to the last one. It is not part of make test.
 "use strict";
+const { execFileSync } = require("child_process");
 const { readFileSync } = require("fs");
 const { resolve } = require("path");
-const ROUNDS = 9, MILLISECONDS = 60;
+const TURNS = 3, WARM = 300, ROUNDS = 80, MILLISECONDS = 2;
 const ROOT = resolve(__dirname, "..");
 
 const SHORT = "Hi, *you* and [me](a)";
-const PIECE = "# A title\n\nA paragraph with *emphasis*, `code` and [a link](https://example.com 'title').\n\n- one\n- two\n\n> quoted\n\n```sh\nls -l\n```\n\n";
-const SMALL = PIECE.repeat(9).slice(0, 938);
+const SMALL = readFileSync(`${ROOT}/README.md`, "utf8").slice(0, 938);
 const LONG = readFileSync(`${ROOT}/docs/GRAMMAR.md`, "utf8").slice(0, 22_000);
 const TEXTS = [SHORT, SMALL, LONG];
 
@@ -44,38 +45,66 @@ const found = (name) => {
   }
 };
 
-const main = async () => {
+/** All ways to call, each a function that loads what it needs and returns the call. */
+const waysOf = (folders) => {
   const ways = {};
-  for (const folder of process.argv.length > 2 ? process.argv.slice(2) : [`${ROOT}/web`]) {
+  for (const folder of folders) {
     for (const hasVectors of [true, false]) {
-      const calls = await loaded(folder, hasVectors), name = `${folder}${hasVectors ? "" : " without vectors"}`;
-      ways[`html: ${name}`] = (text) => calls.html(text);
-      ways[`events: ${name}`] = (text) => read(calls.events(text));
+      const name = `${folder}${hasVectors ? "" : " without vectors"}`;
+      ways[`html: ${name}`] = async () => (await loaded(folder, hasVectors)).html;
+      ways[`events: ${name}`] = async () => {
+        const { events } = await loaded(folder, hasVectors);
+        return (text) => read(events(text));
+      };
     }
   }
   const markdownIt = found("markdown-it"), marked = found("marked");
   if (markdownIt) {
     const it = markdownIt({ html: true });
-    ways["html: markdown-it"] = (text) => it.render(text);
-    ways["tokens: markdown-it"] = (text) => it.parse(text, {}).length;
+    ways["html: markdown-it"] = () => (text) => it.render(text);
+    ways["tokens: markdown-it"] = () => (text) => it.parse(text, {}).length;
   }
   if (marked) {
-    ways["html: marked"] = (text) => marked.marked(text);
-    ways["tokens: marked"] = (text) => marked.lexer(text).length;
+    ways["html: marked"] = () => (text) => marked.marked(text);
+    ways["tokens: marked"] = () => (text) => marked.lexer(text).length;
   }
-  const best = Object.fromEntries(Object.keys(ways).map((name) => [name, TEXTS.map(() => Infinity)]));
-  for (let round = 0; round < ROUNDS; round++) {
-    for (const [name, call] of Object.entries(ways)) {
-      TEXTS.forEach((text, number) => {
-        const began = performance.now();
-        let times = 0;
-        for (; times < 3 || performance.now() - began < MILLISECONDS; times++) call(text);
-        best[name][number] = Math.min(best[name][number], ((performance.now() - began) * 1000) / times);
-      });
+  return ways;
+};
+
+/** Calls for some milliseconds, and returns the microseconds of a call. */
+const timed = (call, text, milliseconds) => {
+  const began = performance.now();
+  let times = 0, now;
+  do {
+    call(text);
+    times++;
+    now = performance.now();
+  } while (now - began < milliseconds);
+  return ((now - began) * 1000) / times;
+};
+
+/** The microseconds of a call for a text: the best of all rounds. */
+const measured = (call, text) => {
+  timed(call, text, WARM);
+  return Math.min(...Array.from({ length: ROUNDS }, () => timed(call, text, MILLISECONDS)));
+};
+
+const main = async () => {
+  const [word, name, ...rest] = process.argv.slice(2);
+  if (word === "--way") {
+    const call = await waysOf(rest)[name]();
+    console.log(JSON.stringify(TEXTS.map((text) => measured(call, text))));
+    return;
+  }
+  const folders = process.argv.length > 2 ? process.argv.slice(2) : [`${ROOT}/web`], best = {};
+  for (let turn = 0; turn < TURNS; turn++) {
+    for (const way of Object.keys(waysOf(folders))) {
+      const times = JSON.parse(execFileSync(process.execPath, [__filename, "--way", way, ...folders]));
+      best[way] = times.map((it, number) => Math.min(it, best[way]?.[number] ?? Infinity));
     }
   }
   console.log(`microseconds a call, for texts of ${TEXTS.map((it) => Buffer.byteLength(it)).join(", ")} bytes`);
-  for (const [name, times] of Object.entries(best)) console.log(`${times.map((it) => it.toFixed(1).padStart(9)).join("")}  ${name}`);
+  for (const [way, times] of Object.entries(best)) console.log(`${times.map((it) => it.toFixed(1).padStart(9)).join("")}  ${way}`);
 };
 
 main();

@@ -104,10 +104,10 @@ var pulldownCmark = ((records) => {
 
   /**
    * The sizes of the first buffers for HTML and for records, for a text of this length. Of 861 Markdown files of one machine, none needs a
-   * second call for its HTML, and 8 need one for their records.
+   * second call for its HTML, and 3 need one for their records.
    */
   const htmlRoom = (length) => 2 * length + 256;
-  const recordsRoom = (length) => 5 * length + 1024;
+  const recordsRoom = (length) => 6 * length + 4096;
 
   /**
    * The index in a string for each offset in its bytes, as a function. The indices are those of `slice`. They are computed once, when the
