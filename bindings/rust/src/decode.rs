@@ -15,6 +15,8 @@ pub(crate) struct Decoder<'input> {
     records: Vec<u8>,
     at: usize,
     end: usize,
+    /// The range of the event that was returned last.
+    range: Range<usize>,
 }
 
 impl<'input> Decoder<'input> {
@@ -25,12 +27,12 @@ impl<'input> Decoder<'input> {
             records,
             at: 0,
             end,
+            range: 0..0,
         }
     }
 
-    /// The next event with its range, or `None` at the end. After an error, the next call reads the same event again.
-    #[inline]
-    pub fn next(&mut self) -> Result<Option<(Event<'input>, Range<usize>)>, Error> {
+    /// The next event, or `None` at the end. After an error, the next call reads the same event again.
+    pub fn next(&mut self) -> Result<Option<Event<'input>>, Error> {
         let mut records = Records::of(&self.records[self.at..self.end]);
         let Some(record) = records.next()? else {
             return Ok(None);
@@ -38,7 +40,13 @@ impl<'input> Decoder<'input> {
         let range = range(&record, self.source)?;
         let event = event(&record, &range, &mut records, self.source)?;
         self.at = self.end - records.len();
-        Ok(Some((event, range)))
+        self.range = range;
+        Ok(Some(event))
+    }
+
+    /// The range of the event that was returned last.
+    pub fn range(&self) -> Range<usize> {
+        self.range.clone()
     }
 }
 

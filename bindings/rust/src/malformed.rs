@@ -11,14 +11,14 @@ const TEXT: &str = "---\na: b\n---\n# h {#i .c .d k=v w}\n> [!TIP]\n> *a* **b** 
 
 /// All options but those that keep others from being read.
 fn options() -> u32 {
-    (Options::all() - Options::ENABLE_OLD_FOOTNOTES | Options::ENABLE_FOOTNOTES).library_bits()
+    ((Options::all() - Options::ENABLE_OLD_FOOTNOTES) | Options::ENABLE_FOOTNOTES).library_bits()
 }
 
 /// All events of records, or the error.
 fn decoded<'i>(source: &'i str, records: &[u8]) -> Result<Vec<Event<'i>>, Error> {
     let mut decoder = Decoder::new(source, records.to_vec(), records.len());
     let mut events = Vec::new();
-    while let Some((event, _)) = decoder.next()? {
+    while let Some(event) = decoder.next()? {
         events.push(event);
     }
     Ok(events)

@@ -129,9 +129,9 @@ fn room_for_html(text_len: usize) -> usize {
     text_len.saturating_mul(2).saturating_add(256)
 }
 
-/// The first room for records. Pages of it that are not written take no memory.
+/// The first room for records: texts of real files need no second call. Pages of it that are not written take no memory.
 fn room_for_records(text: &str) -> usize {
-    text.len().saturating_mul(16).saturating_add(1024)
+    text.len().saturating_mul(12).saturating_add(1024)
 }
 
 pub(crate) fn html(text: &str, options: u32) -> Result<String, Error> {

@@ -144,20 +144,20 @@ impl<'input, F: BrokenLinkCallback<'input>> Parser<'input, F> {
     /// # Errors
     ///
     /// [`Error::OutOfMemory`] if memory is refused. No event is lost: the next call returns the same event, if it is given memory.
-    pub fn try_next(&mut self) -> Result<Option<Event<'input>>, Error> {
-        Ok(self.try_next_with_range()?.map(|(event, _)| event))
-    }
-
-    /// The next event with its range.
     #[inline]
-    fn try_next_with_range(&mut self) -> Result<Option<(Event<'input>, Range<usize>)>, Error> {
+    pub fn try_next(&mut self) -> Result<Option<Event<'input>>, Error> {
+        if self.events.is_none() {
+            self.events = Some(self.read()?);
+        }
         match &mut self.events {
             Some(events) => events.next(),
-            None => {
-                let events = self.read()?;
-                self.events.insert(events).next()
-            }
+            None => Ok(None),
         }
+    }
+
+    /// The range of the event that was returned last.
+    fn range(&self) -> Range<usize> {
+        self.events.as_ref().map_or(0..0, Decoder::range)
     }
 
     /// Reads the text.
@@ -232,7 +232,8 @@ impl<'a, F: BrokenLinkCallback<'a>> OffsetIter<'a, F> {
     ///
     /// [`Error::OutOfMemory`] if memory is refused. No event is lost: the next call returns the same event, if it is given memory.
     pub fn try_next(&mut self) -> Result<Option<(Event<'a>, Range<usize>)>, Error> {
-        self.inner.try_next_with_range()
+        let event = self.inner.try_next()?;
+        Ok(event.map(|event| (event, self.inner.range())))
     }
 }
 

@@ -250,6 +250,8 @@ fn code_blocks_have_their_kind() {
     );
 }
 
+// A closure has no lifetime parameter of its own, so it takes that of the function.
+#[allow(clippy::extra_unused_lifetimes)]
 #[test]
 fn callbacks_may_be_closures_and_functions<'b>() {
     let local = String::from("xyz");

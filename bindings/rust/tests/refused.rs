@@ -7,6 +7,7 @@ use pulldown_cmark::{html, BrokenLink, Error, Event, Options, Parser};
 use std::cell::Cell;
 use std::ffi::c_void;
 use std::ops::Range;
+use std::thread::LocalKey;
 
 /// The text has texts that are not borrowed, attributes, a table, a definition and links without one.
 const TEXT: &str = "# a {#b .c d=e}\n\na text of many bytes with &amp; and \\* [f] [g][] [h](<a destination of more than 22 bytes> 'and a title &amp; more')\n\
@@ -21,19 +22,24 @@ thread_local! {
     static WAS_REFUSED: Cell<bool> = const { Cell::new(false) };
 }
 
+/// Writes a value of this thread, and returns the one before.
+fn set<T>(place: &'static LocalKey<Cell<T>>, value: T) -> T {
+    place.with(|it| it.replace(value))
+}
+
 /// Counts an allocation, and returns whether it is refused.
 fn is_refused() -> bool {
-    match LEFT.get() {
+    match LEFT.with(Cell::get) {
         usize::MAX => false,
         0 => {
-            WAS_REFUSED.set(true);
-            if !ARE_ALL_REFUSED.get() {
-                LEFT.set(usize::MAX);
+            set(&WAS_REFUSED, true);
+            if !ARE_ALL_REFUSED.with(Cell::get) {
+                set(&LEFT, usize::MAX);
             }
             true
         }
         left => {
-            LEFT.set(left - 1);
+            set(&LEFT, left - 1);
             false
         }
     }
@@ -80,12 +86,12 @@ pub unsafe extern "C" fn realloc(old: *mut c_void, size: usize) -> *mut c_void {
 
 /// The outcome of a call of which allocation number `place` is refused, and whether one was.
 fn refused_at<T>(place: usize, are_all: bool, call: impl FnOnce() -> T) -> (T, bool) {
-    ARE_ALL_REFUSED.set(are_all);
-    WAS_REFUSED.set(false);
-    LEFT.set(place);
+    set(&ARE_ALL_REFUSED, are_all);
+    set(&WAS_REFUSED, false);
+    set(&LEFT, place);
     let found = call();
-    LEFT.set(usize::MAX);
-    (found, WAS_REFUSED.get())
+    set(&LEFT, usize::MAX);
+    (found, WAS_REFUSED.with(Cell::get))
 }
 
 /// Refuses each allocation of a call in turn, alone and with all later ones. The call has to return `OutOfMemory` each time, and the value
@@ -156,9 +162,9 @@ fn events_with_refusal(
 ) -> (Vec<(Event<'static>, Range<usize>)>, usize) {
     let mut asked = Vec::new();
     let mut callback = |link: BrokenLink<'_>| {
-        let left = LEFT.replace(usize::MAX);
+        let left = set(&LEFT, usize::MAX);
         asked.push(link.span);
-        LEFT.set(left);
+        set(&LEFT, left);
         Some(("/u".into(), "a title of more than 22 bytes".into()))
     };
     let given = has_callback.then_some(&mut callback);
@@ -166,9 +172,9 @@ fn events_with_refusal(
         Parser::new_with_broken_link_callback(TEXT, Options::all(), given).into_offset_iter();
     let (mut events, mut errors, mut left) = (Vec::new(), 0, place);
     loop {
-        LEFT.set(left);
+        set(&LEFT, left);
         let found = parser.try_next();
-        left = LEFT.replace(usize::MAX);
+        left = set(&LEFT, usize::MAX);
         match found {
             Ok(Some((event, range))) => events.push((event.into_static(), range)),
             Ok(None) => return (events, errors),
