@@ -115,7 +115,7 @@ def answer(call: Callable[..., int], room_len: int, data: bytes, *more: Union[by
         place = ctypes.addressof(ctypes.c_char.from_buffer(room))
         status = call(data, len(data), *more, place, room_len, ctypes.byref(size))
         if status == _DONE:
-            return ctypes.string_at(place, size.value)
+            return bytes(memoryview(room)[: size.value])
         if status == _NOT_UTF8:
             data.decode("utf-8")
             raise UnicodeError("the text is not UTF-8")
