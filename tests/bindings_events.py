@@ -199,8 +199,9 @@ def try_sequence(judge, texts, wanted):
     few = _records.FEW
     for _records.FEW in (few, 0):
         try_each(judge, texts, wanted)
-    judge("a text has many events", len(events("*a* " * few)) > few, True)
     _records.FEW = few
+    many = events("*a* " * (few // 100))
+    judge("a text with many events", (len(many), type(many[1:]._events).__name__, many[4].value), (few // 100 * 4 + 1, "_Part", " "))
 
 
 def try_each(judge, texts, wanted):

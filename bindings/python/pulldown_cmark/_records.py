@@ -279,7 +279,7 @@ class _Part(Sequence[Event]):
 
 
 # Events of fewer bytes of records are all made at the first use: this is faster, and takes little memory.
-FEW = 1 << 16
+FEW = 1 << 18
 
 
 class Events(Sequence[Event]):
