@@ -281,7 +281,7 @@ def try_changed(judge, library, draw):
 # Events that are none, and the error of each.
 WRONG = [
     (3, TypeError), ("a", TypeError), (("Text", "a", 0, 1), TypeError), (Text(3), TypeError), (Text(None), TypeError), (Code(b"a"), TypeError), (Start("Paragraph"), TypeError),
-    (Start(pulldown_cmark.ParagraphEnd()), TypeError), (End(Paragraph()), TypeError), (End(None), TypeError), (TaskListMarker("x"), TypeError), (TaskListMarker(None), TypeError),
+    (Start(pulldown_cmark.ParagraphEnd()), TypeError), (Start(Tag()), TypeError), (End(TagEnd()), TypeError), (End(Paragraph()), TypeError), (End(None), TypeError), (TaskListMarker("x"), TypeError), (TaskListMarker(None), TypeError),
     (Text("\ud800"), UnicodeEncodeError), (Start(Heading(0)), ValueError), (Start(Heading(7)), ValueError), (Start(Heading("1")), TypeError), (Start(Heading(1.0)), TypeError), (End(HeadingEnd(7)), ValueError),
     (Start(Heading(1, 3)), TypeError), (Start(Heading(1, None, "a")), TypeError), (Start(Heading(1, None, (3,))), TypeError), (Start(Heading(1, None, (), (("a",),))), ValueError),
     (Start(Heading(1, None, (), ((1, "a"),))), TypeError), (Start(Heading(1, None, (), (("a", 1),))), TypeError), (Start(Heading(1, None, (), "ab")), TypeError),
