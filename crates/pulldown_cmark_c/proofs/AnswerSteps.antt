@@ -1,7 +1,9 @@
 -- What a callback that answers from a table was asked, and the records that it kept.
 use Rattle.std.proofs.Common.{◌≡◌, ℕ, false, true, List, [], ◌∷◌, ◌++◌, map, Option, Some, None, Result, Ok, Err, refl, sym, ap, subst, ◌∙◌, append_assoc}
 use Rattle.std.proofs.lemmas.List.{append-nil}
-use Rattle.std.specs.Prelude.{is_some, option_map}
+use Rattle.std.specs.Borrow.{Bor}
+use Rattle.std.specs.Option.{IsSome, option_copied}
+use Rattle.std.specs.Prelude.{is_some}
 use Rattle.std.specs.Iterator.{Yields}
 use Rattle.std.specs.List.{AllByRecursion}
 use Rattle.std.specs.declared.alloc.AllocError.{AllocError}
@@ -38,6 +40,11 @@ asks_on Says (x ∷ xs) before after run =
 pub asks_stay : {F : Type 0} (Says : F → BrokenLink → Option (CowStr × CowStr) → F → Type 0) (xs : List Exchange) (before after : Option F) → Answered (AnswersIfAny Says) xs before after → is_some before ≡ true → is_some after ≡ true
 asks_stay Says xs None after run h = absurd (false≢true h)
 asks_stay Says xs (Some before) after run h = asks_on Says xs before after run
+
+-- a callback that is lent is there
+pub lent_some : {A : Type 0} (lent : Option (Bor A)) (found : Option A) → option_copied lent ≡ found → is_some found ≡ true → IsSome lent
+lent_some None found e h = absurd (false≢true (ap is_some e ∙ h))
+lent_some (Some a) found e h = refl
 
 -- the answer of the table, for the range of the question
 abbrev pub IsFrom : AnswerTable → Exchange → Type 0

@@ -19,11 +19,11 @@ use Rattle.cmark_text_parts.specs.declared.label.LinkLabel.{LinkLabel}
 -- the first reference of a folded label has it
 found_has : (folded : List ℕ) (refs : List Reference) (r : Reference) → first_with fold folded refs ≡ Some r → bytes_eq (fold r.label) folded ≡ true
 found_has folded [] r h = absurd cc
-found_has folded (s ∷ refs) r h = go (bytes_eq (fold s.label) folded) refl h
+found_has folded (s ∷ refs) r h = go (bytes_eq (fold s.label) folded) refl (found_has folded refs r) h
   where
-    go : (b : Bool) → bytes_eq (fold s.label) folded ≡ b → found_or b s (first_with fold folded refs) ≡ Some r → bytes_eq (fold r.label) folded ≡ true
-    go true e h = let same : s ≡ r = cc in subst (λ (q : Reference). bytes_eq (fold q.label) folded ≡ true) same e
-    go false e h = found_has folded refs r h
+    go : (b : Bool) → bytes_eq (fold s.label) folded ≡ b → (first_with fold folded refs ≡ Some r → bytes_eq (fold r.label) folded ≡ true) → found_or b s (first_with fold folded refs) ≡ Some r → bytes_eq (fold r.label) folded ≡ true
+    go true e later h = let same : s ≡ r = cc in subst (λ (q : Reference). bytes_eq (fold q.label) folded ≡ true) same e
+    go false e later h = later h
 
 -- an entry that its own label finds
 abbrev IsFound : RefDefs → LinkLabel × LinkDef → Type 0
