@@ -11,6 +11,8 @@ from ._lines import Text
 
 # The statuses of a call, as pulldown_cmark.h defines them.
 _DONE, _TOO_LONG, _NOT_UTF8, _NO_MEMORY, _MALFORMED = range(5)
+# The bit of the library for all entity names of HTML. It is no option of the Rust crate, so calls have an argument for it.
+_ALL_ENTITIES = 1 << 30
 
 
 class Options(enum.IntFlag):
@@ -36,8 +38,6 @@ class Options(enum.IntFlag):
     EMAIL_AUTOLINKS = 131072
 
 
-# The bit of the library for all entity names of HTML.
-_ALL_ENTITIES = 1 << 30
 # The bits of all options.
 _ALL = functools.reduce(operator.or_, map(int, Options.__members__.values()))
 
