@@ -18,6 +18,7 @@ from pulldown_cmark import (
     BlockQuote, BrokenLink, Code, CodeBlock, End, Event, Events, Fenced, FootnoteDefinition, HardBreak, Heading, HeadingEnd, Image, Indented, Lines, Link, LinkDef,
     List, ListEnd, MetadataBlock, Options, Paragraph, Place, SoftBreak, Start, Table, Tag, TagEnd, TaskListMarker, Text, WikiLink, events, html, merged, references, render,
 )  # fmt: skip
+from pulldown_cmark import _records
 from pulldown_cmark._writing import records_of
 
 # What values a field may have, by its name. `attrs`, `classes` and `alignments` are lists of these.
@@ -193,13 +194,25 @@ def try_patterns(judge):
 
 
 def try_sequence(judge, texts, wanted):
-    """The events of each text as a sequence, their HTML, and their texts merged."""
+    """The events of each text as a sequence, their HTML, and their texts merged. Few events are made at once, and many when they are asked
+    for; here each text has few, and then each has many."""
+    few = _records.FEW
+    for _records.FEW in (few, 0):
+        try_each(judge, texts, wanted)
+    _records.FEW = few
+    many = events("*a* " * (few // 100))
+    judge("a text with many events", (len(many), type(many[1:]._events).__name__, many[4].value), (few // 100 * 4 + 1, "_Part", " "))
+
+
+def try_each(judge, texts, wanted):
+    """The events of each text as a sequence."""
     for text, bits in itertools.product(texts, (NONE, ALL)):
         string = text.decode()
         found = events(string, options=bits)
         given = [*found]
         judge(f"the HTML of the events of {text!r} with {bits}", [render(found).encode(), render(given).encode()], [wanted["mdhtml", bits, text]] * 2)
         judge(f"the number of events of {text!r}", (len(found), [*found[:]], [*found[1:-1]], [*found[::-2]]), (len(given), given, given[1:-1], given[::-2]))
+        judge(f"events of {text!r} from the last to the first", ([*reversed(found)], [*found[1:][:3]]), (given[::-1], given[1:][:3]))
         judge(f"each event of {text!r}", [found[it] for it in range(-len(given), len(given))], given * 2)
         judge(f"the records of {text!r}", raised(found.__getitem__, len(given)), IndexError)
         judge(f"ends of {text!r}", [it.value for it in given if it.name == "End"], closed(given))
@@ -268,7 +281,7 @@ def try_changed(judge, library, draw):
 # Events that are none, and the error of each.
 WRONG = [
     (3, TypeError), ("a", TypeError), (("Text", "a", 0, 1), TypeError), (Text(3), TypeError), (Text(None), TypeError), (Code(b"a"), TypeError), (Start("Paragraph"), TypeError),
-    (Start(pulldown_cmark.ParagraphEnd()), TypeError), (End(Paragraph()), TypeError), (End(None), TypeError), (TaskListMarker("x"), TypeError), (TaskListMarker(None), TypeError),
+    (Start(pulldown_cmark.ParagraphEnd()), TypeError), (Start(Tag()), TypeError), (End(TagEnd()), TypeError), (End(Paragraph()), TypeError), (End(None), TypeError), (TaskListMarker("x"), TypeError), (TaskListMarker(None), TypeError),
     (Text("\ud800"), UnicodeEncodeError), (Start(Heading(0)), ValueError), (Start(Heading(7)), ValueError), (Start(Heading("1")), TypeError), (Start(Heading(1.0)), TypeError), (End(HeadingEnd(7)), ValueError),
     (Start(Heading(1, 3)), TypeError), (Start(Heading(1, None, "a")), TypeError), (Start(Heading(1, None, (3,))), TypeError), (Start(Heading(1, None, (), (("a",),))), ValueError),
     (Start(Heading(1, None, (), ((1, "a"),))), TypeError), (Start(Heading(1, None, (), (("a", 1),))), TypeError), (Start(Heading(1, None, (), "ab")), TypeError),

@@ -11,7 +11,7 @@ class TagEnd(Named):
     """
 
     __slots__ = ()
-    name: ClassVar[str]
+    name: ClassVar[str] = ""
 
     def __init_subclass__(cls) -> None:
         cls.name = cls.__name__[: -len("End")]

@@ -11,6 +11,8 @@ from ._lines import Text
 
 # The statuses of a call, as pulldown_cmark.h defines them.
 _DONE, _TOO_LONG, _NOT_UTF8, _NO_MEMORY, _MALFORMED = range(5)
+# The bit of the library for all entity names of HTML. It is no option of the Rust crate, so calls have an argument for it.
+_ALL_ENTITIES = 1 << 30
 
 
 class Options(enum.IntFlag):
@@ -36,8 +38,6 @@ class Options(enum.IntFlag):
     EMAIL_AUTOLINKS = 131072
 
 
-# The bit of the library for all entity names of HTML.
-_ALL_ENTITIES = 1 << 30
 # The bits of all options.
 _ALL = functools.reduce(operator.or_, map(int, Options.__members__.values()))
 
@@ -115,7 +115,7 @@ def answer(call: Callable[..., int], room_len: int, data: bytes, *more: Union[by
         place = ctypes.addressof(ctypes.c_char.from_buffer(room))
         status = call(data, len(data), *more, place, room_len, ctypes.byref(size))
         if status == _DONE:
-            return ctypes.string_at(place, size.value)
+            return bytes(memoryview(room)[: size.value])
         if status == _NOT_UTF8:
             data.decode("utf-8")
             raise UnicodeError("the text is not UTF-8")

@@ -2,6 +2,7 @@
 import struct
 from array import array
 from bisect import bisect_left
+from functools import cached_property
 from typing import Callable, Dict, Iterable, Iterator, List, NamedTuple, Optional, Sequence, Tuple, Type, Union, overload
 
 from . import _ends as ends
@@ -121,15 +122,19 @@ def offsets_of(records: bytes) -> "array[int]":
 
 
 # The tags of starts whose code does not say everything. Each is made of the bytes of all records, the offset of the start's text, its
-# length, and the start's data.
+# length, and the start's data. The offset of the next event comes with it.
+_Maker = Callable[[bytes, int, int, int], Tuple[Tag, int]]
 
 
-def _heading(records: bytes, at: int, size: int, data: int) -> Tag:
+def _heading(records: bytes, at: int, size: int, data: int) -> Tuple[Tag, int]:
     named: Optional[str] = None
     classes: List[str] = []
     attributes: List[Tuple[str, Optional[str]]] = []
-    for code, _, _, text in list(records_from(records, at - 32))[1:]:
-        part = code >> 8
+    at += size
+    while at < len(records) and not records[at]:
+        code, _, _, size = _CODED.unpack_from(records, at)
+        at += 32 + size
+        part, text = code >> 8, records[at - size : at].decode()
         if part == HEADING_ID:
             named = text
         elif part == CLASS:
@@ -138,111 +143,171 @@ def _heading(records: bytes, at: int, size: int, data: int) -> Tag:
             attributes.append((text, None))
         elif part == VALUE:
             attributes[-1] = (attributes[-1][0], text)
-    return tags.Heading(data, named, tuple(classes), tuple(attributes))
+    return tags.Heading(data, named, tuple(classes), tuple(attributes)), at
 
 
-def _link_fields(records: bytes, at: int, size: int, data: int) -> Tuple[LinkType, str, str, str]:
-    title = at + size + 32
-    label = title + _LENGTH.unpack_from(records, title - 32)[0] + 32
-    end = label + _LENGTH.unpack_from(records, label - 32)[0]
-    return LINK_TYPES[data], records[at : at + size].decode(), records[title : label - 32].decode(), records[label:end].decode()
+def _linked(kind: Union[Type[tags.Link], Type[tags.Image]]) -> _Maker:
+    """Makes links or images."""
+    new: Callable[..., Tag] = tuple.__new__
+
+    def made(records: bytes, at: int, size: int, data: int) -> Tuple[Tag, int]:
+        end = at + size
+        title = end + 32
+        title_end = title + _LENGTH.unpack_from(records, end)[0]
+        label = title_end + 32
+        label_end = label + _LENGTH.unpack_from(records, title_end)[0]
+        texts = records[at:end].decode(), records[title:title_end].decode(), records[label:label_end].decode()
+        return new(kind, (LINK_TYPES[data], *texts)), label_end
+
+    return made
 
 
-def _link(records: bytes, at: int, size: int, data: int) -> Tag:
-    return tuple.__new__(tags.Link, _link_fields(records, at, size, data))
+def _list(records: bytes, at: int, size: int, data: int) -> Tuple[Tag, int]:
+    return tags.List(_CODED.unpack_from(records, at + size)[1]), at + size + 32
 
 
-def _image(records: bytes, at: int, size: int, data: int) -> Tag:
-    return tuple.__new__(tags.Image, _link_fields(records, at, size, data))
+def _fenced(records: bytes, at: int, size: int, data: int) -> Tuple[Tag, int]:
+    return tags.CodeBlock(Fenced(records[at : at + size].decode())), at + size
 
 
-def _list(records: bytes, at: int, size: int, data: int) -> Tag:
-    return tags.List(_CODED.unpack_from(records, at + size)[1])
+def _footnote(records: bytes, at: int, size: int, data: int) -> Tuple[Tag, int]:
+    return tags.FootnoteDefinition(records[at : at + size].decode()), at + size
 
 
-def _fenced(records: bytes, at: int, size: int, data: int) -> Tag:
-    return tags.CodeBlock(Fenced(records[at : at + size].decode()))
-
-
-def _footnote(records: bytes, at: int, size: int, data: int) -> Tag:
-    return tags.FootnoteDefinition(records[at : at + size].decode())
-
-
-def _table(records: bytes, at: int, size: int, data: int) -> Tag:
-    return tags.Table(tuple(ALIGNMENTS[it] for it in records[at : at + size]))
+def _table(records: bytes, at: int, size: int, data: int) -> Tuple[Tag, int]:
+    return tags.Table(tuple(ALIGNMENTS[it] for it in records[at : at + size])), at + size
 
 
 # They are found by the code of the start without its data.
-_STARTS: Dict[int, Callable[[bytes, int, int, int], Tag]] = {
-    code_of(START, name): call
-    for name, call in (
-        ("Heading", _heading), ("Link", _link), ("Image", _image), ("List", _list), ("CodeBlock", _fenced), ("FootnoteDefinition", _footnote), ("Table", _table)
-    )
-}  # fmt: skip
+_MAKERS: Dict[int, _Maker] = {
+    code_of(START, "Heading"): _heading,
+    code_of(START, "CodeBlock"): _fenced,
+    code_of(START, "List"): _list,
+    code_of(START, "FootnoteDefinition"): _footnote,
+    code_of(START, "Table"): _table,
+    code_of(START, "Link"): _linked(tags.Link),
+    code_of(START, "Image"): _linked(tags.Image),
+}
 
 
-def _made(records: bytes, offsets: Iterable[int], moved: List[int]) -> Iterator[Event]:
-    """The events of the records at these offsets. ``moved`` has the bytes that continue a character.
+def _made(records: bytes, at: int, moved: List[int]) -> Iterator[Event]:
+    """The events of the records from this offset on. ``moved`` has the bytes of the text that continue a character.
 
-    This loop is what events cost, so it calls as little as it can.
+    This loop is what events cost, so it calls as little as it can. Raises ``ValueError`` if a record is cut short or has no meaning.
     """
+    kind: Type[Event]
+    name: str
+    value: object
     new: Callable[..., Event] = tuple.__new__
-    read, known = _CODED.unpack_from, _KNOWN.get
-    for at in offsets:
-        code, start, end, size = read(records, at)
-        if moved:
-            start -= bisect_left(moved, start)
-            end -= bisect_left(moved, end)
-        found = known(code)
-        if found is None:
-            yield new(Start, ("Start", _start(records, at + 32, size, code), start, end))
-            continue
-        kind, name, value = found
-        if value is _IN_RECORD:
-            value = records[at + 32 : at + 32 + size].decode()
-        yield new(kind, (name, value, start, end))
-
-
-def _start(records: bytes, at: int, size: int, code: int) -> Tag:
-    """The tag of a start with more data than its code has."""
+    read, known, makers, whole = _CODED.unpack_from, _KNOWN.get, _MAKERS, len(records)
     try:
-        return _STARTS[code & 0xFFFF](records, at, size, code >> 16)
-    except (KeyError, IndexError, struct.error) as error:
+        while at < whole:
+            code, start, end, size = read(records, at)
+            at += 32
+            found = known(code)
+            if found is None:
+                kind, name = Start, "Start"
+                value, at = makers[code & 0xFFFF](records, at, size, code >> 16)
+            else:
+                kind, name, value = found
+                if value is _IN_RECORD:
+                    value = records[at : at + size].decode()
+                at += size
+            if at > whole:
+                raise ValueError("a record is cut short")
+            if moved:
+                start -= bisect_left(moved, start)
+                end -= bisect_left(moved, end)
+            yield new(kind, (name, value, start, end))
+    except (KeyError, IndexError, UnicodeDecodeError, struct.error) as error:
         raise ValueError("the records are malformed") from error
 
 
-class Events(Sequence[Event]):
-    """The events of a text, in order: a sequence that makes each event when it is asked for. A slice is such a sequence too.
+class _Lazy(Sequence[Event]):
+    """The events of many records. Each is made when it is asked for; their offsets are found once."""
 
-    It keeps the flat records of the library, so it takes less memory than a list of its events.
-    """
+    def __init__(self, records: bytes, moved: List[int]) -> None:
+        self._records = records
+        self._moved = moved
 
-    __slots__ = ("_records", "_text", "_at", "_continuations", "_lines", "_is_whole")
-
-    def __init__(self, records: bytes, text: Text) -> None:
-        self._records, self._text = records, text
-        self._at: "Optional[array[int]]" = None
-        self._continuations: Optional[List[int]] = None
-        self._lines: Optional[Lines] = None
-        self._is_whole = True
-
+    @cached_property
     def _offsets(self) -> "array[int]":
-        """The offset of each event in the records, found once."""
-        if self._at is None:
-            self._at = offsets_of(self._records)
-        return self._at
-
-    def _moved(self) -> List[int]:
-        """The bytes of the text that are no character of their own, found once."""
-        if self._continuations is None:
-            self._continuations = continuations(self._text)
-        return self._continuations
+        return offsets_of(self._records)
 
     def __len__(self) -> int:
-        return len(self._offsets())
+        return len(self._offsets)
 
     def __iter__(self) -> Iterator[Event]:
-        return _made(self._records, self._offsets(), self._moved())
+        return _made(self._records, 0, self._moved)
+
+    @overload
+    def __getitem__(self, index: int) -> Event:
+        ...
+
+    @overload
+    def __getitem__(self, index: slice) -> Sequence[Event]:
+        ...
+
+    def __getitem__(self, index: Union[int, slice]) -> Union[Event, Sequence[Event]]:
+        if isinstance(index, slice):
+            return _Part(self, range(len(self))[index])
+        return next(_made(self._records, self._offsets[index], self._moved))
+
+
+class _Part(Sequence[Event]):
+    """A slice of many events."""
+
+    def __init__(self, whole: _Lazy, numbers: range) -> None:
+        self._whole = whole
+        self._numbers = numbers
+
+    def __len__(self) -> int:
+        return len(self._numbers)
+
+    @overload
+    def __getitem__(self, index: int) -> Event:
+        ...
+
+    @overload
+    def __getitem__(self, index: slice) -> Sequence[Event]:
+        ...
+
+    def __getitem__(self, index: Union[int, slice]) -> Union[Event, Sequence[Event]]:
+        if isinstance(index, slice):
+            return _Part(self._whole, self._numbers[index])
+        return self._whole[self._numbers[index]]
+
+
+# Events of fewer bytes of records are all made at the first use: this is faster, and takes little memory.
+FEW = 1 << 18
+
+
+class Events(Sequence[Event]):
+    """The events of a text, in order: a sequence that makes its events when they are asked for. A slice is such a sequence too.
+
+    It keeps the flat records of the library, so that many events take less memory than in a list.
+    """
+
+    __slots__ = ("_records", "_text", "_events", "_lines")
+
+    def __init__(self, records: bytes, text: Text) -> None:
+        self._records: Optional[bytes] = records
+        self._text = text
+        self._events: Optional[Sequence[Event]] = None
+        self._lines: Optional[Lines] = None
+
+    def _found(self) -> Sequence[Event]:
+        """The events as a sequence, made once."""
+        if self._events is None:
+            records, moved = self._records or b"", continuations(self._text)
+            self._events = [*_made(records, 0, moved)] if len(records) < FEW else _Lazy(records, moved)
+        return self._events
+
+    def __len__(self) -> int:
+        return len(self._found())
+
+    def __iter__(self) -> Iterator[Event]:
+        return iter(self._found())
 
     @overload
     def __getitem__(self, index: int) -> Event:
@@ -254,9 +319,9 @@ class Events(Sequence[Event]):
 
     def __getitem__(self, index: Union[int, slice]) -> Union[Event, "Events"]:
         if not isinstance(index, slice):
-            return next(_made(self._records, (self._offsets()[index],), self._moved()))
-        part = Events(self._records, self._text)
-        part._at, part._continuations, part._lines, part._is_whole = self._offsets()[index], self._continuations, self._lines, False
+            return self._found()[index]
+        part = Events(b"", self._text)
+        part._records, part._events, part._lines = None, self._found()[index], self._lines
         return part
 
     def __eq__(self, other: object) -> bool:
@@ -279,4 +344,4 @@ class Events(Sequence[Event]):
 
 def whole_records(events: Events) -> Optional[bytes]:
     """The records of all events of a text, or ``None`` for a slice of them."""
-    return events._records if events._is_whole else None
+    return events._records

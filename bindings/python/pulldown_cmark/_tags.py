@@ -12,7 +12,7 @@ class Tag(Named):
     """
 
     __slots__ = ()
-    name: ClassVar[str]
+    name: ClassVar[str] = ""
 
     def __init_subclass__(cls) -> None:
         cls.name = cls.__name__

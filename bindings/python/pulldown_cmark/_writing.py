@@ -107,7 +107,7 @@ _TAGS: Dict[str, Callable[..., bytes]] = {
 
 def _start(tag: object) -> bytes:
     """The records of a start."""
-    if not isinstance(tag, Tag):
+    if not isinstance(tag, Tag) or tag.name not in NUMBERS:
         raise TypeError(f"the value of Start is a tag, not {type(tag).__name__}")
     write = _TAGS.get(tag.name)
     return write(tag) if write else record(START, NUMBERS[tag.name])
@@ -115,7 +115,7 @@ def _start(tag: object) -> bytes:
 
 def _end(end: object) -> bytes:
     """The record of an end."""
-    if not isinstance(end, TagEnd):
+    if not isinstance(end, TagEnd) or end.name not in NUMBERS:
         raise TypeError(f"the value of End is the end of a tag, not {type(end).__name__}")
     data = 0
     if isinstance(end, ends.HeadingEnd):
