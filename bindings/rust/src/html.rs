@@ -99,7 +99,7 @@ fn render<'a>(iter: impl Iterator<Item = Event<'a>>) -> Result<String, Error> {
     native::render(&records)
 }
 
-/// Returns the HTML of a text, in half the time of [`push_html`] with a parser.
+/// Returns the HTML of a text. This takes at most a third of the instructions of [`push_html`] with a parser.
 ///
 /// It is not safe to show for a text of a stranger: raw HTML is kept as it is, links may lead to `javascript:`, and headings may have
 /// attributes such as `onclick`. Use [`to_safe_html`] for such texts.
