@@ -1,4 +1,4 @@
-"""The tests of flat records in C: pcm_events and pcm_render of the shared library, called by ctypes.
+"""The tests of flat records in C: the calls of the shared library that write or read them, called by ctypes.
 
 A reader that knows the layout of crates/cmark_flat/README.md alone turns the records into the lines that mdevents writes, and pcm_render turns
 them into the HTML that mdhtml writes. The records and the text then end at the end of a page, and the next page may not be touched. Records that
@@ -25,6 +25,7 @@ QUOTES = [None, "Note", "Tip", "Important", "Warning", "Caution"]
 METADATA = ["YamlStyle", "PlusesStyle"]
 COLUMNS = ["None", "Left", "Center", "Right"]
 TITLE, LABEL, HEADING_ID, CLASS, ATTRIBUTE, VALUE, NO_VALUE, FIRST = range(1, 9)
+DEFINITION, QUESTION, ANSWER = 14, 15, 16
 UNTOUCHED = 0xA5
 
 
@@ -131,9 +132,10 @@ class Library:
     def __init__(self, path):
         self.library = ctypes.CDLL(str(path))
         address, size = ctypes.c_void_p, ctypes.c_size_t
-        self.library.pcm_events.argtypes = [address, size, ctypes.c_uint32, address, size, ctypes.POINTER(size)]
+        self.library.pcm_events.argtypes = self.library.pcm_references.argtypes = [address, size, ctypes.c_uint32, address, size, ctypes.POINTER(size)]
+        self.library.pcm_events_answered.argtypes = [address, size, ctypes.c_uint32, address, size, address, size, ctypes.POINTER(size)]
         self.library.pcm_render.argtypes = [address, size, address, size, ctypes.POINTER(size)]
-        self.pages, self.rooms = Pages(1 << 22), Pages(1 << 22)
+        self.pages, self.rooms, self.answers = Pages(1 << 22), Pages(1 << 22), Pages(1 << 22)
 
     def call(self, function, given, options, room_len):
         """The status, the size and the room after a call whose bytes and whose room end where a page may not be touched."""
@@ -161,6 +163,14 @@ class Library:
     def render(self, records):
         return self.whole(self.library.pcm_render, records, ())
 
+    def references(self, text, bits):
+        return self.whole(self.library.pcm_references, text, (bits,))
+
+    def answered(self, text, bits, answers):
+        """The status and the records of the events and the questions. The answers end where a page may not be touched, too."""
+        at = self.answers.end_with(answers)
+        return self.whole(self.library.pcm_events_answered, text, (bits, at, len(answers)))
+
 
 def damaged(records, draw):
     """Records that are cut short, have a changed byte, or are out of order."""
@@ -178,7 +188,10 @@ def damaged(records, draw):
 # Records that are not those of events, each after the reason.
 REFUSED = [
     ("a further record comes first", [(0, TITLE, 0, 0, 0, b"")]),
-    ("a kind that is none", [(14, 0, 0, 0, 1, b"")]),
+    ("a definition", [(DEFINITION, 0, 0, 0, 1, b""), (0, LABEL, 0, 0, 0, b"a")]),
+    ("a question", [(QUESTION, 0, 6, 0, 1, b"a")]),
+    ("an answer", [(ANSWER, 0, 0, 0, 1, b"")]),
+    ("a kind that is none", [(17, 0, 0, 0, 1, b"")]),
     ("a tag that is none", [(1, 25, 0, 0, 1, b"")]),
     ("a level of 0", [(1, 2, 0, 0, 1, b"")]),
     ("a level of 7", [(2, 2, 7, 0, 1, b"")]),
@@ -194,6 +207,110 @@ REFUSED = [
     ("a column that is none", [(1, 12, 0, 0, 1, b"\x04")]),
     ("a paragraph with a further record", [(1, 1, 0, 0, 1, b""), (0, TITLE, 0, 0, 0, b"")]),
 ]
+
+
+# Records that are not answers, each after the reason.
+NO_ANSWERS = [
+    ("an answer without its title", [(ANSWER, 0, 1, 0, 3, b"/a")]),
+    ("no answer with a text", [(ANSWER, 0, 0, 0, 3, b"/a")]),
+    ("no answer with a title", [(ANSWER, 0, 0, 0, 3, b""), (0, TITLE, 0, 0, 0, b"")]),
+    ("an answer with a label", [(ANSWER, 0, 1, 0, 3, b"/a"), (0, LABEL, 0, 0, 0, b"")]),
+    ("an answer with two titles", [(ANSWER, 0, 1, 0, 3, b"/a"), (0, TITLE, 0, 0, 0, b""), (0, TITLE, 0, 0, 0, b"")]),
+    ("an answer with the data 2", [(ANSWER, 0, 2, 0, 3, b"/a"), (0, TITLE, 0, 0, 0, b"")]),
+    ("an answer with a tag", [(ANSWER, 1, 0, 0, 3, b"")]),
+    ("a title alone", [(0, TITLE, 0, 0, 0, b"")]),
+    ("a question", [(QUESTION, 0, 6, 0, 3, b"a")]),
+    ("an event", [(3, 0, 0, 0, 3, b"a")]),
+    ("a destination that is not UTF-8", [(ANSWER, 0, 1, 0, 3, b"\xff"), (0, TITLE, 0, 0, 0, b"")]),
+]
+
+
+def definitions(records):
+    """The definitions of records, each as (label, destination, title, start, end)."""
+    found, rest = [], split(records)
+    while rest:
+        (kind, tag, data, start, end, destination), rest = rest[0], rest[1:]
+        title, rest = (rest[0][5], rest[1:]) if rest[0][:2] == (0, TITLE) else (None, rest)
+        if (kind, tag, data) != (DEFINITION, 0, 0) or rest[0][:5] != (0, LABEL, 0, 0, 0):
+            raise ValueError("not the records of definitions")
+        found.append((rest[0][5], destination, title, start, end))
+        rest = rest[1:]
+    return found
+
+
+def defined(library, text, bits):
+    """The number of a text's definitions, and their faults: the range of each that has one line must be a definition alone."""
+    status, records = library.references(text, bits)
+    if status != DONE:
+        return 0, [f"pcm_references of {text!r} with {bits}: {status}"]
+    found, said = definitions(records), []
+    for label, destination, title, start, end in found:
+        if b"\n" in text[start:end].rstrip(b"\n") or b"\r" in text[start:end].rstrip(b"\r\n"):
+            continue
+        _, events = library.events(text[start:end], bits)
+        again = definitions(library.references(text[start:end], bits)[1])
+        if events or [it[1:3] for it in again] != [(destination, title)]:
+            said.append(f"pcm_references of {text!r} with {bits}: {text[start:end]!r} is not the definition of {label!r}")
+    return len(found), said
+
+
+def answer_of(question):
+    """The records of an answer: the label is the destination and the title; every other label that has an even number of bytes is no link."""
+    _, _, _, start, end, label = question
+    if len(label) % 2:
+        return [(ANSWER, 0, 1, start, end, label), (0, TITLE, 0, 0, 0, label)]
+    return [(ANSWER, 0, 0, start, end, b"")]
+
+
+def asked(library, text, bits, plain):
+    """The number of questions of a text, and the faults of its events with answers, which are given until no question is new."""
+    answers, ranges = [], set()
+    while True:
+        status, records = library.answered(text, bits, joined(answers))
+        if status != DONE:
+            return 0, [f"pcm_events_answered of {text!r} with {bits}: {status}"]
+        found = split(records)
+        questions = [it for it in found if it[0] == QUESTION]
+        events = found[: len(found) - len(questions)]
+        if any(it[0] == QUESTION for it in events) or not answers and joined(events) != plain:
+            return 0, [f"pcm_events_answered of {text!r} with {bits}: other events"]
+        fresh = [it for it in questions if it[3:5] not in ranges]
+        if not fresh:
+            break
+        ranges |= {it[3:5] for it in fresh}
+        answers += [record for it in fresh for record in answer_of(it)]
+    # the starts of links and images whose label has no definition
+    led = [(data, text, *(it[5] for it in found[at + 1 : at + 3])) for at, (kind, tag, data, _, _, text) in enumerate(found) if kind == 1 and tag in (22, 23) and data in (2, 4, 6)]
+    wanted = [(data, label, label, label) for _, _, data, _, _, label in questions if len(label) % 2]
+    if sorted(led) != sorted(wanted):
+        return 0, [f"pcm_events_answered of {text!r} with {bits}: {led!r}, and not {wanted!r}"]
+    return len(questions), []
+
+
+def links(library, texts):
+    """The faults of definitions and answers, over these texts."""
+    found, defining, asking = [], 0, 0
+    for text in texts:
+        for bits in (NONE, ALL):
+            status, plain = library.events(text, bits)
+            if status != DONE:
+                continue
+            number, said = defined(library, text, bits)
+            defining, found = defining + number, found + said
+            number, said = asked(library, text, bits, plain)
+            asking, found = asking + number, found + said
+    for what, bad in NO_ANSWERS:
+        if library.call(library.library.pcm_events_answered, b"[a]", (NONE, library.answers.end_with(joined(bad)), len(joined(bad))), 9) != (MALFORMED, 0, bytes([UNTOUCHED]) * 9):
+            found.append(f"pcm_events_answered takes {what}")
+    first = joined([(ANSWER, 0, 1, 0, 3, b"/x"), (0, TITLE, 0, 0, 0, b""), (ANSWER, 0, 1, 0, 3, b"/y"), (0, TITLE, 0, 0, 0, b""), (ANSWER, 0, 1, 0, 4, b"/z"), (0, TITLE, 0, 0, 0, b"")])
+    if (1, 22, 6, 0, 3, b"/x") not in split(library.answered(b"[a]", NONE, first)[1]):
+        found.append("pcm_events_answered does not take the first answer")
+    if library.answered(b"a\xff", NONE, b"a")[0] != NOT_UTF8 or library.references(b"\xff", NONE)[0] != NOT_UTF8:
+        found.append("pcm_events_answered or pcm_references takes bytes that are not UTF-8")
+    if not defining or not asking:
+        found.append(f"{defining} definitions, {asking} questions")
+    print(f"bindings: flat records: {defining} definitions compared, and {asking} questions answered")
+    return found
 
 
 def faults(path, texts, wanted):
@@ -224,5 +341,6 @@ def faults(path, texts, wanted):
         found.append("pcm_events takes bytes that are not UTF-8")
     if not compared or not refused or not read:
         found.append(f"{compared} compared, {refused} refused, {read} read")
+    found.extend(links(library, texts))
     print(f"bindings: flat records: the events of {compared} texts and options compared; of damaged records {refused} refused, and {read} are records again")
     return found

@@ -384,10 +384,14 @@ abbrev pub groups : List FlatRecord → List Group
 groups [] = []
 groups (r ∷ rs) = record { own = r; parts = parts_at rs } ∷ later rs
 
+-- f of the first group, if there is one
+abbrev pub first_by : {B : Type 0} → (Group → Option B) → List FlatRecord → Option B
+first_by f [] = None
+first_by f (r ∷ rs) = f (record { own = r; parts = parts_at rs })
+
 -- the event of the first group
 abbrev pub ranged_at : List FlatRecord → Option Ranged
-ranged_at [] = None
-ranged_at (r ∷ rs) = ranged_of (record { own = r; parts = parts_at rs })
+ranged_at rs = first_by ranged_of rs
 
 -- the events that bytes stand for
 abbrev pub decode : List ℕ → Option (List Ranged)

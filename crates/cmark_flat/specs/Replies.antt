@@ -1,7 +1,7 @@
 -- Replies of the code.
-use Rattle.std.specs.Prelude.{List, [], ◌∷◌, Option, None, option_map}
+use Rattle.std.specs.Prelude.{List, Option, option_map}
 use Rattle.cmark_grammar.specs.Answers.{Destination}
-use Rattle.cmark_flat.specs.Decode.{parts_at}
+use Rattle.cmark_flat.specs.Decode.{first_by}
 use Rattle.cmark_flat.specs.Questions.{Reply, reply_of}
 use Rattle.cmark_flat.specs.Records.{FlatRecord}
 use Rattle.cmark_flat.specs.declared.replies.Answer.{Answer}
@@ -18,5 +18,4 @@ shown_reply r = record { start = r.start; end = r.end; answer = shown_answer r.a
 
 -- the reply of the first group
 abbrev pub reply_at : List FlatRecord → Option Reply
-reply_at [] = None
-reply_at (r ∷ rs) = reply_of (record { own = r; parts = parts_at rs })
+reply_at rs = first_by reply_of rs

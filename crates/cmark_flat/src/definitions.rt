@@ -22,7 +22,7 @@ pub fn append_definition(
     ensures { OnOk result (out.new.items ≡ out.old.items ++ spelled (definition_records (record {
       label = label.now;
       destination = destination.now;
-      title = option_map (λ t. t.now) title;
+      title = option_map (λ t. t.now) title.entry;
       start = range.now.start;
       end = range.now.end;
     }))) }
@@ -42,7 +42,7 @@ pub fn append_definition(
 
 /// Appends the title of a definition, if it has one.
 fn put_title(out: &mut Vec<u8>, title: Option<&str>) -> Result<(), AllocError>
-    ensures { OnOk result (out.new.items ≡ out.old.items ++ spelled (title_parts (option_map (λ t. t.now) title))) }
+    ensures { OnOk result (out.new.items ≡ out.old.items ++ spelled (title_parts (option_map (λ t. t.now) title.entry))) }
 {
     match title {
         None => Ok(()),

@@ -16,7 +16,7 @@ use crate::record::{Record, front_of, rest_from};
 use std::alloc::Global;
 
 /// Where a link leads.
-#[derive(Clone, Copy, Debug)]
+#[derive(Clone, Copy)]
 pub struct Answer<'a> {
     /// The destination.
     pub dest_url: &'a str,
@@ -25,7 +25,7 @@ pub struct Answer<'a> {
 }
 
 /// What a caller says of the question with this range of byte offsets.
-#[derive(Clone, Copy, Debug)]
+#[derive(Clone, Copy)]
 pub struct Reply<'a> {
     pub start: u64,
     pub end: u64,

@@ -1,0 +1,2 @@
+pub mod DefinitionSteps
+pub mod TableSteps

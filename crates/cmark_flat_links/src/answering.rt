@@ -22,7 +22,7 @@ pub struct Answering<'a> {
 impl<'a> Answering<'a> {
     /// A callback that answers from this table and was asked nothing yet.
     pub fn new(alloc: Global, answers: AnswerTable<'a>) -> Answering<'a>
-        ensures answers { result.answers ≡ answers }
+        ensures answers { result.answers ≡ answers.entry }
         ensures asked { result.asked.items ≡ [] }
         ensures kept { result.is_refused ≡ false }
     {

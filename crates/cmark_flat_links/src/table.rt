@@ -24,9 +24,10 @@ impl<'a> AnswerTable<'a> {
         let mut answers = BTreeMap::new(alloc);
         for reply in replies {
             let range = (reply.start, reply.end);
-            if !answers.contains_key(&range) {
-                answers.insert(range, reply.answer)?;
+            if answers.contains_key(&range) {
+                continue;
             }
+            answers.insert(range, reply.answer)?;
         }
         Ok(AnswerTable { answers })
     }

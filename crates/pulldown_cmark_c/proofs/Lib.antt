@@ -1,1 +1,3 @@
+pub mod AnswerSteps
 pub mod FlatSteps
+pub mod ReferenceSteps

@@ -1,11 +1,14 @@
 //! The calls of C for link reference definitions, and for events with the caller's answers.
 
-ghost use Rattle.std.specs.Prelude.{IfOk};
+ghost use Rattle.std.specs.Prelude.{◌≡◌, true, is_some, IfErr, IfOk};
+ghost use Rattle.cmark_flat.specs.Gives.{Fails};
+ghost use Rattle.cmark_flat.specs.Questions.{decode_replies};
 ghost use Rattle.cmark_grammar.specs.Entities.{basic_entity};
+ghost use Rattle.cmark_parser.specs.Parsing.{CanGoRanged, callback_of, walk_of};
 ghost use Rattle.cmark_room.specs.Statuses.{Answers};
 ghost use Rattle.cmark_text_parts.specs.Shown.{shown_options};
 ghost use Rattle.pulldown_cmark_c.specs.Calls.{options_of};
-ghost use Rattle.pulldown_cmark_c.specs.Links.{AreDefinitionsOf, AreAnsweredOf, AnsweredAnswers};
+ghost use Rattle.pulldown_cmark_c.specs.Links.{AnswersEvents, AreAnsweredOf, AreAnsweredRest, AreDefinitionsOf};
 
 use crate::flat::MALFORMED;
 use bitflags::Flags;
@@ -66,7 +69,7 @@ pub extern "C" fn pcm_events_answered(
     room: &mut [u8],
     size: &mut usize,
 ) -> u32
-    ensures { AnsweredAnswers text.now (options_of options) basic_entity answers.now room.old room.new size.new result }
+    ensures { AnswersEvents text.now (options_of options) basic_entity answers.now room.old room.new size.new result }
 {
     *size = 0;
     let Ok(text) = str::from_utf8(text) else {
@@ -87,7 +90,10 @@ fn answered<'a, E: EntityLookup>(
     options: Options,
     entities: &'a E,
     answers: &'a [u8],
-) -> Result<Vec<u8>, DecodeError> {
+) -> Result<Vec<u8>, DecodeError>
+    ensures answered { IfOk result (λ output. AreAnsweredOf text.entry.now (shown_options options) (E.replacement entities.entry.now) answers.entry.now output.items) }
+    ensures malformed { IfErr result (λ e. Fails e (decode_replies answers.entry.now)) }
+{
     let replies = decode_replies(alloc, answers)?;
     let table = AnswerTable::new(alloc, replies.as_slice())?;
     let callback = Answering::new(alloc, table);
@@ -106,7 +112,11 @@ fn answered<'a, E: EntityLookup>(
 fn answered_of_rest<'a, E: EntityLookup>(
     alloc: Global,
     iter: &mut OffsetIter<'a, E, Answering<'a>>,
-) -> Result<Vec<u8>, AllocError> {
+) -> Result<Vec<u8>, AllocError>
+    requires goes { CanGoRanged E.replacement iter.old }
+    requires asks { is_some (callback_of (walk_of iter.old)) ≡ true }
+    ensures { IfOk result (λ output. AreAnsweredRest E.replacement iter.old iter.new output.items) }
+{
     let mut output = Vec::new(alloc);
     while let Some(item) = iter.next() {
         let (event, range) = item?;

@@ -1,6 +1,9 @@
 //! Flat records, compared with bytes that are written here by the layout of the crate's README.
 
-use cmark_flat::{DecodeError, append_event, append_given, decode, render};
+use cmark_flat::{
+    DecodeError, append_definition, append_event, append_given, append_question, decode,
+    decode_replies, render,
+};
 use cmark_text::{Alignment, CodeBlockKind, CowStr, Event, HeadingLevel, LinkType, Tag, TagEnd};
 use std::alloc::{AllocError, Global};
 use std::test::Fail;
@@ -172,5 +175,81 @@ fn refuses_what_is_no_record_of_an_event(rt: HostRuntime) -> Result<(), Fail> {
     let whole = bytes_of(alloc, &[(3, 0, 0, 0, 1, "a")])?;
     let short = &whole.as_slice()[..whole.len() - 1];
     assert!(rt; matches!(&render(alloc, short), Err(DecodeError::Malformed)));
+    Ok(())
+}
+
+#[test]
+fn writes_definitions(rt: HostRuntime) -> Result<(), Fail> {
+    let alloc = rt.alloc();
+    let mut out = Vec::new(alloc);
+    append_definition(&mut out, "l", "/u", Some(""), &(3..200))?;
+    append_definition(&mut out, "m", "", None, &(200..255))?;
+    let rows = [
+        (14, 0, 0, 3, 200, "/u"),
+        (0, 1, 0, 0, 0, ""),
+        (0, 2, 0, 0, 0, "l"),
+        (14, 0, 0, 200, 255, ""),
+        (0, 2, 0, 0, 0, "m"),
+    ];
+    assert!(rt; out.as_slice() == bytes_of(alloc, &rows)?.as_slice());
+    Ok(())
+}
+
+#[test]
+fn writes_questions(rt: HostRuntime) -> Result<(), Fail> {
+    let alloc = rt.alloc();
+    for (link_type, data) in [
+        (LinkType::Reference, 2),
+        (LinkType::Collapsed, 4),
+        (LinkType::Shortcut, 6),
+    ] {
+        let mut out = Vec::new(alloc);
+        append_question(&mut out, link_type, "l", &(3..200))?;
+        let row = bytes_of(alloc, &[(15, 0, data, 3, 200, "l")])?;
+        assert!(rt; out.as_slice() == row.as_slice());
+    }
+    Ok(())
+}
+
+#[test]
+fn decodes_replies(rt: HostRuntime) -> Result<(), Fail> {
+    let alloc = rt.alloc();
+    let rows = [
+        (16, 0, 1, 3, 200, "/u"),
+        (0, 1, 0, 0, 0, "t"),
+        (16, 0, 0, 7, 9, ""),
+    ];
+    let bytes = bytes_of(alloc, &rows)?;
+    let Ok(replies) = decode_replies(alloc, bytes.as_slice()) else {
+        return Err(Fail::from("malformed"));
+    };
+    let [first, second] = replies.as_slice() else {
+        return Err(Fail::from("two replies"));
+    };
+    let Some(answer) = first.answer else {
+        return Err(Fail::from("an answer"));
+    };
+    assert!(rt; (first.start, first.end) == (3, 200) && (second.start, second.end) == (7, 9));
+    assert!(rt; answer.dest_url == "/u" && answer.title == "t" && second.answer.is_none());
+    Ok(())
+}
+
+#[test]
+fn refuses_what_is_no_reply(rt: HostRuntime) -> Result<(), Fail> {
+    let alloc = rt.alloc();
+    for rows in [
+        [(16, 0, 1, 0, 3, "/u"), (16, 0, 0, 4, 5, "")],
+        [(16, 0, 0, 0, 3, "/u"), (16, 0, 0, 4, 5, "")],
+        [(16, 0, 0, 0, 3, ""), (0, 1, 0, 0, 0, "t")],
+        [(16, 0, 1, 0, 3, "/u"), (0, 2, 0, 0, 0, "t")],
+        [(16, 0, 2, 0, 3, "/u"), (0, 1, 0, 0, 0, "t")],
+        [(16, 1, 0, 0, 3, ""), (16, 0, 0, 4, 5, "")],
+        [(15, 0, 0, 0, 3, ""), (16, 0, 0, 4, 5, "")],
+        [(0, 1, 0, 0, 0, "t"), (16, 0, 0, 4, 5, "")],
+    ] {
+        let bytes = bytes_of(alloc, &rows)?;
+        let found = decode_replies(alloc, bytes.as_slice());
+        assert!(rt; matches!(&found, Err(DecodeError::Malformed)));
+    }
     Ok(())
 }

@@ -22,7 +22,7 @@ loop-at-preserved c =
     record {
       within = omega (arith, c.loop-at-test.true, c.parts_len.ensures.within, ap length c.rest_from-in-loop-at.ensures, length-drop (at + 1) rs);
       so_far = subst (λ items. with_front (map shown_ranged items) (each ranged_of (groups (map shown_record (drop (at + (1 + c.parts_len.result)) rs)))) ≡ total) (sym c.in_ok-push.ensures.items)
-          (step rs at c.parts_len.result c.loop-at.events.items e total c.loop-at-test.true number h i.so_far);
+          (step ranged_of shown_ranged rs at c.parts_len.result c.loop-at.events.items e total c.loop-at-test.true number h i.so_far);
     }
 
 pub returns-in_err-ranged : goal.returns-in_err-ranged
@@ -31,7 +31,7 @@ returns-in_err-ranged c =
     let e = c.in_err-ranged.field-0.0 in
     let p = err_from_is_err_and c.from_residual.result c.from_residual.ensures.1 in
     let h = subst (λ l. Fails e (ranged_at (map shown_record l))) c.rest_from.ensures c.in_err-ranged.ensures in
-    rw (p.1, p.2) (fails rs c.loop-at.at e (map shown_ranged c.loop-at.events.items) (each ranged_of (groups (map shown_record rs))) c.loop-at-test.true h c.loop-at.invariant.so_far)
+    rw (p.1, p.2) (fails ranged_of shown_ranged rs c.loop-at.at e (map shown_ranged c.loop-at.events.items) (each ranged_of (groups (map shown_record rs))) c.loop-at-test.true h c.loop-at.invariant.so_far)
 
 pub returns : goal.returns
-returns c = all_grouped c.args.records.now c.loop-at.at (map shown_ranged c.loop-at.events.items) (each ranged_of (groups (map shown_record c.args.records.now))) c.loop-at-test.false c.loop-at.invariant.so_far
+returns c = all_grouped ranged_of shown_ranged c.args.records.now c.loop-at.at (map shown_ranged c.loop-at.events.items) (each ranged_of (groups (map shown_record c.args.records.now))) c.loop-at-test.false c.loop-at.invariant.so_far
