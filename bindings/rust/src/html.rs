@@ -1,7 +1,7 @@
 //! HTML of events, and of texts.
 //!
-//! Events become flat records, and the library writes their HTML. It is proved that this is the HTML of exactly these events, also if a
-//! program has changed them or made them itself.
+//! Events become flat records, and the library writes their HTML, also if a program has changed the events or made them itself. It is proved
+//! that this is the HTML of the events of the records. That the records are those of the events is tested.
 //!
 //! None of this HTML is safe to show for a text of a stranger, except that of [`to_safe_html`].
 
