@@ -139,7 +139,7 @@ class Trial:
             self.judge(f"crate: texts of tests/rows.json {' '.join(words)}", re.findall(r"^rows: (\d+) compared$", said, re.M), [str(cases)])
         self.judge("crate: texts of tests/rows.json", cases > 400, True)
         said = self.said(["test", "--offline"], self.crate / "patch-0.9")
-        self.judge("crate: the tests for version 0.9", said.count("test result: ok.") if "status " not in said else said, 2)
+        self.judge("crate: the tests for version 0.9", said.count("test result: ok.") if "status " not in said else said, 3)
 
     def examples(self):
         """The examples of the README, which are files of the crate."""

@@ -27,6 +27,23 @@ impl<'a> BrokenLink<'a> {
 
 /// A callback for links without a definition. Closures with a matching signature implement it.
 ///
+/// ```
+/// use pulldown_cmark::{html, BrokenLink, BrokenLinkCallback, CowStr, Options, Parser};
+///
+/// struct Wiki;
+///
+/// impl<'input> BrokenLinkCallback<'input> for Wiki {
+///     fn handle_broken_link(&mut self, link: BrokenLink<'input>) -> Option<(CowStr<'input>, CowStr<'input>)> {
+///         Some((format!("/wiki/{}", link.reference).into(), "".into()))
+///     }
+/// }
+///
+/// let parser = Parser::new_with_broken_link_callback("[page]", Options::empty(), Some(Wiki));
+/// let mut out = String::new();
+/// html::push_html(&mut out, parser);
+/// assert_eq!(out, "<p><a href=\"/wiki/page\">page</a></p>\n");
+/// ```
+///
 /// See [`Parser::new_with_broken_link_callback`](crate::Parser::new_with_broken_link_callback).
 pub trait BrokenLinkCallback<'input> {
     /// Returns the destination and the title of the link, or `None` if its brackets remain text.

@@ -121,24 +121,7 @@ fn start<'i>(
         tag::SUBSCRIPT => Tag::Subscript,
         #[cfg(feature = "highlight")]
         tag::HIGHLIGHT => Tag::Highlight,
-        tag::LINK => {
-            let (link_type, dest_url, title, id) = link(record, range, records, source)?;
-            Tag::Link {
-                link_type,
-                dest_url,
-                title,
-                id,
-            }
-        }
-        tag::IMAGE => {
-            let (link_type, dest_url, title, id) = link(record, range, records, source)?;
-            Tag::Image {
-                link_type,
-                dest_url,
-                title,
-                id,
-            }
-        }
+        tag::LINK | tag::IMAGE => link(record, range, records, source)?,
         tag::METADATA_BLOCK => Tag::MetadataBlock(metadata(record)?),
         _ => return Err(Error::Malformed),
     })
@@ -227,21 +210,33 @@ fn value<'i>(
     }
 }
 
-/// The type, the destination, the title and the id of a link or an image.
+/// The tag of a link or an image, with the title and the id of its further records.
 fn link<'i>(
     record: &Record<'_>,
     range: &Range<usize>,
     records: &mut Records<'_>,
     source: &'i str,
-) -> Result<(LinkType, CowStr<'i>, CowStr<'i>, CowStr<'i>), Error> {
-    let title = records.part(part::TITLE)?;
-    let id = records.part(part::LABEL)?;
-    Ok((
-        link_type(record.data)?,
-        lend::text(source, range, record.text)?,
-        lend::text(source, range, title.text)?,
-        lend::text(source, range, id.text)?,
-    ))
+) -> Result<Tag<'i>, Error> {
+    let text = |record: &Record<'_>| lend::text(source, range, record.text);
+    let link_type = link_type(record.data)?;
+    let dest_url = text(record)?;
+    let title = text(&records.part(part::TITLE)?)?;
+    let id = text(&records.part(part::LABEL)?)?;
+    Ok(if record.tag == tag::IMAGE {
+        Tag::Image {
+            link_type,
+            dest_url,
+            title,
+            id,
+        }
+    } else {
+        Tag::Link {
+            link_type,
+            dest_url,
+            title,
+            id,
+        }
+    })
 }
 
 /// The link type with this number.

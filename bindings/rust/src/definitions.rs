@@ -30,7 +30,17 @@ impl<'a> LinkDef<'a> {
     }
 }
 
-/// The link reference definitions of a text: the first one of each label.
+/// The link reference definitions of a text: the first definition of each label.
+///
+/// ```
+/// use pulldown_cmark::Parser;
+///
+/// let parser = Parser::new("[a]: /first 'A title'\n[A]: /second\n[b]: /third\n");
+/// let definitions = parser.reference_definitions();
+/// let found = definitions.get("a").unwrap();
+/// assert_eq!((&*found.dest, found.title.as_deref()), ("/first", Some("A title")));
+/// assert_eq!(definitions.iter().count(), 2);
+/// ```
 #[derive(Clone, Default, Debug)]
 pub struct RefDefs<'input>(HashMap<UniCase<CowStr<'input>>, LinkDef<'input>>);
 

@@ -54,6 +54,13 @@ impl<'a, I: Iterator<Item = Event<'a>>> Iterator for WithoutRanges<I> {
 
 /// Merges adjacent texts into one, with ranges: a merged text has the range from the start of the first to the end of the last.
 ///
+/// ```
+/// use pulldown_cmark::{Event, Parser, TextMergeWithOffset};
+///
+/// let mut events = TextMergeWithOffset::new(Parser::new("a [b").into_offset_iter());
+/// assert_eq!(events.nth(1), Some((Event::Text("a [b".into()), 0..4)));
+/// ```
+///
 /// # Panics
 ///
 /// `next` panics if memory for the text is refused.

@@ -82,7 +82,8 @@ extern "C" {
     fn pcm_version() -> u32;
 }
 
-/// Calls with a room of `first` bytes, and again with the size that the first call asks for.
+/// Calls with a room of `first` bytes, and again with the size that the first call asks for. The first room is a guess and may be more than
+/// there is; then the first call has no room.
 ///
 /// `call` passes the room and its length to a call of the library, which writes the size, and returns the status. The room has no bytes
 /// yet: the library reads none of them.
@@ -90,10 +91,14 @@ fn answer(
     first: usize,
     mut call: impl FnMut(*mut u8, usize, &mut usize) -> u32,
 ) -> Result<Vec<u8>, Error> {
-    let mut length = first;
+    let (mut length, mut is_guess) = (first, true);
     loop {
         let mut room = Vec::new();
-        room.try_reserve_exact(length)?;
+        match room.try_reserve_exact(length) {
+            Err(_) if is_guess => length = 0,
+            tried => tried?,
+        }
+        is_guess = false;
         let mut size = 0;
         match call(room.as_mut_ptr(), length, &mut size) {
             DONE if size <= length => {

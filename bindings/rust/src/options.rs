@@ -4,6 +4,14 @@ bitflags::bitflags! {
     /// The rules beyond CommonMark that apply. Join them by `|`.
     ///
     /// As in pulldown-cmark, all entity names of the HTML standard and links by email address (`<a@b.c>`) are read without an option.
+    ///
+    /// ```
+    /// use pulldown_cmark::{html, Options};
+    ///
+    /// let options = Options::ENABLE_SUPERSCRIPT | Options::ENABLE_SUBSCRIPT;
+    /// assert_eq!(html::to_html("a^b^ c~d~", options)?, "<p>a<sup>b</sup> c<sub>d</sub></p>\n");
+    /// # Ok::<(), pulldown_cmark::Error>(())
+    /// ```
     #[derive(Default)]
     pub struct Options: u32 {
         /// Tables.

@@ -69,7 +69,8 @@ impl<'input, F: BrokenLinkCallback<'input>> Parser<'input, F> {
     /// Returns the events of a text, with a callback for links and images whose label has no definition.
     ///
     /// The callback returns a destination and a title, or `None` if the brackets remain text. It is asked when the first event is read, and
-    /// about each link at most once. The text is read once more after each round of answers: twice for most texts.
+    /// about each link at most once, unless memory is refused in between. The text is read once more after each round of answers: twice for
+    /// most texts.
     ///
     /// The questions are those that pulldown-cmark asks, with two exceptions, where the callback may be asked about a link that the last
     /// reading does not look up:

@@ -97,6 +97,12 @@ pub enum Tag<'a> {
 
 impl<'a> Tag<'a> {
     /// Returns the tag of the element's end.
+    ///
+    /// ```
+    /// use pulldown_cmark::{Tag, TagEnd};
+    ///
+    /// assert_eq!(Tag::List(Some(3)).to_end(), TagEnd::List(true));
+    /// ```
     pub fn to_end(&self) -> TagEnd {
         match self {
             Tag::Paragraph => TagEnd::Paragraph,

@@ -2,9 +2,9 @@
 
 use pulldown_cmark::utils::TextMergeWithOffset as OfUtils;
 use pulldown_cmark::{
-    events_json, html, Alignment, BrokenLink, BrokenLinkCallback, CodeBlockKind, CowStr,
-    DefaultBrokenLinkCallback, Error, Event, HeadingLevel, InlineStr, LinkDef, LinkType,
-    OffsetIter, Options, Parser, RefDefs, Tag, TagEnd, TextMergeWithOffset,
+    events_json, html, Alignment, BlockQuoteKind, BrokenLink, BrokenLinkCallback, CodeBlockKind,
+    CowStr, DefaultBrokenLinkCallback, Error, Event, HeadingLevel, InlineStr, LinkDef, LinkType,
+    MetadataBlockKind, OffsetIter, Options, Parser, RefDefs, Tag, TagEnd, TextMergeWithOffset,
 };
 use std::borrow::{Borrow, Cow};
 use std::collections::HashMap;
@@ -312,4 +312,81 @@ fn texts_are_deserialized() {
     fn is_serialized<'de, T: serde::Serialize + Deserialize<'de>>() {}
     is_serialized::<Event>();
     is_serialized::<TagEnd>();
+}
+
+#[test]
+fn links_have_their_type_and_their_label() {
+    let text =
+        "[a](b) [c][a] [a][] [a] [d][e] [e][] [e] <xx:y> <f@g.h> [[i]] ![[j|k]]\n\n[a]: /u 'v'\n";
+    let mut callback = |link: BrokenLink| Some((link.reference.to_uppercase().into(), "".into()));
+    let parser =
+        Parser::new_with_broken_link_callback(text, Options::ENABLE_WIKILINKS, Some(&mut callback));
+    let links: Vec<_> = parser
+        .filter_map(|event| match event {
+            Event::Start(
+                Tag::Link {
+                    link_type,
+                    dest_url,
+                    title,
+                    id,
+                }
+                | Tag::Image {
+                    link_type,
+                    dest_url,
+                    title,
+                    id,
+                },
+            ) => Some((
+                link_type,
+                dest_url.into_string(),
+                title.into_string(),
+                id.into_string(),
+            )),
+            _ => None,
+        })
+        .collect();
+    let wanted = [
+        (LinkType::Inline, "b", "", ""),
+        (LinkType::Reference, "/u", "v", "a"),
+        (LinkType::Collapsed, "/u", "v", "a"),
+        (LinkType::Shortcut, "/u", "v", "a"),
+        (LinkType::ReferenceUnknown, "E", "", "e"),
+        (LinkType::CollapsedUnknown, "E", "", "e"),
+        (LinkType::ShortcutUnknown, "E", "", "e"),
+        (LinkType::Autolink, "xx:y", "", ""),
+        (LinkType::Email, "f@g.h", "", ""),
+        (LinkType::WikiLink { has_pothole: false }, "i", "", ""),
+        (LinkType::WikiLink { has_pothole: true }, "j", "", ""),
+    ];
+    let wanted = wanted.map(|(link_type, dest, title, id)| {
+        (link_type, dest.to_owned(), title.to_owned(), id.to_owned())
+    });
+    assert_eq!(links, wanted);
+}
+
+#[test]
+fn metadata_blocks_and_alerts_have_their_kind() {
+    let start = |text| {
+        let options = Options::all();
+        Parser::new_ext(text, options).next()
+    };
+    let metadata = |kind| Some(Event::Start(Tag::MetadataBlock(kind)));
+    assert_eq!(
+        start("---\na\n---\n"),
+        metadata(MetadataBlockKind::YamlStyle)
+    );
+    assert_eq!(
+        start("+++\na\n+++\n"),
+        metadata(MetadataBlockKind::PlusesStyle)
+    );
+    for (text, kind) in [
+        ("> [!NOTE]\n> a", Some(BlockQuoteKind::Note)),
+        ("> [!TIP]\n> a", Some(BlockQuoteKind::Tip)),
+        ("> [!IMPORTANT]\n> a", Some(BlockQuoteKind::Important)),
+        ("> [!WARNING]\n> a", Some(BlockQuoteKind::Warning)),
+        ("> [!CAUTION]\n> a", Some(BlockQuoteKind::Caution)),
+        ("> a", None),
+    ] {
+        assert_eq!(start(text), Some(Event::Start(Tag::BlockQuote(kind))));
+    }
 }

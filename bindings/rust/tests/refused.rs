@@ -94,25 +94,28 @@ fn refused_at<T>(place: usize, are_all: bool, call: impl FnOnce() -> T) -> (T, b
     (found, WAS_REFUSED.with(Cell::get))
 }
 
-/// Refuses each allocation of a call in turn, alone and with all later ones. The call has to return `OutOfMemory` each time, and the value
-/// at last. Returns the number of refusals.
+/// Refuses each allocation of a call in turn, alone and with all later ones. The call has to return `OutOfMemory`, or the value if one
+/// allocation alone is refused and the call needs less; and the value at last. Returns the number of errors.
 fn refuse_in_turn<T: PartialEq + std::fmt::Debug>(call: impl Fn() -> Result<T, Error>) -> usize {
     let wanted = call().unwrap();
-    let mut refusals = 0;
+    let mut errors = 0;
     for are_all in [false, true] {
         for place in 0.. {
-            match refused_at(place, are_all, &call) {
-                (Err(error), true) => assert_eq!(error, Error::OutOfMemory),
-                (found, false) => {
-                    assert_eq!(found.as_ref(), Ok(&wanted));
-                    break;
+            let (found, was_refused) = refused_at(place, are_all, &call);
+            match found {
+                Err(error) => assert_eq!((error, was_refused), (Error::OutOfMemory, true)),
+                Ok(ref found) => {
+                    assert_eq!(*found, wanted);
+                    assert!(!(was_refused && are_all), "{place}");
                 }
-                (Ok(found), true) => panic!("allocation {place} was refused: {found:?}"),
             }
-            refusals += 1;
+            if !was_refused {
+                break;
+            }
+            errors += usize::from(found.is_err());
         }
     }
-    refusals
+    errors
 }
 
 #[test]
@@ -154,8 +157,8 @@ fn definitions_are_returned_after_the_error() {
     assert!(refuse_in_turn(destination) > 5);
 }
 
-/// The events of a parser of which allocation number `place` is refused, and the number of errors. After an error the same parser is asked
-/// again.
+/// What a parser returns of which allocation number `place` is refused: its events, and the number of errors. After an error the same parser
+/// is asked again.
 fn events_with_refusal(
     place: usize,
     has_callback: bool,
@@ -171,6 +174,8 @@ fn events_with_refusal(
     let mut parser =
         Parser::new_with_broken_link_callback(TEXT, Options::all(), given).into_offset_iter();
     let (mut events, mut errors, mut left) = (Vec::new(), 0, place);
+    set(&ARE_ALL_REFUSED, false);
+    set(&WAS_REFUSED, false);
     loop {
         set(&LEFT, left);
         let found = parser.try_next();
@@ -189,16 +194,19 @@ fn events_with_refusal(
 #[test]
 fn no_event_is_lost_after_the_error() {
     for has_callback in [false, true] {
-        let (wanted, _) = events_with_refusal(usize::MAX, has_callback);
+        let (wanted, none) = events_with_refusal(usize::MAX, has_callback);
+        assert_eq!(none, 0);
+        let mut with_error = 0;
         for place in 0.. {
             let (events, errors) = events_with_refusal(place, has_callback);
             assert_eq!(events, wanted);
-            if errors == 0 {
-                assert!(place > 20, "{place}");
+            assert!(errors <= 1);
+            with_error += errors;
+            if !WAS_REFUSED.with(Cell::get) {
                 break;
             }
-            assert_eq!(errors, 1);
         }
+        assert!(with_error > 20, "{with_error}");
     }
 }
 
