@@ -1,16 +1,17 @@
 //! Delimiter runs and their pairs.
 
+// The fields of a byte come last: so a run takes 32 bytes, and a text may have one for each two of its bytes.
 /// A delimiter run, or the rest of one (CommonMark 6.2). Indices count the siblings of a list from 0; each byte of a run is a sibling.
 #[derive(Clone, Copy)]
 pub struct Run {
-    /// Its byte: `*`, `_`, `~`, `^` or `=`.
-    pub delimiter: u8,
     /// The number of bytes of the whole run.
     pub run_length: usize,
     /// The index of the first byte that is left.
     pub at: usize,
     /// The number of bytes that are left.
     pub left: usize,
+    /// Its byte: `*`, `_`, `~`, `^` or `=`.
+    pub delimiter: u8,
     /// Whether it can open.
     pub opens: bool,
     /// Whether it can close.

@@ -14,11 +14,11 @@ returns-clause-spelled c folded =
     let w = c.or_insert.result.now in
     found_in (at link_key folded) _ (map_with_value e w).entries (search rules)
     ∙ first_put link_key c.args.label c.args.def w c.self.inside.defs (map_with_value e w)
-        (c.or_insert.ensures.value ∙ ap (λ found. unwrap_or found c.args.def) c.in_ok-self-inside.ensures.value)
-        (c.in_ok-self-inside.ensures.update.0 w)
-        (c.in_ok-self-inside.ensures.update.1 w)
-        (λ there. c.in_ok-self-inside.ensures.keys_stay (subst IsSome (sym c.in_ok-self-inside.ensures.value) there) w)
-        folded
+    (c.or_insert.ensures.value ∙ ap (λ found. unwrap_or found c.args.def) c.in_ok-self-inside.ensures.value)
+    (c.in_ok-self-inside.ensures.update.0 w)
+    (c.in_ok-self-inside.ensures.update.1 w)
+    (λ there. c.in_ok-self-inside.ensures.keys_stay (subst IsSome (sym c.in_ok-self-inside.ensures.value) there) w)
+    folded
     ∙ ap (λ table. first_of (entry_of table folded) (at_label (link_key c.args.label) (c.args.label, c.args.def) folded)) c.self.view_is
 
 pub returns-clause-first_stays : goal.returns-clause-first_stays
