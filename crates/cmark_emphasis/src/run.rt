@@ -1,6 +1,5 @@
 //! Delimiter runs and their pairs.
 
-// The fields of a byte come last: so a run takes 32 bytes, and a text may have one for each two of its bytes.
 /// A delimiter run, or the rest of one (CommonMark 6.2). Indices count the siblings of a list from 0; each byte of a run is a sibling.
 #[derive(Clone, Copy)]
 pub struct Run {
@@ -17,6 +16,9 @@ pub struct Run {
     /// Whether it can close.
     pub closes: bool,
 }
+
+// A text may have a run for each two of its bytes, so the fields of one byte are next to each other.
+const _: () = prove!(size_of::<Run>() == 32);
 
 /// A pair: `count` bytes that open, directly before an index, and as many bytes that close, from an index on.
 #[derive(Clone, Copy)]
