@@ -1,5 +1,5 @@
--- Where no definition lists are read, blocks go on with no list before them if their first line begins no item.
-use Rattle.std.proofs.Common.{◌≡◌, ℕ, zero, suc, Bool, true, false, ◌&&◌, not, List, [], ◌∷◌, ◌++◌, length, refl, sym, ap, ◌∙◌, subst, Option, Some, None, true≢false}
+-- If no definition lists are read, the first line of blocks decides whether they may continue a list.
+use Rattle.std.proofs.Common.{◌≡◌, ℕ, zero, suc, Bool, true, false, ◌==◌, ◌&&◌, not, List, [], ◌∷◌, ◌++◌, length, refl, sym, ap, ◌∙◌, subst, Option, Some, None, true≢false}
 use Rattle.std.specs.Prelude.{if◌then◌else◌, nat_le}
 use Rattle.cmark_grammar.specs.Alignment.{Alignment}
 use Rattle.cmark_grammar.specs.BlockQuoteKind.{BlockQuoteKind}
@@ -17,11 +17,11 @@ use Rattle.cmark_grammar.specs.MetadataBlockKind.{MetadataBlockKind}
 use Rattle.cmark_grammar.specs.TableRows.{table_head}
 use Rattle.cmark_grammar.specs.Openings.{Leaf, ThematicBreak, AtxHeading, IndentedCode, FencedCode, HtmlBlock, LinkDefinition, MetadataBlock, Table, Opening, Blank, Nests, Takes, Plain, or_else, nests_if, fenced_if, html_if, break_if, heading_if, metadata_begun, defined_if, begins_no_link, texts, lazily, text_lines, definition_of, table_if, text_of, leaf_of, whole_opens, opens, opens_at}
 use Rattle.cmark_grammar.specs.Blocks.{Blocks, Nil, BlankLine, Paragraph, SetextHeading, LeafBlock, ContainerBlock, join, place_in}
-use Rattle.cmark_grammar.specs.Lists.{is_title}
+use Rattle.cmark_grammar.specs.Lists.{definition_delimiter, is_title, goes_on}
 use Rattle.cmark_grammar.specs.BlocksModel.{within, place_behind}
 use Rattle.cmark_grammar.specs.BlocksByLine.{leaf_in, continuation_if, OpenLines, Between, BehindTag, InParagraph, InLeaf, InVerbatim, InContainer, blank_lines, close_lines, lines_take_lazy, html_begun, leaf_begun, lines_begin_as, lines_underline_or, lines_go_on_or, lines_kept_or, verbatim_line, lines_begin_in, lines_begin, lines_feed, lines_feed_all}
 use Rattle.cmark_grammar.proofs.BlockLaws.{at-plain, off-defines}
-use Rattle.cmark_stream_model.specs.Growth.{begins_apart, is_outside_of_lists}
+use Rattle.cmark_stream_model.specs.Growth.{begins_apart, continues, is_outside_of_lists, may_continue}
 use Rattle.cmark_stream_model.proofs.GrowingTables.{no-task}
 
 -- ## No line begins a definition
@@ -157,36 +157,36 @@ NoDefinitions (SetextHeading level first more underline after) = NoDefinitions a
 NoDefinitions (LeafBlock leaf first more after) = NoDefinitions after
 NoDefinitions (ContainerBlock k first more inside after) = (is_definition k ≡ false) × NoDefinitions after
 
-abbrev leads_in : Container → Bool
-leads_in (BlockQuote alert) = true
-leads_in (Item delimiter number width task) = false
-leads_in (Footnote label old size) = true
-leads_in (ListDefinition width) = false
+abbrev leads_in : (other : ℕ → Bool) → Container → Bool
+leads_in other (BlockQuote alert) = true
+leads_in other (Item delimiter number width task) = other delimiter
+leads_in other (Footnote label old size) = true
+leads_in other (ListDefinition width) = false
 
-abbrev first_leads : (so : Bool) → Blocks → Bool
-first_leads so Nil = so
-first_leads so (BlankLine line after) = first_leads so after
-first_leads so (Paragraph first more after) = true
-first_leads so (SetextHeading level first more underline after) = true
-first_leads so (LeafBlock leaf first more after) = true
-first_leads so (ContainerBlock k first more inside after) = leads_in k
+abbrev first_leads : (other : ℕ → Bool) → (so : Bool) → Blocks → Bool
+first_leads other so Nil = so
+first_leads other so (BlankLine line after) = first_leads other so after
+first_leads other so (Paragraph first more after) = true
+first_leads other so (SetextHeading level first more underline after) = true
+first_leads other so (LeafBlock leaf first more after) = true
+first_leads other so (ContainerBlock k first more inside after) = leads_in other k
 
-leads-join : (so : Bool) (a b : Blocks) → first_leads so (join a b) ≡ first_leads (first_leads so b) a
-leads-join so Nil b = refl
-leads-join so (BlankLine line after) b = leads-join so after b
-leads-join so (Paragraph first more after) b = refl
-leads-join so (SetextHeading level first more underline after) b = refl
-leads-join so (LeafBlock leaf first more after) b = refl
-leads-join so (ContainerBlock k first more inside after) b = refl
+leads-join : (other : ℕ → Bool) → (so : Bool) (a b : Blocks) → first_leads other so (join a b) ≡ first_leads other (first_leads other so b) a
+leads-join other so Nil b = refl
+leads-join other so (BlankLine line after) b = leads-join other so after b
+leads-join other so (Paragraph first more after) b = refl
+leads-join other so (SetextHeading level first more underline after) b = refl
+leads-join other so (LeafBlock leaf first more after) b = refl
+leads-join other so (ContainerBlock k first more inside after) b = refl
 
 -- what leads goes on to lead with any blocks behind
-leads-more : (so : Bool) (a : Blocks) → first_leads false a ≡ true → first_leads so a ≡ true
-leads-more so Nil h = absurd (true≢false (sym h))
-leads-more so (BlankLine line after) h = leads-more so after h
-leads-more so (Paragraph first more after) h = h
-leads-more so (SetextHeading level first more underline after) h = h
-leads-more so (LeafBlock leaf first more after) h = h
-leads-more so (ContainerBlock k first more inside after) h = h
+leads-more : (other : ℕ → Bool) → (so : Bool) (a : Blocks) → first_leads other false a ≡ true → first_leads other so a ≡ true
+leads-more other so Nil h = absurd (true≢false (sym h))
+leads-more other so (BlankLine line after) h = leads-more other so after h
+leads-more other so (Paragraph first more after) h = h
+leads-more other so (SetextHeading level first more underline after) h = h
+leads-more other so (LeafBlock leaf first more after) h = h
+leads-more other so (ContainerBlock k first more inside after) h = h
 
 pub no-join : (a b : Blocks) → NoDefinitions a → NoDefinitions b → NoDefinitions (join a b)
 no-join Nil b h k = k
@@ -207,7 +207,15 @@ no-title (ContainerBlock (Item delimiter number width task) first more inside af
 no-title (ContainerBlock (Footnote label old size) first more inside after) h = refl
 no-title (ContainerBlock (ListDefinition width) first more inside after) h = absurd (true≢false h.0)
 
-apart-of : (a : Blocks) → NoDefinitions a → first_leads false a ≡ true → begins_apart a ≡ true
+and-false : (z : Bool) → (z && false) ≡ false
+and-false true = refl
+and-false false = refl
+
+not-true : (z : Bool) → not z ≡ true → z ≡ false
+not-true true e = absurd (true≢false (sym e))
+not-true false e = refl
+
+apart-of : (a : Blocks) → NoDefinitions a → first_leads (λ m. false) false a ≡ true → begins_apart a ≡ true
 apart-of Nil h e = refl
 apart-of (BlankLine line after) h e = apart-of after h e
 apart-of (Paragraph first more after) h e = ap not (no-title after h)
@@ -217,6 +225,18 @@ apart-of (ContainerBlock (BlockQuote alert) first more inside after) h e = refl
 apart-of (ContainerBlock (Item delimiter number width task) first more inside after) h e = absurd (true≢false (sym e))
 apart-of (ContainerBlock (Footnote label old size) first more inside after) h e = refl
 apart-of (ContainerBlock (ListDefinition width) first more inside after) h e = absurd (true≢false (sym e))
+
+-- the first block continues no list of this character, if it is no item of one
+goes-of : (d : ℕ) (a : Blocks) → NoDefinitions a → first_leads (λ m. not (m == d)) false a ≡ true → goes_on d a ≡ false
+goes-of d Nil h e = refl
+goes-of d (BlankLine line after) h e = goes-of d after h e
+goes-of d (Paragraph first more after) h e = ap (λ t. (definition_delimiter == d) && t) (no-title after h) ∙ and-false (definition_delimiter == d)
+goes-of d (SetextHeading level first more underline after) h e = refl
+goes-of d (LeafBlock leaf first more after) h e = refl
+goes-of d (ContainerBlock (BlockQuote alert) first more inside after) h e = refl
+goes-of d (ContainerBlock (Item m number width task) first more inside after) h e = not-true (m == d) e
+goes-of d (ContainerBlock (Footnote label old size) first more inside after) h e = refl
+goes-of d (ContainerBlock (ListDefinition width) first more inside after) h e = absurd (true≢false h.0)
 
 -- ## What is open
 
@@ -229,21 +249,21 @@ NoneOpen (InVerbatim closed verbatim first had waiting) = NoDefinitions closed
 NoneOpen (InContainer closed k first more inside) = NoDefinitions closed × (is_definition k ≡ false)
 
 -- the first block, which may be open, is no item
-abbrev LeadsOpen : OpenLines → Type 0
-LeadsOpen (Between closed) = first_leads false closed ≡ true
-LeadsOpen BehindTag = ⊥
-LeadsOpen (InParagraph closed first more) = first_leads true closed ≡ true
-LeadsOpen (InLeaf closed leaf first had left) = first_leads true closed ≡ true
-LeadsOpen (InVerbatim closed verbatim first had waiting) = first_leads true closed ≡ true
-LeadsOpen (InContainer closed k first more inside) = first_leads (leads_in k) closed ≡ true
+abbrev LeadsOpen : (other : ℕ → Bool) → OpenLines → Type 0
+LeadsOpen other (Between closed) = first_leads other false closed ≡ true
+LeadsOpen other BehindTag = ⊥
+LeadsOpen other (InParagraph closed first more) = first_leads other true closed ≡ true
+LeadsOpen other (InLeaf closed leaf first had left) = first_leads other true closed ≡ true
+LeadsOpen other (InVerbatim closed verbatim first had waiting) = first_leads other true closed ≡ true
+LeadsOpen other (InContainer closed k first more inside) = first_leads other (leads_in other k) closed ≡ true
 
 no-blanks : (ws : List Row) → NoDefinitions (blank_lines ws)
 no-blanks [] = tt
 no-blanks (w ∷ ws) = no-blanks ws
 
-leads-blanks : (so : Bool) (ws : List Row) → first_leads so (blank_lines ws) ≡ so
-leads-blanks so [] = refl
-leads-blanks so (w ∷ ws) = leads-blanks so ws
+leads-blanks : (other : ℕ → Bool) → (so : Bool) (ws : List Row) → first_leads other so (blank_lines ws) ≡ so
+leads-blanks other so [] = refl
+leads-blanks other so (w ∷ ws) = leads-blanks other so ws
 
 pub close-none : (o : OpenLines) → NoneOpen o → NoDefinitions (close_lines o)
 close-none (Between closed) h = h
@@ -253,15 +273,15 @@ close-none (InLeaf closed leaf first had left) h = no-join closed (LeafBlock lea
 close-none (InVerbatim closed verbatim first had waiting) h = no-join (join closed (LeafBlock (leaf_in verbatim) first had Nil)) (blank_lines waiting) (no-join closed (LeafBlock (leaf_in verbatim) first had Nil) h tt) (no-blanks waiting)
 close-none (InContainer closed k first more inside) h = no-join closed (ContainerBlock k first more (close_lines inside) Nil) h.0 (h.1, tt)
 
-close-leads : (o : OpenLines) → LeadsOpen o → first_leads false (close_lines o) ≡ true
-close-leads (Between closed) h = h
-close-leads BehindTag h = absurd h
-close-leads (InParagraph closed first more) h = leads-join false closed (Paragraph first more Nil) ∙ h
-close-leads (InLeaf closed leaf first had left) h = leads-join false closed (LeafBlock leaf first had Nil) ∙ h
-close-leads (InVerbatim closed verbatim first had waiting) h =
-    leads-join false (join closed (LeafBlock (leaf_in verbatim) first had Nil)) (blank_lines waiting) ∙ ap (λ z. first_leads z (join closed (LeafBlock (leaf_in verbatim) first had Nil))) (leads-blanks false waiting)
-    ∙ leads-join false closed (LeafBlock (leaf_in verbatim) first had Nil) ∙ h
-close-leads (InContainer closed k first more inside) h = leads-join false closed (ContainerBlock k first more (close_lines inside) Nil) ∙ h
+close-leads : (other : ℕ → Bool) → (o : OpenLines) → LeadsOpen other o → first_leads other false (close_lines o) ≡ true
+close-leads other (Between closed) h = h
+close-leads other BehindTag h = absurd h
+close-leads other (InParagraph closed first more) h = leads-join other false closed (Paragraph first more Nil) ∙ h
+close-leads other (InLeaf closed leaf first had left) h = leads-join other false closed (LeafBlock leaf first had Nil) ∙ h
+close-leads other (InVerbatim closed verbatim first had waiting) h =
+    leads-join other false (join closed (LeafBlock (leaf_in verbatim) first had Nil)) (blank_lines waiting) ∙ ap (λ z. first_leads other z (join closed (LeafBlock (leaf_in verbatim) first had Nil))) (leads-blanks other false waiting)
+    ∙ leads-join other false closed (LeafBlock (leaf_in verbatim) first had Nil) ∙ h
+close-leads other (InContainer closed k first more inside) h = leads-join other false closed (ContainerBlock k first more (close_lines inside) Nil) ∙ h
 
 html-none : (z : Bool) (closed : Blocks) (kind : ℕ) (r : Row) → NoDefinitions closed → NoneOpen (html_begun z closed kind r)
 html-none true closed kind r h = h
@@ -277,19 +297,19 @@ leaf-none (LinkDefinition definition) n closed r h = h
 leaf-none (MetadataBlock kind) n closed r h = h
 leaf-none (Table alignments) n closed r h = h
 
-html-leads : (z : Bool) (closed : Blocks) (kind : ℕ) (r : Row) → first_leads true closed ≡ true → LeadsOpen (html_begun z closed kind r)
-html-leads true closed kind r h = h
-html-leads false closed kind r h = h
+html-leads : (other : ℕ → Bool) → (z : Bool) (closed : Blocks) (kind : ℕ) (r : Row) → first_leads other true closed ≡ true → LeadsOpen other (html_begun z closed kind r)
+html-leads other true closed kind r h = h
+html-leads other false closed kind r h = h
 
-leaf-leads : (leaf : Leaf) (n : ℕ) (closed : Blocks) (r : Row) → first_leads true closed ≡ true → LeadsOpen (leaf_begun leaf n closed r)
-leaf-leads ThematicBreak n closed r h = h
-leaf-leads (AtxHeading level) n closed r h = h
-leaf-leads IndentedCode n closed r h = h
-leaf-leads (FencedCode fence) n closed r h = h
-leaf-leads (HtmlBlock kind) n closed r h = html-leads (nat_le kind 5 && holds_end kind (words_of r)) closed kind r h
-leaf-leads (LinkDefinition definition) n closed r h = h
-leaf-leads (MetadataBlock kind) n closed r h = h
-leaf-leads (Table alignments) n closed r h = h
+leaf-leads : (other : ℕ → Bool) → (leaf : Leaf) (n : ℕ) (closed : Blocks) (r : Row) → first_leads other true closed ≡ true → LeadsOpen other (leaf_begun leaf n closed r)
+leaf-leads other ThematicBreak n closed r h = h
+leaf-leads other (AtxHeading level) n closed r h = h
+leaf-leads other IndentedCode n closed r h = h
+leaf-leads other (FencedCode fence) n closed r h = h
+leaf-leads other (HtmlBlock kind) n closed r h = html-leads other (nat_le kind 5 && holds_end kind (words_of r)) closed kind r h
+leaf-leads other (LinkDefinition definition) n closed r h = h
+leaf-leads other (MetadataBlock kind) n closed r h = h
+leaf-leads other (Table alignments) n closed r h = h
 
 pub begun-none : (o : Opening) (inside : Container → OpenLines) (closed : Blocks) (r : Row) → NoDefinition o → NoDefinitions closed → NoneOpen (lines_begin_as o inside closed r)
 begun-none Blank inside closed r n h = no-join closed (BlankLine r Nil) h tt
@@ -297,32 +317,55 @@ begun-none (Nests k) inside closed r n h = (h, n)
 begun-none (Takes leaf m) inside closed r n h = leaf-none leaf m closed r h
 begun-none Plain inside closed r n h = h
 
-begun-leads : (o : Opening) (inside : Container → OpenLines) (closed : Blocks) (r : Row) → first_leads false closed ≡ true → LeadsOpen (lines_begin_as o inside closed r)
-begun-leads Blank inside closed r h = leads-join false closed (BlankLine r Nil) ∙ h
-begun-leads (Nests k) inside closed r h = leads-more (leads_in k) closed h
-begun-leads (Takes leaf m) inside closed r h = leaf-leads leaf m closed r (leads-more true closed h)
-begun-leads Plain inside closed r h = leads-more true closed h
+begun-leads : (other : ℕ → Bool) → (o : Opening) (inside : Container → OpenLines) (closed : Blocks) (r : Row) → first_leads other false closed ≡ true → LeadsOpen other (lines_begin_as o inside closed r)
+begun-leads other Blank inside closed r h = leads-join other false closed (BlankLine r Nil) ∙ h
+begun-leads other (Nests k) inside closed r h = leads-more other (leads_in other k) closed h
+begun-leads other (Takes leaf m) inside closed r h = leaf-leads other leaf m closed r (leads-more other true closed h)
+begun-leads other Plain inside closed r h = leads-more other true closed h
 
 -- the first line
-first-leads : (o : Opening) (inside : Container → OpenLines) (r : Row) → is_outside_of_lists o ≡ true → LeadsOpen (lines_begin_as o inside Nil r)
-first-leads Blank inside r e = absurd (true≢false (sym e))
-first-leads (Nests (BlockQuote alert)) inside r e = refl
-first-leads (Nests (Item delimiter number width task)) inside r e = absurd (true≢false (sym e))
-first-leads (Nests (Footnote label old size)) inside r e = refl
-first-leads (Nests (ListDefinition width)) inside r e = absurd (true≢false (sym e))
-first-leads (Takes leaf m) inside r e = leaf-leads leaf m Nil r refl
-first-leads Plain inside r e = refl
+abbrev Leads : (other : ℕ → Bool) → Opening → Type 0
+Leads other Blank = ⊥
+Leads other (Nests k) = leads_in other k ≡ true
+Leads other (Takes leaf more) = Unit {0}
+Leads other Plain = Unit {0}
 
-module _ (options : Options) (off : options.definition_list ≡ false) where
+first-leads : (other : ℕ → Bool) → (o : Opening) (inside : Container → OpenLines) (r : Row) → Leads other o → LeadsOpen other (lines_begin_as o inside Nil r)
+first-leads other Blank inside r e = absurd e
+first-leads other (Nests k) inside r e = e
+first-leads other (Takes leaf m) inside r e = leaf-leads other leaf m Nil r refl
+first-leads other Plain inside r e = refl
+
+-- no item
+outside-leads : (o : Opening) → is_outside_of_lists o ≡ true → Leads (λ m. false) o
+outside-leads Blank e = absurd (true≢false (sym e))
+outside-leads (Nests (BlockQuote alert)) e = refl
+outside-leads (Nests (Item delimiter number width task)) e = absurd (true≢false (sym e))
+outside-leads (Nests (Footnote label old size)) e = refl
+outside-leads (Nests (ListDefinition width)) e = absurd (true≢false (sym e))
+outside-leads (Takes leaf m) e = tt
+outside-leads Plain e = tt
+
+-- no item of this list
+another-leads : (d : ℕ) (o : Opening) → may_continue (Some d) o ≡ false → Leads (λ m. not (m == d)) o
+another-leads d Blank e = absurd (true≢false e)
+another-leads d (Nests (BlockQuote alert)) e = refl
+another-leads d (Nests (Item delimiter number width task)) e = ap not e
+another-leads d (Nests (Footnote label old size)) e = refl
+another-leads d (Nests (ListDefinition width)) e = absurd (true≢false e)
+another-leads d (Takes leaf m) e = tt
+another-leads d Plain e = tt
+
+module _ (options : Options) (off : options.definition_list ≡ false) (other : ℕ → Bool) where
   abbrev Good : OpenLines → Type 0
-  Good o = NoneOpen o × LeadsOpen o
+  Good o = NoneOpen o × LeadsOpen other o
 
-  begin-good : (closed : Blocks) (r : Row) (ahead : List Row) → NoDefinitions closed → first_leads false closed ≡ true → Good (lines_begin options closed r ahead)
+  begin-good : (closed : Blocks) (r : Row) (ahead : List Row) → NoDefinitions closed → first_leads other false closed ≡ true → Good (lines_begin options closed r ahead)
   unfolding lines_begin
   begin-good closed r ahead n h =
       let inside = lines_inside r ahead in (
         begun-none (opens_at options (place_behind Apart closed) r ahead) inside closed r (no-at options off closed r ahead) n,
-        begun-leads (opens_at options (place_behind Apart closed) r ahead) inside closed r h,
+        begun-leads other (opens_at options (place_behind Apart closed) r ahead) inside closed r h,
       )
     where
       lines_inside : Row → List Row → Container → OpenLines
@@ -330,7 +373,7 @@ module _ (options : Options) (off : options.definition_list ≡ false) where
 
   -- where something ends, a line begins behind it
   behind-good : (o : OpenLines) (r : Row) (ahead : List Row) → Good o → Good (lines_begin options (close_lines o) r ahead)
-  behind-good o r ahead g = begin-good (close_lines o) r ahead (close-none o g.0) (close-leads o g.1)
+  behind-good o r ahead g = begin-good (close_lines o) r ahead (close-none o g.0) (close-leads other o g.1)
 
   feed-good : (o : OpenLines) (r : Row) (ahead : List Row) → Good o → Good (lines_feed options o r ahead)
   feed-good (Between closed) r ahead g = begin-good closed r ahead g.0 g.1
@@ -339,7 +382,7 @@ module _ (options : Options) (off : options.definition_list ≡ false) where
     where
       go : (u : Option ℕ) (t : Bool) → Good (lines_begin options (join closed (Paragraph first more Nil)) r ahead)
           → Good (lines_underline_or u (λ level. Between (join closed (SetextHeading level first more r Nil))) (lines_go_on_or t (InParagraph closed first (more ++ r ∷ [])) (lines_begin options (join closed (Paragraph first more Nil)) r ahead)))
-      go (Some level) t b = (no-join closed (SetextHeading level first more r Nil) g.0 tt, leads-join false closed (SetextHeading level first more r Nil) ∙ g.1)
+      go (Some level) t b = (no-join closed (SetextHeading level first more r Nil) g.0 tt, leads-join other false closed (SetextHeading level first more r Nil) ∙ g.1)
       go None true b = g
       go None false b = b
   feed-good (InLeaf closed leaf first had zero) r ahead g = behind-good (InLeaf closed leaf first had 0) r ahead g
@@ -367,15 +410,27 @@ module _ (options : Options) (off : options.definition_list ≡ false) where
   all-good o [] g = g
   all-good o (r ∷ rs) g = all-good (lines_feed options o r (shown rs)) rs (feed-good o r (shown rs) g)
 
-  first-good : (r : Row) (ahead : List Row) → is_outside_of_lists (opens_at options Apart r ahead) ≡ true → Good (lines_begin options Nil r ahead)
+  first-good : (r : Row) (ahead : List Row) → Leads other (opens_at options Apart r ahead) → Good (lines_begin options Nil r ahead)
   unfolding lines_begin
-  first-good r ahead e = (begun-none (opens_at options Apart r ahead) lines_inside Nil r (no-at options off Nil r ahead) tt, first-leads (opens_at options Apart r ahead) lines_inside r e)
+  first-good r ahead e = (begun-none (opens_at options Apart r ahead) lines_inside Nil r (no-at options off Nil r ahead) tt, first-leads other (opens_at options Apart r ahead) lines_inside r e)
     where
       lines_inside : Container → OpenLines
       lines_inside k = lines_begin_in options (length r.columns) (place_in k) Nil (enter k r) (within k (is_bare_start k r) ahead)
 
-  pub lines-apart : (r : Row) (rs : List Row) → is_outside_of_lists (opens_at options Apart r (shown rs)) ≡ true → begins_apart (close_lines (lines_feed_all options (Between Nil) (r ∷ rs))) ≡ true
-  lines-apart r rs e =
-      let g = all-good (lines_begin options Nil r (shown rs)) rs (first-good r (shown rs) e) in
-      let o = lines_feed_all options (lines_begin options Nil r (shown rs)) rs in
-      apart-of (close_lines o) (close-none o g.0) (close-leads o g.1)
+  text-good : (r : Row) (rs : List Row) → Leads other (opens_at options Apart r (shown rs)) → Good (lines_feed_all options (Between Nil) (r ∷ rs))
+  text-good r rs e = all-good (lines_begin options Nil r (shown rs)) rs (first-good r (shown rs) e)
+
+module _ (options : Options) (off : options.definition_list ≡ false) (r : Row) (rs : List Row) where
+  abbrev after_all : OpenLines
+  after_all = lines_feed_all options (Between Nil) (r ∷ rs)
+
+  pub lines-apart : is_outside_of_lists (opens_at options Apart r (shown rs)) ≡ true → begins_apart (close_lines after_all) ≡ true
+  lines-apart e =
+      let g = text-good options off (λ m. false) r rs (outside-leads (opens_at options Apart r (shown rs)) e) in
+      apart-of (close_lines after_all) (close-none after_all g.0) (close-leads (λ m. false) after_all g.1)
+
+  pub lines-continue : (list : Option ℕ) → may_continue list (opens_at options Apart r (shown rs)) ≡ false → continues list (close_lines after_all) ≡ false
+  lines-continue None e = refl
+  lines-continue (Some d) e =
+      let g = text-good options off (λ m. not (m == d)) r rs (another-leads d (opens_at options Apart r (shown rs)) e) in
+      goes-of d (close_lines after_all) (close-none after_all g.0) (close-leads (λ m. not (m == d)) after_all g.1)

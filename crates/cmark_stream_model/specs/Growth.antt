@@ -17,7 +17,7 @@ use Rattle.cmark_grammar.specs.Leaves.{Stops, underlines}
 use Rattle.cmark_grammar.specs.Containers.{BlockQuote, Item, Footnote, ListDefinition, keeps, is_bare_start, bare_after}
 use Rattle.cmark_grammar.specs.Openings.{Opening, Blank, Nests, Takes, Plain, opens_at, texts, lazily}
 use Rattle.cmark_grammar.specs.Blocks.{Blocks, Nil, BlankLine, Paragraph, SetextHeading, LeafBlock, ContainerBlock}
-use Rattle.cmark_grammar.specs.Lists.{is_title}
+use Rattle.cmark_grammar.specs.Lists.{definition_delimiter, is_title, goes_on}
 use Rattle.cmark_grammar.specs.BlocksModel.{place_behind, blocks}
 use Rattle.cmark_grammar.specs.BlocksByLine.{OpenLines, Between, BehindTag, InParagraph, InLeaf, InVerbatim, InContainer, continuation_if, close_lines, lines_take_lazy, lines_feed, lines_feed_all}
 
@@ -130,17 +130,33 @@ is_outside_of_lists (Nests (ListDefinition width)) = false
 is_outside_of_lists (Takes leaf more) = true
 is_outside_of_lists Plain = true
 
--- the last of these blocks, blank lines aside, is no list item and no definition, so no list can continue after them
-abbrev pub ends_apart : (after_item : Bool) → Blocks → Bool
-ends_apart after_item Nil = not after_item
-ends_apart after_item (BlankLine line after) = ends_apart after_item after
-ends_apart after_item (Paragraph first more after) = ends_apart false after
-ends_apart after_item (SetextHeading level first more underline after) = ends_apart false after
-ends_apart after_item (LeafBlock leaf first more after) = ends_apart false after
-ends_apart after_item (ContainerBlock (BlockQuote alert) first more inside after) = ends_apart false after
-ends_apart after_item (ContainerBlock (Footnote label old size) first more inside after) = ends_apart false after
-ends_apart after_item (ContainerBlock (Item delimiter number width task) first more inside after) = ends_apart true after
-ends_apart after_item (ContainerBlock (ListDefinition width) first more inside after) = ends_apart true after
+-- the character of the list that could continue after these blocks, if there is one; `list` is that of the list before them
+abbrev pub last_list : (list : Option ℕ) → Blocks → Option ℕ
+last_list list Nil = list
+last_list list (BlankLine line after) = last_list list after
+last_list list (Paragraph first more after) = last_list None after
+last_list list (SetextHeading level first more underline after) = last_list None after
+last_list list (LeafBlock leaf first more after) = last_list None after
+last_list list (ContainerBlock (BlockQuote alert) first more inside after) = last_list None after
+last_list list (ContainerBlock (Footnote label old size) first more inside after) = last_list None after
+last_list list (ContainerBlock (Item delimiter number width task) first more inside after) = last_list (Some delimiter) after
+last_list list (ContainerBlock (ListDefinition width) first more inside after) = last_list (Some definition_delimiter) after
+
+-- whether these blocks continue this list
+abbrev pub continues : (list : Option ℕ) → Blocks → Bool
+continues None blocks = false
+continues (Some delimiter) blocks = goes_on delimiter blocks
+
+-- whether the blocks that begin with this opening may continue this list
+abbrev pub may_continue : (list : Option ℕ) → Opening → Bool
+may_continue None opening = false
+may_continue (Some delimiter) Blank = true
+may_continue (Some delimiter) (Nests (BlockQuote alert)) = false
+may_continue (Some delimiter) (Nests (Item other number width task)) = other == delimiter
+may_continue (Some delimiter) (Nests (Footnote label old size)) = false
+may_continue (Some delimiter) (Nests (ListDefinition width)) = true
+may_continue (Some delimiter) (Takes leaf more) = false
+may_continue (Some delimiter) Plain = false
 
 -- the document of a text is the document of its first bytes, joined with the document of the tail
 abbrev pub IsJoined : Options → Lookup → (front tail : List ℕ) → Type 0

@@ -1,6 +1,6 @@
 //! Theorems about a text that grows. Each is the contract of a function that does nothing.
 
-ghost use Rattle.std.specs.Prelude.{◌≡◌, ℕ, ◌≤◌, ◌<◌, Bool, true, false, ◌||◌, List, ◌∷◌, ◌++◌, length, Option};
+ghost use Rattle.std.specs.Prelude.{◌≡◌, ℕ, ◌≤◌, ◌<◌, Bool, true, false, ◌||◌, List, [], ◌∷◌, ◌++◌, length, Option, None};
 ghost use Rattle.cmark_grammar.specs.Answers.{Lookup};
 ghost use Rattle.cmark_grammar.specs.BlockDocument.{Reference};
 ghost use Rattle.cmark_grammar.specs.Blocks.{Blocks, Nil, join};
@@ -15,13 +15,14 @@ ghost use Rattle.cmark_grammar.specs.Places.{Apart};
 ghost use Rattle.cmark_grammar.specs.LeafReading.{Between};
 ghost use Rattle.cmark_grammar.specs.Lines.{lines};
 ghost use Rattle.cmark_grammar.specs.Options.{Options};
-ghost use Rattle.cmark_grammar.specs.Questions.{Exchange, IsNext};
+ghost use Rattle.cmark_grammar.specs.Questions.{Exchange, IsNext, Plan};
 ghost use Rattle.cmark_grammar.specs.Readers.{Reader};
 ghost use Rattle.cmark_grammar.specs.References.{first_with, references};
 ghost use Rattle.cmark_grammar.specs.Rows.{Row, rows, rows_from, shown};
 ghost use Rattle.cmark_grammar.specs.SpanDocuments.{Profile, Segment, ReadsAll, segments, footnote_labels, has_label, reader_of, at_start, IsReading};
+ghost use Rattle.cmark_inline_model.specs.PlannedAnswers.{AreByPlan};
 ghost use Rattle.cmark_stream_model.specs.Continued.{Agree, reader_with, AreKept, AskAlike, definitions_of, footnotes_of, with_more, with_limit_more};
-ghost use Rattle.cmark_stream_model.specs.Growth.{is_blank, ends_whole, fed_before, open_after, Parts, blocks_at, IsCut, begins_apart, ends_apart, document_before, document_after, ReadInTurn, are_resolved, HasNoMetadata, definition_or, is_outside_of_lists, IsJoined};
+ghost use Rattle.cmark_stream_model.specs.Growth.{is_blank, ends_whole, fed_before, open_after, Parts, blocks_at, IsCut, begins_apart, last_list, continues, may_continue, document_before, document_after, ReadInTurn, are_resolved, HasNoMetadata, definition_or, is_outside_of_lists, IsJoined};
 
 /// The blocks before a cut are the blocks of the first bytes alone, whatever follows. The blocks after it are those of the tail's
 /// lines alone.
@@ -127,6 +128,18 @@ pub fn readings_share_the_settled_events()
         → (settled later others : List Ranged) × (first ≡ settled ++ later) × (second ≡ settled ++ others) }
 {}
 
+/// The law of a text that grows, if the answers of the callback are given by a plan. A callback that returns the same answer each time it is
+/// asked the same question has a plan.
+pub fn readings_by_a_plan_share_the_settled_events()
+    ensures { (plan : Plan) (profile : Profile) (front one other : List ℕ) (asked others_asked : List Exchange) (first second : List Ranged)
+        → IsJoined profile.options profile.lookup front one → IsJoined profile.options profile.lookup front other
+        → AreByPlan plan [] asked → AreByPlan plan [] others_asked
+        → (h : IsReading (front ++ one) profile asked first) → (k : IsReading (front ++ other) profile others_asked second)
+        → AskAlike profile (front ++ one) (definitions_of h.document) (definitions_of k.document) (footnotes_of h.document) (footnotes_of k.document)
+        (segments (document front profile.options profile.lookup))
+        → (settled later others : List Ranged) × (first ≡ settled ++ later) × (second ≡ settled ++ others) }
+{}
+
 /// If no definition lists are read, a tail continues no list if its first line begins no list item.
 pub fn tails_continue_no_list()
     ensures { (options : Options) → options.definition_list ≡ false → (at : ℕ) (tail : List ℕ) (r : Row) (rs : List Row) → rows_from at (lines tail) ≡ r ∷ rs
@@ -162,11 +175,18 @@ pub fn readings_share_with_a_greater_limit()
         → (settled later others : List Ranged) × (first ≡ settled ++ later) × (second ≡ settled ++ others) }
 {}
 
-/// If no definition lists are read, the document is joined at a cut if the last block before it is no list item, whatever the tail
-/// begins with.
-pub fn documents_are_cut_after_no_item()
+/// If no definition lists are read, the document is joined at a cut unless the tail continues the list before it. The list before a cut and a
+/// list of another character after it are two lists.
+pub fn documents_are_cut_between_lists()
     ensures { (options : Options) → options.definition_list ≡ false → (lookup : Lookup) (front tail : List ℕ) (r : Row) (rs : List Row)
         → ends_whole front tail ≡ true → rows_from (length front) (lines tail) ≡ r ∷ rs → IsCut options front r rs
-        → ends_apart false (blocks_at options 0 front) ≡ true
+        → continues (last_list None (blocks_at options 0 front)) (blocks_at options (length front) tail) ≡ false
         → IsJoined options lookup front tail }
+{}
+
+/// If no definition lists are read, the first line of a tail decides whether the tail may continue a list.
+pub fn first_lines_decide_about_lists()
+    ensures { (options : Options) → options.definition_list ≡ false → (list : Option ℕ) (at : ℕ) (tail : List ℕ) (r : Row) (rs : List Row)
+        → rows_from at (lines tail) ≡ r ∷ rs
+        → may_continue list (opens_at options Apart r (shown rs)) ≡ false → continues list (blocks_at options at tail) ≡ false }
 {}
