@@ -20,7 +20,7 @@ use Rattle.cmark_grammar.specs.TaskItems.{behind_box}
 use Rattle.cmark_grammar.specs.SetextAttributes.{content_of, setext_attributes, setext_tokens}
 use Rattle.cmark_grammar.specs.Labels.{normal_form}
 use Rattle.cmark_grammar.proofs.BlocksByLine.{by_line-same}
-use Rattle.cmark_stream_model.specs.Growth.{ends_whole, last_list, continues, blocks_at, IsCut, document_before, document_after}
+use Rattle.cmark_stream_model.specs.Growth.{ends_whole, last_list, continues, blocks_at, IsCut, document_before, document_of_tail}
 use Rattle.cmark_stream_model.proofs.GrowingLines.{blocks-grow}
 use Rattle.cmark_stream_model.proofs.JoinedDocuments.{item-join, leaf-join, goes-some}
 use Rattle.cmark_stream_model.proofs.Leading.{NoDefinitions, NoneOpen, no-join, no-title, no-at, begun-none, close-none}
@@ -203,9 +203,9 @@ module _ (options : Options) (off : options.definition_list ≡ false) where
   at-none at text = let o = lines_feed_all options (Between NoBlocks) (rows_from at (lines text)) in close-none o (all-none (Between NoBlocks) (rows_from at (lines text)) tt)
 
   pub ends-grow : (lookup : Lookup) (front behind : List ℕ) (r : Row) (rs : List Row) → ends_whole front behind ≡ true → rows_from (length front) (lines behind) ≡ r ∷ rs → IsCut options front r rs → continues (last_list None (blocks_at options 0 front)) (blocks_at options (length front) behind) ≡ false
-      → document (front ++ behind) options lookup ≡ join (document_before options lookup (front ++ behind) front) (document_after options lookup (front ++ behind) (length front) behind)
+      → document (front ++ behind) options lookup ≡ join (document_before options lookup (front ++ behind) front) (document_of_tail options lookup (front ++ behind) (length front) behind)
   unfolding blocks_by_line
   ends-grow lookup front behind r rs whole are cut e =
       ap (document_of (front ++ behind) options lookup false None) (blocks-grow options front behind r rs whole are cut ∙ ap (λ b. join_blocks b (blocks_at options (length front) behind)) (sym (by_line-same options front)))
       ∙ document-ends (blocks_at options (length front) behind) (at-none (length front) behind) (front ++ behind) options lookup false None (blocks_at options 0 front) (at-none 0 front) e
-      ∙ ap (λ b. join (document_of (front ++ behind) options lookup false None b) (document_after options lookup (front ++ behind) (length front) behind)) (by_line-same options front)
+      ∙ ap (λ b. join (document_of (front ++ behind) options lookup false None b) (document_of_tail options lookup (front ++ behind) (length front) behind)) (by_line-same options front)

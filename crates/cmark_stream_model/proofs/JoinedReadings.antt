@@ -21,12 +21,12 @@ use Rattle.cmark_grammar.specs.BlockReading.{read_as, first_event, starts_before
 use Rattle.cmark_grammar.specs.Derivation.{leaf_then, list_kind, item_then, paragraph_kind, document_of, document}
 use Rattle.cmark_grammar.specs.SpanDocuments.{Profile, Segment, Given, Content, footnote_label, footnote_labels, node_segments, inside_of, with_first_segment, segments, reader_of, at_start, ReadsAll, IsReading}
 use Rattle.cmark_grammar.proofs.BlockDocumentOne.{document-only}
-use Rattle.cmark_stream_model.specs.Growth.{ends_whole, begins_apart, blocks_at, IsCut, IsJoined, ReadInTurn, document_before, document_after}
+use Rattle.cmark_stream_model.specs.Growth.{ends_whole, begins_apart, blocks_at, IsCut, IsJoined, ReadInTurn, document_before, document_of_tail}
 use Rattle.cmark_stream_model.proofs.GrowingLines.{blocks-grow}
 use Rattle.cmark_stream_model.proofs.JoinedDocuments.{document-join}
 
 -- no node of these is read as an event that stands first in what is read behind it
-abbrev NoFirst : BlockDocument → Type 0
+abbrev pub NoFirst : BlockDocument → Type 0
 NoFirst Nil = Unit {0}
 NoFirst (Node n inside after) = (first_event (read_as n.kind) ≡ None) × NoFirst after
 
@@ -57,7 +57,7 @@ module _ (text : List ℕ) (options : Options) (lookup : Lookup) where
   leaf-first (MetadataBlockLeaf kind) first more after h = (refl, h)
   leaf-first (TableLeaf alignments) first more after h = (refl, h)
 
-  document-first : (direct : Bool) (list : Option ListBefore) (b : Blocks) → NoFirst (document_of text options lookup direct list b)
+  pub document-first : (direct : Bool) (list : Option ListBefore) (b : Blocks) → NoFirst (document_of text options lookup direct list b)
   document-first direct list NoBlocks = tt
   document-first direct list (BlankLine line after) = document-first direct list after
   document-first direct list (ParagraphBlock first more after) =
@@ -85,7 +85,7 @@ module _ (text : List ℕ) (options : Options) (lookup : Lookup) where
       refl (document-first direct (Some (record { delimiter = definition_delimiter; tight = tight_behind list definition_delimiter inside after })) after)
 
 -- the segments of documents one behind the other
-segments-join : (d c : BlockDocument) → NoFirst d → segments (join d c) ≡ segments d ++ segments c
+pub segments-join : (d c : BlockDocument) → NoFirst d → segments (join d c) ≡ segments d ++ segments c
 segments-join Nil c h = refl
 segments-join (Node n inside after) c h =
     ap (λ f. with_first_segment f (starts_before (join after c)) n (own ++ segments (join after c))) h.0
@@ -97,14 +97,14 @@ segments-join (Node n inside after) c h =
     own = node_segments (read_as n.kind) n (inside_of n.kind inside (segments inside))
 
 -- and their definitions and footnotes
-references-join : (d c : BlockDocument) → references (join d c) ≡ references d ++ references c
+pub references-join : (d c : BlockDocument) → references (join d c) ≡ references d ++ references c
 references-join Nil c = refl
 references-join (Node n inside after) c =
     ap (λ l. reference_of_kind n.kind ++ (references inside ++ l)) (references-join after c)
     ∙ ap (λ l. reference_of_kind n.kind ++ l) (sym (append_assoc (references inside) (references after) (references c)))
     ∙ sym (append_assoc (reference_of_kind n.kind) (references inside ++ references after) (references c))
 
-footnotes-join : (d c : BlockDocument) → footnote_labels (join d c) ≡ footnote_labels d ++ footnote_labels c
+pub footnotes-join : (d c : BlockDocument) → footnote_labels (join d c) ≡ footnote_labels d ++ footnote_labels c
 footnotes-join Nil c = refl
 footnotes-join (Node n inside after) c =
     ap (λ l. footnote_label n.kind ++ (footnote_labels inside ++ l)) (footnotes-join after c)
@@ -139,14 +139,14 @@ module _ (reader : Reader) (Says : Saying) where
 
 -- the document of a text that is cut is those of both parts
 pub document-grow : (options : Options) (lookup : Lookup) (front behind : List ℕ) (r : Row) (rs : List Row) → ends_whole front behind ≡ true → rows_from (length front) (lines behind) ≡ r ∷ rs → IsCut options front r rs → begins_apart (blocks_at options (length front) behind) ≡ true
-    → document (front ++ behind) options lookup ≡ join (document_before options lookup (front ++ behind) front) (document_after options lookup (front ++ behind) (length front) behind)
+    → document (front ++ behind) options lookup ≡ join (document_before options lookup (front ++ behind) front) (document_of_tail options lookup (front ++ behind) (length front) behind)
 document-grow options lookup front behind r rs whole are cut apart =
     ap (document_of (front ++ behind) options lookup false None) (blocks-grow options front behind r rs whole are cut)
     ∙ document-join (front ++ behind) options lookup false None (blocks options front) (blocks_at options (length front) behind) apart
 
 -- so each reading of it is read in turn
 pub reading-grow : (profile : Profile) (front behind : List ℕ) (exchanges : List Exchange) (events : List Ranged) → IsJoined profile.options profile.lookup front behind → (h : IsReading (front ++ behind) profile exchanges events)
-    → ReadInTurn (reader_of (front ++ behind) profile h.document) (IsNext exchanges) (segments (document_before profile.options profile.lookup (front ++ behind) front)) (segments (document_after profile.options profile.lookup (front ++ behind) (length front) behind)) (at_start profile) events h.after
+    → ReadInTurn (reader_of (front ++ behind) profile h.document) (IsNext exchanges) (segments (document_before profile.options profile.lookup (front ++ behind) front)) (segments (document_of_tail profile.options profile.lookup (front ++ behind) (length front) behind)) (at_start profile) events h.after
 reading-grow profile front behind exchanges events e h =
     split (reader_of (front ++ behind) profile h.document) (IsNext exchanges) (segments first) (segments second) (at_start profile) events h.after
     (subst (λ s. ReadsAll (reader_of (front ++ behind) profile h.document) (IsNext exchanges) s (at_start profile) events h.after) are_segments h.reads)
@@ -155,7 +155,7 @@ reading-grow profile front behind exchanges events e h =
     first = document_before profile.options profile.lookup (front ++ behind) front
 
     second : BlockDocument
-    second = document_after profile.options profile.lookup (front ++ behind) (length front) behind
+    second = document_of_tail profile.options profile.lookup (front ++ behind) (length front) behind
 
     are_segments : segments h.document ≡ segments first ++ segments second
     are_segments =
@@ -164,9 +164,9 @@ reading-grow profile front behind exchanges events e h =
 
 -- and its definitions and footnotes are those of what stands before the cut, and then those behind it
 pub tables-grow : (options : Options) (lookup : Lookup) (front behind : List ℕ) → IsJoined options lookup front behind
-    → (references (document (front ++ behind) options lookup) ≡ references (document_before options lookup (front ++ behind) front) ++ references (document_after options lookup (front ++ behind) (length front) behind))
-    × (footnote_labels (document (front ++ behind) options lookup) ≡ footnote_labels (document_before options lookup (front ++ behind) front) ++ footnote_labels (document_after options lookup (front ++ behind) (length front) behind))
+    → (references (document (front ++ behind) options lookup) ≡ references (document_before options lookup (front ++ behind) front) ++ references (document_of_tail options lookup (front ++ behind) (length front) behind))
+    × (footnote_labels (document (front ++ behind) options lookup) ≡ footnote_labels (document_before options lookup (front ++ behind) front) ++ footnote_labels (document_of_tail options lookup (front ++ behind) (length front) behind))
 tables-grow options lookup front behind e = (
-  ap references e ∙ references-join (document_before options lookup (front ++ behind) front) (document_after options lookup (front ++ behind) (length front) behind),
-  ap footnote_labels e ∙ footnotes-join (document_before options lookup (front ++ behind) front) (document_after options lookup (front ++ behind) (length front) behind),
+  ap references e ∙ references-join (document_before options lookup (front ++ behind) front) (document_of_tail options lookup (front ++ behind) (length front) behind),
+  ap footnote_labels e ∙ footnotes-join (document_before options lookup (front ++ behind) front) (document_of_tail options lookup (front ++ behind) (length front) behind),
 )

@@ -91,8 +91,8 @@ module _ (options : Options) (lookup : Lookup) where
   abbrev pub document_before : (text front : List ℕ) → BlockDocument
   document_before text front = document_of text options lookup false None (blocks options front)
 
-  abbrev pub document_after : (text : List ℕ) → (at : ℕ) → (tail : List ℕ) → BlockDocument
-  document_after text at tail = document_of text options lookup false None (blocks_at options at tail)
+  abbrev pub document_of_tail : (text : List ℕ) → (at : ℕ) → (tail : List ℕ) → BlockDocument
+  document_of_tail text at tail = document_of text options lookup false None (blocks_at options at tail)
 
 -- a line looks at later lines only if it has an opening bracket, which may begin a link reference definition, or a pipe, which may begin a table
 abbrev pub looks_ahead : ℕ → Bool
@@ -161,4 +161,4 @@ may_continue (Some delimiter) Plain = false
 -- the document of a text is the document of its first bytes, joined with the document of the tail
 abbrev pub IsJoined : Options → Lookup → (front tail : List ℕ) → Type 0
 IsJoined options lookup front tail =
-    document (front ++ tail) options lookup ≡ join (document_before options lookup (front ++ tail) front) (document_after options lookup (front ++ tail) (length front) tail)
+    document (front ++ tail) options lookup ≡ join (document_before options lookup (front ++ tail) front) (document_of_tail options lookup (front ++ tail) (length front) tail)

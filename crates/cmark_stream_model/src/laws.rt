@@ -1,6 +1,6 @@
 //! Theorems about a text that grows. Each is the contract of a function that does nothing.
 
-ghost use Rattle.std.specs.Prelude.{◌≡◌, ℕ, ◌≤◌, ◌<◌, Bool, true, false, ◌||◌, List, [], ◌∷◌, ◌++◌, length, Option, None};
+ghost use Rattle.std.specs.Prelude.{◌≡◌, ℕ, ◌≤◌, ◌<◌, Bool, true, false, ◌||◌, List, [], ◌∷◌, ◌++◌, length, take, Option, None};
 ghost use Rattle.cmark_grammar.specs.Answers.{Lookup};
 ghost use Rattle.cmark_grammar.specs.BlockDocument.{Reference};
 ghost use Rattle.cmark_grammar.specs.Blocks.{Blocks, Nil, join};
@@ -19,10 +19,12 @@ ghost use Rattle.cmark_grammar.specs.Questions.{Exchange, IsNext, Plan};
 ghost use Rattle.cmark_grammar.specs.Readers.{Reader};
 ghost use Rattle.cmark_grammar.specs.References.{first_with, references};
 ghost use Rattle.cmark_grammar.specs.Rows.{Row, rows, rows_from, shown};
-ghost use Rattle.cmark_grammar.specs.SpanDocuments.{Profile, Segment, ReadsAll, segments, footnote_labels, has_label, reader_of, at_start, IsReading};
+ghost use Rattle.cmark_grammar.specs.SpanDocuments.{Left, Profile, Segment, ReadsAll, segments, footnote_labels, has_label, reader_of, at_start, IsReading};
 ghost use Rattle.cmark_inline_model.specs.PlannedAnswers.{AreByPlan};
 ghost use Rattle.cmark_stream_model.specs.Continued.{Agree, reader_with, AreKept, AskAlike, definitions_of, footnotes_of, with_more, with_limit_more};
-ghost use Rattle.cmark_stream_model.specs.Growth.{is_blank, ends_whole, fed_before, open_after, Parts, blocks_at, IsCut, begins_apart, last_list, continues, may_continue, document_before, document_after, ReadInTurn, are_resolved, HasNoMetadata, definition_or, is_outside_of_lists, IsJoined};
+ghost use Rattle.cmark_block_model.specs.Tails.{document_after};
+ghost use Rattle.cmark_stream_model.specs.Tails.{IsJoinedAt};
+ghost use Rattle.cmark_stream_model.specs.Growth.{is_blank, ends_whole, fed_before, open_after, Parts, blocks_at, IsCut, begins_apart, last_list, continues, may_continue, document_before, document_of_tail, ReadInTurn, are_resolved, HasNoMetadata, definition_or, is_outside_of_lists, IsJoined};
 
 /// The blocks before a cut are the blocks of the first bytes alone, whatever follows. The blocks after it are those of the tail's
 /// lines alone.
@@ -52,9 +54,9 @@ pub fn documents_are_cut()
 pub fn tables_are_cut()
     ensures { (options : Options) (lookup : Lookup) (front tail : List ℕ) → IsJoined options lookup front tail
         → (references (document (front ++ tail) options lookup)
-        ≡ references (document_before options lookup (front ++ tail) front) ++ references (document_after options lookup (front ++ tail) (length front) tail))
+        ≡ references (document_before options lookup (front ++ tail) front) ++ references (document_of_tail options lookup (front ++ tail) (length front) tail))
         × (footnote_labels (document (front ++ tail) options lookup)
-        ≡ footnote_labels (document_before options lookup (front ++ tail) front) ++ footnote_labels (document_after options lookup (front ++ tail) (length front) tail)) }
+        ≡ footnote_labels (document_before options lookup (front ++ tail) front) ++ footnote_labels (document_of_tail options lookup (front ++ tail) (length front) tail)) }
 {}
 
 /// A reading of a joined document consists of the events of the first part, followed by the events of the tail. The tail is read with
@@ -64,7 +66,7 @@ pub fn readings_are_read_in_turn()
         → IsJoined profile.options profile.lookup front tail → (h : IsReading (front ++ tail) profile exchanges events)
         → ReadInTurn (reader_of (front ++ tail) profile h.document) (IsNext exchanges)
         (segments (document_before profile.options profile.lookup (front ++ tail) front))
-        (segments (document_after profile.options profile.lookup (front ++ tail) (length front) tail))
+        (segments (document_of_tail profile.options profile.lookup (front ++ tail) (length front) tail))
         (at_start profile) events h.after }
 {}
 
@@ -173,6 +175,36 @@ pub fn readings_share_with_a_greater_limit()
         → ((events : List Ranged) (between : Between) → ReadsAll (reader_of (front ++ one) profile h.document) (IsNext exchanges)
         (segments (document front profile.options profile.lookup)) (at_start profile) events between → 0 < between.expansion_left)
         → (settled later others : List Ranged) × (first ≡ settled ++ later) × (second ≡ settled ++ others) }
+{}
+
+/// A joined document is joined at the offset after the first part.
+pub fn joined_documents_are_joined_at_an_offset()
+    ensures { (options : Options) (lookup : Lookup) (front tail : List ℕ)
+        → IsJoined options lookup front tail → IsJoinedAt options lookup (front ++ tail) (length front) }
+{}
+
+/// If a document is joined at an offset, its events and leaves are those of the bytes before the offset, followed by those of the lines after
+/// it. The same is true of its definitions and of its footnotes.
+pub fn joined_documents_are_read_in_parts()
+    ensures segments { (text : List ℕ) (options : Options) (lookup : Lookup) (from : ℕ) → IsJoinedAt options lookup text from
+        → segments (document text options lookup) ≡ segments (document (take from text) options lookup) ++ segments (document_after text options lookup from) }
+    ensures definitions { (text : List ℕ) (options : Options) (lookup : Lookup) (from : ℕ) → IsJoinedAt options lookup text from
+        → references (document text options lookup) ≡ references (document (take from text) options lookup) ++ references (document_after text options lookup from) }
+    ensures footnotes { (text : List ℕ) (options : Options) (lookup : Lookup) (from : ℕ) → IsJoinedAt options lookup text from
+        → footnote_labels (document text options lookup) ≡ footnote_labels (document (take from text) options lookup) ++ footnote_labels (document_after text options lookup from) }
+{}
+
+/// A reading of the bytes before an offset and a reading of the lines after it, with the rest of the reference expansion limit, are a reading
+/// of the text, if its document is joined there. No questions are asked.
+pub fn readings_continue_at_an_offset()
+    ensures { (text : List ℕ) (profile : Profile) (from : ℕ) → IsJoinedAt profile.options profile.lookup text from
+        → (first later : List Ranged) (between : Between)
+        → ReadsAll (reader_of text profile (document text profile.options profile.lookup)) (IsNext [])
+        (segments (document (take from text) profile.options profile.lookup)) (at_start profile) first between
+        → between.asked ≡ []
+        → Left (reader_of text profile (document text profile.options profile.lookup))
+        (segments (document_after text profile.options profile.lookup from)) between.expansion_left [] later
+        → IsReading text profile [] (first ++ later) }
 {}
 
 /// If no definition lists are read, the document is joined at a cut unless the tail continues the list before it. The list before a cut and a
