@@ -10,7 +10,7 @@ use Rattle.std.specs.declared.alloc.AllocError.{AllocError}
 use Rattle.std.specs.declared.ops.Range.{Range}
 use Rattle.std.proofs.lemmas.Bool.{false≢true}
 use Rattle.cmark_flat.specs.Flat.{flat}
-use Rattle.cmark_flat.specs.Questions.{Reply, answer_at, decode_replies, flat_questions, question_record}
+use Rattle.cmark_flat.specs.Questions.{Reply, answer_at, decode_replies, question_record}
 use Rattle.cmark_flat.specs.Records.{record_bytes}
 use Rattle.cmark_flat_links.specs.Answering.{AnswersFrom}
 use Rattle.cmark_flat_links.specs.Table.{answer_in}
