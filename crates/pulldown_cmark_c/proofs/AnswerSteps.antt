@@ -78,9 +78,10 @@ kept (x ∷ xs) before after last run is ok =
           later.asked
           ∙ ap (λ l. l ++ questions_of xs) (keeps.asked ∙ ap (λ l. before.asked.items ++ l) told)
           ∙ append_assoc before.asked.items (record_bytes (question_record x.question)) (questions_of xs);
-      all =
-          (sym this.answer_is ∙ says.is ∙ ap (λ (q : Question). answer_in before.answers q.start q.end) this.question_is,
-          subst (λ t. AllByRecursion (IsFrom t) xs) says.answers later.all);
+      all = (
+        sym this.answer_is ∙ says.is ∙ ap (λ (q : Question). answer_in before.answers q.start q.end) this.question_is,
+        subst (λ t. AllByRecursion (IsFrom t) xs) says.answers later.all,
+      );
     }
 
 -- a table of replies answers as they do
