@@ -201,14 +201,14 @@ ranged_again r proper = ap (λ o. o >>= λ event. Some (at event r.start r.end))
 
 -- ---- groups
 
-abbrev AreFurther : List FlatRecord → Type 0
+abbrev pub AreFurther : List FlatRecord → Type 0
 AreFurther rs = AllByRecursion (λ r. is_further r ≡ true) rs
 
-parts_all : (ps rs : List FlatRecord) → AreFurther ps → parts_at rs ≡ [] → parts_at (ps ++ rs) ≡ ps
+pub parts_all : (ps rs : List FlatRecord) → AreFurther ps → parts_at rs ≡ [] → parts_at (ps ++ rs) ≡ ps
 parts_all [] rs further h = h
 parts_all (p ∷ ps) rs further h = rw (further.0, parts_all ps rs further.1 h) refl
 
-later_all : (ps rs : List FlatRecord) → AreFurther ps → later (ps ++ rs) ≡ later rs
+pub later_all : (ps rs : List FlatRecord) → AreFurther ps → later (ps ++ rs) ≡ later rs
 later_all [] rs further = refl
 later_all (p ∷ ps) rs further = rw (further.0) (later_all ps rs further.1)
 
@@ -290,10 +290,10 @@ own_kind r Rule = refl
 own_kind r (TaskListMarker is_checked) = refl
 
 -- events begin with a record of their own
-no_parts_at : (r : FlatRecord) (rs : List FlatRecord) → is_further r ≡ false → parts_at (r ∷ rs) ≡ []
+pub no_parts_at : (r : FlatRecord) (rs : List FlatRecord) → is_further r ≡ false → parts_at (r ∷ rs) ≡ []
 no_parts_at r rs h = ap (λ b. cond b (r ∷ parts_at rs) []) h
 
-later_at : (r : FlatRecord) (rs : List FlatRecord) → is_further r ≡ false → later (r ∷ rs) ≡ groups (r ∷ rs)
+pub later_at : (r : FlatRecord) (rs : List FlatRecord) → is_further r ≡ false → later (r ∷ rs) ≡ groups (r ∷ rs)
 later_at r rs h = ap (λ b. cond b (later rs) (record { own = r; parts = parts_at rs } ∷ later rs)) h
 
 no_parts : (es : List Ranged) → parts_at (flat_map records es) ≡ []

@@ -20,22 +20,22 @@ use Rattle.cmark_flat.proofs.EventLaw.{events_again}
 use Rattle.cmark_flat.proofs.RecordLaw.{Fits, records_again}
 
 -- a text that a record can have
-abbrev Holds : List ℕ → Type 0
+abbrev pub Holds : List ℕ → Type 0
 Holds text = (length text < 2 ^ 64) × (is_utf8 text ≡ true)
 
-text_holds : (text : List ℕ) → IsText text → Holds text
+pub text_holds : (text : List ℕ) → IsText text → Holds text
 text_holds text proper = (proper.1, is_utf8-from_IsUtf8 text proper.0)
 
-nothing_holds : Holds []
+pub nothing_holds : Holds []
 nothing_holds = (omega arith, is_utf8-from_IsUtf8 [] IsUtf8-nil)
 
-part_fits : (kind : ℕ) (text : List ℕ) → Holds text → Fits (part kind text)
+pub part_fits : (kind : ℕ) (text : List ℕ) → Holds text → Fits (part kind text)
 part_fits kind text holds = record { start = omega arith; end = omega arith; size = holds.0; utf8 = holds.1 }
 
-abbrev AllFit : List FlatRecord → Type 0
+abbrev pub AllFit : List FlatRecord → Type 0
 AllFit rs = AllByRecursion Fits rs
 
-fit_then : (ps qs : List FlatRecord) → AllFit ps → AllFit qs → AllFit (ps ++ qs)
+pub fit_then : (ps qs : List FlatRecord) → AllFit ps → AllFit qs → AllFit (ps ++ qs)
 fit_then [] qs p q = q
 fit_then (x ∷ ps) qs p q = (p.0, fit_then ps qs p.1 q)
 

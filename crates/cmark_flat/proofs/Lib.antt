@@ -5,3 +5,4 @@ pub mod ReadLoop
 pub mod GroupLoop
 pub mod EventLaw
 pub mod FlatLaw
+pub mod LinkLaw

@@ -1,7 +1,9 @@
 -- The law that decoding flat records gives back the events.
 use Rattle.std.specs.Prelude.{◌≡◌, ◌<◌, ◌^◌, ℕ, List, length, IfSome, Some, IsUtf8}
 use Rattle.std.specs.List.{AllByRecursion}
+use Rattle.cmark_grammar.specs.Answers.{Destination}
 use Rattle.cmark_grammar.specs.Attributes.{Attribute}
+use Rattle.cmark_grammar.specs.BlockDocument.{Reference}
 use Rattle.cmark_grammar.specs.CodeBlockKind.{CodeBlockKind, Indented, Fenced}
 use Rattle.cmark_grammar.specs.Event.{Event, Ranged, Start, End, Text, Code, InlineMath, DisplayMath, Html, InlineHtml, FootnoteReference}
 use Rattle.cmark_grammar.specs.Tag as tag
@@ -9,7 +11,9 @@ use Rattle.cmark_grammar.specs.Tag.{Tag, Linked}
 use Rattle.cmark_grammar.specs.TagEnd as end
 use Rattle.cmark_grammar.specs.TagEnd.{TagEnd}
 use Rattle.cmark_flat.specs.Decode.{decode}
+use Rattle.cmark_flat.specs.Definitions.{decode_definitions, flat_definitions}
 use Rattle.cmark_flat.specs.Flat.{flat}
+use Rattle.cmark_flat.specs.Questions.{Reply, decode_replies, flat_replies}
 
 -- a number that eight bytes hold
 abbrev pub IsWide : ℕ → Type 0
@@ -66,3 +70,17 @@ IsProper r = IsWide r.start × IsWide r.end × IsProperEvent r.event
 -- decoding the flat records of proper events gives these events
 abbrev pub FlatIsDecoded : Type 0
 FlatIsDecoded = (events : List Ranged) → AllByRecursion IsProper events → decode (flat events) ≡ Some events
+
+abbrev pub IsProperDefinition : Reference → Type 0
+IsProperDefinition d = IsWide d.start × IsWide d.end × IsText d.destination × IfSome d.title IsText × IsText d.label
+
+-- decoding the flat records of proper definitions gives these definitions
+abbrev pub DefinitionsAreDecoded : Type 0
+DefinitionsAreDecoded = (ds : List Reference) → AllByRecursion IsProperDefinition ds → decode_definitions (flat_definitions ds) ≡ Some ds
+
+abbrev pub IsProperReply : Reply → Type 0
+IsProperReply r = IsWide r.start × IsWide r.end × IfSome r.answer (λ (destination : Destination). IsText destination.url × IsText destination.title)
+
+-- decoding the flat records of proper replies gives these replies
+abbrev pub RepliesAreDecoded : Type 0
+RepliesAreDecoded = (rs : List Reply) → AllByRecursion IsProperReply rs → decode_replies (flat_replies rs) ≡ Some rs

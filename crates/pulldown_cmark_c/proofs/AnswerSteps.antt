@@ -10,7 +10,7 @@ use Rattle.std.specs.declared.alloc.AllocError.{AllocError}
 use Rattle.std.specs.declared.ops.Range.{Range}
 use Rattle.std.proofs.lemmas.Bool.{false≢true}
 use Rattle.cmark_flat.specs.Flat.{flat}
-use Rattle.cmark_flat.specs.Questions.{Reply, answer_at, decode_replies, flat_questions, question_record}
+use Rattle.cmark_flat.specs.Questions.{Reply, answer_at, decode_replies, question_record}
 use Rattle.cmark_flat.specs.Records.{record_bytes}
 use Rattle.cmark_flat_links.specs.Answering.{AnswersFrom}
 use Rattle.cmark_flat_links.specs.Table.{answer_in}
@@ -78,9 +78,10 @@ kept (x ∷ xs) before after last run is ok =
           later.asked
           ∙ ap (λ l. l ++ questions_of xs) (keeps.asked ∙ ap (λ l. before.asked.items ++ l) told)
           ∙ append_assoc before.asked.items (record_bytes (question_record x.question)) (questions_of xs);
-      all =
-          (sym this.answer_is ∙ says.is ∙ ap (λ (q : Question). answer_in before.answers q.start q.end) this.question_is,
-          subst (λ t. AllByRecursion (IsFrom t) xs) says.answers later.all);
+      all = (
+        sym this.answer_is ∙ says.is ∙ ap (λ (q : Question). answer_in before.answers q.start q.end) this.question_is,
+        subst (λ t. AllByRecursion (IsFrom t) xs) says.answers later.all,
+      );
     }
 
 -- a table of replies answers as they do

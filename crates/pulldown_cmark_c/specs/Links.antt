@@ -1,5 +1,5 @@
 -- The outputs of the calls for link reference definitions, and for events with a caller's answers.
-use Rattle.std.specs.Prelude.{◌≡◌, ◌≤◌, ◌≢◌, ℕ, false, true, List, ◌++◌, map, Option, None, Some, Ok, IsUtf8}
+use Rattle.std.specs.Prelude.{◌≡◌, ◌≤◌, ◌≢◌, ℕ, false, true, List, ◌++◌, map, None, Some, Ok, IsUtf8}
 use Rattle.std.specs.List.{AllByRecursion}
 use Rattle.std.specs.Iterator.{YieldsThen}
 use Rattle.std.specs.declared.ops.Range.{Range}
