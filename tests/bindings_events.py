@@ -15,10 +15,10 @@ import pulldown_cmark
 from bindings_python import plain, raised
 from programs import ALL, NONE
 from pulldown_cmark import (
-    BlockQuote, BrokenLink, Code, CodeBlock, End, Event, Events, Fenced, FootnoteDefinition, HardBreak, Heading, HeadingEnd, Image, Indented, Lines, Link, LinkDef,
-    List, ListEnd, MetadataBlock, Options, Paragraph, Place, SoftBreak, Start, Table, Tag, TagEnd, TaskListMarker, Text, WikiLink, events, html, merged, references, render,
+    BlockQuote, BlockQuoteEnd, BrokenLink, Code, CodeBlock, End, Event, Events, Fenced, FootnoteDefinition, HardBreak, Heading, HeadingEnd, Image, Indented,
+    Item, Lines, Link, LinkDef, List, ListEnd, MetadataBlock, Options, Paragraph, Place, SoftBreak, Start, Table, Tag, TagEnd, TaskListMarker, Text, WikiLink,
+    _records, events, html, merged, references, render,
 )  # fmt: skip
-from pulldown_cmark import _records
 from pulldown_cmark._writing import records_of
 
 # What values a field may have, by its name. `attrs`, `classes` and `alignments` are lists of these.
@@ -156,9 +156,11 @@ def try_classes(judge, draw):
     for tag in TAGS.values():
         judge(f"{tag.__name__} was made, and its end", {("Start", tag), ("End", ENDS[tag.__name__])} - {it[:2] for it in seen}, set())
     judge("all link types, quotes, code blocks and metadata", len({it[2] for it in seen if isinstance(it[2], (str, WikiLink, Fenced, Indented))}), 11 + 5 + 1 + len(WORDS) + 2)
-    judge("tags of other classes differ", [Paragraph() == BlockQuote(), Link("Inline", "") == Image("Inline", ""), Paragraph() != pulldown_cmark.Item(), Indented() == ()], [False, False, True, False])
-    judge("tags are keys", len({Paragraph(), Paragraph(), pulldown_cmark.Item(), Heading(1), Heading(1), Heading(2)}), 4)
-    judge("the end of a heading, a list and a quote", [Heading(3).to_end(), List(0).to_end(), BlockQuote("Tip").to_end()], [HeadingEnd(3), ListEnd(True), pulldown_cmark.BlockQuoteEnd("Tip")])
+    equal = [Paragraph() == BlockQuote(), Link("Inline", "") == Image("Inline", ""), Indented() == (), not Paragraph() != Item()]
+    judge("tags of other classes differ", equal, [False] * 4)
+    judge("tags are keys", len({Paragraph(), Paragraph(), Item(), Heading(1), Heading(1), Heading(2)}), 4)
+    ended = [Heading(3).to_end(), List(0).to_end(), List().to_end(), BlockQuote("Tip").to_end()]
+    judge("the ends of a heading, of lists and of a quote", ended, [HeadingEnd(3), ListEnd(True), ListEnd(False), BlockQuoteEnd("Tip")])
     judge("an event that there is not", raised(Event, "Txt", "a"), ValueError)
 
 
@@ -278,23 +280,28 @@ def try_changed(judge, library, draw):
     judge("lifted headings", render(lifted), "<h2>a</h2>\n<h2>b</h2>\n<h3>c</h3>\n")
 
 
-# Events that are none, and the error of each.
-WRONG = [
-    (3, TypeError), ("a", TypeError), (("Text", "a", 0, 1), TypeError), (Text(3), TypeError), (Text(None), TypeError), (Code(b"a"), TypeError), (Start("Paragraph"), TypeError),
-    (Start(pulldown_cmark.ParagraphEnd()), TypeError), (Start(Tag()), TypeError), (End(TagEnd()), TypeError), (End(Paragraph()), TypeError), (End(None), TypeError), (TaskListMarker("x"), TypeError), (TaskListMarker(None), TypeError),
-    (Text("\ud800"), UnicodeEncodeError), (Start(Heading(0)), ValueError), (Start(Heading(7)), ValueError), (Start(Heading("1")), TypeError), (Start(Heading(1.0)), TypeError), (End(HeadingEnd(7)), ValueError),
-    (Start(Heading(1, 3)), TypeError), (Start(Heading(1, None, "a")), TypeError), (Start(Heading(1, None, (3,))), TypeError), (Start(Heading(1, None, (), (("a",),))), ValueError),
-    (Start(Heading(1, None, (), ((1, "a"),))), TypeError), (Start(Heading(1, None, (), (("a", 1),))), TypeError), (Start(Heading(1, None, (), "ab")), TypeError),
-    (Start(Link("Inlin", "/")), ValueError), (Start(Link(0, "/")), TypeError), (Start(Link("Inline", None)), TypeError), (Start(Link("Inline", "/", None)), TypeError), (Start(Image("Inline", "/", "", 3)), TypeError),
-    (Start(List(-1)), ValueError), (Start(List(2**64)), ValueError), (Start(List("1")), TypeError), (End(ListEnd(2)), TypeError), (Start(BlockQuote("note")), ValueError), (Start(BlockQuote(1)), TypeError),
-    (Start(CodeBlock("Indented")), TypeError), (Start(CodeBlock(Fenced(None))), TypeError), (Start(Table(("left",))), ValueError), (Start(Table((1,))), TypeError),
-    (Start(Table("Left")), TypeError), (Start(FootnoteDefinition(1)), TypeError), (Start(MetadataBlock("Yaml")), ValueError), (Start(MetadataBlock(None)), TypeError),
-]  # fmt: skip
+# Values that are no events, and events with values that their fields do not take, by the error of each.
+WRONG = {
+    TypeError: [
+        3, "a", ("Text", "a", 0, 1), Text(3), Text(None), Code(b"a"), TaskListMarker("x"), TaskListMarker(None),
+        Start("Paragraph"), Start(pulldown_cmark.ParagraphEnd()), Start(Tag()), End(TagEnd()), End(Paragraph()), End(None), End(ListEnd(2)),
+        Start(Heading("1")), Start(Heading(1.0)), Start(Heading(1, 3)), Start(Heading(1, None, "a")), Start(Heading(1, None, (3,))),
+        Start(Heading(1, None, (), "ab")), Start(Heading(1, None, (), ((1, "a"),))), Start(Heading(1, None, (), (("a", 1),))),
+        Start(Link(0, "/")), Start(Link("Inline", None)), Start(Link("Inline", "/", None)), Start(Image("Inline", "/", "", 3)),
+        Start(List("1")), Start(BlockQuote(1)), Start(CodeBlock("Indented")), Start(CodeBlock(Fenced(None))),
+        Start(Table((1,))), Start(Table("Left")), Start(FootnoteDefinition(1)), Start(MetadataBlock(None)),
+    ],
+    ValueError: [
+        Start(Heading(0)), Start(Heading(7)), End(HeadingEnd(7)), Start(Heading(1, None, (), (("a",),))), Start(List(-1)), Start(List(2**64)),
+        Start(Link("Inlin", "/")), Start(BlockQuote("note")), Start(Table(("left",))), Start(MetadataBlock("Yaml")),
+    ],
+    UnicodeEncodeError: [Text("\ud800"), Start(CodeBlock(Fenced("\ud800"))), Start(Link("Inline", "\ud800"))],
+}  # fmt: skip
 
 
 def try_wrong(judge, texts, draw):
     """Events that are none, and records that are cut short or damaged: always an error of Python, and never another one."""
-    for wrong, error in WRONG:
+    for wrong, error in ((it, error) for error, values in WRONG.items() for it in values):
         judge(f"render of {wrong!r}", raised(render, [Text("a"), wrong]), error)
     for wrong in (3, None, Paragraph()):
         judge(f"render of {wrong!r}", raised(render, wrong), None if wrong == Paragraph() else TypeError)

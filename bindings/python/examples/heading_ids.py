@@ -1,7 +1,7 @@
 """Writes the HTML of a Markdown file in which each heading has an id, made of its text, for links to it."""
 import sys
 from collections import Counter
-from typing import Iterable, Iterator, List, Optional
+from collections.abc import Iterable, Iterator
 
 from links import slug
 from pulldown_cmark import Code, Event, Heading, HeadingEnd, Start, Text, events, render
@@ -9,9 +9,9 @@ from pulldown_cmark import Code, Event, Heading, HeadingEnd, Start, Text, events
 
 def with_ids(found: Iterable[Event]) -> Iterator[Event]:
     """The events, with an id for each heading that has none. The events inside a heading wait until its whole text is known."""
-    times: "Counter[str]" = Counter()
-    heading: Optional[Heading] = None
-    inside: List[Event] = []
+    times: Counter[str] = Counter()
+    heading: Heading | None = None
+    inside: list[Event] = []
     for event in found:
         if isinstance(event.value, Heading):
             heading, inside = event.value, []

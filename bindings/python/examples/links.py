@@ -1,7 +1,7 @@
 """Checks the links inside a Markdown file, its references and their definitions."""
 import re
 import sys
-from typing import Iterator, List, Tuple
+from collections.abc import Iterator
 
 from outline import outline
 from pulldown_cmark import BrokenLink, Image, Lines, Link, LinkDef, Options, Start, events, references
@@ -19,7 +19,7 @@ def folded(label: str) -> str:
     return " ".join(label.split()).casefold()
 
 
-def without(text: str, definitions: List[LinkDef]) -> str:
+def without(text: str, definitions: list[LinkDef]) -> str:
     """The text with blanks in place of these definitions, so that only later definitions of their labels are left."""
     pieces, at = [], 0
     for it in definitions:
@@ -28,9 +28,9 @@ def without(text: str, definitions: List[LinkDef]) -> str:
     return "".join(pieces) + text[at:]
 
 
-def faults(text: str) -> Iterator[Tuple[int, str]]:
+def faults(text: str) -> Iterator[tuple[int, str]]:
     """The faults, each with its offset in the text."""
-    missing: List[BrokenLink] = []
+    missing: list[BrokenLink] = []
     anchors = {f"#{slug(title)}" for _, _, title in outline(text)}
     used = set()
     for event in events(text, options=OPTIONS, broken_link=missing.append):
