@@ -1,6 +1,6 @@
 # make            proves the crates below mdhtml and builds bin/mdhtml; make install-mdhtml installs it.
 # make mdevents   proves the crates below mdevents and builds bin/mdevents.
-# make quick      builds both programs, the library and the page's module in bin/quick/, in minutes: without proofs, with run-time checks.
+# make quick      builds both programs, the library and the page's modules in bin/quick/, in minutes: without proofs, with run-time checks.
 # make kept       proves and builds both programs and the library for C. It keeps the work of each check for the next one: use it if you
 #                 change the code afterwards.
 # make lib        puts the files that C programs link into bin/: an archive, a shared library, their header and a file for pkg-config.
@@ -8,7 +8,7 @@
 #                 what is missing. With QUICK=yes it installs the files of make quick, which it otherwise refuses.
 # make dist       packs the proved programs and the library for users without the toolchain, in bin/dist/. make check-dist packs them
 #                 again in another folder and compares each byte.
-# make web        makes the module of the page in web/ anew, and tests the page in a browser. It is not part of make test.
+# make web        makes the modules of the page in web/ anew, and tests the page in a browser. It is not part of make test.
 # make safe       checks the safe HTML of hostile documents with an HTML5 parser (Debian's python3-html5lib). It is not part of make test.
 # make fuzz       tests the library for C on texts that libFuzzer makes, for ten minutes. It is not part of make test.
 # make test       runs all proofs and tests; its last line is the gate's count. docs/GATE.md describes each part and its time.

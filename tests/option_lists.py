@@ -13,6 +13,7 @@ import re
 ROOT = pathlib.Path(__file__).resolve().parent.parent
 OPTIONS_RT = "crates/cmark_text_parts/src/options.rt"
 FLAGS_RT = "crates/mdhtml_settings/src/flags.rt"
+RUST = "bindings/rust/src/options.rs"
 # The flags of no option: the first is one of mdhtml only, the others are documented beside the flags.
 OTHER_FLAGS = {"safe", "entities", "help", "version"}
 
@@ -88,14 +89,23 @@ def in_sources(bits, github, _flags):
         "include/pulldown_cmark.h": ("enum pcm_options", "};", r"PCM_(\w+) = (\d+)"),
         "bindings/python/pulldown_cmark/_library.py": ("class Options", "\n\n\n", r"([A-Z_]+) = ([1-9]\d*)"),
         "web/pulldown_cmark.js": ("const OPTIONS", "};", r"([A-Z_]+): (\d+)"),
-        "bindings/rust/src/lib.rs": ("impl Options {", "\n}", r"pub const (?!NONE|GITHUB)(\w+): Options = Options\((\d+)\)"),
     }
     for path, (begin, end, form) in places.items():
         yield from differences(path, {name: int(it) for name, it in re.findall(form, part(path, begin, end))}, bits)
     typed = part("bindings/javascript/index.d.ts", "export declare const Options", ";")
     yield from differences("bindings/javascript/index.d.ts", re.findall(r'"([A-Z_]+)"', typed), bits)
-    of_rust = bits_in(part("bindings/rust/src/lib.rs", "pub const GITHUB: Options = Options(", ")"))
-    yield from differences("bindings/rust/src/lib.rs", {"GITHUB": of_rust}, {"GITHUB": github})
+    yield from in_rust(bits, github)
+
+
+def in_rust(bits, github):
+    """The lists of the Rust crate. It has no option for email autolinks, as pulldown-cmark has none: it always reads them."""
+    wanted = {name: it for name, it in bits.items() if name != "EMAIL_AUTOLINKS"}
+    of_rust = re.findall(r"const ENABLE_(\w+) = ([^;]+);", read(RUST))
+    yield from differences(RUST, {name: bits_in(it) for name, it in of_rust}, wanted)
+    names = re.findall(r"ENABLE_(\w+)", part(RUST, "pub const GITHUB: Options = ", ";"))
+    yield from differences(f"{RUST}, GITHUB", names, [name for name, it in wanted.items() if it & github == it])
+    if not bits_in(part(RUST, "const ALWAYS: u32 = ", ";")) & bits["EMAIL_AUTOLINKS"]:
+        yield RUST, "it does not always read email autolinks"
 
 
 def in_flags(bits, github, flags):

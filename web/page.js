@@ -80,11 +80,16 @@ bag, says <https://example.com>.
 
   // The events: elements are indented by their depth. A text may nest and repeat without end, so both are bounded.
   const ROWS = 2000, STEPS = 40;
+  const valueOf = ({ value }) => {
+    if (value === null || typeof value !== "object") return value === null ? "" : ` ${JSON.stringify(value)}`;
+    const { name, ...fields } = value;
+    return ` ${name}${Object.keys(fields).length ? ` ${JSON.stringify(fields)}` : ""}`;
+  };
   const row = (event, depth) => {
     const item = document.createElement("li"), name = document.createElement("b"), place = document.createElement("i");
     name.textContent = event.name;
     place.textContent = ` ${event.start}..${event.end}`;
-    item.append("  ".repeat(Math.min(depth, STEPS)), name, event.value === null ? "" : ` ${JSON.stringify(event.value)}`, place);
+    item.append("  ".repeat(Math.min(depth, STEPS)), name, valueOf(event), place);
     item.tabIndex = 0;
     item.dataset.event = JSON.stringify(event);
     item.addEventListener("mouseenter", () => point(event));
@@ -95,11 +100,14 @@ bag, says <https://example.com>.
     return item;
   };
   const rows = (events) => {
+    const made = [];
     let depth = 0;
-    return events.slice(0, ROWS).map((event) => {
+    for (const event of events) {
+      if (made.length === ROWS) break;
       if (event.name === "End") depth--;
-      return row(event, event.name === "Start" ? depth++ : depth);
-    });
+      made.push(row(event, event.name === "Start" ? depth++ : depth));
+    }
+    return made;
   };
 
   // The HTML as elements, without those that open a connection by themselves, whatever the policy of the pane says. Each link is kept,

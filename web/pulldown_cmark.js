@@ -1,18 +1,63 @@
-// Markdown to HTML and to events: the functions of the module in module.js, which has to be loaded first. For a page, and for Node:
+// Markdown to HTML and to events: the functions of a module of WebAssembly. For a page, with records.js before it, and for Node:
 //
 //     const pulldownCmark = await require("./pulldown_cmark.js").load();
 //     pulldownCmark.html("*Hi*");                        // "<p><em>Hi</em></p>\n"
 //     pulldownCmark.html("<b>", 0, { safe: true });      // "<p>&lt;b&gt;</p>\n", for a stranger's text
-//     pulldownCmark.events("*Hi*")[2].value;             // "Hi"
+//     pulldownCmark.events("*Hi*").at(2).value;          // "Hi"
+//
+// module.js and module_simd.js, which has vectors, have to be in the same folder.
 "use strict";
-var pulldownCmark = (() => {
-  const DONE = 0, TOO_LONG = 1, NOT_UTF8 = 2;
+var pulldownCmark = ((records) => {
+  const DONE = 0, TOO_LONG = 1, NOT_UTF8 = 2, MALFORMED = 4;
 
   /** The rules beyond CommonMark; join them by `|`. */
   const OPTIONS = {
     TABLES: 2, FOOTNOTES: 4, STRIKETHROUGH: 8, TASKLISTS: 16, SMART_PUNCTUATION: 32, HEADING_ATTRIBUTES: 64,
     YAML_STYLE_METADATA_BLOCKS: 128, PLUSES_DELIMITED_METADATA_BLOCKS: 256, OLD_FOOTNOTES: 516, MATH: 1024, GFM: 2048,
     DEFINITION_LIST: 4096, SUPERSCRIPT: 8192, SUBSCRIPT: 16384, WIKILINKS: 32768, HIGHLIGHT: 65536, EMAIL_AUTOLINKS: 131072,
+  };
+  const ALL = Object.values(OPTIONS).reduce((set, bits) => set | bits);
+  /** The bit of the library for all names of entities. */
+  const ALL_ENTITIES = 1 << 30;
+
+  /** The error for bytes that are not UTF-8, and for a string with half of a pair of surrogates. */
+  class NotUtf8Error extends TypeError {
+    get name() {
+      return "NotUtf8Error";
+    }
+  }
+
+  /** The error for want of memory. The module works afterwards. */
+  class OutOfMemoryError extends RangeError {
+    get name() {
+      return "OutOfMemoryError";
+    }
+  }
+
+  /** A module of WebAssembly with one function that uses vectors. An engine without vectors does not accept it. */
+  const WITH_VECTORS = [0, 97, 115, 109, 1, 0, 0, 0, 1, 5, 1, 96, 0, 1, 123, 3, 2, 1, 0, 10, 10, 1, 8, 0, 65, 0, 253, 15, 253, 98, 11];
+
+  /** Whether the engine can run the module that has vectors. */
+  const hasVectors = () => WebAssembly.validate(Uint8Array.from(WITH_VECTORS));
+
+  /** The folder of this file, for a page. */
+  const folder = typeof document !== "undefined" && document.currentScript ? new URL(".", document.currentScript.src).href : "";
+
+  /** Runs a file of this folder in a page. */
+  const added = (file) => new Promise((done, failed) => {
+    const script = document.createElement("script");
+    script.src = folder + file;
+    script.onload = done;
+    script.onerror = () => failed(new Error(`${file} cannot be loaded`));
+    document.head.append(script);
+  });
+
+  /** The module's bytes in base64, from the file for this engine. A page or a worker may have loaded one of the files by itself. */
+  const chosen = async () => {
+    const file = hasVectors() ? "module_simd.js" : "module.js";
+    if (typeof pulldownCmarkModule === "undefined" && typeof document !== "undefined") await added(file);
+    const { bytes } = typeof pulldownCmarkModule === "undefined" ? require(`./${file}`) : pulldownCmarkModule;
+    return bytes;
   };
 
   const bytesOf = (base64) => {
@@ -23,99 +68,311 @@ var pulldownCmark = (() => {
 
   /** The functions, once the module is ready. */
   const load = async () => {
-    const { bytes } = typeof pulldownCmarkModule === "undefined" ? require("./module.js") : pulldownCmarkModule;
+    const bytes = await chosen();
     const { instance } = await WebAssembly.instantiate(bytesOf(bytes.replace(/\s/g, "")), {});
     return callsOf(instance);
   };
 
-  /** The functions of an instance of the module. */
-  const callsOf = (instance) => {
-    const module = instance.exports;
+  const encoder = new TextEncoder(), decoder = new TextDecoder("utf-8", { ignoreBOM: true });
+  const stringOf = (bytes) => decoder.decode(bytes);
+  const copyOf = (bytes) => bytes.slice();
+
+  /** Whether a value is a Uint8Array, also one of another realm, such as a frame's. */
+  const isBytes = (value) => Object.prototype.toString.call(value) === "[object Uint8Array]";
+
+  /** The bytes of a text: a string, or its bytes in UTF-8. */
+  const encoded = (text) => {
+    if (isBytes(text)) return text;
+    if (typeof text !== "string") throw new TypeError(`Markdown is a string or a Uint8Array, not ${records.typeOf(text)}`);
+    if (!records.isWellFormed(text)) throw new NotUtf8Error("the text has half of a pair of surrogates");
+    return encoder.encode(text);
+  };
+
+  /** The bits of a set of options. */
+  const bitsOf = (options, allEntities) => {
+    if (!Number.isInteger(options)) throw new TypeError("options are a number, joined by |");
+    if (options !== (options & ALL)) throw new RangeError(`there is no such set of options: ${options}`);
+    return allEntities ? options | ALL_ENTITIES : options;
+  };
+
+  /** A limit as the module takes it. A limit that does not fit is replaced by the greatest one, which no text reaches. */
+  const limitOf = (limit) => {
+    const bytes = BigInt(limit), most = (1n << 64n) - 1n;
+    if (bytes < 0n) throw new RangeError("a limit is at least 0");
+    return bytes < most ? bytes : most;
+  };
+
+  /**
+   * The sizes of the first buffers for HTML and for records, for a text of this length. Of 861 Markdown files of one machine, none needs a
+   * second call for its HTML, and 3 need one for their records.
+   */
+  const htmlRoom = (length) => 2 * length + 256;
+  const recordsRoom = (length) => 6 * length + 4096;
+
+  /**
+   * The index in a string for each offset in its bytes, as a function. The indices are those of `slice`. They are computed once, when the
+   * first one is asked for; in a text of ASCII they are the offsets.
+   */
+  const indicesOf = (text, size) => {
+    let indices = null;
+    return (offset) => {
+      if (text.length === size) return offset;
+      indices ??= tableOf(text, size);
+      return indices[offset];
+    };
+  };
+
+  /** For each byte of a text in UTF-8, and for its end, the index in the string. */
+  const tableOf = (text, size) => {
+    const indices = new Uint32Array(size + 1);
+    let byte = 0;
+    for (let at = 0; at < text.length; ) {
+      const code = text.codePointAt(at), end = byte + (code < 0x80 ? 1 : code < 0x800 ? 2 : code < 0x10000 ? 3 : 4);
+      while (byte < end) indices[byte++] = at;
+      at += code < 0x10000 ? 1 : 2;
+    }
+    indices[size] = text.length;
+    return indices;
+  };
+
+  /** How byte offsets in a text are given: as they are for bytes, and as indices for a string. */
+  const placedIn = (text, size) => (typeof text === "string" ? indicesOf(text, size) : (offset) => offset);
+
+  /** The index at which each line of a text starts. A line ends with a line feed, a carriage return, or both. */
+  const lineStarts = (text) => {
+    const codeAt = typeof text === "string" ? (at) => text.charCodeAt(at) : (at) => text[at];
+    const starts = [0];
+    for (let at = 0; at < text.length; at++) {
+      const code = codeAt(at);
+      if (code === 10 || (code === 13 && codeAt(at + 1) !== 10)) starts.push(at + 1);
+    }
+    return starts;
+  };
+
+  /** The events of a text, read from records one by one when they are asked for. */
+  class Events {
+    #bytes;
+    #text;
+    #placed;
+    #starts = null;
+    #lines = null;
+
+    constructor(bytes, text, placed) {
+      this.#bytes = bytes;
+      this.#text = text;
+      this.#placed = placed;
+    }
+
+    /** The offset of each event's first record. It is computed once. */
+    #offsets() {
+      if (this.#starts) return this.#starts;
+      const reader = new records.Reader(this.#bytes), starts = [];
+      for (; !reader.isAtEnd; reader.at = reader.after) if (reader.kind !== records.FURTHER) starts.push(reader.at);
+      return (this.#starts = starts);
+    }
+
+    /** The number of events. */
+    get length() {
+      return this.#offsets().length;
+    }
+
+    /** The event with this number, from 0. A negative number counts from the end. */
+    at(number) {
+      const offsets = this.#offsets(), offset = offsets.at(number);
+      return offset === undefined ? undefined : records.readEvent(new records.Reader(this.#bytes, offset), this.#placed);
+    }
+
+    *[Symbol.iterator]() {
+      const reader = new records.Reader(this.#bytes);
+      while (!reader.isAtEnd) yield records.readEvent(reader, this.#placed);
+    }
+
+    /** The line and the column in which an event or a definition of this text starts, both from 1. The lines are counted once. */
+    placeOf({ start }) {
+      this.#lines ??= lineStarts(this.#text);
+      let [from, to] = [0, this.#lines.length];
+      while (to - from > 1) {
+        const middle = (from + to) >> 1;
+        if (this.#lines[middle] <= start) from = middle;
+        else to = middle;
+      }
+      return { line: from + 1, column: start - this.#lines[from] + 1 };
+    }
+
+    /** The flat records of the events, as a copy. */
+    get records() {
+      return this.#bytes.slice();
+    }
+  }
+
+  /** The events with each run of adjacent texts joined, from the start of the first to the end of the last. A run that is empty is left out. */
+  function* merged(events) {
+    let run = [];
+    const joined = () => {
+      if (run.length < 2) return run;
+      const value = run.map((it) => it.value).join("");
+      return value ? [{ ...run[0], value, end: run[run.length - 1].end }] : [];
+    };
+    for (const event of events) {
+      if (event.name === "Text") {
+        run.push(event);
+        continue;
+      }
+      yield* joined();
+      run = [];
+      yield event;
+    }
+    yield* joined();
+  }
+
+  /** An instance of the module: its calls with their memory. */
+  class Instance {
+    constructor({ exports }) {
+      this.calls = exports;
+    }
+
+    get bytes() {
+      return new Uint8Array(this.calls.memory.buffer);
+    }
 
     /** The address of `size` bytes of the module's memory. */
-    const take = (size) => {
-      const place = Number(module.take(BigInt(size)));
-      if (!place) throw new RangeError("out of memory");
+    take(size) {
+      const place = Number(this.calls.take(BigInt(size)));
+      if (!place) throw new OutOfMemoryError("out of memory");
       return place;
-    };
-    const give = (place) => module.give(BigInt(place));
+    }
 
-    /** The output of a call for these bytes, and for a list of names or a limit if it takes one. */
-    const answer = (call, data, options, { names = null, limit = null } = {}) => {
-      const held = [];
-      const keep = (size) => (held.push(take(size)), held[held.length - 1]);
+    /**
+     * The output of a call, as `read` takes it from the module's memory. The call gets these bytes, then `more`: numbers, and lists of bytes.
+     * `length` is the size of its first buffer. All memory is given back, also if an error is thrown.
+     */
+    answer(call, data, more, length, read) {
+      const held = [], given = [];
+      const keep = (size) => (held.push(this.take(size)), held[held.length - 1]);
+      const put = (bytes) => {
+        const place = keep(bytes.length + 1);
+        this.bytes.set(bytes, place);
+        given.push(BigInt(place), BigInt(bytes.length));
+      };
       try {
-        const text = keep(data.length + 1), size = keep(8);
-        new Uint8Array(module.memory.buffer).set(data, text);
-        const list = names ? keep(names.length + 1) : 0, listed = names ? [BigInt(list), BigInt(names.length)] : [];
-        if (names) new Uint8Array(module.memory.buffer).set(names, list);
-        for (let length = data.length + (data.length >> 2) + 64; ; ) {
-          const room = keep(length);
-          const status = call(BigInt(text), BigInt(data.length), options, ...listed, ...(limit === null ? [] : [limit]), BigInt(room), BigInt(length), BigInt(size));
-          const written = Number(new DataView(module.memory.buffer).getBigUint64(size, true));
-          if (status === DONE) return new TextDecoder("utf-8", { ignoreBOM: true }).decode(new Uint8Array(module.memory.buffer, room, written));
-          if (status !== TOO_LONG) throw status === NOT_UTF8 ? new TypeError("the text is not UTF-8") : new RangeError("out of memory");
+        put(data);
+        for (const it of more) if (isBytes(it)) put(it); else given.push(it);
+        const size = keep(8);
+        for (;;) {
+          const room = keep(length), status = this.calls[call](...given, BigInt(room), BigInt(length), BigInt(size));
+          const written = Number(new DataView(this.calls.memory.buffer).getBigUint64(size, true));
+          if (status === DONE) return read(this.bytes.subarray(room, room + written));
+          if (status !== TOO_LONG) throw failure(status);
+          this.calls.give(BigInt(held.pop()));
           length = written;
         }
       } finally {
-        held.forEach(give);
+        for (const place of held) this.calls.give(BigInt(place));
       }
-    };
+    }
 
-    /** A limit as the module takes it. A limit that does not fit is replaced by the greatest one, which no text reaches. */
-    const limitOf = (limit) => {
-      const bytes = BigInt(limit), most = (1n << 64n) - 1n;
-      if (bytes < 0n) throw new RangeError("a limit is at least 0");
-      return bytes < most ? bytes : most;
-    };
+    /** The HTML that a call returns for a text. */
+    html(call, data, more) {
+      return this.answer(call, data, more, htmlRoom(data.length), stringOf);
+    }
 
-    const encoded = (text) => (typeof text === "string" ? new TextEncoder().encode(text) : text);
+    /** The records that a call returns for a text. */
+    records(call, data, more) {
+      return this.answer(call, data, more, recordsRoom(data.length), copyOf);
+    }
+
+    /** The HTML of the events that some records stand for. */
+    rendered(bytes) {
+      return this.answer("pcm_render", bytes, [], bytes.length + 256, stringOf);
+    }
+  }
+
+  /** The error for a status. */
+  const failure = (status) => {
+    if (status === NOT_UTF8) return new NotUtf8Error("the text is not UTF-8");
+    if (status === MALFORMED) return new records.MalformedError("the bytes are not the records of events");
+    return new OutOfMemoryError("out of memory");
+  };
+
+  /** The records of the events of a text, whose links without a definition are answered by a function of the caller. */
+  const answeredRecords = (instance, data, bits, brokenLink, placed) => {
+    const answers = new records.Writer(), asked = new Set();
+    for (;;) {
+      const { records: found, questions } = records.withoutQuestions(instance.records("pcm_events_answered", data, [bits, answers.bytes]));
+      let isAnswered = false;
+      for (const question of questions) {
+        const { start, end } = question, range = `${start} ${end}`;
+        if (asked.has(range)) continue;
+        asked.add(range);
+        records.writeAnswer(answers, question, brokenLink({ ...question, start: placed(start), end: placed(end) }));
+        isAnswered = true;
+      }
+      if (!isAnswered) return found;
+    }
+  };
+
+  /** The records of the events of a text. */
+  const recordsIn = (instance, text, data, bits, brokenLink) => {
+    if (brokenLink === null) return instance.records("pcm_events", data, [bits]);
+    if (typeof brokenLink !== "function") throw new TypeError("brokenLink is no function");
+    return answeredRecords(instance, data, bits, brokenLink, placedIn(text, data.length));
+  };
+
+  /** The functions of an instance of the module. */
+  const callsOf = (exported) => {
+    const instance = new Instance(exported);
 
     /**
      * The HTML of a text, which is a string or its UTF-8 bytes. It is not safe to show if the text comes from a stranger, except with `safe`:
      * then HTML is shown as text, a heading has no attribute but its anchor, and addresses are relative or begin with http:, https:, mailto:
      * or one of `schemes`. Safe HTML may still link to bad places, track by images, or mislead a math renderer.
      * Once the destinations and titles of references have `expansionLimit` bytes in all, further references stay text. The default limit is
-     * 100,000 bytes, or the length of the text if that is more. Safe HTML takes no limit.
+     * 100,000 bytes, or the length of the text if that is more. `brokenLink` is asked about links without a definition, as by `events`. With
+     * `allEntities` all names of entities are known, and otherwise eleven. Of `safe`, `expansionLimit` and `brokenLink` a call takes one.
      */
-    const html = (text, options = 0, { safe = false, schemes = [], expansionLimit = null } = {}) => {
-      if (safe && expansionLimit !== null) throw new RangeError("safe HTML takes no limit");
-      if (safe) return answer(module.pcm_safe_html_with, encoded(text), options, { names: encoded(schemes.join(" ")) });
-      if (expansionLimit !== null) return answer(module.pcm_html_within, encoded(text), options, { limit: limitOf(expansionLimit) });
-      return answer(module.pcm_html, encoded(text), options);
+    const html = (text, options = 0, { safe = false, schemes = [], expansionLimit = null, brokenLink = null, allEntities = false } = {}) => {
+      const data = encoded(text), bits = bitsOf(options, allEntities);
+      if ([safe, expansionLimit !== null, brokenLink !== null].filter(Boolean).length > 1) throw new RangeError("a call takes one of safe, expansionLimit and brokenLink");
+      if (safe && schemes.length) return instance.html("pcm_safe_html_with", data, [bits, encoded(schemes.join(" "))]);
+      if (safe) return instance.html("pcm_safe_html", data, [bits]);
+      if (expansionLimit !== null) return instance.html("pcm_html_within", data, [bits, limitOf(expansionLimit)]);
+      if (brokenLink !== null) return instance.rendered(recordsIn(instance, text, data, bits, brokenLink));
+      return instance.html("pcm_html", data, [bits]);
     };
 
-    /** The events of a text, each `{name, value, start, end}`. The range of the event in the text is `text.slice(start, end)`. */
-    const events = (text, options = 0) => {
-      const places = typeof text === "string" ? placesOf(text) : null;
-      const lines = answer(module.pcm_events_json, encoded(text), options).split("\n").slice(0, -1);
-      return lines.map((line) => {
-        const { range: [start, end], event: [name, value = null] } = JSON.parse(line);
-        return places ? { name, value, start: places[start], end: places[end] } : { name, value, start, end };
-      });
+    /**
+     * The events of a text, each `{ name, value, start, end }`. The range of an event in the text is `text.slice(start, end)`: in indices for
+     * a string, and in bytes for bytes. `brokenLink` is a function that is asked once about each link without a definition. It gets
+     * `{ linkType, reference, start, end }` and returns `{ destUrl, title }`, or null.
+     */
+    const events = (text, options = 0, { brokenLink = null, allEntities = false } = {}) => {
+      const data = encoded(text);
+      return new Events(recordsIn(instance, text, data, bitsOf(options, allEntities), brokenLink), text, placedIn(text, data.length));
+    };
+
+    /** The link reference definitions of a text, each `{ label, dest, title, start, end }`. The title is null if there is none. */
+    const references = (text, options = 0, { allEntities = false } = {}) => {
+      const data = encoded(text), bits = bitsOf(options, allEntities);
+      return records.readReferences(instance.records("pcm_references", data, [bits]), placedIn(text, data.length));
+    };
+
+    /** The HTML of some events, as `events` returns them or changed, or of the bytes of their records. It is not safe to show for a stranger. */
+    const render = (events) => {
+      if (isBytes(events)) return instance.rendered(events);
+      if (events instanceof Events) return instance.rendered(events.records);
+      if (typeof events?.[Symbol.iterator] !== "function") throw new TypeError("events are an iterable object, or the bytes of records");
+      return instance.rendered(records.recordsOf(events));
     };
 
     const version = () => {
-      const number = module.pcm_version();
+      const number = instance.calls.pcm_version();
       const label = number >>> 31 ? " (not proved: what the proof rules out is checked at run time)" : "";
       return `${(number >> 16) & 0x7fff}.${(number >> 8) & 255}.${number & 255}${label}`;
     };
-    return { html, events, version, OPTIONS };
+    return { html, events, references, merged, render, version, OPTIONS, ...errors };
   };
 
-  /** For each byte of a text in UTF-8, and for its end, the index in the string. */
-  const placesOf = (text) => {
-    const places = [];
-    let at = 0;
-    for (const character of text) {
-      const code = character.codePointAt(0), size = code < 0x80 ? 1 : code < 0x800 ? 2 : code < 0x10000 ? 3 : 4;
-      for (let byte = 0; byte < size; byte++) places.push(at);
-      at += character.length;
-    }
-    places.push(at);
-    return places;
-  };
-
-  return { load, callsOf, OPTIONS };
-})();
+  const errors = { NotUtf8Error, OutOfMemoryError, MalformedError: records.MalformedError };
+  return { load, callsOf, hasVectors, OPTIONS, ...errors };
+})(typeof pulldownCmarkRecords === "undefined" ? require("./records.js") : pulldownCmarkRecords);
 if (typeof module !== "undefined") module.exports = pulldownCmark;

@@ -2,8 +2,9 @@
 "use strict";
 const { readFileSync } = require("fs");
 const { join } = require("path");
-const { callsOf, OPTIONS } = require("./core.cjs");
+const { callsOf, hasVectors } = require("./pulldown_cmark.js");
 
-const compiled = new WebAssembly.Module(readFileSync(join(__dirname, "module.wasm")));
-const { html, events, version } = callsOf(new WebAssembly.Instance(compiled, {}));
-module.exports = { html, events, version, Options: OPTIONS };
+const file = hasVectors() ? "module_simd.wasm" : "module.wasm";
+const compiled = new WebAssembly.Module(readFileSync(join(__dirname, file)));
+const { OPTIONS, ...calls } = callsOf(new WebAssembly.Instance(compiled, {}));
+module.exports = { ...calls, Options: OPTIONS };

@@ -1,39 +1,116 @@
-/** How a link or an image is written. */
+/** A range of the given text: `text.slice(start, end)`. For a string these are indices of the string, for bytes they are byte offsets. */
+export interface Range {
+  start: number;
+  end: number;
+}
+
+/** How a link or an image is written, except a wikilink. */
 export type LinkType =
-  | "Inline" | "Reference" | "ReferenceUnknown" | "Collapsed" | "CollapsedUnknown" | "Shortcut" | "ShortcutUnknown" | "Autolink" | "Email"
-  | ["WikiLink", boolean];
+  | "Inline" | "Reference" | "ReferenceUnknown" | "Collapsed" | "CollapsedUnknown" | "Shortcut" | "ShortcutUnknown" | "Autolink" | "Email";
 
-/** An element that starts: its name, and its data in the order in which the library declares them. */
+/** The kind of an alert, which is a block quote. */
+export type BlockQuoteKind = "Note" | "Tip" | "Important" | "Warning" | "Caution";
+/** The alignment of a column of a table. */
+export type Alignment = "None" | "Left" | "Center" | "Right";
+/** How a metadata block is written: between lines of `---`, or of `+++`. */
+export type MetadataBlockKind = "YamlStyle" | "PlusesStyle";
+/** The level of a heading. */
+export type HeadingLevel = 1 | 2 | 3 | 4 | 5 | 6;
+
+/** The elements that have no fields, neither at their start nor at their end. */
+export type PlainName =
+  | "Paragraph" | "HtmlBlock" | "Item" | "DefinitionList" | "DefinitionListTitle" | "DefinitionListDefinition"
+  | "TableHead" | "TableRow" | "TableCell" | "Emphasis" | "Strong" | "Strikethrough" | "Superscript" | "Subscript" | "Highlight";
+
+/** What a link or an image leads to. `id` is the label of a reference, and otherwise empty. `title` may be empty. */
+export interface Destination {
+  destUrl: string;
+  title: string;
+  id: string;
+}
+
+/** An element that starts. */
 export type Tag =
-  | ["Paragraph"] | ["HtmlBlock"] | ["Item"] | ["DefinitionList"] | ["DefinitionListTitle"] | ["DefinitionListDefinition"]
-  | ["TableHead"] | ["TableRow"] | ["TableCell"]
-  | ["Emphasis"] | ["Strong"] | ["Strikethrough"] | ["Superscript"] | ["Subscript"] | ["Highlight"]
-  | ["Heading", 1 | 2 | 3 | 4 | 5 | 6, string | null, string[], [string, string | null][]]
-  | ["BlockQuote", "Note" | "Tip" | "Important" | "Warning" | "Caution" | null]
-  | ["CodeBlock", ["Indented"] | ["Fenced", string]]
-  | ["List", number | null]
-  | ["FootnoteDefinition", string]
-  | ["Table", ("None" | "Left" | "Center" | "Right")[]]
-  | ["Link" | "Image", LinkType, string, string, string]
-  | ["MetadataBlock", "YamlStyle" | "PlusesStyle"];
+  | { name: PlainName }
+  | { name: "Heading"; level: HeadingLevel; id: string | null; classes: string[]; attrs: [name: string, value: string | null][] }
+  | { name: "BlockQuote"; kind: BlockQuoteKind | null }
+  | { name: "CodeBlock"; kind: "Indented"; info: null }
+  | { name: "CodeBlock"; kind: "Fenced"; info: string }
+  /** A list. An ordered list has its first number. */
+  | { name: "List"; firstNumber: number | null }
+  | { name: "FootnoteDefinition"; label: string }
+  | { name: "Table"; alignments: Alignment[] }
+  | (Destination & { name: "Link" | "Image"; linkType: LinkType })
+  /** A wikilink. With a pothole, `[[page|text]]`, it has a text of its own. */
+  | (Destination & { name: "Link" | "Image"; linkType: "WikiLink"; hasPothole: boolean })
+  | { name: "MetadataBlock"; kind: MetadataBlockKind };
 
-/** An event. Its range in the text is `text.slice(start, end)`: for a string in UTF-16 units, for bytes in bytes. */
-export type Event = { start: number; end: number } & (
+/** An element that ends. */
+export type TagEnd =
+  | { name: PlainName | "CodeBlock" | "FootnoteDefinition" | "Table" | "Link" | "Image" }
+  | { name: "Heading"; level: HeadingLevel }
+  | { name: "BlockQuote"; kind: BlockQuoteKind | null }
+  | { name: "List"; isOrdered: boolean }
+  | { name: "MetadataBlock"; kind: MetadataBlockKind };
+
+/** An event without its range. */
+export type EventValue =
   | { name: "Start"; value: Tag }
-  | { name: "End"; value: [string, ...unknown[]] }
+  | { name: "End"; value: TagEnd }
   | { name: "Text" | "Code" | "InlineMath" | "DisplayMath" | "Html" | "InlineHtml" | "FootnoteReference"; value: string }
   | { name: "SoftBreak" | "HardBreak" | "Rule"; value: null }
-  | { name: "TaskListMarker"; value: boolean }
-);
+  /** Whether the box of a task is checked. */
+  | { name: "TaskListMarker"; value: boolean };
 
-/** Further settings of the HTML of a text. */
-export interface HtmlWishes {
+/** An event. */
+export type Event = EventValue & Range;
+
+/** The events of a text, in order. Each is read from the records of the library when it is asked for. */
+export interface Events extends Iterable<Event> {
+  /** The number of events. */
+  readonly length: number;
+  /** The event with this number, from 0; a negative number counts from the end. */
+  at(number: number): Event | undefined;
+  /** The line and the column in which an event or a definition of this text starts, both from 1. A column is an index or a byte. */
+  placeOf(range: { start: number }): { line: number; column: number };
+  /** The flat records of the events, as a copy. `render` takes them. */
+  readonly records: Uint8Array;
+}
+
+/** A link without a definition. */
+export interface BrokenLink extends Range {
+  linkType: "ReferenceUnknown" | "CollapsedUnknown" | "ShortcutUnknown";
+  /** The label that has no definition, as it is written. */
+  reference: string;
+}
+
+/** Answers for a link without a definition. With null or undefined it is no link. It is asked at most once for each range. */
+export type BrokenLinkCallback = (link: BrokenLink) => { destUrl: string; title?: string } | null | undefined;
+
+/** Further settings of the events of a text. */
+export interface EventsWishes {
+  /** Answers for links without a definition. */
+  brokenLink?: BrokenLinkCallback | null;
+  /** Whether all names of entities of HTML are known, and not only eleven. */
+  allEntities?: boolean;
+}
+
+/** Further settings of the HTML of a text. At most one of `safe`, `expansionLimit` and `brokenLink` may be set. */
+export interface HtmlWishes extends EventsWishes {
   /** Whether the HTML is to be safe to show, also if the text comes from a stranger. */
   safe?: boolean;
   /** For safe HTML: schemes that addresses may have, besides `http`, `https` and `mailto`. */
-  schemes?: string[];
+  schemes?: readonly string[];
   /** For plain HTML: once the destinations and titles of references have this number of bytes in all, further references stay text. */
   expansionLimit?: number | bigint | null;
+}
+
+/** A link reference definition. */
+export interface LinkDef extends Range {
+  label: string;
+  dest: string;
+  /** The title, or null if the definition has none. */
+  title: string | null;
 }
 
 /** The rules beyond CommonMark; join them by `|`. */
@@ -42,9 +119,24 @@ export declare const Options: Readonly<Record<
   | "PLUSES_DELIMITED_METADATA_BLOCKS" | "OLD_FOOTNOTES" | "MATH" | "GFM" | "DEFINITION_LIST" | "SUPERSCRIPT" | "SUBSCRIPT" | "WIKILINKS"
   | "HIGHLIGHT" | "EMAIL_AUTOLINKS", number>>;
 
+/** Bytes that are not UTF-8, or a string with half of a pair of surrogates. */
+export declare class NotUtf8Error extends TypeError {}
+/** There was no memory. The package works afterwards. */
+export declare class OutOfMemoryError extends RangeError {}
+/** Values that are not events, or bytes that are not the records of events. */
+export declare class MalformedError extends TypeError {}
+
 /** The HTML of a text. It is not safe to show if the text comes from a stranger, except with `{ safe: true }`. */
 export declare function html(text: string | Uint8Array, options?: number, wishes?: HtmlWishes): string;
 /** The events of a text, in order. */
-export declare function events(text: string | Uint8Array, options?: number): Event[];
+export declare function events(text: string | Uint8Array, options?: number, wishes?: EventsWishes): Events;
+/** The link reference definitions of a text, in order. Of definitions with the same label the first one counts. */
+export declare function references(text: string | Uint8Array, options?: number, wishes?: { allEntities?: boolean }): LinkDef[];
+/** The events, with adjacent texts joined. */
+export declare function merged(events: Iterable<Event>): IterableIterator<Event>;
+/** The HTML of events, or of their records. They need not be balanced, and need no ranges. The HTML is not safe to show for a stranger. */
+export declare function render(events: Iterable<EventValue & Partial<Range>>): string;
+/** The HTML of the flat records of events. It is not safe to show for a stranger. */
+export declare function render(records: Uint8Array): string;
 /** The version of the library. */
 export declare function version(): string;

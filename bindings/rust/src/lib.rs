@@ -1,130 +1,97 @@
-//! Markdown to HTML and to events, by a library that is proved.
+//! Markdown to events and to HTML: the API of [pulldown-cmark] 0.13 over a library that is proved.
 //!
-//! The library is written in Rattle, a Rust with contracts, and linked as an archive. Its output is proved to be the HTML, or the events,
-//! of the text as a written grammar reads it. This crate is not proved: it passes texts to the library and returns the results.
+//! The library is written in Rattle, a Rust with contracts, and linked as an archive. It is proved that its events and its HTML are those
+//! of a written grammar, and that it never panics. This crate is not proved. It passes texts to the library and makes [`Event`]s of the
+//! records that the library returns.
 //!
 //! ```
-//! use pulldown_cmark_proved::{events_json, html, safe_html, Options};
+//! use pulldown_cmark::{html, Event, Options, Parser};
 //!
-//! assert_eq!(html("~~Hi~~, *you*", Options::STRIKETHROUGH)?, "<p><del>Hi</del>, <em>you</em></p>\n");
-//! assert_eq!(safe_html("<b>", Options::NONE, &[])?, "<p>&lt;b&gt;</p>\n");
-//! assert_eq!(events_json("***", Options::NONE)?, "{\"range\":[0,3],\"event\":[\"Rule\"]}\n");
-//! # Ok::<(), pulldown_cmark_proved::OutOfMemory>(())
+//! let parser = Parser::new_ext("~~Hi~~, *you*", Options::ENABLE_STRIKETHROUGH);
+//! let parser = parser.map(|event| match event {
+//!     Event::Text(text) => Event::Text(text.to_uppercase().into()),
+//!     other => other,
+//! });
+//!
+//! let mut out = String::new();
+//! html::push_html(&mut out, parser);
+//! assert_eq!(out, "<p><del>HI</del>, <em>YOU</em></p>\n");
 //! ```
+//!
+//! # Memory
+//!
+//! If memory is refused, the methods of pulldown-cmark that have no error panic: [`Parser::next`](Iterator::next),
+//! [`Parser::reference_definitions`], the merge streams and [`html::push_html`]. Each parser method that panics so has a variant that
+//! returns an [`Error`] instead, and leaves everything as it was: [`Parser::try_next`], [`OffsetIter::try_next`],
+//! [`Parser::try_reference_definitions`], [`html::try_push_html`]. Nothing else in this crate panics. Conversions of texts such as `clone`
+//! and `into_static` take memory as the standard library does.
+//!
+//! [pulldown-cmark]: https://docs.rs/pulldown-cmark/0.13
 #![warn(missing_docs)]
+#![deny(unsafe_code)]
 
+mod answers;
+mod callback;
+mod cow;
+mod decode;
+mod definitions;
+mod encode;
+mod error;
+mod event;
+pub mod html;
+mod kinds;
+mod lend;
+#[cfg(test)]
+mod malformed;
+mod merge;
+#[allow(unsafe_code)]
 mod native;
+mod options;
+mod parser;
+mod record;
+mod tag;
 
-use std::fmt;
-use std::ops::{BitOr, BitOrAssign};
+pub use callback::{BrokenLink, BrokenLinkCallback, DefaultBrokenLinkCallback};
+pub use cow::{CowStr, InlineStr, StringTooLongError};
+pub use definitions::{LinkDef, RefDefs};
+pub use error::Error;
+pub use event::Event;
+pub use kinds::{
+    Alignment, BlockQuoteKind, CodeBlockKind, HeadingLevel, InvalidHeadingLevel, LinkType,
+    MetadataBlockKind,
+};
+pub use merge::{TextMergeStream, TextMergeWithOffset};
+pub use options::Options;
+pub use parser::{OffsetIter, Parser};
+pub use tag::{Tag, TagEnd};
 
-/// The rules beyond CommonMark. Join them by `|`.
-#[derive(Clone, Copy, Debug, Default, PartialEq, Eq, Hash)]
-pub struct Options(u32);
-
-impl Options {
-    /// CommonMark alone.
-    pub const NONE: Options = Options(0);
-    /// Tables.
-    pub const TABLES: Options = Options(2);
-    /// Footnotes in GitHub's form.
-    pub const FOOTNOTES: Options = Options(4);
-    /// Strikethrough: `~a~` and `~~a~~`.
-    pub const STRIKETHROUGH: Options = Options(8);
-    /// Task list items: `- [x] a`.
-    pub const TASKLISTS: Options = Options(16);
-    /// Typographic quotes, dashes and ellipses.
-    pub const SMART_PUNCTUATION: Options = Options(32);
-    /// Attributes of headings: `# a {#b .c}`.
-    pub const HEADING_ATTRIBUTES: Options = Options(64);
-    /// Metadata between lines of `---`.
-    pub const YAML_STYLE_METADATA_BLOCKS: Options = Options(128);
-    /// Metadata between lines of `+++`.
-    pub const PLUSES_DELIMITED_METADATA_BLOCKS: Options = Options(256);
-    /// Footnotes in the original's older form; it includes the bit of `FOOTNOTES`.
-    pub const OLD_FOOTNOTES: Options = Options(516);
-    /// Formulas: `$a$` and `$$a$$`.
-    pub const MATH: Options = Options(1024);
-    /// Only alerts: `> [!NOTE]`. Use `GITHUB` for all rules that GitHub reads.
-    pub const GFM: Options = Options(2048);
-    /// Definition lists.
-    pub const DEFINITION_LIST: Options = Options(4096);
-    /// Superscript: `^a^`.
-    pub const SUPERSCRIPT: Options = Options(8192);
-    /// Subscript: `~a~`.
-    pub const SUBSCRIPT: Options = Options(16384);
-    /// Links by name: `[[page]]`.
-    pub const WIKILINKS: Options = Options(32768);
-    /// Highlighted text: `==a==`.
-    pub const HIGHLIGHT: Options = Options(65536);
-    /// Links by email address: `<a@b.c>`.
-    pub const EMAIL_AUTOLINKS: Options = Options(131072);
-    /// The rules that GitHub reads: tables, footnotes, strikethrough, task lists, alerts and links by email address.
-    pub const GITHUB: Options = Options(2 | 4 | 8 | 16 | 2048 | 131072);
-
-    /// The bits of the options.
-    pub const fn bits(self) -> u32 {
-        self.0
-    }
+/// The merge streams, under the name of their module in pulldown-cmark.
+pub mod utils {
+    pub use crate::merge::{TextMergeStream, TextMergeWithOffset};
 }
 
-impl BitOr for Options {
-    type Output = Options;
-
-    fn bitor(self, other: Options) -> Options {
-        Options(self.0 | other.0)
-    }
-}
-
-impl BitOrAssign for Options {
-    fn bitor_assign(&mut self, other: Options) {
-        self.0 |= other.0;
-    }
-}
-
-/// The library was refused memory.
-#[derive(Clone, Copy, Debug, PartialEq, Eq)]
-pub struct OutOfMemory;
-
-impl fmt::Display for OutOfMemory {
-    fn fmt(&self, f: &mut fmt::Formatter<'_>) -> fmt::Result {
-        f.write_str("the library was refused memory")
-    }
-}
-
-impl std::error::Error for OutOfMemory {}
-
-/// The HTML of a text.
+/// Returns the events of a text as lines of JSON: one line for each event, `{"range":[FROM,TO],"event":[NAME,DATA..]}`. The range has
+/// byte offsets of the text.
 ///
-/// It is not safe to show if the text comes from a stranger: raw HTML is kept as it is, links may lead to `javascript:`, and headings may
-/// have attributes such as `onclick`. Use [`safe_html`] for such texts.
-pub fn html(text: &str, options: Options) -> Result<String, OutOfMemory> {
-    native::html(text, options.bits())
-}
-
-/// The HTML of a text within a reference expansion limit, in bytes.
+/// ```
+/// use pulldown_cmark::{events_json, Options};
 ///
-/// References copy the destinations and titles of definitions. Once these have `limit` bytes, further references remain text. [`html`] takes
-/// 100,000, or the length of the text if that is more. Like [`html`], this is not for a stranger's text.
-pub fn html_within(text: &str, options: Options, limit: usize) -> Result<String, OutOfMemory> {
-    native::html_within(text, options.bits(), limit)
-}
-
-/// HTML that is safe to show, also if the text comes from a stranger.
+/// assert_eq!(events_json("***", Options::empty())?, "{\"range\":[0,3],\"event\":[\"Rule\"]}\n");
+/// # Ok::<(), pulldown_cmark::Error>(())
+/// ```
 ///
-/// HTML in the text is shown as text, and a heading has no attribute but its anchor. Addresses are relative or begin with `http:`,
-/// `https:`, `mailto:` or one of `schemes`; all others become empty. `javascript`, `vbscript`, `data` and `file` are never taken from
-/// `schemes`.
-pub fn safe_html(text: &str, options: Options, schemes: &[&str]) -> Result<String, OutOfMemory> {
-    native::safe_html(text, options.bits(), &schemes.join(" "))
+/// # Errors
+///
+/// [`Error::OutOfMemory`] if memory is refused.
+pub fn events_json(text: &str, options: Options) -> Result<String, Error> {
+    native::events_json(text, options.library_bits())
 }
 
-/// The events of a text: one line of JSON for each, `{"range":[FROM,TO],"event":[NAME,DATA..]}`. The range has byte offsets of the text.
-pub fn events_json(text: &str, options: Options) -> Result<String, OutOfMemory> {
-    native::events_json(text, options.bits())
-}
-
-/// The version of the library. It ends with `+not.proved` if the library was built without proofs.
+/// Returns the version of the library. It ends with `+not.proved` if the library was built without proofs.
+///
+/// ```
+/// assert!(pulldown_cmark::library_version().starts_with("0.13."));
+/// ```
 pub fn library_version() -> String {
     let version = native::version();
     let label = if version >> 31 == 1 {
@@ -132,73 +99,6 @@ pub fn library_version() -> String {
     } else {
         ""
     };
-    format!(
-        "{}.{}.{}{label}",
-        version >> 16 & 0x7fff,
-        version >> 8 & 255,
-        version & 255
-    )
-}
-
-#[cfg(test)]
-mod tests {
-    use super::*;
-
-    #[test]
-    fn answers_longer_than_the_first_room_are_whole() {
-        let text = "> ".repeat(400) + "a";
-        let html = html(&text, Options::NONE).unwrap();
-        assert_eq!(html.matches("<blockquote>").count(), 400);
-        assert_eq!(html.matches("</blockquote>").count(), 400);
-        assert_eq!(
-            events_json(&text, Options::NONE).unwrap().lines().count(),
-            803
-        );
-    }
-
-    #[test]
-    fn a_text_may_be_empty() {
-        assert_eq!(html("", Options::NONE), Ok(String::new()));
-        assert_eq!(events_json("", Options::NONE), Ok(String::new()));
-    }
-
-    #[test]
-    fn references_stay_below_the_limit() {
-        let text = "[x] [x]\n\n[x]: /u";
-        let one = "<p><a href=\"/u\">x</a> [x]</p>\n";
-        assert_eq!(html_within(text, Options::NONE, 1).unwrap(), one);
-        assert_eq!(
-            html_within(text, Options::NONE, 0).unwrap(),
-            "<p>[x] [x]</p>\n"
-        );
-        assert_eq!(
-            html_within(text, Options::NONE, 100_000),
-            html(text, Options::NONE)
-        );
-    }
-
-    #[test]
-    fn schemes_are_taken_but_for_some() {
-        let text = "[a](tel:1) [b](data:c)";
-        assert_eq!(
-            safe_html(text, Options::NONE, &["tel", "data"]).unwrap(),
-            "<p><a href=\"tel:1\">a</a> <a href=\"\">b</a></p>\n"
-        );
-    }
-
-    #[test]
-    fn options_join() {
-        let mut options = Options::TABLES;
-        options |= Options::FOOTNOTES
-            | Options::STRIKETHROUGH
-            | Options::TASKLISTS
-            | Options::GFM
-            | Options::EMAIL_AUTOLINKS;
-        assert_eq!(options, Options::GITHUB);
-    }
-
-    #[test]
-    fn the_version_is_that_of_the_crate() {
-        assert_eq!(library_version(), env!("CARGO_PKG_VERSION"));
-    }
+    let [_, major, minor, patch] = (version & 0x7fff_ffff).to_be_bytes();
+    format!("{major}.{minor}.{patch}{label}")
 }

@@ -133,6 +133,14 @@ with-few (Alone event) element n l others = omega arith
 with-few (First event) element n l others = let f = first-few element (over n event) others in omega (arith, f)
 with-few Silent element n l others = omega arith
 
+-- a drawing is in order if the document is that it draws, and its ranges begin and end at the same kind of places
+module _ (d whole : BlockDocument) (settles : settled false d ≡ without_definitions whole) where
+  pub drawing-order : (to : ℕ) → InOrder 0 whole to → InOrder 0 d to
+  drawing-order to h = settled-order false 0 d to (subst (λ x. InOrder 0 x to) (sym settles) (whole-order 0 whole to h))
+
+  pub drawing-edges : (Place : ℕ → Type 0) → AllAt Place whole → AllAt Place d
+  drawing-edges Place h = settled-edges Place false d (subst (AllAt Place) (sym settles) (whole-edges Place whole h))
+
 read-few : (d : BlockDocument) → length (block_reading d) ≤ 2 * count_nodes d
 read-few Nil = omega arith
 read-few (Node n inside after) =
@@ -153,12 +161,10 @@ module _ (text : List ℕ) (options : Options) (lookup : Lookup) where
 
   pub drawn-order : InOrder 0 (pass_over text options lookup).drawing.here (length text)
   drawn-order =
-      settled-order false 0 (pass_over text options lookup).drawing.here (length text)
-      (subst (λ d. InOrder 0 d (length text)) (sym (pass-draws text options lookup).0)
-      (whole-order 0 (document text options lookup) (length text) (derived-order text options lookup (document text options lookup) derived)))
+      drawing-order (pass_over text options lookup).drawing.here (document text options lookup) (pass-draws text options lookup).0 (length text)
+      (derived-order text options lookup (document text options lookup) derived)
 
   pub drawn-edges : IsUtf8 text → AllAt (IsCharBoundary text) (pass_over text options lookup).drawing.here
   drawn-edges utf8 =
-      settled-edges (IsCharBoundary text) false (pass_over text options lookup).drawing.here
-      (subst (AllAt (IsCharBoundary text)) (sym (pass-draws text options lookup).0)
-      (whole-edges (IsCharBoundary text) (document text options lookup) (derived-boundaries text options lookup (document text options lookup) utf8 derived)))
+      drawing-edges (pass_over text options lookup).drawing.here (document text options lookup) (pass-draws text options lookup).0 (IsCharBoundary text)
+      (derived-boundaries text options lookup (document text options lookup) utf8 derived)

@@ -34,7 +34,7 @@ AreNoDefinitions Nil = Unit {0}
 AreNoDefinitions (Node n inside after) = (is_definition n.kind ≡ false) × AreNoDefinitions after
 
 -- the leaves contain no definition
-abbrev HasWholeLeaves : BlockDocument → Type 0
+abbrev pub HasWholeLeaves : BlockDocument → Type 0
 HasWholeLeaves Nil = Unit {0}
 HasWholeLeaves (Node n inside after) = (is_leaf n.kind ≡ true → AreNoDefinitions inside) × HasWholeLeaves inside × HasWholeLeaves after
 
@@ -190,7 +190,7 @@ document-whole text options lookup direct before (ContainerBlock (ListDefinition
     item-whole (goes_on definition_delimiter after) (DefinitionList tight) (node DefinitionListDefinition (begin_of first) (last_line_end first more)) (document_of text options lookup tight None inside) (document_of text options lookup direct (Some (record { delimiter = definition_delimiter; tight = tight })) after) refl (λ e. no-leaf false refl _ e)
     (document-whole text options lookup tight None inside) (document-whole text options lookup direct (Some (record { delimiter = definition_delimiter; tight = tight })) after)
 
-derived-whole : (text : List ℕ) (options : Options) (lookup : Lookup) (d : BlockDocument) → Derives text options lookup d → HasWholeLeaves d
+pub derived-whole : (text : List ℕ) (options : Options) (lookup : Lookup) (d : BlockDocument) → Derives text options lookup d → HasWholeLeaves d
 derived-whole text options lookup d h = subst HasWholeLeaves (sym h.2) (document-whole text options lookup false None h.0)
 
 -- a leaf without definitions keeps its stretches

@@ -1,22 +1,24 @@
--- The pass draws the document of the text.
-use Rattle.std.proofs.Common.{◌≡◌, ℕ, Bool, false, List, [], ◌∷◌, refl, ap, ◌∙◌, sym, subst, None}
+-- The pass draws the document of the text, or of the rest of a text.
+use Rattle.std.proofs.Common.{◌≡◌, ℕ, Bool, false, List, [], ◌∷◌, ◌++◌, ◌+◌, length, drop, refl, ap, ◌∙◌, sym, subst, None}
 use Rattle.cmark_grammar.specs.Answers.{Lookup}
 use Rattle.cmark_grammar.specs.Options.{Options}
-use Rattle.cmark_grammar.specs.Rows.{Row, rows, shown, show_as}
-use Rattle.cmark_grammar.specs.Blocks.{Nil as NoBlocks}
+use Rattle.cmark_grammar.specs.Rows.{Row, rows_from, shown, show_as}
+use Rattle.cmark_grammar.specs.Blocks.{Blocks, Nil as NoBlocks}
 use Rattle.cmark_grammar.specs.BlocksModel.{blocks}
 use Rattle.cmark_grammar.specs.BlocksByLine.{OpenLines, Between, close_lines, lines_feed, lines_feed_all, blocks_by_line}
-use Rattle.cmark_grammar.specs.Derivation.{document}
+use Rattle.cmark_grammar.specs.Derivation.{document_of, document}
 use Rattle.cmark_grammar.specs.DrawnDocument.{settled, without_definitions}
 use Rattle.cmark_grammar.specs.References.{references}
 use Rattle.cmark_grammar.specs.SpanDocuments.{footnote_labels}
 use Rattle.cmark_grammar.specs.BlockDocument as document
-use Rattle.cmark_grammar.specs.BlockDocument.{node}
-use Rattle.cmark_grammar.proofs.BlocksSound.{AreWhole, rows-whole}
+use Rattle.cmark_grammar.specs.BlockDocument.{node, Reference}
+use Rattle.cmark_grammar.specs.Lines.{lines}
+use Rattle.cmark_grammar.proofs.BlocksSound.{AreWhole}
 use Rattle.cmark_grammar.proofs.BlocksByLine.{by_line-same}
 use Rattle.cmark_block_model.specs.Drawing.{nothing_drawn}
 use Rattle.cmark_block_model.specs.OpenBlocks.{Closed, no_siblings, Pass}
 use Rattle.cmark_block_model.specs.BlockPass.{ended, containers_closed, line_fed, lines_fed, all_closed, pass_over}
+use Rattle.cmark_block_model.specs.Tails.{rows_after, blocks_after, document_after, starting_at, pass_after}
 use Rattle.cmark_block_model.proofs.Replay.{Noted, Level, replay}
 use Rattle.cmark_block_model.proofs.Standing.{First}
 use Rattle.cmark_block_model.proofs.Split.{split}
@@ -30,19 +32,19 @@ use Rattle.cmark_block_model.proofs.Keeping.{feed-fits}
 use Rattle.cmark_block_model.proofs.Simulation.{simulates}
 use Rattle.cmark_block_model.proofs.DefinitionDelimiters.{OpenUnmarked, feed-unmarked}
 
-abbrev nothing_noted : Noted
-nothing_noted = record { references = []; footnotes = [] }
-
--- the level at the beginning
-abbrev pub bottom : Level
-bottom = record { drawing = nothing_drawn; inner = no_siblings; noted = nothing_noted }
+-- the level at the beginning, after definitions of earlier lines
+abbrev pub bottom_after : Noted → Level
+bottom_after noted = record { drawing = nothing_drawn; inner = no_siblings; noted = noted }
 
 -- the end of the last of these lines
 abbrev pub end_behind : ℕ → List Row → ℕ
 end_behind n [] = n
 end_behind n (r ∷ rs) = end_behind r.line_end rs
 
-module _ (text : List ℕ) (options : Options) (lookup : Lookup) where
+module _ (text : List ℕ) (options : Options) (lookup : Lookup) (noted : Noted) where
+  abbrev bottom : Level
+  bottom = bottom_after noted
+
   shown-whole : (rs : List Row) → AreWhole options rs → shown rs ≡ rs
   shown-whole [] h = refl
   shown-whole (r ∷ rs) h = ap (λ z. show_as z r (shown rs)) h.0 ∙ ap (λ x. r ∷ x) (shown-whole rs h.1)
@@ -78,22 +80,69 @@ module _ (text : List ℕ) (options : Options) (lookup : Lookup) where
       (leaf-closes text options lookup o false n bottom (containers_at text options lookup o bottom) (bare_at false o) f)
       ∙ ap {A = Pass} {B = Pass} (λ q. record q { drawing = ended q.inner q.drawing }) (containers-close text options lookup o false n bottom [] (bare_at false o) f)
 
-  -- the pass is the state after the blocks of the text
-  pass-done : (bare : Bool) × (n : ℕ) × (pass_over text options lookup ≡ done (replay text options lookup (blocks options text) bottom) bare n)
-  unfolding pass_over blocks_by_line
-  pass-done =
-      let o = lines_feed_all options (Between NoBlocks) (rows text) in
-      let n = end_behind 0 (rows text) in
-      let h = rows-whole options text in (
+  -- the pass is the state after the blocks of the lines
+  lines-done : (from : ℕ) (rs : List Row) → AreWhole options rs
+      → (bare : Bool) × (n : ℕ)
+      × (all_closed text options lookup (lines_fed text options lookup rs (starting_at from noted.references noted.footnotes)) ≡ done (replay text options lookup (close_lines (lines_feed_all options (Between NoBlocks) rs)) bottom) bare n)
+  lines-done from rs h =
+      let o = lines_feed_all options (Between NoBlocks) rs in
+      let n = end_behind from rs in (
         bare_at false o,
         n,
-        ap (all_closed text options lookup) (all-fed (rows text) (Between NoBlocks) 0 h tt tt)
-            ∙ all-closes o n (all-fit (rows text) (Between NoBlocks) 0 h tt)
-            ∙ ap (λ b. done (replay text options lookup b bottom) (bare_at false o) n) (by_line-same options text),
+        ap (all_closed text options lookup) (all-fed rs (Between NoBlocks) from h tt tt) ∙ all-closes o n (all-fit rs (Between NoBlocks) from h tt),
       )
 
-  drawn-all : finished (replay text options lookup (blocks options text) bottom) ≡ record { here = (split text options lookup None (blocks options text)).after; up = [] }
-  drawn-all = draws text options lookup (blocks options text) First (record { left = document.Nil; node = node document.Paragraph 0 0 }) document.Nil [] false false nothing_noted
+  drawn-all : (b : Blocks) → finished (replay text options lookup b bottom) ≡ record { here = (split text options lookup None b).after; up = [] }
+  drawn-all b = draws text options lookup b First (record { left = document.Nil; node = node document.Paragraph 0 0 }) document.Nil [] false false noted
+
+-- ## The rest of a text
+
+whole-rows : (options : Options) (at : ℕ) (ls : List (List ℕ)) → AreWhole options (rows_from at ls)
+whole-rows options at [] = tt
+whole-rows options at (l ∷ ls) = (refl, whole-rows options (at + length l) ls)
+
+module _ (text : List ℕ) (options : Options) (lookup : Lookup) (from : ℕ) (earlier : List Reference) (labelled : List (List ℕ)) where
+  abbrev noted_before : Noted
+  noted_before = record { references = earlier; footnotes = labelled }
+
+  abbrev rest : Pass
+  rest = pass_after text options lookup from earlier labelled
+
+  abbrev b : Blocks
+  b = blocks_after options text from
+
+  rest-done : (bare : Bool) × (n : ℕ) × (rest ≡ done text options lookup noted_before (replay text options lookup b (bottom_after noted_before)) bare n)
+  unfolding pass_after
+  rest-done = lines-done text options lookup noted_before from (rows_after text from) (whole-rows options from (lines (drop from text)))
+
+  pub rest-draws :
+      (settled false rest.drawing.here ≡ without_definitions (document_after text options lookup from))
+      × (rest.drawing.up ≡ [])
+      × (rest.references ≡ earlier ++ references (document_after text options lookup from))
+      × (rest.footnotes ≡ labelled ++ footnote_labels (document_after text options lookup from))
+  rest-draws =
+      let p = rest-done in
+      let drawn = drawn-all text options lookup noted_before b in (
+        ap (λ x. settled false x.drawing.here) p.2 ∙ ap (λ d. settled false d.here) drawn ∙ settles text options lookup b false None,
+        ap (λ x. x.drawing.up) p.2 ∙ ap (λ d. d.up) drawn,
+        ap (λ x. x.references) p.2 ∙ defines text options lookup b false None (bottom_after noted_before),
+        ap (λ x. x.footnotes) p.2 ∙ labels text options lookup b false None (bottom_after noted_before),
+      )
+
+-- ## A whole text
+
+module _ (text : List ℕ) (options : Options) (lookup : Lookup) where
+  -- the blocks from the beginning on are those of the text
+  pub blocks-whole : blocks_after options text 0 ≡ blocks options text
+  unfolding blocks_by_line
+  blocks-whole = by_line-same options text
+
+  pub document-whole : document_after text options lookup 0 ≡ document text options lookup
+  document-whole = ap (document_of text options lookup false None) blocks-whole
+
+  pub pass-whole : pass_over text options lookup ≡ pass_after text options lookup 0 [] []
+  unfolding pass_over pass_after
+  pass-whole = refl
 
   pub pass-draws :
       (settled false (pass_over text options lookup).drawing.here ≡ without_definitions (document text options lookup))
@@ -101,9 +150,10 @@ module _ (text : List ℕ) (options : Options) (lookup : Lookup) where
       × ((pass_over text options lookup).references ≡ references (document text options lookup))
       × ((pass_over text options lookup).footnotes ≡ footnote_labels (document text options lookup))
   pass-draws =
-      let p = pass-done in (
-        ap (λ x. settled false x.drawing.here) p.2 ∙ ap (λ d. settled false d.here) drawn-all ∙ settles text options lookup (blocks options text) false None,
-        ap (λ x. x.drawing.up) p.2 ∙ ap (λ d. d.up) drawn-all,
-        ap (λ x. x.references) p.2 ∙ defines text options lookup (blocks options text) false None bottom,
-        ap (λ x. x.footnotes) p.2 ∙ labels text options lookup (blocks options text) false None bottom,
+      let p = rest-draws text options lookup 0 [] [] in
+      let same = document-whole in (
+        ap (λ x. settled false x.drawing.here) pass-whole ∙ p.0 ∙ ap without_definitions same,
+        ap (λ x. x.drawing.up) pass-whole ∙ p.1,
+        ap (λ x. x.references) pass-whole ∙ p.2 ∙ ap references same,
+        ap (λ x. x.footnotes) pass-whole ∙ p.3 ∙ ap footnote_labels same,
       )

@@ -1,8 +1,8 @@
 //! Theorems over the block pass. Each is the contract of a function with an empty body.
 
-ghost use Rattle.std.specs.Prelude.{◌≡◌, ℕ, false, ◌+◌, ◌*◌, ◌≤◌, List, [], length, IsUtf8, IsCharBoundary};
+ghost use Rattle.std.specs.Prelude.{◌≡◌, ℕ, false, ◌+◌, ◌*◌, ◌≤◌, List, [], ◌++◌, length, IsUtf8, IsCharBoundary};
 ghost use Rattle.cmark_grammar.specs.Answers.{Lookup};
-ghost use Rattle.cmark_grammar.specs.BlockDocument.{BlockDocument};
+ghost use Rattle.cmark_grammar.specs.BlockDocument.{BlockDocument, Reference};
 ghost use Rattle.cmark_grammar.specs.BlockReading.{block_reading};
 ghost use Rattle.cmark_grammar.specs.Derivation.{Derives, document};
 ghost use Rattle.cmark_grammar.specs.DrawnDocument.{settled, without_definitions};
@@ -11,6 +11,7 @@ ghost use Rattle.cmark_grammar.specs.Ranges.{AllAt, InOrder, count_tables};
 ghost use Rattle.cmark_grammar.specs.References.{references};
 ghost use Rattle.cmark_grammar.specs.SpanDocuments.{footnote_labels, segments};
 ghost use Rattle.cmark_block_model.specs.BlockPass.{pass_over};
+ghost use Rattle.cmark_block_model.specs.Tails.{document_after, pass_after};
 
 /// The pass over a text draws the document that the text derives. After the paragraphs of tight lists are settled, the drawing is that
 /// document without its link reference definitions, and no node is open. The references are the document's definitions. The labels of
@@ -23,6 +24,21 @@ pub fn pass_draws_the_document()
         → (pass_over text options lookup).references ≡ references (document text options lookup) }
     ensures labelled { (text : List ℕ) (options : Options) (lookup : Lookup)
         → (pass_over text options lookup).footnotes ≡ footnote_labels (document text options lookup) }
+{}
+
+/// The pass over the rest of a text, from an offset on, draws the document of the lines there. Its references are the earlier definitions,
+/// followed by those of this document, and so are its labels of footnotes. From offset 0 it is the pass over the text.
+pub fn pass_draws_the_rest()
+    ensures drawn { (text : List ℕ) (options : Options) (lookup : Lookup) (from : ℕ) (earlier : List Reference) (labels : List (List ℕ))
+        → settled false (pass_after text options lookup from earlier labels).drawing.here ≡ without_definitions (document_after text options lookup from) }
+    ensures closed { (text : List ℕ) (options : Options) (lookup : Lookup) (from : ℕ) (earlier : List Reference) (labels : List (List ℕ))
+        → (pass_after text options lookup from earlier labels).drawing.up ≡ [] }
+    ensures referred { (text : List ℕ) (options : Options) (lookup : Lookup) (from : ℕ) (earlier : List Reference) (labels : List (List ℕ))
+        → (pass_after text options lookup from earlier labels).references ≡ earlier ++ references (document_after text options lookup from) }
+    ensures labelled { (text : List ℕ) (options : Options) (lookup : Lookup) (from : ℕ) (earlier : List Reference) (labels : List (List ℕ))
+        → (pass_after text options lookup from earlier labels).footnotes ≡ labels ++ footnote_labels (document_after text options lookup from) }
+    ensures whole { (text : List ℕ) (options : Options) (lookup : Lookup) → pass_over text options lookup ≡ pass_after text options lookup 0 [] [] }
+    ensures document { (text : List ℕ) (options : Options) (lookup : Lookup) → document_after text options lookup 0 ≡ document text options lookup }
 {}
 
 /// A document and the same document without its link reference definitions have the same events (CommonMark 4.7).

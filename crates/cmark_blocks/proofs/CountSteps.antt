@@ -50,12 +50,17 @@ left-count (Node node inside after) = go (is_definition node.kind) (left-count i
     go true i a = omega (arith, i, a)
     go false i a = omega (arith, i, a)
 
-pub drawn-few : (text : List ℕ) (options : Options) (lookup : Lookup) (texts : List CowStr) (f : Forest Item) → shown_forest text texts f ≡ nodes_of (pass_over text options lookup).drawing.here → size f ≤ 4 * length text + 262144 * count_tables (document text options lookup)
-drawn-few text options lookup texts f is =
-    let d : BlockDocument = (pass_over text options lookup).drawing.here in
+-- a tree that shows a drawing has no more nodes than the document that was drawn
+pub drawn-within : (text : List ℕ) (texts : List CowStr) (f : Forest Item) (d whole : BlockDocument) → shown_forest text texts f ≡ nodes_of d → settled false d ≡ without_definitions whole → size f ≤ count_nodes whole
+drawn-within text texts f d whole is settles =
     let shown = shown-size text texts f in
     let nodes : size (shown_forest text texts f) ≡ count_nodes d = ap size is ∙ nodes-count d in
-    let drawn : count_nodes d ≡ count_nodes (without_definitions (document text options lookup)) = sym (settled-count false d) ∙ ap count_nodes (pass-draws text options lookup).0 in
-    let left = left-count (document text options lookup) in
+    let drawn : count_nodes d ≡ count_nodes (without_definitions whole) = sym (settled-count false d) ∙ ap count_nodes settles in
+    let left = left-count whole in
+    omega (arith, shown, nodes, drawn, left)
+
+pub drawn-few : (text : List ℕ) (options : Options) (lookup : Lookup) (texts : List CowStr) (f : Forest Item) → shown_forest text texts f ≡ nodes_of (pass_over text options lookup).drawing.here → size f ≤ 4 * length text + 262144 * count_tables (document text options lookup)
+drawn-few text options lookup texts f is =
+    let within = drawn-within text texts f (pass_over text options lookup).drawing.here (document text options lookup) is (pass-draws text options lookup).0 in
     let few = derived-count text options lookup (document text options lookup) (derived text options lookup) in
-    omega (arith, shown, nodes, drawn, left, few)
+    omega (arith, within, few)

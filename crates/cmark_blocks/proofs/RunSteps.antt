@@ -90,7 +90,7 @@ module _ {E : Type 0} (replacement : E → Lookup) (text : List ℕ) (options : 
     footnotes = runs.footnotes;
   }
 
-  pub list_is : Runs replacement text options lookup m pass → option_map shown_list pass.inner.list ≡ m.inner.list
+  pub list_is : Runs replacement text options lookup m pass → (shown_siblings pass.inner).list ≡ m.inner.list
   list_is runs = ap (λ s. s.list) runs.inner
 
   -- the open containers

@@ -14,4 +14,5 @@ pub mod Setext
 pub mod Shown
 pub mod Steps
 pub mod TablesAhead
+pub mod Tails
 pub mod Titles

@@ -3,6 +3,8 @@ use Rattle.std.specs.Prelude.{◌≡◌, ℕ, List, [], ◌∷◌, Option, Some,
 use Rattle.cmark_items.specs.ItemNodes.{list_number}
 use Rattle.cmark_lines.specs.Starts.{Shows}
 use Rattle.cmark_block_model.specs.OpenBlocks as model
+use Rattle.cmark_blocks.specs.declared.siblings.LastBlock.{LastBlock}
+use Rattle.cmark_blocks.specs.declared.siblings.LastBlock.TheVariants.{Paragraph, Other}
 use Rattle.cmark_blocks.specs.declared.siblings.OpenList.{OpenList}
 use Rattle.cmark_blocks.specs.declared.siblings.Siblings.{Siblings}
 use Rattle.cmark_blocks.specs.declared.siblings.Title.{Title}
@@ -14,8 +16,18 @@ shown_list l = record { delimiter = l.delimiter; number = list_number l.delimite
 abbrev pub shown_title : Title → model.Title
 shown_title t = record { list = option_map shown_list t.list; parted = t.parted }
 
+-- the open list: none, if the last block is a paragraph
+abbrev pub shown_open : LastBlock → Option OpenList → Option model.OpenList
+shown_open (Paragraph parted) list = None
+shown_open Other list = option_map shown_list list
+
+-- the state before the last block, if that is a paragraph
+abbrev pub shown_last : LastBlock → Option OpenList → Option model.Title
+shown_last (Paragraph parted) list = Some (record { list = option_map shown_list list; parted = parted })
+shown_last Other list = None
+
 abbrev pub shown_siblings : Siblings → model.Siblings
-shown_siblings s = record { has_line = s.has_line; blank = s.blank; parted = s.parted; list = option_map shown_list s.list; title = option_map shown_title s.title }
+shown_siblings s = record { has_line = s.has_line; blank = s.blank; parted = s.parted; list = shown_open s.last s.list; title = shown_last s.last s.list }
 
 -- the list, if it has this character
 abbrev pub list_of : (delimiter : ℕ) → Option model.OpenList → Option model.OpenList

@@ -17,3 +17,11 @@ list_around (Some t) = t.list
 abbrev pub with_title : Option OpenList → (parted : Bool) → (start : ℕ) → Siblings → Siblings
 with_title None parted start s = record s { blank = false; list = Some (record { delimiter = definition_delimiter; number = None; loose = s.blank; end = start }); title = None }
 with_title (Some l) parted start s = record s { blank = false; parted = parted; list = Some (record l { loose = l.loose || s.blank }); title = None }
+
+-- the siblings after the last one, a paragraph, became another block
+abbrev pub untitled : Siblings → Siblings
+untitled s = record s { title = None }
+
+-- the siblings with this list as the open one
+abbrev pub with_open : OpenList → Siblings → Siblings
+with_open l s = record s { list = Some l; title = None }

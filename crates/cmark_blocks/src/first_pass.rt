@@ -25,7 +25,7 @@ impl<'a, E: EntityLookup> Pass<'a, E> {
     ghost use Rattle.cmark_blocks.specs.LineByLine.{FeedsAll, ClosesEverything};
 
     /// Feeds all lines of the text from the next one on.
-    fn feed_all(&mut self) -> Result<(), AllocError>
+    pub(crate) fn feed_all(&mut self) -> Result<(), AllocError>
         requires { IsGood self.old }
         ensures good { IsGood self.new }
         ensures runs { OnOk result (FeedsAll E.replacement self.old self.new) }
@@ -39,7 +39,7 @@ impl<'a, E: EntityLookup> Pass<'a, E> {
     }
 
     /// Closes everything at the end of the text.
-    fn close_everything(&mut self) -> Result<(), AllocError>
+    pub(crate) fn close_everything(&mut self) -> Result<(), AllocError>
         requires { IsGood self.old }
         ensures good { IsGood self.new }
         ensures runs { OnOk result (ClosesEverything E.replacement self.old self.new) }
@@ -51,7 +51,7 @@ impl<'a, E: EntityLookup> Pass<'a, E> {
     }
 
     /// The tree and its tables.
-    fn finish(self) -> FirstPass<'a>
+    pub(crate) fn finish(self) -> FirstPass<'a>
         ensures tree { result.tree ≡ self.entry.builder.tree }
         ensures allocations { result.allocations ≡ self.entry.builder.allocations }
     {

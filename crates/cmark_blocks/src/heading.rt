@@ -166,7 +166,7 @@ impl<'a, E: EntityLookup> Pass<'a, E> {
         let body = setext_body(&mut self.builder, level, found)?;
         self.builder.close_as(rest.line_end(), body);
         self.release_title();
-        self.inner.title = None;
+        self.inner = self.inner.without_title();
         self.blank_lines.clear();
         self.leaf = OpenLeaf::Closed;
         Ok(())

@@ -67,7 +67,7 @@ impl<'a, E: EntityLookup> Pass<'a, E> {
         ensures others { LeavesTheRest self.old self.new }
     {
         self.release_title();
-        if let Some(list) = self.inner.list {
+        if let Some(list) = self.inner.open_list() {
             self.builder.close_as(list.end, list.body());
         }
     }
@@ -156,7 +156,7 @@ impl<'a, E: EntityLookup> Pass<'a, E> {
             }
             .body(),
         )?;
-        self.inner.list = Some(list);
+        self.inner = self.inner.with_list(list);
         Ok(())
     }
 
@@ -209,7 +209,7 @@ impl<'a, E: EntityLookup> Pass<'a, E> {
         ensures leaf { self.new.leaf ≡ self.old.leaf }
         ensures bare { self.new.bare ≡ self.old.bare }
     {
-        match self.inner.title {
+        match self.inner.title() {
             Some(title) => { self.make_title(title, start) }
             None => {
                 let item = ItemStart {

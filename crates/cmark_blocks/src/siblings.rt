@@ -1,11 +1,11 @@
 //! The blocks of a container so far, and the list of the last one, if it is an item (CommonMark 5.3).
 
-ghost use Rattle.std.specs.Prelude.{◌≡◌, ◌||◌, None, is_some, option_map};
+ghost use Rattle.std.specs.Prelude.{◌≡◌, ◌||◌, IfSome, None, is_some, option_map, true};
 ghost use Rattle.cmark_block_model.specs.BlockPass.{siblings_with_block, siblings_with_paragraph, siblings_with_item, siblings_behind_item, definitions_in, place_of};
 ghost use Rattle.cmark_grammar.specs.Places.{is_behind_title};
 ghost use Rattle.cmark_block_model.specs.OpenBlocks.{no_siblings};
-ghost use Rattle.cmark_blocks.specs.Titles.{list_around, with_title};
-ghost use Rattle.cmark_blocks.specs.Shown.{shown_list, shown_siblings, list_of};
+ghost use Rattle.cmark_blocks.specs.Titles.{list_around, untitled, with_open, with_title};
+ghost use Rattle.cmark_blocks.specs.Shown.{shown_list, shown_siblings, shown_title, list_of};
 
 /// A list that may get further items, or titles and definitions.
 #[derive(Clone, Copy)]
@@ -29,13 +29,23 @@ pub(crate) struct Title {
     pub parted: bool,
 }
 
-/// The blocks of a container so far.
+/// The last block of a container.
+#[derive(Clone, Copy)]
+pub(crate) enum LastBlock {
+    /// A paragraph, and whether a blank line separated two blocks before it.
+    Paragraph { parted: bool },
+    /// Another block, or none.
+    Other,
+}
+
+/// The blocks of a container so far. A text may have an open container for each of its bytes, so an open list and the list around a
+/// paragraph, which exclude each other, have one field.
 #[derive(Clone, Copy)]
 pub(crate) struct Siblings {
-    /// The list of the last block, if that is an item or a definition.
+    /// The definition list that was open before the last block, if that is a paragraph: the paragraph is drawn in it, and it is still open.
+    /// Otherwise the list of the last block, if that is an item or a definition.
     pub list: Option<OpenList>,
-    /// The state before the last block, if that is a paragraph.
-    pub title: Option<Title>,
+    pub last: LastBlock,
     /// Whether there is a block, a blank line, or only blanks after the container's marker.
     pub has_line: bool,
     /// Whether a blank line is at the end. Blanks after the container's marker do not count.
@@ -57,7 +67,7 @@ impl Siblings {
             blank: false,
             parted: false,
             list: None,
-            title: None,
+            last: LastBlock::Other,
         }
     }
 
@@ -70,7 +80,7 @@ impl Siblings {
             blank: false,
             parted: self.parted || self.blank,
             list: None,
-            title: None,
+            last: LastBlock::Other,
         }
     }
 
@@ -80,7 +90,8 @@ impl Siblings {
         requires { (shown_siblings self.old).list ≡ None }
         ensures { shown_siblings self.new ≡ siblings_with_block (shown_siblings self.old) }
     {
-        self.title = None;
+        self.list = None;
+        self.last = LastBlock::Other;
         self.parted = self.parted || self.blank;
         self.has_line = true;
         self.blank = false;
@@ -91,10 +102,10 @@ impl Siblings {
         ensures { shown_siblings result ≡ siblings_with_paragraph (shown_siblings self) }
     {
         Siblings {
-            title: Some(Title {
-                list: self.definitions(),
+            list: self.definitions(),
+            last: LastBlock::Paragraph {
                 parted: self.parted,
-            }),
+            },
             ..self.with_block()
         }
     }
@@ -106,7 +117,8 @@ impl Siblings {
         ensures { shown_siblings self.new ≡ siblings_with_paragraph (shown_siblings self.old) }
     {
         let parted = self.parted;
-        self.title = Some(Title { list: None, parted });
+        self.list = None;
+        self.last = LastBlock::Paragraph { parted };
         self.parted = parted || self.blank;
         self.has_line = true;
         self.blank = false;
@@ -117,7 +129,30 @@ impl Siblings {
     pub(crate) fn has_list(&self) -> bool
         ensures { result ≡ (is_some (shown_siblings self.now).list || is_some (list_around (shown_siblings self.now).title)) }
     {
-        self.list.is_some() || self.list_around().is_some()
+        self.list.is_some()
+    }
+
+    /// The open list, if any.
+    pub(crate) fn open_list(self) -> Option<OpenList>
+        ensures { option_map shown_list result ≡ (shown_siblings self).list }
+    {
+        match self.last {
+            LastBlock::Paragraph { .. } => None,
+            LastBlock::Other => self.list,
+        }
+    }
+
+    /// The state before the last block, if that is a paragraph.
+    pub(crate) fn title(self) -> Option<Title>
+        ensures { option_map shown_title result ≡ (shown_siblings self).title }
+    {
+        match self.last {
+            LastBlock::Paragraph { parted } => Some(Title {
+                list: self.list,
+                parted,
+            }),
+            LastBlock::Other => None,
+        }
     }
 
     /// The open definition list, if any.
@@ -131,9 +166,9 @@ impl Siblings {
     pub(crate) fn list_around(self) -> Option<OpenList>
         ensures { option_map shown_list result ≡ list_around (shown_siblings self).title }
     {
-        match self.title {
-            Some(title) => title.list,
-            None => None,
+        match self.last {
+            LastBlock::Paragraph { .. } => self.list,
+            LastBlock::Other => None,
         }
     }
 
@@ -141,14 +176,15 @@ impl Siblings {
     pub(crate) fn may_define(self) -> bool
         ensures { result ≡ is_behind_title (place_of (shown_siblings self)) }
     {
-        self.title.is_some() || self.definitions().is_some()
+        self.title().is_some() || self.definitions().is_some()
     }
 
     /// The open list, if it has this character.
     pub(crate) fn list_of(self, delimiter: u8) -> Option<OpenList>
-        ensures { option_map shown_list result ≡ list_of delimiter (shown_siblings self).list }
+        ensures list { option_map shown_list result ≡ list_of delimiter (shown_siblings self).list }
+        ensures open { IfSome result (λ list. is_some (shown_siblings self).list ≡ true) }
     {
-        match self.list {
+        match self.open_list() {
             Some(list) if list.delimiter == delimiter => Some(list),
             _ => None,
         }
@@ -178,13 +214,36 @@ impl Siblings {
                 loose: open.loose || self.blank,
                 ..open
             }),
-            title: None,
+            last: LastBlock::Other,
             ..self
         }
     }
 
-    /// With another item of this list.
+    /// Without the state before the last block, which became another block than a paragraph.
+    pub(crate) fn without_title(self) -> Siblings
+        ensures { shown_siblings result ≡ untitled (shown_siblings self) }
+    {
+        Siblings {
+            list: self.open_list(),
+            last: LastBlock::Other,
+            ..self
+        }
+    }
+
+    /// With this list as the open one.
+    pub(crate) fn with_list(self, list: OpenList) -> Siblings
+        ensures { shown_siblings result ≡ with_open (shown_list list) (shown_siblings self) }
+    {
+        Siblings {
+            list: Some(list),
+            last: LastBlock::Other,
+            ..self
+        }
+    }
+
+    /// With another item of this list, which is the open one.
     pub(crate) fn with_item_of(self, list: OpenList) -> Siblings
+        requires { is_some (shown_siblings self).list ≡ true }
         ensures { shown_siblings result ≡ siblings_with_item (shown_list list) (shown_siblings self) }
     {
         Siblings {
@@ -201,13 +260,13 @@ impl Siblings {
     pub(crate) fn behind_item(self, inside: Siblings, end: usize) -> Siblings
         ensures { shown_siblings result ≡ siblings_behind_item end (shown_siblings inside) (shown_siblings self) }
     {
-        let list = match self.list {
+        let list = match self.open_list() {
             Some(list) => Some(OpenList {
                 loose: list.loose || inside.parted,
                 end,
                 ..list
             }),
-            None => None,
+            None => self.list,
         };
         Siblings {
             blank: inside.blank,

@@ -44,6 +44,9 @@ pub(crate) struct OpenContainer {
     pub around: Siblings,
 }
 
+// A text may have an open container for each of its bytes.
+const _: () = prove!(size_of::<OpenContainer>() == 56);
+
 /// The block pass between two lines.
 #[derive(Drop)]
 pub(crate) struct Pass<'a, E> {

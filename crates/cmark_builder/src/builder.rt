@@ -10,6 +10,7 @@ ghost use Rattle.cmark_builder.specs.Ended.{ended, item_at, titled, is_paragraph
 ghost use Rattle.cmark_items.specs.declared.item.ItemBody.TheVariants as body;
 
 use cmark_items::{Allocations, Item, ItemBody};
+use cmark_references::{FootnoteDefs, RefDefs};
 use cmark_text_parts::CowStr;
 use cmark_tree::Tree;
 use std::alloc::{AllocError, Global};
@@ -51,6 +52,21 @@ impl<'a> Builder<'a> {
             tree: Tree::with_capacity(alloc, 0)?,
             allocations: Allocations::new(alloc),
         })
+    }
+
+    /// A document without nodes, after the definitions and footnotes of earlier lines. Fails only if memory is refused.
+    pub fn with_definitions(
+        alloc: Global,
+        definitions: RefDefs<'a>,
+        footnotes: FootnoteDefs,
+    ) -> Result<Builder<'a>, AllocError>
+        ensures tree { IfOk result (λ b. Is b.tree Nil []) }
+        ensures definitions { IfOk result (λ b. b.allocations.references ≡ definitions.entry) }
+        ensures footnotes { IfOk result (λ b. b.allocations.footnotes ≡ footnotes) }
+    {
+        let tree = Tree::with_capacity(alloc, 0)?;
+        let allocations = Allocations::with_definitions(alloc, definitions, footnotes);
+        Ok(Builder { tree, allocations })
     }
 
     /// Opens a node after the last sibling; `close` sets its end. If memory is refused, the tables are unchanged, and the tree can still be

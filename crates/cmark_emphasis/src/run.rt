@@ -3,19 +3,22 @@
 /// A delimiter run, or the rest of one (CommonMark 6.2). Indices count the siblings of a list from 0; each byte of a run is a sibling.
 #[derive(Clone, Copy)]
 pub struct Run {
-    /// Its byte: `*`, `_`, `~`, `^` or `=`.
-    pub delimiter: u8,
     /// The number of bytes of the whole run.
     pub run_length: usize,
     /// The index of the first byte that is left.
     pub at: usize,
     /// The number of bytes that are left.
     pub left: usize,
+    /// Its byte: `*`, `_`, `~`, `^` or `=`.
+    pub delimiter: u8,
     /// Whether it can open.
     pub opens: bool,
     /// Whether it can close.
     pub closes: bool,
 }
+
+// A text may have a run for each two of its bytes, so the fields of one byte are next to each other.
+const _: () = prove!(size_of::<Run>() == 32);
 
 /// A pair: `count` bytes that open, directly before an index, and as many bytes that close, from an index on.
 #[derive(Clone, Copy)]

@@ -21,6 +21,7 @@ mod state;
 mod table;
 mod writer;
 
+pub use crate::names::FootnoteNames;
 pub use crate::short::{write_link, write_short};
 pub use crate::state::Writer;
 pub use crate::writer::{finish, write_event};

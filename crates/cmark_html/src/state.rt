@@ -2,7 +2,7 @@
 
 ghost use Rattle.std.specs.Prelude.{◌≡◌};
 ghost use Rattle.cmark_grammar.specs.Html.{at_line_start};
-ghost use Rattle.cmark_html.specs.Writer.{writing};
+ghost use Rattle.cmark_html.specs.Writer.{at_start, shown_names, with_names, writing};
 
 use crate::names::FootnoteNames;
 use crate::table::TableState;
@@ -44,6 +44,20 @@ impl<'a> Writer<'a> {
             in_metadata: false,
             table: TableState::new(alloc),
             names: FootnoteNames::new(alloc),
+        }
+    }
+
+    /// A writer that continues the HTML of earlier blocks. `line_start` says whether this HTML ends a line; `names` are the names of its
+    /// footnotes. No image, table or metadata block is open.
+    pub fn continuing(alloc: Global, line_start: bool, names: FootnoteNames<'a>) -> Writer<'a>
+        ensures { writing result ≡ at_start line_start (with_names (shown_names names.entry) at_line_start) }
+    {
+        Writer {
+            line_start,
+            image: None,
+            in_metadata: false,
+            table: TableState::new(alloc),
+            names,
         }
     }
 }

@@ -78,6 +78,24 @@ impl<'a> Allocations<'a> {
         }
     }
 
+    /// Tables that have only these definitions and footnotes.
+    pub fn with_definitions(
+        alloc: Global,
+        definitions: RefDefs<'a>,
+        footnotes: FootnoteDefs,
+    ) -> Allocations<'a>
+        ensures { result ≡ record { texts = []; links = []; alignments = []; references = definitions.entry; footnotes = footnotes } }
+    {
+        Allocations {
+            refdefs: definitions,
+            footdefs: footnotes,
+            texts: Vec::new(alloc),
+            links: Vec::new(alloc),
+            alignments: Vec::new(alloc),
+            alloc,
+        }
+    }
+
     /// Keeps a text and returns its index. If memory is refused nothing changes, and the text is dropped.
     pub fn allocate_cow(&mut self, text: CowStr<'a>) -> Result<CowIndex, AllocError>
         ensures index { IfOk result (λ index. index.0 ≡ length self.old.texts) }

@@ -1,4 +1,5 @@
 pub mod ParseSteps
 pub mod RenderSteps
 pub mod SafeSteps
+pub mod TailSteps
 pub mod WalkSteps

@@ -87,7 +87,7 @@ placed-all reader [] h k p = tt
 placed-all reader (GivenOf r ∷ others) h k p = (h.0, placed-all reader others h.1 k p)
 placed-all reader (Content leaf ∷ others) h k p = (record { placed = k.0; pipes = p.0 }, placed-all reader others h k.1 p.1)
 
-placed-turn : (reader : Reader) (others : List Segment) → ArePlaced reader others → AreLeavesInTurn (length reader.source) others
+pub placed-turn : (reader : Reader) (others : List Segment) → ArePlaced reader others → AreLeavesInTurn (length reader.source) others
 placed-turn reader [] h = tt
 placed-turn reader (GivenOf r ∷ others) h = placed-turn reader others h.1
 placed-turn reader (Content leaf ∷ others) h = (h.0.placed.turn, placed-turn reader others h.1)

@@ -9,7 +9,7 @@ use Rattle.cmark_grammar.specs.Html.{Writing, at_line_start, piece, piece_in, pi
 use Rattle.cmark_grammar.specs.Options.{Options}
 use Rattle.cmark_grammar.specs.Questions.{Exchange}
 use Rattle.cmark_grammar.specs.Tag as tag
-use Rattle.cmark_html.proofs.HtmlSteps.{moved_all-joined, pieces_from-joined, written_end}
+use Rattle.cmark_html.proofs.HtmlSteps.{moved_all-joined, pieces_from-joined}
 use Rattle.cmark_html.specs.Parts.{linked}
 use Rattle.cmark_html.specs.Writer.{shown_image}
 use Rattle.cmark_html.specs.declared.state.OpenImage.{OpenImage}
@@ -32,7 +32,7 @@ use Rattle.cmark_text_parts.specs.Shown.{shown_link_type, text_bytes}
 use Rattle.cmark_text.specs.declared.ranged.Ranged.{Ranged as Item}
 use Rattle.cmark_parser.specs.declared.parse.Parser.{Parser}
 use Rattle.cmark_parser.specs.Parsing.{Asks, CanGo, GivesAs, GivesStart, GivesStep, Passes, ReadsWithin, Remains, callback_of}
-use Rattle.cmark_parser.specs.Rendering.{IsHtmlBy, IsHtmlOfRest, WritesSome, WritesWhole, Written, filtered_of, leads_to, written}
+use Rattle.cmark_parser.specs.Rendering.{IsHtmlBy, IsHtmlOfRest, WritesRest, WritesSome, WritesWhole, Written, filtered_of, leads_to, written}
 use Rattle.cmark_parser.proofs.ParseSteps.{none-answered}
 
 -- what a filter that keeps each event makes of a reading is the reading
@@ -175,14 +175,29 @@ module _ {E F : Type 0} (Says : F → BrokenLink → Option (CowStr × CowStr) �
   long-kept parser new s h = record { given = []; passes = h.answers.passes; bytes = sym (append-nil s.bytes); writing = refl; can = h.can }
 
   -- behind the last event
-  pub all-written : (first parser new : Parser E F) (taken : List Exchange) (old out : List ℕ) (s : Written) → WritesSome Says replacement filtered first (written at_line_start old) parser s → Asks Says parser taken new → Remains replacement parser taken []
-      → out ≡ s.bytes ++ last_piece s.writing.image → IsHtmlOfRest Says replacement filtered first new old out
+  pub all-written : (first parser new : Parser E F) (taken : List Exchange) (old : Written) (out : List ℕ) (s : Written) → WritesSome Says replacement filtered first old parser s → Asks Says parser taken new → Remains replacement parser taken []
+      → out ≡ s.bytes ++ last_piece s.writing.image → WritesRest Says replacement filtered first old new (written s.writing out)
   all-written first parser new taken old out s some asks none out_is = record {
     exchanges = some.passes.taken ++ taken;
     events = some.given;
     left = subst (Remains replacement first (some.passes.taken ++ taken)) (append-nil some.given) (some.passes.back taken [] none);
     asks = asks-on Says replacement first parser new some.passes.taken taken some.passes.asks asks;
-    bytes = written_end s.writing (filtered_of filtered some.given) old s.bytes out some.bytes some.writing out_is;
+    bytes = out_is ∙ ap (λ l. l ++ last_piece s.writing.image) some.bytes ∙ append_assoc old.bytes (pieces_from old.writing (filtered_of filtered some.given)) (last_piece s.writing.image);
+    writing = some.writing;
+  }
+
+  -- by a writer that has written nothing yet
+  pub html-of-rest : (first new : Parser E F) (begun : Writing) (old : List ℕ) (after : Written) → begun ≡ at_line_start → WritesRest Says replacement filtered first (written begun old) new after
+      → IsHtmlOfRest Says replacement filtered first new old after.bytes
+  html-of-rest first new begun old after begins h = record {
+    exchanges = h.exchanges;
+    events = h.events;
+    left = h.left;
+    asks = h.asks;
+    bytes =
+        h.bytes
+        ∙ ap (λ w. old ++ (pieces_from begun (filtered_of filtered h.events) ++ last_piece (Writing.image w))) h.writing
+        ∙ ap (λ w. old ++ (pieces_from w (filtered_of filtered h.events) ++ last_piece (Writing.image (moved_all w (filtered_of filtered h.events))))) begins;
   }
 
   -- where the HTML of all events of a parser at its start stands behind nothing, and it has no callback, it is the HTML of the parser's text

@@ -3,7 +3,7 @@ use Rattle.std.specs.Prelude.{◌≡◌, ◌<◌, ℕ, Bool, true, false, List, 
 use Rattle.cmark_grammar.specs.Answers.{Lookup}
 use Rattle.cmark_grammar.specs.Event.{Event, Ranged}
 use Rattle.cmark_grammar.specs.Headline.{events_of, profile, profile_within}
-use Rattle.cmark_grammar.specs.Html.{Writing, html, moved, moved_all, piece, pieces_from}
+use Rattle.cmark_grammar.specs.Html.{Writing, html, last_piece, moved, moved_all, piece, pieces_from}
 use Rattle.cmark_grammar.specs.Options.{Options}
 use Rattle.cmark_grammar.specs.Questions.{Exchange}
 use Rattle.cmark_grammar.specs.SpanDocuments.{IsReading}
@@ -51,6 +51,15 @@ module _ {E F : Type 0} (Says : F → BrokenLink → Option (CowStr × CowStr) �
     pub gives : GivesStep Says replacement old (Some (Ok given)) new
     pub bytes : after.bytes ≡ before.bytes ++ piece before.writing (filtered (shown given.event))
     pub writing : after.writing ≡ moved before.writing (filtered (shown given.event))
+
+  -- all events that were left were given, with the questions that were put, and their pieces were appended
+  pub record WritesRest (old : Parser E F) (before : Written) (new : Parser E F) (after : Written) : Type 0 where
+    pub exchanges : List Exchange
+    pub events : List Ranged
+    pub left : Remains replacement old exchanges events
+    pub asks : Asks Says old exchanges new
+    pub bytes : after.bytes ≡ before.bytes ++ (pieces_from before.writing (filtered_of filtered events) ++ last_piece after.writing.image)
+    pub writing : after.writing ≡ moved_all before.writing (filtered_of filtered events)
 
   -- behind the old bytes stands the HTML of all events that were left, with the questions that were put
   pub record IsHtmlOfRest (old new : Parser E F) (before after : List ℕ) : Type 0 where

@@ -1,12 +1,11 @@
 //! The HTML of a text.
 
-ghost use Rattle.std.specs.Prelude.{◌≡◌, [], IfOk, OnOk, string_bytes};
+ghost use Rattle.std.specs.Prelude.{◌≡◌, [], IfOk, None, OnOk, string_bytes};
 ghost use Rattle.cmark_grammar.specs.Headline.{IsHtmlOf, IsHtmlWithin, usual_limit};
-ghost use Rattle.cmark_grammar.specs.Html.{at_line_start};
 ghost use Rattle.cmark_html.specs.Writer.{writing};
 ghost use Rattle.cmark_text_parts.specs.Shown.{shown_options};
 ghost use Rattle.cmark_parser.specs.Parsing.{CanGo, IsReady};
-ghost use Rattle.cmark_parser.specs.Rendering.{IsHtmlBy, IsHtmlOfRest, IsSafeHtmlOf, WritesLink, WritesLong, WritesNext, written};
+ghost use Rattle.cmark_parser.specs.Rendering.{IsHtmlBy, IsHtmlOfRest, IsSafeHtmlOf, WritesLink, WritesLong, WritesNext, WritesRest, written};
 ghost use Rattle.cmark_safe.specs.SafeHtml.{IsSafe};
 
 use crate::filter::{Filter, Filtering};
@@ -133,7 +132,22 @@ fn render<'a, E: EntityLookup, F: BrokenLinkCallback<'a> + Drop, T: Filter>(
     write_all(out, &mut writer, parser, filter)
 }
 
-// Appends the HTML of the events that a parser still has to give, by a writer that has written nothing yet. Of most of them no event is made.
+/// Appends the HTML of the events that a parser still has to give, with a writer that may continue the HTML of earlier blocks. No image may
+/// be open in it. Fails only if memory is refused.
+pub fn write_rest<'a, E: EntityLookup, F: BrokenLinkCallback<'a> + Drop>(
+    out: &mut String,
+    writer: &mut Writer<'a>,
+    parser: &mut Parser<'a, E, F>,
+) -> Result<(), AllocError>
+    requires goes { CanGo E.replacement parser.old }
+    requires ready { IsReady F.ready parser.old }
+    requires closed { (writing writer.old).image ≡ None }
+    ensures writes { OnOk result (WritesRest F.answers E.replacement (λ event. event) parser.old (written (writing writer.old) (string_bytes out.old)) parser.new (written (writing writer.new) (string_bytes out.new))) }
+{
+    write_all(out, writer, parser, &Filtering::AsTheyAre)
+}
+
+// Appends the HTML of the events that a parser still has to give, by a writer in which no image is open. Of most of them no event is made.
 fn write_all<'a, E: EntityLookup, F: BrokenLinkCallback<'a> + Drop, T: Filter>(
     out: &mut String,
     writer: &mut Writer<'a>,
@@ -142,8 +156,8 @@ fn write_all<'a, E: EntityLookup, F: BrokenLinkCallback<'a> + Drop, T: Filter>(
 ) -> Result<(), AllocError>
     requires goes { CanGo E.replacement parser.old }
     requires ready { IsReady F.ready parser.old }
-    requires begins { writing writer.old ≡ at_line_start }
-    ensures { OnOk result (IsHtmlOfRest F.answers E.replacement (T.filtered filter.now) parser.old parser.new (string_bytes out.old) (string_bytes out.new)) }
+    requires closed { (writing writer.old).image ≡ None }
+    ensures { OnOk result (WritesRest F.answers E.replacement (T.filtered filter.now) parser.old (written (writing writer.old) (string_bytes out.old)) parser.new (written (writing writer.new) (string_bytes out.new))) }
 {
     loop {
         match parser.next_short()? {

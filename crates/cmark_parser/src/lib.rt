@@ -4,6 +4,8 @@
 mod filter;
 mod html;
 mod parse;
+mod rest;
 
-pub use html::{to_html, to_html_within, to_safe_html};
+pub use html::{to_html, to_html_within, to_safe_html, write_rest};
 pub use parse::{OffsetIter, Parser};
+pub use rest::parse_rest;

@@ -33,14 +33,14 @@ use std::ops::Range;
 /// ```
 #[derive(Drop)]
 pub struct Parser<'input, E, F = DefaultBrokenLinkCallback> {
-    spans: SpanWalk<'input, 'input, E, OptionalCallback<F>>,
+    pub(crate) spans: SpanWalk<'input, 'input, E, OptionalCallback<F>>,
     /// Whether no item is given any more.
-    is_over: bool,
+    pub(crate) is_over: bool,
 }
 
 /// The most events of blocks and leaves that a byte of text gives: twelve, and three for each of the 262,144 cells that may be filled in
 /// in a table, which has a byte at least.
-const EVENTS_A_BYTE: u128 = 786_444;
+pub(crate) const EVENTS_A_BYTE: u128 = 786_444;
 
 impl<'input, E: EntityLookup> Parser<'input, E> {
     ghost use Rattle.cmark_parser.specs.Parsing.{Reads, Defines, DefinesFootnotes, CanGo, callback_of, text_of};

@@ -1,4 +1,5 @@
 pub mod CopySteps
 pub mod DefinitionSteps
 pub mod EntrySteps
+pub mod FirstSteps
 pub mod SpellingSteps

@@ -76,12 +76,7 @@ impl<'a> RefDefs<'a> {
             ≡ first_of (entry_of self.old folded) (at_label (link_key label) (label, def.entry) folded)) }
         ensures refused { OnErr result (self.new ≡ self.old) }
     {
-        if self.defs.contains_key(&label) {
-            drop(label);
-            drop(def);
-            return Ok(());
-        }
-        drop(self.defs.insert(label, def)?);
+        self.defs.entry(label)?.or_insert(def);
         Ok(())
     }
 

@@ -99,10 +99,7 @@ impl FootnoteDefs {
             ≡ first_of (footnote self.old folded) (at_label (footnote_key label) def folded)) }
         ensures refused { OnErr result (Keeps self.old self.new) }
     {
-        if self.defs.contains_key(&label) {
-            return Ok(());
-        }
-        self.defs.insert(label, def)?;
+        self.defs.entry(label)?.or_insert(def);
         Ok(())
     }
 }

@@ -1,6 +1,5 @@
-use Rattle.std.proofs.Common.{sym, ap, string_bytes, subst}
+use Rattle.std.proofs.Common.{string_bytes, subst}
 use Rattle.std.proofs.lemmas.Result.{on_ok_weaker}
-use Rattle.cmark_grammar.specs.Html.{Writing, at_line_start}
 use Rattle.cmark_html.specs.Writer.{writing}
 use Rattle.cmark_span_walk.specs.Walking.{as_next}
 use Rattle.cmark_parser.specs.Parsing.{GivesAs}
@@ -13,10 +12,8 @@ loop-short-init g c =
     let Says = g.F.BrokenLinkCallback.answers in
     let replacement = g.E.EntityLookup.replacement in
     let filtered = g.T.Filter.filtered c.args.filter.now in
-    let parser = c.args.parser.now in
-    let bytes = string_bytes c.args.out.now in
-    let old = written at_line_start bytes in
-    (subst (λ w. WritesSome Says replacement filtered parser old parser (written w bytes)) (sym c.requires.begins) (none-written Says replacement filtered parser old c.requires.goes), ap Writing.image c.requires.begins, c.requires.ready)
+    let old = written (writing c.args.writer.now) (string_bytes c.args.out.now) in
+    (none-written Says replacement filtered c.args.parser.now old c.requires.goes, c.requires.closed, c.requires.ready)
 
 pub loop-short-preserved-in-Continue-branch-3 : goal.loop-short-preserved-in-Continue-branch-3
 loop-short-preserved-in-Continue-branch-3 g c =
@@ -27,7 +24,7 @@ loop-short-preserved-in-Continue-branch-3 g c =
     let behind = c.next_short.new.self in
     let short = c.in-Span.short in
     let made = c.short_of.result in
-    let old = written at_line_start (string_bytes c.args.out.now) in
+    let old = written (writing c.args.writer.now) (string_bytes c.args.out.now) in
     let mid = written (writing c.loop-short.writer) (string_bytes c.loop-short.out) in
     let new = written (writing c.write_short.new.writer) (string_bytes c.write_short.new.out) in
     let e = c.in_ok-write_short-in-Span.ensures in
@@ -46,7 +43,7 @@ loop-short-preserved-in-Continue-branch-4 g c =
     let behind = c.next_short.new.self in
     let short = c.in-Block.short in
     let made = c.short_of-in-Block.result in
-    let old = written at_line_start (string_bytes c.args.out.now) in
+    let old = written (writing c.args.writer.now) (string_bytes c.args.out.now) in
     let mid = written (writing c.loop-short.writer) (string_bytes c.loop-short.out) in
     let new = written (writing c.write_short-in-Block.new.writer) (string_bytes c.write_short-in-Block.new.out) in
     let e = c.in_ok-write_short-in-Block.ensures in
@@ -64,7 +61,7 @@ loop-short-preserved g c =
     let first = c.args.parser.now in
     let parser = c.loop-short.parser in
     let behind = c.next_short.new.self in
-    let old = written at_line_start (string_bytes c.args.out.now) in
+    let old = written (writing c.args.writer.now) (string_bytes c.args.out.now) in
     let mid = written (writing c.loop-short.writer) (string_bytes c.loop-short.out) in
     let new = written (writing c.write_long.new.writer) (string_bytes c.write_long.new.out) in
     let h = subst (λ n. GivesAs Says replacement parser (as_next n) behind) c.in-Long.is c.in_ok-short.ensures.gives in
@@ -80,14 +77,14 @@ returns-then-not-is_given g c =
     let first = c.args.parser.now in
     let parser = c.loop-short.parser in
     let behind = c.next_short.new.self in
-    let old = written at_line_start (string_bytes c.args.out.now) in
+    let old = written (writing c.args.writer.now) (string_bytes c.args.out.now) in
     let mid = written (writing c.loop-short.writer) (string_bytes c.loop-short.out) in
     let new = written (writing c.write_long.new.writer) (string_bytes c.write_long.new.out) in
     let h = subst (λ n. GivesAs Says replacement parser (as_next n) behind) c.in-Long.is c.in_ok-short.ensures.gives in
     let kept = joined Says replacement filtered first parser behind old mid mid c.loop-short.invariant.0 (long-kept Says replacement filtered parser behind mid h) in
     let wrote = subst (λ b. WritesLong Says replacement filtered b behind mid c.write_long.new.parser new) c.if-not-is_given.true c.in_ok-is_given-in-Long.ensures.writes in
     on_ok_weaker c.finish.result
-    (all-written Says replacement filtered first wrote.last c.write_long.new.parser wrote.taken (string_bytes c.args.out.now) (string_bytes c.finish.new.out) new (joined Says replacement filtered first behind wrote.last old mid new kept wrote.some) wrote.asks wrote.none) c.finish.ensures.ok
+    (all-written Says replacement filtered first wrote.last c.write_long.new.parser wrote.taken old (string_bytes c.finish.new.out) new (joined Says replacement filtered first behind wrote.last old mid new kept wrote.some) wrote.asks wrote.none) c.finish.ensures.ok
 
 pub returns-in-Over : goal.returns-in-Over
 returns-in-Over g c =
@@ -96,7 +93,8 @@ returns-in-Over g c =
     let filtered = g.T.Filter.filtered c.args.filter.now in
     let parser = c.loop-short.parser in
     let behind = c.next_short.new.self in
+    let old = written (writing c.args.writer.now) (string_bytes c.args.out.now) in
     let mid = written (writing c.loop-short.writer) (string_bytes c.loop-short.out) in
     let h = subst (λ n. GivesAs Says replacement parser (as_next n) behind) c.in-Over.is c.in_ok-short.ensures.gives in
     on_ok_weaker c.finish-in-Over.result
-    (all-written Says replacement filtered c.args.parser.now parser behind h.answers.taken (string_bytes c.args.out.now) (string_bytes c.finish-in-Over.new.out) mid c.loop-short.invariant.0 h.answers.asks h.answers.none) c.finish-in-Over.ensures.ok
+    (all-written Says replacement filtered c.args.parser.now parser behind h.answers.taken old (string_bytes c.finish-in-Over.new.out) mid c.loop-short.invariant.0 h.answers.asks h.answers.none) c.finish-in-Over.ensures.ok

@@ -1,5 +1,4 @@
 use Rattle.std.specs.Prelude.{◌≡◌, None, string_bytes}
-use Rattle.cmark_grammar.specs.Html.{at_line_start}
 use Rattle.cmark_html.specs.Writer.{writing}
 use Rattle.cmark_parser.specs.Parsing.{IsReady, events_left}
 use Rattle.cmark_parser.specs.Rendering.{WritesSome, written}
@@ -7,7 +6,7 @@ use Rattle.cmark_parser.proofs.html.write_all.Given as goal
 
 abbrev pub invariant-loop-short : goal.invariant-loop-short
 invariant-loop-short g l =
-    WritesSome g.F.BrokenLinkCallback.answers g.E.EntityLookup.replacement (g.T.Filter.filtered l.filter) l.initial.parser (written at_line_start (string_bytes l.initial.out)) l.parser (written (writing l.writer) (string_bytes l.out)) × ((writing l.writer).image ≡ None)
+    WritesSome g.F.BrokenLinkCallback.answers g.E.EntityLookup.replacement (g.T.Filter.filtered l.filter) l.initial.parser (written (writing l.initial.writer) (string_bytes l.initial.out)) l.parser (written (writing l.writer) (string_bytes l.out)) × ((writing l.writer).image ≡ None)
     × IsReady g.F.BrokenLinkCallback.ready l.parser
 
 abbrev pub decreases-loop-short : goal.decreases-loop-short

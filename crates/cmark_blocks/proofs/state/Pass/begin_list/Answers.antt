@@ -6,6 +6,7 @@ use Rattle.cmark_block_model.specs.BlockPass.{block_begun}
 use Rattle.cmark_block_model.specs.Drawing.{opened}
 use Rattle.cmark_block_model.specs.OpenBlocks as model
 use Rattle.cmark_builder.proofs.DrawnSteps.{draws-open}
+use Rattle.cmark_blocks.specs.Titles.{with_open}
 use Rattle.cmark_blocks.proofs.RunSteps.{runs-builder, runs-inner}
 use Rattle.cmark_items.specs.Tables.{defined}
 use Rattle.cmark_blocks.proofs.state.Pass.begin_list.Goals as goal
@@ -23,5 +24,6 @@ returns-clause-runs g c text options lookup m runs =
     r.drawing in
     runs-inner replacement text options lookup _ _ _ _
     (runs-builder replacement text options lookup (block_begun m) before c.open.new.self (opened start (list_kind item.delimiter item.number false) (block_begun m).drawing) r draws (ap defined c.in_ok-open.ensures.tables))
-    (ap {A = model.Siblings} {B = model.Siblings} (λ s. record s { list = Some (record { delimiter = item.delimiter; number = list_number item.delimiter c.unwrap_or-number.result; loose = false; end = start }) }) r.inner
+    (c.with_list-self.ensures
+    ∙ ap (with_open (record { delimiter = item.delimiter; number = list_number item.delimiter c.unwrap_or-number.result; loose = false; end = start })) r.inner
     ∙ ap {A = Option ℕ} {B = model.Siblings} (λ n. record (block_begun m).inner { list = Some (record { delimiter = item.delimiter; number = n; loose = false; end = start }) }) number)

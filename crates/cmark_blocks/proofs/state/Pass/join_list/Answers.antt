@@ -12,7 +12,7 @@ returns-in-Some-clause-runs g c text options lookup m runs =
     let item = c.args.item in
     let l = shown_list c.in-Some.list in
     let found : list_of item.delimiter m.inner.list ≡ Some l =
-    ap (λ s. list_of item.delimiter s.list) (sym runs.inner) ∙ sym c.list_of.ensures ∙ ap (option_map shown_list) c.in-Some.is in
+    ap (λ s. list_of item.delimiter s.list) (sym runs.inner) ∙ sym c.list_of.ensures.list ∙ ap (option_map shown_list) c.in-Some.is in
     subst (λ p. Runs replacement text options lookup p (record c.args.self.now { inner = c.with_item_of-self.result })) (sym (goes-on item.delimiter item.number c.args.start m m.inner.list l found))
     (runs-inner replacement text options lookup m c.args.self.now c.with_item_of-self.result (siblings_with_item l m.inner) runs (c.with_item_of-self.ensures ∙ ap (siblings_with_item l) runs.inner))
 
@@ -22,7 +22,7 @@ returns-in-None-clause-runs g c =
     (λ ran. λ text options lookup m runs.
     let item = c.args.item in
     let none : list_of item.delimiter m.inner.list ≡ None =
-    ap (λ s. list_of item.delimiter s.list) (sym runs.inner) ∙ sym c.list_of.ensures ∙ ap (option_map shown_list) c.in-None.is in
+    ap (λ s. list_of item.delimiter s.list) (sym runs.inner) ∙ sym c.list_of.ensures.list ∙ ap (option_map shown_list) c.in-None.is in
     subst (λ p. Runs g.E.EntityLookup.replacement text options lookup p c.begin_list.new.self) (sym (begins item.delimiter item.number c.args.start m m.inner.list none))
     (ran text options lookup m runs))
     c.begin_list.ensures.runs

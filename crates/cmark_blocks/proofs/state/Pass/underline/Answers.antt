@@ -11,6 +11,7 @@ use Rattle.cmark_block_model.specs.OpenBlocks as model
 use Rattle.cmark_builder.specs.Drawn.{Draws}
 use Rattle.cmark_builder.proofs.DrawnSteps.{draws-close_as}
 use Rattle.cmark_blocks.specs.Setext.{FindsIf}
+use Rattle.cmark_blocks.specs.Titles.{untitled}
 use Rattle.cmark_blocks.proofs.RunSteps.{runs-builder, runs-inner, runs-room, runs-closed}
 use Rattle.cmark_blocks.proofs.SetextSteps.{last-read}
 use Rattle.cmark_blocks.proofs.state.Pass.underline.Goals as goal
@@ -44,5 +45,5 @@ returns-clause-runs g c text options lookup m runs =
     (ap defined c.close_as.ensures.tables ∙ c.in_ok-body.ensures.definitions ∙ c.in_ok-draw_last_lines.ensures.definitions) in
     let r = c.release_title.ensures.runs text options lookup _ built_heading in
     runs-closed replacement text options lookup _ _ c.clear.new.self
-    (runs-inner replacement text options lookup _ c.release_title.new.self (record c.release_title.new.self.inner { title = None }) (record m.inner { title = None }) r (ap {A = model.Siblings} {B = model.Siblings} (λ s. record s { title = None }) r.inner))
+    (runs-inner replacement text options lookup _ c.release_title.new.self c.without_title-self.result (untitled m.inner) r (c.without_title-self.ensures ∙ ap untitled r.inner))
     c.clear.ensures.items

@@ -1,0 +1,17 @@
+use Rattle.std.proofs.Common.{[], refl, sym, ap, ◌∙◌, subst}
+use Rattle.cmark_tree.specs.Forest.{Nil}
+use Rattle.cmark_builder.proofs.BuilderSteps.{at-place}
+use Rattle.cmark_leaves.specs.Contents.{AreRead}
+use Rattle.cmark_references.specs.Definitions.{reference_at}
+use Rattle.cmark_references.specs.Footnotes.{footnote}
+use Rattle.cmark_references.specs.declared.definitions.RefDefs.{RefDefs}
+use Rattle.cmark_references.specs.declared.footnotes.FootnoteDefs.{FootnoteDefs}
+use Rattle.cmark_blocks.proofs.state.Pass.starting_at.Goals as goal
+
+pub returns-clause-good : goal.returns-clause-good
+returns-clause-good g c = record {
+  placed = at-place c.in_ok-builder.builder.tree Nil [] c.in_ok-builder.ensures.tree;
+  begins = c.requires.begins;
+  lines = subst (AreRead c.args.text.now) (sym c.new-2.ensures.items) tt;
+  last = tt;
+}

@@ -1,0 +1,483 @@
+-- A leaf among the first bytes of a text is read as the same events where the text goes on, if the labels that it may ask for lead to the same.
+use Rattle.std.proofs.Common.{◌≡◌, inl, inr, ℕ, zero, suc, ◌+◌, ◌-◌, ◌≤◌, Bool, true, false, not, ◌==◌, ◌&&◌, ◌||◌, List, [], ◌∷◌, ◌++◌, length, drop, take, refl, sym, ap, ◌∙◌, subst, arith, length-drop, Option, Some, None}
+use Rattle.std.specs.Prelude.{if◌then◌else◌, min, max, reverse, chars, codes, map}
+use Rattle.std.specs.List.{prefix_len}
+use Rattle.cmark_grammar.specs.BlockDocument.{Reference as Definition}
+use Rattle.cmark_grammar.specs.Autolinks.{autolink_in}
+use Rattle.cmark_grammar.specs.BracketDecisions.{Named, behind, between, place, stays, defined_or_asked, refers, one_line_footnotes, is_footnote_label, footnote_reference, as_label, collapsed_or_shortcut, by_own_label, full_reference, reference_or, unless_footnote, link_or, with_taken, wiki_text, wikilink_or, decide, is_there, forms, name_in, behind_pipe}
+use Rattle.cmark_grammar.specs.BracketReading.{Reads, Comes}
+use Rattle.cmark_grammar.specs.BracketStates.{Opener, State, moved, opened, Result, StaysText, Forms, Outcome, Decision, Settled, Asks}
+use Rattle.cmark_grammar.specs.CodeSpans.{is_backtick, backticks, code_in}
+use Rattle.cmark_grammar.specs.Columns.{is_blank_byte}
+use Rattle.cmark_grammar.specs.Event.{Start, End, Text, InlineHtml, Ranged}
+use Rattle.cmark_grammar.specs.TagEnd as tag_end
+use Rattle.cmark_grammar.specs.Flanking.{flanking, is_run_delimiter}
+use Rattle.cmark_grammar.specs.Formulas.{is_dollar, Braces, no_braces, braces_behind, inline_in, display_in}
+use Rattle.cmark_grammar.specs.InlineHtml.{behind_markup}
+use Rattle.cmark_grammar.specs.InlineReading.{event_of, inline_events}
+use Rattle.cmark_grammar.specs.InlineTokens.{item_at, is_plain, first_of, from, before, place_of, character_before, character_at, line_begins, read_on, break_to, break_or, code_or, escaped_backtick, escape_at, entity_or, autolink_or, tag_kind, tag_or_text, source_from, markup_to, markup_or, less_than, run_or, run_at, formula_or, dollar, hyphens, smart_or, begins, begins_at, goes_on, plain_end, longest, token}
+use Rattle.cmark_grammar.specs.Items as items
+use Rattle.cmark_grammar.specs.Items.{ItemKind, Item, Bracket, Token, Stands, Opens, Closes, Ends, HardBreak, SoftBreak, InlineMath, DisplayMath, Html}
+use Rattle.cmark_grammar.specs.Labels.{fold, normal_form}
+use Rattle.cmark_grammar.specs.LeafReading.{Between, entering, ReadsLeaf}
+use Rattle.cmark_grammar.specs.LeafText.{Stretch, Leaf, bytes_from, bytes_before, size_of, begin_of, end_of, InTurn}
+use Rattle.cmark_grammar.specs.Letters.{first_is, starts}
+use Rattle.cmark_grammar.specs.LinkType.{Reference}
+use Rattle.cmark_grammar.specs.LineBreaks.{LineBreak, backslash_break_in, blank_break_in}
+use Rattle.cmark_grammar.specs.Lines.{is_content}
+use Rattle.cmark_grammar.specs.LinkDefinitions.{Parsed, behind_blanks}
+use Rattle.cmark_grammar.specs.LinkTails.{LinkTail, link_tail_in, behind_collapsed, is_bracketed_label, reference_label_in}
+use Rattle.cmark_grammar.specs.OpenBrackets.{Taken, nearest, used_up, doubled, undoubled, tried, inactive, dropped}
+use Rattle.cmark_grammar.specs.Parts.{Footnote, Wiki, Parts, Nil as NoParts, Single as SinglePart, Form, Closing, Opening, openings}
+use Rattle.cmark_grammar.specs.Questions.{Exchange, Saying}
+use Rattle.cmark_grammar.specs.Quotes.{quote_beside}
+use Rattle.cmark_grammar.specs.Readers.{Reader}
+use Rattle.cmark_grammar.specs.Siblings.{Inline, Nil as NoSpans, Single as SingleItem, Around as SpanAround}
+use Rattle.cmark_grammar.specs.SiblingsModel.{spans_in}
+use Rattle.cmark_grammar.specs.SpanDocuments.{Profile, Segment, Given, Content, ReadsAll}
+use Rattle.cmark_grammar.specs.Tags.{behind_tag, no_prefix}
+use Rattle.cmark_grammar.specs.Tokens.{Entity, entity_in, slice}
+use Rattle.cmark_inline_model.specs.CutRanges.{IsBehindPipe}
+use Rattle.cmark_inline_model.specs.LeafModel.{HaveLineEnds}
+use Rattle.cmark_inline_model.specs.NestedLinks.{Persist, ResultsApart, KeepsApart}
+use Rattle.cmark_inline_model.specs.Progress.{Always, FitsBy, Fits}
+use Rattle.cmark_inline_model.proofs.DecisionLaws.{decide-apart}
+use Rattle.cmark_inline_model.proofs.Openers.{AreTaken, nearest-taken}
+use Rattle.cmark_inline_model.proofs.ForwardLaws.{leaf-forward, leaf-ranges}
+use Rattle.cmark_inline_model.proofs.LeafPlaces.{end-within, leaf-up}
+use Rattle.cmark_inline_model.proofs.LeafSteps.{IsAt, place-first}
+use Rattle.cmark_inline_model.proofs.PartOrders.{parts-fill, spans-order}
+use Rattle.cmark_inline_model.proofs.ReadingLaws.{reading-stands}
+use Rattle.cmark_inline_model.proofs.ReadingPlaces.{reading-reaches}
+use Rattle.cmark_inline_model.proofs.SiblingsOne.{spans-one}
+use Rattle.cmark_inline_model.proofs.SpanRanges.{InlineOrder, inline-up}
+use Rattle.cmark_inline_model.proofs.WikiGaps.{decide-far, reading-gaps}
+use Rattle.cmark_stream_model.specs.Continued.{Agree, reader_with, MayAskFor, AreKept}
+
+-- a choice of two that are the same each
+either-token : (z : Bool) (a b c d : Token) → a ≡ b → c ≡ d → (if z then a else c) ≡ (if z then b else d)
+either-token true a b c d e f = e
+either-token false a b c d e f = f
+
+either-decision : (z : Bool) (a b c d : Decision) → a ≡ b → c ≡ d → (if z then a else c) ≡ (if z then b else d)
+either-decision true a b c d e f = e
+either-decision false a b c d e f = f
+
+either-place : (z : Bool) (a b c d : ℕ) → a ≡ b → c ≡ d → (if z then a else c) ≡ (if z then b else d)
+either-place true a b c d e f = e
+either-place false a b c d e f = f
+
+-- stretches in turn end within so many bytes
+turn-low : (at size : ℕ) (st : List Stretch) → InTurn at st size → at ≤ size
+turn-low at size [] h = h
+turn-low at size (x ∷ more) h = let a = h.0 in let b = h.1 in let c = turn-low x.end size more h.2 in omega (arith, a, b, c)
+
+module _ (size : ℕ) (s t : List ℕ) (agree : Agree size s t) where
+  bytes_from-same : (low : ℕ) (st : List Stretch) → InTurn low st size → (at : ℕ) → bytes_from s st at ≡ bytes_from t st at
+  bytes_from-same low [] h at = refl
+  bytes_from-same low (x ∷ more) h at =
+      ap (λ l. l ++ bytes_from s more at) (agree (max at x.start) x.end (turn-low x.end size more h.2)) ∙ ap (λ l. slice t (max at x.start) x.end ++ l) (bytes_from-same x.end more h.2 at)
+
+  bytes_before-same : (low : ℕ) (st : List Stretch) → InTurn low st size → (at : ℕ) → bytes_before s st at ≡ bytes_before t st at
+  bytes_before-same low [] h at = refl
+  bytes_before-same low (x ∷ more) h at =
+      let c = turn-low x.end size more h.2 in
+      ap (λ l. l ++ bytes_before s more at) (agree x.start (min at x.end) (omega (arith, c))) ∙ ap (λ l. slice t x.start (min at x.end) ++ l) (bytes_before-same x.end more h.2 at)
+
+module _ (profile : Profile) (size : ℕ) (s t : List ℕ) (agree : Agree size s t) (d e : List ℕ → Option Definition) (f g : List ℕ → Bool) (leaf : Leaf) (turn : InTurn 0 leaf.stretches size) where
+  abbrev one : Reader
+  one = reader_with profile s d f
+
+  abbrev other : Reader
+  other = reader_with profile t e g
+
+  end-low : end_of leaf.stretches ≤ size
+  end-low = end-within leaf.stretches size turn
+
+  from-same : (at : ℕ) → from one leaf at ≡ from other leaf at
+  from-same at = bytes_from-same size s t agree 0 leaf.stretches turn at
+
+  before-same : (at : ℕ) → before one leaf at ≡ before other leaf at
+  before-same at = bytes_before-same size s t agree 0 leaf.stretches turn at
+
+  source-same : (at : ℕ) → source_from one leaf at ≡ source_from other leaf at
+  source-same at = agree at (end_of leaf.stretches) end-low
+
+  -- ## Tokens
+
+  read_on-same : (at : ℕ) → read_on one leaf at ≡ read_on other leaf at
+  read_on-same at =
+      ap (λ b. place_of one leaf (if first_is (λ c. not (is_content c)) (reverse b) then behind_blanks (from one leaf at) else from one leaf at)) (before-same at)
+      ∙ ap (λ l. place_of one leaf (if line_begins other leaf at then behind_blanks l else l)) (from-same at)
+
+  break_or-same : (at : ℕ) (o : Option LineBreak) (x y : Token) → x ≡ y → break_or one leaf at o x ≡ break_or other leaf at o y
+  break_or-same at None x y h = h
+  break_or-same at (Some found) x y h =
+      ap (λ (l : List ℕ). break_to one leaf at found (at + (length l - length found.behind))) (from-same at)
+      ∙ ap (λ n. Stands (record { kind = if found.is_hard then HardBreak else SoftBreak; start = at + found.before; end = at + (length (from other leaf at) - length found.behind) }) n) (read_on-same (at + (length (from other leaf at) - length found.behind)))
+
+  code_or-same : (at n : ℕ) (o : Option Parsed) → code_or one leaf at n o ≡ code_or other leaf at n o
+  code_or-same at n None = refl
+  code_or-same at n (Some found) = refl
+
+  escaped-same : (at n : ℕ) (o : Option Parsed) → escaped_backtick one leaf at n o ≡ escaped_backtick other leaf at n o
+  escaped-same at n None = refl
+  escaped-same at n (Some found) = refl
+
+  escape-same : (at : ℕ) (bs : List ℕ) → escape_at one leaf at bs ≡ escape_at other leaf at bs
+  escape-same at bs = either-token (first_is is_backtick bs) _ _ _ _ (escaped-same (suc at) (backticks bs) (code_in (drop 1 bs))) refl
+
+  entity_or-same : (at : ℕ) (o : Option Entity) → entity_or one leaf at o ≡ entity_or other leaf at o
+  entity_or-same at None = refl
+  entity_or-same at (Some entity) = refl
+
+  autolink_or-same : (at : ℕ) (o : Option Parsed) (x y : Token) → x ≡ y → autolink_or one leaf at o x ≡ autolink_or other leaf at o y
+  autolink_or-same at None x y h = h
+  autolink_or-same at (Some found) x y h = refl
+
+  tag_or_text-same : (at : ℕ) (o : Option (List ℕ)) → tag_or_text one leaf at o ≡ tag_or_text other leaf at o
+  tag_or_text-same at None = refl
+  tag_or_text-same at (Some rest) = ap (λ (l : List ℕ). item_at (tag_kind one leaf (take (length l - length rest) l)) at (place_of one leaf rest)) (from-same at)
+
+  markup_or-same : (at : ℕ) (o : Option (List ℕ)) (x y : Token) → x ≡ y → markup_or one leaf at o x ≡ markup_or other leaf at o y
+  markup_or-same at None x y h = h
+  markup_or-same at (Some rest) x y h =
+      ap (λ (l : List ℕ). markup_to one leaf at (at + (length l - length rest))) (source-same at)
+      ∙ ap (λ n. Stands (record { kind = Html; start = at; end = at + (length (source_from other leaf at) - length rest) }) n) (read_on-same (at + (length (source_from other leaf at) - length rest)))
+
+  less_than-same : (at : ℕ) (bs : List ℕ) → less_than one leaf at bs ≡ less_than other leaf at bs
+  less_than-same at bs =
+      either-token (first_is (λ c. c == 92) bs) _ _ _ _ refl
+      (autolink_or-same at (autolink_in profile.options.email_autolinks bs) _ _
+      (ap (λ l. markup_or one leaf at (behind_markup l) (tag_or_text one leaf at (behind_tag no_prefix (from one leaf at)))) (source-same at)
+      ∙ markup_or-same at (behind_markup (source_from other leaf at)) _ _ (ap (λ l. tag_or_text one leaf at (behind_tag no_prefix l)) (from-same at) ∙ tag_or_text-same at (behind_tag no_prefix (from other leaf at)))))
+
+  character_before-same : (at : ℕ) → character_before one leaf at ≡ character_before other leaf at
+  character_before-same at = ap (λ l. first_of (reverse (chars l))) (before-same at)
+
+  character_at-same : (at : ℕ) → character_at one leaf at ≡ character_at other leaf at
+  character_at-same at = ap (λ l. first_of (chars l)) (from-same at)
+
+  run_at-same : (at delimiter n : ℕ) → run_at one leaf at delimiter n ≡ run_at other leaf at delimiter n
+  run_at-same at delimiter n =
+      ap (λ c. run_or one leaf at delimiter n (flanking profile.options delimiter n c (character_at one leaf (at + n)))) (character_before-same at)
+      ∙ ap (λ c. run_or one leaf at delimiter n (flanking profile.options delimiter n (character_before other leaf at) c)) (character_at-same (at + n))
+
+  formula_or-same : (kind : List ℕ → ItemKind) (at : ℕ) (o : Option Parsed) → formula_or one leaf kind at o ≡ formula_or other leaf kind at o
+  formula_or-same kind at None = refl
+  formula_or-same kind at (Some found) = refl
+
+  dollar-same : (at : ℕ) (bs : List ℕ) (x y : Braces) → x ≡ y → dollar one leaf at bs x ≡ dollar other leaf at bs y
+  dollar-same at bs x y h =
+      ap (dollar one leaf at bs) h ∙ either-token (first_is is_dollar bs) _ _ _ _ (formula_or-same DisplayMath at (display_in y (drop 1 bs))) (formula_or-same InlineMath at (inline_in y bs))
+
+  smart_or-same : (at b : ℕ) → smart_or one leaf at b ≡ smart_or other leaf at b
+  smart_or-same at b =
+      either-token (b == 46) _ _ _ _ (ap (λ l. if starts (codes "...") l then item_at (items.Written (226 ∷ 128 ∷ 166 ∷ [])) at (at + 3) else item_at items.Plain at (suc at)) (from-same at))
+      (either-token (b == 45) _ _ _ _ (ap (λ l. hyphens one leaf at (prefix_len (λ c. c == 45) l)) (from-same at))
+      (either-token ((b == 34) || (b == 39)) _ _ _ _
+      (ap (λ c. item_at (items.Quoted (quote_beside (b == 34) c (character_at one leaf (suc at)))) at (suc at)) (character_before-same at)
+      ∙ ap (λ c. item_at (items.Quoted (quote_beside (b == 34) (character_before other leaf at) c)) at (suc at)) (character_at-same (suc at))) refl))
+
+  begins-same : (at : ℕ) (bs : List ℕ) → begins one leaf at bs ≡ begins other leaf at bs
+  begins-same at [] = refl
+  begins-same at (b ∷ bs) =
+      either-token (is_blank_byte b || not (is_content b)) _ _ _ _ (break_or-same at (blank_break_in (b ∷ bs)) _ _ refl)
+      (either-token (b == 92) _ _ _ _ (break_or-same at (backslash_break_in (b ∷ bs)) _ _ (escape-same at bs))
+      (either-token (b == 38) _ _ _ _ (entity_or-same at (entity_in profile.lookup bs))
+      (either-token (b == 96) _ _ _ _ (code_or-same at (backticks (b ∷ bs)) (code_in (b ∷ bs)))
+      (either-token (b == 60) _ _ _ _ (less_than-same at bs)
+      (either-token (b == 33) _ _ _ _ refl
+      (either-token (b == 91) _ _ _ _ refl
+      (either-token (b == 93) _ _ _ _ refl
+      (either-token (is_run_delimiter b) _ _ _ _ (run_at-same at b (prefix_len (λ c. c == b) (b ∷ bs)))
+      (either-token (profile.options.math && is_dollar b) _ _ _ _ (dollar-same at bs _ _ (ap (λ l. braces_behind false l no_braces) (before-same at)))
+      (either-token profile.options.smart_punctuation _ _ _ _ (smart_or-same at b) refl))))))))))
+
+  begins_at-same : (at : ℕ) → begins_at one leaf at ≡ begins_at other leaf at
+  begins_at-same at = ap (begins one leaf at) (from-same at) ∙ begins-same at (from other leaf at)
+
+  goes_on-same : (x : Token) (end : ℕ) (more others : ℕ → ℕ) → ((n : ℕ) → more n ≡ others n) → goes_on one leaf x end more ≡ goes_on other leaf x end others
+  goes_on-same (Stands item resume) end more others h = either-place (is_plain item.kind && (item.start == end)) _ _ _ _ (h resume) refl
+  goes_on-same (Opens opener) end more others h = refl
+  goes_on-same (Closes closer) end more others h = refl
+  goes_on-same Ends end more others h = refl
+
+  plain_end-same : (n end : ℕ) → plain_end one leaf n end ≡ plain_end other leaf n end
+  plain_end-same zero end = refl
+  plain_end-same (suc n) end =
+      ap (λ x. goes_on one leaf x end (plain_end one leaf n)) (begins_at-same end) ∙ goes_on-same (begins_at other leaf end) end (plain_end one leaf n) (plain_end other leaf n) (plain_end-same n)
+
+  longest-same : (x : Token) → longest one leaf x ≡ longest other leaf x
+  longest-same (Stands item resume) =
+      either-token (is_plain item.kind) _ _ _ _ (ap (λ n. item_at items.Plain item.start n) (ap (λ (l : List ℕ). plain_end one leaf (length l) resume) (from-same resume) ∙ plain_end-same (length (from other leaf resume)) resume)) refl
+  longest-same (Opens opener) = refl
+  longest-same (Closes closer) = refl
+  longest-same Ends = refl
+
+  token-same : (at : ℕ) → token one leaf at ≡ token other leaf at
+  unfolding token
+  token-same at = ap (longest one leaf) (begins_at-same at) ∙ longest-same (begins_at other leaf at)
+
+  -- ## Decisions
+
+  between-same : (start end : ℕ) → between one leaf start end ≡ between other leaf start end
+  between-same start end =
+      ap (λ (l : List ℕ). take (length l - length (behind one leaf end)) l) (from-same start) ∙ ap (λ (l : List ℕ). take (length (behind other leaf start) - length l) (behind other leaf start)) (from-same end)
+
+  wiki_text-same : (first : Taken) (closer : Bracket) → closer.start ≤ size → wiki_text one leaf first closer ≡ wiki_text other leaf first closer
+  wiki_text-same first closer w = agree (suc first.opener.bracket.end) closer.start w
+
+  defined-same : (o : Option Definition) (named : Named) (taken : Taken) (closer : Bracket) (st : State) → defined_or_asked one leaf o named taken closer st ≡ defined_or_asked other leaf o named taken closer st
+  defined-same None named taken closer st = refl
+  defined-same (Some found) named taken closer st = refl
+
+  refers-same : (named : Named) (taken : Taken) (closer : Bracket) (st : State) → d (fold named.label) ≡ e (fold named.label) → refers one leaf named taken closer st ≡ refers other leaf named taken closer st
+  refers-same named taken closer st h =
+      either-decision (st.expansion_left == 0) _ _ _ _ refl (ap (λ o. defined_or_asked one leaf o named taken closer st) h ∙ defined-same (e (fold named.label)) named taken closer st)
+
+  footnote-same : (label : List ℕ) (taken : Taken) (closer : Bracket) (st : State) → f (fold label) ≡ g (fold label) → footnote_reference one leaf label taken closer st ≡ footnote_reference other leaf label taken closer st
+  footnote-same label taken closer st h = ap (λ z. if one_line_footnotes one leaf && not z then Settled (stays one leaf closer st) else Settled (forms one leaf taken (Footnote (normal_form label) closer.end) closer.end (map dropped) st)) h
+
+  -- the labels that the leaf may ask for lead to the same
+  abbrev Alike : Type 0
+  Alike = (label : List ℕ) → MayAskFor one leaf label → (d (fold label) ≡ e (fold label)) × (f (fold label) ≡ g (fold label))
+
+  named-label : (label : List ℕ) (end : ℕ) (o : Option (List ℕ)) → (collapsed_or_shortcut one leaf label end o).label ≡ label
+  named-label label end None = refl
+  named-label label end (Some rest) = refl
+
+  named-same : (label : List ℕ) (end : ℕ) (o : Option (List ℕ)) → collapsed_or_shortcut one leaf label end o ≡ collapsed_or_shortcut other leaf label end o
+  named-same label end None = refl
+  named-same label end (Some rest) = refl
+
+  -- an opening bracket of the leaf
+  abbrev IsOpener : Bracket → Type 0
+  IsOpener b = (place : ℕ) × (token one leaf place ≡ Opens b)
+
+  own-same : Alike → (at : ℕ) (taken : Taken) (closer : Bracket) (st : State) → token one leaf at ≡ Closes closer → IsOpener taken.opener.bracket → by_own_label one leaf (between one leaf taken.opener.bracket.end closer.start) taken closer st ≡ by_own_label other leaf (between other leaf taken.opener.bracket.end closer.start) taken closer st
+  own-same alike at taken closer st q o =
+      either-decision (is_footnote_label one leaf (between one leaf start end)) _ _ _ _ (footnote-same (as_label one leaf (drop 1 (between one leaf start end))) taken closer st (alike _ (at, closer, q, inr (o.0, taken.opener.bracket, o.1, inr refl))).1)
+      (either-decision (is_bracketed_label (between one leaf start end)) _ _ _ _
+      (ap (λ l. refers one leaf (collapsed_or_shortcut one leaf label closer.end (behind_collapsed l)) taken closer st) (from-same closer.end)
+      ∙ refers-same (collapsed_or_shortcut one leaf label closer.end (behind_collapsed (behind other leaf closer.end))) taken closer st
+      (subst (λ l. d (fold l) ≡ e (fold l)) (sym (named-label label closer.end (behind_collapsed (behind other leaf closer.end)))) (alike label (at, closer, q, inr (o.0, taken.opener.bracket, o.1, inl refl))).0)
+      ∙ ap (λ n. refers other leaf n taken closer st) (named-same label closer.end (behind_collapsed (behind other leaf closer.end)))) refl)
+      ∙ ap (λ l. by_own_label other leaf l taken closer st) (between-same start end)
+    where
+      start : ℕ
+      start = taken.opener.bracket.end
+
+      end : ℕ
+      end = closer.start
+
+      label : List ℕ
+      label = as_label one leaf (between one leaf taken.opener.bracket.end closer.start)
+
+  full-same : Alike → (found : Parsed) (at : ℕ) (taken : Taken) (closer : Bracket) (st : State) → token one leaf at ≡ Closes closer → reference_label_in (from one leaf closer.end) ≡ Some found → full_reference one leaf found taken closer st ≡ full_reference other leaf found taken closer st
+  full-same alike found at taken closer st c q =
+      refers-same (record { label = as_label one leaf found.bytes; link_type = Reference; end = place one leaf found.behind; resume = place one leaf found.behind }) taken closer (record st { label_close = Some (place one leaf found.behind - 1) })
+      (alike (as_label one leaf found.bytes) (at, closer, c, inl (found, q, refl))).0
+
+  reference-same : Alike → (o : Option Parsed) (at : ℕ) (taken : Taken) (closer : Bracket) (st : State) → token one leaf at ≡ Closes closer → IsOpener taken.opener.bracket → ((found : Parsed) → o ≡ Some found → reference_label_in (from one leaf closer.end) ≡ Some found) → reference_or one leaf o taken closer st ≡ reference_or other leaf o taken closer st
+  reference-same alike None at taken closer st c b h = either-decision (is_there closer.start st.label_close) _ _ _ _ refl (own-same alike at taken closer st c b)
+  reference-same alike (Some found) at taken closer st c b h = full-same alike found at taken closer st c (h found refl)
+
+  unless-found : (o : Option Parsed) (found : Parsed) → unless_footnote one leaf o ≡ Some found → o ≡ Some found
+  unless-found None found q = q
+  unless-found (Some x) found q = go (is_footnote_label one leaf x.bytes) q
+    where
+      go : (z : Bool) → (if z then None else Some x) ≡ Some found → Some x ≡ Some found
+      go true q = absurd (let c : None ≡ Some found = q in cc)
+      go false q = q
+
+  unless-same : (o : Option Parsed) → unless_footnote one leaf o ≡ unless_footnote other leaf o
+  unless-same None = refl
+  unless-same (Some x) = refl
+
+  link-same : Alike → (at : ℕ) (taken : Taken) (closer : Bracket) (st : State) → token one leaf at ≡ Closes closer → IsOpener taken.opener.bracket → link_or one leaf (link_tail_in (behind one leaf closer.end)) taken closer st ≡ link_or other leaf (link_tail_in (behind other leaf closer.end)) taken closer st
+  link-same alike at taken closer st c b = ap (λ l. link_or one leaf (link_tail_in l) taken closer st) (from-same closer.end) ∙ go (link_tail_in (behind other leaf closer.end))
+    where
+      go : (o : Option LinkTail) → link_or one leaf o taken closer st ≡ link_or other leaf o taken closer st
+      go (Some tail) = refl
+      go None =
+          reference-same alike (unless_footnote one leaf (reference_label_in (behind one leaf closer.end))) at taken closer st c b (λ found q. unless-found (reference_label_in (behind one leaf closer.end)) found q)
+          ∙ ap (λ l. reference_or other leaf (unless_footnote one leaf (reference_label_in l)) taken closer st) (from-same closer.end)
+          ∙ ap (λ o. reference_or other leaf o taken closer st) (unless-same (reference_label_in (behind other leaf closer.end)))
+
+  -- the taken bracket is one of the leaf
+  abbrev IsTakenOpener : Option Taken → Type 0
+  IsTakenOpener None = Unit {0}
+  IsTakenOpener (Some taken) = IsOpener taken.opener.bracket
+
+  taken-same : Alike → (at : ℕ) (o : Option Taken) (closer : Bracket) (st : State) → token one leaf at ≡ Closes closer → IsTakenOpener o → with_taken one leaf o closer st ≡ with_taken other leaf o closer st
+  taken-same alike at None closer st c b = refl
+  taken-same alike at (Some taken) closer st c b = either-decision taken.opener.is_inactive _ _ _ _ refl (link-same alike at taken closer st c b)
+
+  wikilink-same : Alike → (at : ℕ) (first : Option Taken) (o : Option Taken) (closer : Bracket) (st : State) → closer.start ≤ size → token one leaf at ≡ Closes closer → IsTakenOpener o → wikilink_or one leaf first o closer st ≡ wikilink_or other leaf first o closer st
+  wikilink-same alike at None o closer st w c b = taken-same alike at o closer st c b
+  wikilink-same alike at (Some first) o closer st w c b =
+      ap (λ l. form one l) (wiki_text-same first closer w)
+      ∙ either-decision (first.opener.is_inactive || (length (name_in (wiki_text other leaf first closer)) == 0)) _ _ _ _ (taken-same alike at o closer (record st { openers = tried first.nearer st.openers }) c b) refl
+    where
+      form : Reader → List ℕ → Decision
+      form reader l =
+          if first.opener.is_inactive || (length (name_in l) == 0)
+          then with_taken reader leaf o closer (record st { openers = tried first.nearer st.openers })
+          else Settled (forms reader leaf first (Wiki (name_in l) (behind_pipe (suc first.opener.bracket.end) l) (suc closer.end)) (suc closer.end) (λ os. map undoubled (map inactive os)) st)
+
+  decide-same : Alike → (at : ℕ) (st : State) (closer : Bracket) → closer.start ≤ size → token one leaf at ≡ Closes closer → IsTakenOpener (nearest st.openers) → decide one leaf st closer ≡ decide other leaf st closer
+  unfolding decide
+  decide-same alike at st closer w c b =
+      ap (λ l. if profile.options.wikilinks && first_is (λ b. b == 93) l then wikilink_or one leaf (doubled now.openers) (nearest st.openers) closer now else with_taken one leaf (nearest st.openers) closer now) (from-same closer.end)
+      ∙ either-decision (profile.options.wikilinks && first_is (λ b. b == 93) (behind other leaf closer.end)) _ _ _ _ (wikilink-same alike at (doubled now.openers) (nearest st.openers) closer now w c b) (taken-same alike at (nearest st.openers) closer now c b)
+    where
+      now : State
+      now = record st { openers = used_up st.openers }
+
+  -- ## Parts
+
+  closer-low : (at : ℕ) (closer : Bracket) → token one leaf at ≡ Closes closer → closer.start ≤ size
+  closer-low at closer q =
+      let k = (leaf-ranges one leaf size turn).closes at closer q in
+      let a = k.0.ordered in let b = k.0.ends in let c = end-low in omega (arith, a, b, c)
+
+  -- the opening brackets of a state are brackets of the leaf
+  abbrev AreOpeners : List Opener → Type 0
+  AreOpeners [] = Unit {0}
+  AreOpeners (o ∷ os) = IsOpener o.bracket × AreOpeners os
+
+  openers-persist : (a b : List Opener) → Persist a b → AreOpeners a → AreOpeners b
+  openers-persist [] b p h = subst AreOpeners (sym p) tt
+  openers-persist (o ∷ a) [] p h = absurd p
+  openers-persist (o ∷ a) (n ∷ b) p h = (subst IsOpener (sym p.0) h.0, openers-persist a b p.2 h.1)
+
+  openers-drop : (n : ℕ) (a : List Opener) → AreOpeners a → AreOpeners (drop n a)
+  openers-drop zero a h = h
+  openers-drop (suc n) [] h = h
+  openers-drop (suc n) (o ∷ a) h = openers-drop n a h.1
+
+  nearest-opener : (os : List Opener) → AreOpeners os → IsTakenOpener (nearest os)
+  nearest-opener os h = go (nearest os) (nearest-taken os)
+    where
+      go : (o : Option Taken) → AreTaken os o → IsTakenOpener o
+      go None t = tt
+      go (Some taken) t = subst IsOpener t.bracket (subst AreOpeners t.there (openers-drop taken.nearer os h)).0
+
+  always-comes : (Says : Saying) (asked : List Exchange) (P : Outcome → Type 0) (x : Decision) (o : Outcome) → Always P x → Comes Says asked x o → P o
+  always-comes Says asked P (Settled outcome) o h k = subst P (sym k) h
+  always-comes Says asked P (Asks question answered) o h k = subst P (sym k.2) (h k.0)
+
+  openers-left : (os after : List Opener) (r : Result) → ResultsApart os r after → FitsBy (length os) (length after) r → AreOpeners os → AreOpeners after
+  openers-left os after StaysText k f h = openers-persist os after k h
+  openers-left os after (Forms nearer formed) k f h = go (drop nearer os) refl
+    where
+      go : (l : List Opener) → drop nearer os ≡ l → AreOpeners after
+      go [] e = let z : length (drop nearer os) ≡ 0 = ap length e in let d = length-drop nearer os in absurd (omega (arith, z, d, f))
+      go (t ∷ b) e = openers-persist b after (k t b e).persist (subst AreOpeners e (openers-drop nearer os h)).1
+
+  openers-behind : (Says : Saying) (asked : List Exchange) (st : State) (closer : Bracket) (o : Outcome) → Comes Says asked (decide one leaf st closer) o → AreOpeners st.openers → AreOpeners o.after.openers
+  openers-behind Says asked st closer o k h =
+      openers-left st.openers o.after.openers o.result (always-comes Says asked (KeepsApart st.openers) (decide one leaf st closer) o ((decide-apart one leaf).keeps st closer) k)
+      (always-comes Says asked (Fits (length st.openers)) (decide one leaf st closer) o ((leaf-forward one leaf size turn).fits st closer) k) h
+
+  -- what was read leads to a state of which this holds too
+  openers-kept : (Says : Saying) (a : State) (parts : Parts) (b : State) → Reads (token one leaf) (decide one leaf) Says a parts b → AreOpeners a.openers → AreOpeners b.openers
+  openers-kept Says a NoParts b h k = subst (λ (x : State). AreOpeners x.openers) (sym h) k
+  openers-kept Says a (SinglePart item after) b h k = openers-kept Says (moved h.0 a) after b h.2 k
+  openers-kept Says a (Form opener inside closer formed after) b h k =
+      openers-kept Says h.next after b h.after
+      (openers-behind Says h.until.asked h.until closer (record { result = Forms (openings inside) formed; after = h.next }) h.comes (openers-kept Says (opened opener a) inside h.until h.inside ((a.at, h.opens), k)))
+  openers-kept Says a (Closing closer after) b h k = openers-kept Says h.next after b h.after (openers-behind Says a.asked a closer (record { result = StaysText; after = h.next }) h.comes k)
+  openers-kept Says a (Opening opener after) b h k = openers-kept Says (opened opener a) after b h.1 ((a.at, h.0), k)
+
+  reads-same : Alike → (Says : Saying) (a : State) (parts : Parts) (b : State) → AreOpeners a.openers → Reads (token one leaf) (decide one leaf) Says a parts b → Reads (token other leaf) (decide other leaf) Says a parts b
+  reads-same alike Says a NoParts b k h = h
+  reads-same alike Says a (SinglePart item after) b k h = (h.0, sym (token-same a.at) ∙ h.1, reads-same alike Says (moved h.0 a) after b k h.2)
+  reads-same alike Says a (Form opener inside closer formed after) b k h =
+      let until_openers = openers-kept Says (opened opener a) inside h.until h.inside ((a.at, h.opens), k) in
+      record {
+        until = h.until;
+        next = h.next;
+        opens = sym (token-same a.at) ∙ h.opens;
+        inside = reads-same alike Says (opened opener a) inside h.until ((a.at, h.opens), k) h.inside;
+        closes = sym (token-same h.until.at) ∙ h.closes;
+        comes = subst (λ x. Comes Says h.until.asked x (record { result = Forms (openings inside) formed; after = h.next })) (decide-same alike h.until.at h.until closer (closer-low h.until.at closer h.closes) h.closes (nearest-opener h.until.openers until_openers)) h.comes;
+        after = reads-same alike Says h.next after b (openers-behind Says h.until.asked h.until closer (record { result = Forms (openings inside) formed; after = h.next }) h.comes until_openers) h.after;
+      }
+  reads-same alike Says a (Closing closer after) b k h = record {
+    next = h.next;
+    closes = sym (token-same a.at) ∙ h.closes;
+    comes = subst (λ x. Comes Says a.asked x (record { result = StaysText; after = h.next })) (decide-same alike a.at a closer (closer-low a.at closer h.closes) h.closes (nearest-opener a.openers k)) h.comes;
+    after = reads-same alike Says h.next after b (openers-behind Says a.asked a closer (record { result = StaysText; after = h.next }) h.comes k) h.after;
+  }
+  reads-same alike Says a (Opening opener after) b k h = (sym (token-same a.at) ∙ h.0, reads-same alike Says (opened opener a) after b ((a.at, h.0), k) h.1)
+
+  -- ## Events
+
+  event-same : (x : Item) (kind : ItemKind) → slice s x.start x.end ≡ slice t x.start x.end → event_of s x kind ≡ event_of t x kind
+  event-same x (items.Written text) h = refl
+  event-same x (items.Code text) h = refl
+  event-same x (items.InlineMath text) h = refl
+  event-same x (items.DisplayMath text) h = refl
+  event-same x items.Html h = ap InlineHtml h
+  event-same x (items.OwnedHtml text) h = refl
+  event-same x (items.FootnoteReference label) h = refl
+  event-same x items.SoftBreak h = refl
+  event-same x items.HardBreak h = refl
+  event-same x items.Plain h = ap Text h
+  event-same x items.Own h = ap Text h
+  event-same x (items.Quoted quote) h = ap Text h
+  event-same x (items.Delimiters run) h = ap Text h
+  event-same x (items.Autolink uri) h = ap Text h
+
+  inline-same : (Pipe : ℕ → Type 0) (low : ℕ) (spans : Inline) (to : ℕ) → InlineOrder Pipe low spans to → to ≤ size → inline_events s spans ≡ inline_events t spans
+  inline-same Pipe low NoSpans to h w = refl
+  inline-same Pipe low (SingleItem x after) to h w =
+      let up = inline-up Pipe x.end after to h.2 in
+      ap (λ v. record { event = v; start = x.start; end = x.end } ∷ inline_events s after) (event-same x x.kind (agree x.start x.end (omega (arith, up, w))))
+      ∙ ap (λ l. record { event = event_of t x x.kind; start = x.start; end = x.end } ∷ l) (inline-same Pipe x.end after to h.2 w)
+  inline-same Pipe low (SpanAround tag start end inside after) to h w =
+      let up = inline-up Pipe end after to h.5 in
+      ap (λ l. record { event = Start tag; start = start; end = end } ∷ (l ++ (record { event = End (tag_end.end_of tag); start = start; end = end } ∷ inline_events s after))) (inline-same Pipe h.0 inside end h.4 (omega (arith, up, w)))
+      ∙ ap (λ l. record { event = Start tag; start = start; end = end } ∷ (inline_events t inside ++ (record { event = End (tag_end.end_of tag); start = start; end = end } ∷ l))) (inline-same Pipe end after to h.5 w)
+
+  -- where the stretches but the last end with line endings, the spans stand in the leaf
+  spans-stand : size ≤ length s → HaveLineEnds s leaf.stretches → (Says : Saying) (before after : Between) (events : List Ranged) (h : ReadsLeaf one Says leaf before events after)
+      → InlineOrder (IsBehindPipe profile.options s) (begin_of leaf.stretches) (spans_in profile.options h.parts) h.last.at × (h.last.at ≤ size)
+  spans-stand bound lines Says before after events h =
+      let start = entering leaf before in
+      let stands = reading-stands (token one leaf) (decide one leaf) Says (end_of leaf.stretches) (leaf-ranges one leaf size turn) start h.parts h.last start.at (omega arith) (leaf-up leaf.stretches size turn) h.reads.reads in
+      let reached = reading-reaches one leaf size turn bound lines Says start h.parts h.last (begin-place leaf.stretches lines turn) h.reads.reads in
+      let gaps = reading-gaps (token one leaf) (decide one leaf) Says (end_of leaf.stretches) (leaf-forward one leaf size turn) (leaf-ranges one leaf size turn) (decide-far one leaf) start h.parts h.last h.reads.reads in
+      let order = spans-order one leaf size turn bound lines start.at h.parts h.last.at stands.0 (parts-fill one leaf size turn Says start h.parts h.last h.reads.reads) reached.items reached.pipes gaps in
+      let a = stands.1 in let b = end-low in
+      (order, omega (arith, a, b))
+    where
+      begin-place : (st : List Stretch) (ended : HaveLineEnds s st) (turn : InTurn 0 st size) → (left : ℕ) × IsAt s st size turn bound ended left (begin_of st)
+      begin-place [] ended turn = (0, (omega arith, refl))
+      begin-place (x ∷ more) ended turn = (size_of (x ∷ more), (omega arith, sym (place-first s x more ended)))
+
+  -- the leaf is read as the same events
+  pub leaf-same : size ≤ length s → HaveLineEnds s leaf.stretches → Alike → (Says : Saying) (before after : Between) (events : List Ranged) → ReadsLeaf one Says leaf before events after → ReadsLeaf other Says leaf before events after
+  leaf-same bound lines alike Says before after events h =
+      let k = spans-stand bound lines Says before after events h in
+      let are : h.spans ≡ spans_in profile.options h.parts = spans-one profile.options h.parts h.spans h.are in
+      record {
+        parts = h.parts;
+        last = h.last;
+        spans = h.spans;
+        reads = record { reads = reads-same alike Says (entering leaf before) h.parts h.last tt h.reads.reads; ends = sym (token-same h.last.at) ∙ h.reads.ends };
+        are = h.are;
+        events_are =
+            h.events_are ∙ ap (inline_events s) are ∙ inline-same (IsBehindPipe profile.options s) (begin_of leaf.stretches) (spans_in profile.options h.parts) h.last.at k.0 k.1 ∙ ap (inline_events t) (sym are);
+        after_is = h.after_is;
+      }
+
+module _ (profile : Profile) (size : ℕ) (s t : List ℕ) (agree : Agree size s t) (d e : List ℕ → Option Definition) (f g : List ℕ → Bool) where
+  pub all-same : size ≤ length s → (Says : Saying) (segments : List Segment) (before after : Between) (events : List Ranged) → AreKept profile size s d e f g segments
+      → ReadsAll (reader_with profile s d f) Says segments before events after → ReadsAll (reader_with profile t e g) Says segments before events after
+  all-same bound Says [] before after events k h = h
+  all-same bound Says (Given r ∷ others) before after events k h = (h.0, all-same bound Says others before after h.0 k h.1, h.2)
+  all-same bound Says (Content leaf ∷ others) before after events k h =
+      (h.0, h.1, h.2, leaf-same profile size s t agree d e f g leaf k.0.turn bound k.0.lines k.0.labels Says before h.2 h.0 h.3, all-same bound Says others h.2 after h.1 k.1 h.4, h.5)

@@ -1,0 +1,107 @@
+-- The lines of a text that grows, and its blocks.
+use Rattle.std.proofs.Common.{◌≡◌, ℕ, suc, ◌+◌, Bool, true, false, ◌==◌, ◌&&◌, ◌||◌, not, List, [], ◌∷◌, ◌++◌, length, refl, sym, ap, ◌∙◌, arith}
+use Rattle.std.specs.Prelude.{if◌then◌else◌}
+use Rattle.cmark_grammar.specs.Lines.{line_feed, carriage_return, begins_with_line_feed, ends_line, onto, lines}
+use Rattle.cmark_grammar.specs.Options.{Options}
+use Rattle.cmark_grammar.specs.Rows.{Row, row_at, rows_from, rows, shown}
+use Rattle.cmark_grammar.specs.Blocks.{Blocks, Nil, join}
+use Rattle.cmark_grammar.specs.BlocksModel.{blocks}
+use Rattle.cmark_grammar.specs.BlocksByLine.{OpenLines, Between, close_lines, lines_begin, lines_feed_all, blocks_by_line}
+use Rattle.cmark_grammar.proofs.BlocksByLine.{by_line-same}
+use Rattle.cmark_stream_model.specs.Growth.{ends_whole, blocks_at, open_after, IsCut}
+use Rattle.cmark_stream_model.proofs.Fronts.{Steady, all-front, all-steady, close-front, parts-begin, apart-front, apart-steady, fed-append}
+
+-- a text with a byte has a line
+pub record Parted (text : List ℕ) : Type 0 where
+  pub first : List ℕ
+  pub others : List (List ℕ)
+  pub are : lines text ≡ first ∷ others
+
+onto-parted : (b : ℕ) (ls : List (List ℕ)) → (first : List ℕ) × (others : List (List ℕ)) × (onto b ls ≡ first ∷ others)
+onto-parted b [] = (b ∷ [], [], refl)
+onto-parted b (l ∷ ls) = (b ∷ l, ls, refl)
+
+lines-parted : (b : ℕ) (bs : List ℕ) → Parted (b ∷ bs)
+lines-parted b bs = go (ends_line b bs) refl
+  where
+    go : (z : Bool) → ends_line b bs ≡ z → Parted (b ∷ bs)
+    go true e = record { first = b ∷ []; others = lines bs; are = ap (λ z. if z then (b ∷ []) ∷ lines bs else onto b (lines bs)) e }
+    go false e = let p = onto-parted b (lines bs) in record { first = p.0; others = p.1; are = ap (λ z. if z then (b ∷ []) ∷ lines bs else onto b (lines bs)) e ∙ p.2 }
+
+onto-append : (b : ℕ) (ls first : List (List ℕ)) (l : List ℕ) (ms : List (List ℕ)) → ls ≡ l ∷ ms → onto b (ls ++ first) ≡ onto b ls ++ first
+onto-append b ls first l ms e = rw e refl
+
+-- a byte that ends a line before some bytes ends one at the end
+ends-alone : (b : ℕ) (bs : List ℕ) → ends_line b bs ≡ true → ends_line b [] ≡ true
+ends-alone b bs e = go (b == line_feed) (b == carriage_return) (begins_with_line_feed bs) e
+  where
+    go : (x y z : Bool) → (x || (y && not z)) ≡ true → (x || (y && true)) ≡ true
+    go true y z e = refl
+    go false true z e = refl
+    go false false z e = e
+
+pub lines-append : (front behind : List ℕ) → ends_whole front behind ≡ true → lines (front ++ behind) ≡ lines front ++ lines behind
+lines-append [] behind e = refl
+lines-append (b ∷ []) behind e = rw (e, ends-alone b behind e) refl
+lines-append (b ∷ (c ∷ bs)) behind e = go (ends_line b (c ∷ bs)) (lines-append (c ∷ bs) behind e) (lines-parted c bs)
+  where
+    go : (z : Bool) → lines ((c ∷ bs) ++ behind) ≡ lines (c ∷ bs) ++ lines behind → Parted (c ∷ bs)
+        → (if z then (b ∷ []) ∷ lines ((c ∷ bs) ++ behind) else onto b (lines ((c ∷ bs) ++ behind))) ≡ (if z then (b ∷ []) ∷ lines (c ∷ bs) else onto b (lines (c ∷ bs))) ++ lines behind
+    go true ih p = ap (λ l. (b ∷ []) ∷ l) ih
+    go false ih p = ap (onto b) ih ∙ onto-append b (lines (c ∷ bs)) (lines behind) p.first p.others p.are
+
+-- the lines of a text have all its bytes
+abbrev total : List (List ℕ) → ℕ
+total [] = 0
+total (l ∷ ls) = length l + total ls
+
+onto-total : (b : ℕ) (ls : List (List ℕ)) → total (onto b ls) ≡ suc (total ls)
+onto-total b [] = omega arith
+onto-total b (l ∷ ls) = omega arith
+
+pub lines-total : (text : List ℕ) → total (lines text) ≡ length text
+lines-total [] = refl
+lines-total (b ∷ bs) = go (ends_line b bs) (lines-total bs)
+  where
+    go : (z : Bool) → total (lines bs) ≡ length bs → total (if z then (b ∷ []) ∷ lines bs else onto b (lines bs)) ≡ suc (length bs)
+    go true ih = omega (arith, ih)
+    go false ih = onto-total b (lines bs) ∙ ap suc ih
+
+rows-append : (at : ℕ) (ls ms : List (List ℕ)) → rows_from at (ls ++ ms) ≡ rows_from at ls ++ rows_from (at + total ls) ms
+rows-append at [] ms = ap (λ n. rows_from n ms) (omega arith)
+rows-append at (l ∷ ls) ms = ap (λ rs. row_at at l ∷ rs) (rows-append (at + length l) ls ms ∙ ap (λ n. rows_from (at + length l) ls ++ rows_from n ms) (sum at (length l) (total ls)))
+  where
+    sum : (a b c : ℕ) → a + b + c ≡ a + (b + c)
+    sum a b c = omega arith
+
+-- the rows of a text that grows behind a whole line ending
+pub rows-grow : (front behind : List ℕ) → ends_whole front behind ≡ true → rows (front ++ behind) ≡ rows front ++ rows_from (length front) (lines behind)
+rows-grow front behind e =
+    ap (rows_from 0) (lines-append front behind e) ∙ rows-append 0 (lines front) (lines behind) ∙ ap (λ n. rows front ++ rows_from n (lines behind)) (from-zero (total (lines front)) (length front) (lines-total front))
+  where
+    from-zero : (n m : ℕ) → n ≡ m → 0 + n ≡ m
+    from-zero n m h = omega (arith, h)
+
+module _ (options : Options) where
+  -- the blocks before a cut stay, and those behind it are those of its lines alone
+  pub blocks-grow : (front behind : List ℕ) (r : Row) (rs : List Row) → ends_whole front behind ≡ true → rows_from (length front) (lines behind) ≡ r ∷ rs → IsCut options front r rs
+      → blocks options (front ++ behind) ≡ join (blocks options front) (blocks_at options (length front) behind)
+  unfolding blocks_by_line
+  blocks-grow front behind r rs whole are cut =
+      sym (by_line-same options (front ++ behind))
+      ∙ ap (λ ls. close_lines (lines_feed_all options (Between Nil) ls)) (rows-grow front behind whole ∙ ap (λ ls. rows front ++ ls) are)
+      ∙ ap close_lines (fed-append options (r ∷ rs) (Between Nil) (rows front) ∙ ap (λ o. lines_feed_all options o (r ∷ rs)) cut.settled)
+      ∙ ap (λ o. close_lines (lines_feed_all options o rs)) (parts-begin options (open_after options front) r (shown rs) cut.parts ∙ apart-front options b r (shown rs) cut.same)
+      ∙ ap close_lines (all-front options b begun rs steady)
+      ∙ close-front options b (lines_feed_all options begun rs) (all-steady options b begun rs steady)
+      ∙ ap (λ x. join x (close_lines (lines_feed_all options begun rs))) (by_line-same options front)
+      ∙ ap (λ ls. join (blocks options front) (close_lines (lines_feed_all options (Between Nil) ls))) (sym are)
+    where
+      b : Blocks
+      b = close_lines (open_after options front)
+
+      begun : OpenLines
+      begun = lines_begin options Nil r (shown rs)
+
+      steady : Steady b begun
+      steady = apart-steady options b r (shown rs) cut.begins

@@ -1,0 +1,436 @@
+-- If no definition lists are read, the first line of blocks decides whether they may continue a list.
+use Rattle.std.proofs.Common.{◌≡◌, ℕ, zero, suc, Bool, true, false, ◌==◌, ◌&&◌, not, List, [], ◌∷◌, ◌++◌, length, refl, sym, ap, ◌∙◌, subst, Option, Some, None, true≢false}
+use Rattle.std.specs.Prelude.{if◌then◌else◌, nat_le}
+use Rattle.cmark_grammar.specs.Alignment.{Alignment}
+use Rattle.cmark_grammar.specs.BlockQuoteKind.{BlockQuoteKind}
+use Rattle.cmark_grammar.specs.Options.{Options}
+use Rattle.cmark_grammar.specs.Places.{Apart}
+use Rattle.cmark_grammar.specs.Rows.{Row, shown, is_blank_line, indent_of, words_of}
+use Rattle.cmark_grammar.specs.Leaves.{Fence, Continuation, GoesOn, Closes, Waits, Stops, underlines, is_thematic_break, is_atx_heading, run, fence_of, counted, code_continuation}
+use Rattle.cmark_grammar.specs.LinkDefinitions.{Parsed, Defined, definition_in, bytes_over}
+use Rattle.cmark_grammar.specs.HtmlBlocks.{html_kind, holds_end}
+use Rattle.cmark_grammar.specs.Footnotes.{Footnotes, Off, Gfm, Old, footnotes_in, footnote_in}
+use Rattle.cmark_grammar.specs.Containers.{Container, BlockQuote, Item, Footnote, ListDefinition, Marker, marker_of, width_with, item_with, item_of, is_block_quote, container_with, footnote_with, footnote_of, footnote_or, with_task, container_of, enter, keeps, strip, is_bare_start, bare_after}
+use Rattle.cmark_grammar.specs.DefinitionLists.{is_definition}
+use Rattle.cmark_grammar.specs.Metadata.{metadata_kind, holds_metadata, metadata_continuation}
+use Rattle.cmark_grammar.specs.MetadataBlockKind.{MetadataBlockKind}
+use Rattle.cmark_grammar.specs.TableRows.{table_head}
+use Rattle.cmark_grammar.specs.Openings.{Leaf, ThematicBreak, AtxHeading, IndentedCode, FencedCode, HtmlBlock, LinkDefinition, MetadataBlock, Table, Opening, Blank, Nests, Takes, Plain, or_else, nests_if, fenced_if, html_if, break_if, heading_if, metadata_begun, defined_if, begins_no_link, texts, lazily, text_lines, definition_of, table_if, text_of, leaf_of, whole_opens, opens, opens_at}
+use Rattle.cmark_grammar.specs.Blocks.{Blocks, Nil, BlankLine, Paragraph, SetextHeading, LeafBlock, ContainerBlock, join, place_in}
+use Rattle.cmark_grammar.specs.Lists.{definition_delimiter, is_title, goes_on}
+use Rattle.cmark_grammar.specs.BlocksModel.{within, place_behind}
+use Rattle.cmark_grammar.specs.BlocksByLine.{leaf_in, continuation_if, OpenLines, Between, BehindTag, InParagraph, InLeaf, InVerbatim, InContainer, blank_lines, close_lines, lines_take_lazy, html_begun, leaf_begun, lines_begin_as, lines_underline_or, lines_go_on_or, lines_kept_or, verbatim_line, lines_begin_in, lines_begin, lines_feed, lines_feed_all}
+use Rattle.cmark_grammar.proofs.BlockLaws.{at-plain, off-defines}
+use Rattle.cmark_stream_model.specs.Growth.{begins_apart, continues, is_outside_of_lists, may_continue}
+use Rattle.cmark_stream_model.proofs.GrowingTables.{no-task}
+
+-- ## No line begins a definition
+
+abbrev NoDefinition : Opening → Type 0
+NoDefinition Blank = Unit {0}
+NoDefinition (Nests k) = is_definition k ≡ false
+NoDefinition (Takes leaf n) = Unit {0}
+NoDefinition Plain = Unit {0}
+
+abbrev NoneOrOther : Option Container → Type 0
+NoneOrOther None = Unit {0}
+NoneOrOther (Some k) = is_definition k ≡ false
+
+no-or : (x y : Opening) → NoDefinition x → NoDefinition y → NoDefinition (or_else x y)
+no-or Blank y h k = h
+no-or (Nests c) y h k = h
+no-or (Takes leaf n) y h k = h
+no-or Plain y h k = k
+
+no-nests : (o : Option Container) → NoneOrOther o → NoDefinition (nests_if o)
+no-nests None h = tt
+no-nests (Some k) h = h
+
+item-other : (r : Row) (m : Option Marker) → NoneOrOther (item_with r m)
+item-other r None = tt
+item-other r (Some m) = go _
+  where
+    go : (z : Bool) → NoneOrOther (if z then Some (Item m.delimiter m.number (width_with m.size r) None) else None)
+    go true = refl
+    go false = tt
+
+task-other : (options : Options) (r : Row) (o : Option Container) → NoneOrOther o → NoneOrOther (with_task options r o)
+task-other options r None h = tt
+task-other options r (Some (BlockQuote alert)) h = refl
+task-other options r (Some (Item delimiter number width task)) h = refl
+task-other options r (Some (Footnote label old size)) h = refl
+task-other options r (Some (ListDefinition width)) h = h
+
+quote-other : (o : Option Container) (quoted : Bool) (alert : Option BlockQuoteKind) → NoneOrOther o → NoneOrOther (container_with o quoted alert)
+quote-other (Some k) quoted alert h = h
+quote-other None true alert h = refl
+quote-other None false alert h = tt
+
+footnote_with-other : (old : Bool) (r : Row) (o : Option Parsed) → NoneOrOther (footnote_with old r o)
+footnote_with-other old r None = tt
+footnote_with-other old r (Some found) = refl
+
+footnote_of-other : (footnotes : Footnotes) (r : Row) → NoneOrOther (footnote_of footnotes r)
+footnote_of-other Off r = tt
+footnote_of-other Gfm r = footnote_with-other false r (footnote_in (words_of r))
+footnote_of-other Old r = footnote_with-other true r (footnote_in (words_of r))
+
+or-other : (a b : Option Container) → NoneOrOther a → NoneOrOther b → NoneOrOther (footnote_or a b)
+or-other None b h k = k
+or-other (Some x) b h k = h
+
+module _ (options : Options) where
+  container-other : (r : Row) → NoneOrOther (container_of options r)
+  container-other r = or-other (footnote_of (footnotes_in options) r) _ (footnote_of-other (footnotes_in options) r) (quote-other (with_task options r (item_of r)) (is_block_quote r) _ (task-other options r (item_of r) (item-other r (marker_of (words_of r)))))
+
+  no-html : (r : Row) (ahead : List Row) (k : Option ℕ) → NoDefinition (html_if r ahead k)
+  no-html r ahead None = tt
+  no-html r ahead (Some kind) = tt
+
+  no-break : (z : Bool) → NoDefinition (break_if z)
+  no-break true = tt
+  no-break false = tt
+
+  no-heading : (z : Bool) (level : ℕ) → NoDefinition (heading_if z level)
+  no-heading true level = tt
+  no-heading false level = tt
+
+  no-fence : (f : Option Fence) (ahead : List Row) → NoDefinition (fenced_if f ahead)
+  no-fence None ahead = tt
+  no-fence (Some fence) ahead = tt
+
+  no-defined : (lines : ℕ) (o : Option Defined) → NoDefinition (defined_if lines o)
+  no-defined lines None = tt
+  no-defined lines (Some found) = tt
+
+  no-table : (o : Option (List Alignment)) (ahead : List Row) → NoDefinition (table_if options o ahead)
+  no-table None ahead = tt
+  no-table (Some alignments) ahead = tt
+
+  no-link : (z : Bool) (x : Opening) → NoDefinition x → NoDefinition (if z then Plain else x)
+  no-link true x h = tt
+  no-link false x h = h
+
+  no-text : (r : Row) (ahead : List Row) → NoDefinition (text_of options r ahead)
+  no-text r ahead =
+      no-or (definition_of options r ahead) (table_if options (table_head options r ahead) ahead)
+      (no-link (begins_no_link (footnotes_in options) (words_of r)) (defined_if (length (text_lines options ahead)) (definition_in (bytes_over r (text_lines options ahead)))) (no-defined (length (text_lines options ahead)) (definition_in (bytes_over r (text_lines options ahead)))))
+      (no-table (table_head options r ahead) ahead)
+
+  no-leaf : (r : Row) (ahead : List Row) → NoDefinition (leaf_of options r ahead)
+  no-leaf r ahead =
+      no-or (html_if r ahead (html_kind (words_of r))) _ (no-html r ahead (html_kind (words_of r)))
+      (no-or (break_if (is_thematic_break (words_of r))) _ (no-break (is_thematic_break (words_of r)))
+      (no-or (heading_if (is_atx_heading (words_of r)) (run 35 (words_of r))) _ (no-heading (is_atx_heading (words_of r)) (run 35 (words_of r)))
+      (no-or (fenced_if (fence_of (indent_of r) (words_of r)) ahead) _ (no-fence (fence_of (indent_of r) (words_of r)) ahead) (no-text r ahead))))
+
+  no-whole : (r : Row) (ahead : List Row) → NoDefinition (whole_opens options r ahead)
+  no-whole r ahead = go (is_blank_line r) (nat_le 4 (indent_of r))
+    where
+      go : (x y : Bool) → NoDefinition (if x then Blank else if y then Takes IndentedCode (counted code_continuation ahead) else or_else (nests_if (container_of options r)) (leaf_of options r ahead))
+      go true y = tt
+      go false true = tt
+      go false false = no-or (nests_if (container_of options r)) (leaf_of options r ahead) (no-nests (container_of options r) (container-other r)) (no-leaf r ahead)
+
+  no-metadata : (k : Option MetadataBlockKind) (ahead : List Row) → NoDefinition (metadata_begun k ahead)
+  no-metadata None ahead = tt
+  no-metadata (Some kind) ahead = go (holds_metadata kind ahead)
+    where
+      go : (z : Bool) → NoDefinition (if z then Takes (MetadataBlock kind) (counted (metadata_continuation kind) ahead) else Plain)
+      go true = tt
+      go false = tt
+
+  no-opens : (r : Row) (ahead : List Row) → NoDefinition (opens options r ahead)
+  unfolding opens
+  no-opens r ahead = no-link r.lazy (or_else (metadata_begun (metadata_kind options r) ahead) (whole_opens options r ahead)) (no-or (metadata_begun (metadata_kind options r) ahead) (whole_opens options r ahead) (no-metadata (metadata_kind options r) ahead) (no-whole r ahead))
+
+  pub no-at : options.definition_list ≡ false → (b : Blocks) (r : Row) (ahead : List Row) → NoDefinition (opens_at options (place_behind Apart b) r ahead)
+  no-at off b r ahead = subst NoDefinition (sym (at-plain options (place_behind Apart b) r ahead (no-task Apart b refl) (off-defines options (place_behind Apart b) r off))) (no-opens r ahead)
+
+-- ## Blocks of which none is a definition, and of which the first that is no blank line is no item
+
+abbrev pub NoDefinitions : Blocks → Type 0
+NoDefinitions Nil = Unit {0}
+NoDefinitions (BlankLine line after) = NoDefinitions after
+NoDefinitions (Paragraph first more after) = NoDefinitions after
+NoDefinitions (SetextHeading level first more underline after) = NoDefinitions after
+NoDefinitions (LeafBlock leaf first more after) = NoDefinitions after
+NoDefinitions (ContainerBlock k first more inside after) = (is_definition k ≡ false) × NoDefinitions after
+
+abbrev leads_in : (other : ℕ → Bool) → Container → Bool
+leads_in other (BlockQuote alert) = true
+leads_in other (Item delimiter number width task) = other delimiter
+leads_in other (Footnote label old size) = true
+leads_in other (ListDefinition width) = false
+
+abbrev first_leads : (other : ℕ → Bool) → (so : Bool) → Blocks → Bool
+first_leads other so Nil = so
+first_leads other so (BlankLine line after) = first_leads other so after
+first_leads other so (Paragraph first more after) = true
+first_leads other so (SetextHeading level first more underline after) = true
+first_leads other so (LeafBlock leaf first more after) = true
+first_leads other so (ContainerBlock k first more inside after) = leads_in other k
+
+leads-join : (other : ℕ → Bool) → (so : Bool) (a b : Blocks) → first_leads other so (join a b) ≡ first_leads other (first_leads other so b) a
+leads-join other so Nil b = refl
+leads-join other so (BlankLine line after) b = leads-join other so after b
+leads-join other so (Paragraph first more after) b = refl
+leads-join other so (SetextHeading level first more underline after) b = refl
+leads-join other so (LeafBlock leaf first more after) b = refl
+leads-join other so (ContainerBlock k first more inside after) b = refl
+
+-- what leads goes on to lead with any blocks behind
+leads-more : (other : ℕ → Bool) → (so : Bool) (a : Blocks) → first_leads other false a ≡ true → first_leads other so a ≡ true
+leads-more other so Nil h = absurd (true≢false (sym h))
+leads-more other so (BlankLine line after) h = leads-more other so after h
+leads-more other so (Paragraph first more after) h = h
+leads-more other so (SetextHeading level first more underline after) h = h
+leads-more other so (LeafBlock leaf first more after) h = h
+leads-more other so (ContainerBlock k first more inside after) h = h
+
+pub no-join : (a b : Blocks) → NoDefinitions a → NoDefinitions b → NoDefinitions (join a b)
+no-join Nil b h k = k
+no-join (BlankLine line after) b h k = no-join after b h k
+no-join (Paragraph first more after) b h k = no-join after b h k
+no-join (SetextHeading level first more underline after) b h k = no-join after b h k
+no-join (LeafBlock leaf first more after) b h k = no-join after b h k
+no-join (ContainerBlock c first more inside after) b h k = (h.0, no-join after b h.1 k)
+
+pub no-title : (a : Blocks) → NoDefinitions a → is_title a ≡ false
+no-title Nil h = refl
+no-title (BlankLine line after) h = no-title after h
+no-title (Paragraph first more after) h = refl
+no-title (SetextHeading level first more underline after) h = refl
+no-title (LeafBlock leaf first more after) h = refl
+no-title (ContainerBlock (BlockQuote alert) first more inside after) h = refl
+no-title (ContainerBlock (Item delimiter number width task) first more inside after) h = refl
+no-title (ContainerBlock (Footnote label old size) first more inside after) h = refl
+no-title (ContainerBlock (ListDefinition width) first more inside after) h = absurd (true≢false h.0)
+
+and-false : (z : Bool) → (z && false) ≡ false
+and-false true = refl
+and-false false = refl
+
+not-true : (z : Bool) → not z ≡ true → z ≡ false
+not-true true e = absurd (true≢false (sym e))
+not-true false e = refl
+
+apart-of : (a : Blocks) → NoDefinitions a → first_leads (λ m. false) false a ≡ true → begins_apart a ≡ true
+apart-of Nil h e = refl
+apart-of (BlankLine line after) h e = apart-of after h e
+apart-of (Paragraph first more after) h e = ap not (no-title after h)
+apart-of (SetextHeading level first more underline after) h e = refl
+apart-of (LeafBlock leaf first more after) h e = refl
+apart-of (ContainerBlock (BlockQuote alert) first more inside after) h e = refl
+apart-of (ContainerBlock (Item delimiter number width task) first more inside after) h e = absurd (true≢false (sym e))
+apart-of (ContainerBlock (Footnote label old size) first more inside after) h e = refl
+apart-of (ContainerBlock (ListDefinition width) first more inside after) h e = absurd (true≢false (sym e))
+
+-- the first block continues no list of this character, if it is no item of one
+goes-of : (d : ℕ) (a : Blocks) → NoDefinitions a → first_leads (λ m. not (m == d)) false a ≡ true → goes_on d a ≡ false
+goes-of d Nil h e = refl
+goes-of d (BlankLine line after) h e = goes-of d after h e
+goes-of d (Paragraph first more after) h e = ap (λ t. (definition_delimiter == d) && t) (no-title after h) ∙ and-false (definition_delimiter == d)
+goes-of d (SetextHeading level first more underline after) h e = refl
+goes-of d (LeafBlock leaf first more after) h e = refl
+goes-of d (ContainerBlock (BlockQuote alert) first more inside after) h e = refl
+goes-of d (ContainerBlock (Item m number width task) first more inside after) h e = not-true (m == d) e
+goes-of d (ContainerBlock (Footnote label old size) first more inside after) h e = refl
+goes-of d (ContainerBlock (ListDefinition width) first more inside after) h e = absurd (true≢false h.0)
+
+-- ## What is open
+
+abbrev pub NoneOpen : OpenLines → Type 0
+NoneOpen (Between closed) = NoDefinitions closed
+NoneOpen BehindTag = ⊥
+NoneOpen (InParagraph closed first more) = NoDefinitions closed
+NoneOpen (InLeaf closed leaf first had left) = NoDefinitions closed
+NoneOpen (InVerbatim closed verbatim first had waiting) = NoDefinitions closed
+NoneOpen (InContainer closed k first more inside) = NoDefinitions closed × (is_definition k ≡ false)
+
+-- the first block, which may be open, is no item
+abbrev LeadsOpen : (other : ℕ → Bool) → OpenLines → Type 0
+LeadsOpen other (Between closed) = first_leads other false closed ≡ true
+LeadsOpen other BehindTag = ⊥
+LeadsOpen other (InParagraph closed first more) = first_leads other true closed ≡ true
+LeadsOpen other (InLeaf closed leaf first had left) = first_leads other true closed ≡ true
+LeadsOpen other (InVerbatim closed verbatim first had waiting) = first_leads other true closed ≡ true
+LeadsOpen other (InContainer closed k first more inside) = first_leads other (leads_in other k) closed ≡ true
+
+no-blanks : (ws : List Row) → NoDefinitions (blank_lines ws)
+no-blanks [] = tt
+no-blanks (w ∷ ws) = no-blanks ws
+
+leads-blanks : (other : ℕ → Bool) → (so : Bool) (ws : List Row) → first_leads other so (blank_lines ws) ≡ so
+leads-blanks other so [] = refl
+leads-blanks other so (w ∷ ws) = leads-blanks other so ws
+
+pub close-none : (o : OpenLines) → NoneOpen o → NoDefinitions (close_lines o)
+close-none (Between closed) h = h
+close-none BehindTag h = absurd h
+close-none (InParagraph closed first more) h = no-join closed (Paragraph first more Nil) h tt
+close-none (InLeaf closed leaf first had left) h = no-join closed (LeafBlock leaf first had Nil) h tt
+close-none (InVerbatim closed verbatim first had waiting) h = no-join (join closed (LeafBlock (leaf_in verbatim) first had Nil)) (blank_lines waiting) (no-join closed (LeafBlock (leaf_in verbatim) first had Nil) h tt) (no-blanks waiting)
+close-none (InContainer closed k first more inside) h = no-join closed (ContainerBlock k first more (close_lines inside) Nil) h.0 (h.1, tt)
+
+close-leads : (other : ℕ → Bool) → (o : OpenLines) → LeadsOpen other o → first_leads other false (close_lines o) ≡ true
+close-leads other (Between closed) h = h
+close-leads other BehindTag h = absurd h
+close-leads other (InParagraph closed first more) h = leads-join other false closed (Paragraph first more Nil) ∙ h
+close-leads other (InLeaf closed leaf first had left) h = leads-join other false closed (LeafBlock leaf first had Nil) ∙ h
+close-leads other (InVerbatim closed verbatim first had waiting) h =
+    leads-join other false (join closed (LeafBlock (leaf_in verbatim) first had Nil)) (blank_lines waiting) ∙ ap (λ z. first_leads other z (join closed (LeafBlock (leaf_in verbatim) first had Nil))) (leads-blanks other false waiting)
+    ∙ leads-join other false closed (LeafBlock (leaf_in verbatim) first had Nil) ∙ h
+close-leads other (InContainer closed k first more inside) h = leads-join other false closed (ContainerBlock k first more (close_lines inside) Nil) ∙ h
+
+html-none : (z : Bool) (closed : Blocks) (kind : ℕ) (r : Row) → NoDefinitions closed → NoneOpen (html_begun z closed kind r)
+html-none true closed kind r h = h
+html-none false closed kind r h = h
+
+leaf-none : (leaf : Leaf) (n : ℕ) (closed : Blocks) (r : Row) → NoDefinitions closed → NoneOpen (leaf_begun leaf n closed r)
+leaf-none ThematicBreak n closed r h = h
+leaf-none (AtxHeading level) n closed r h = h
+leaf-none IndentedCode n closed r h = h
+leaf-none (FencedCode fence) n closed r h = h
+leaf-none (HtmlBlock kind) n closed r h = html-none (nat_le kind 5 && holds_end kind (words_of r)) closed kind r h
+leaf-none (LinkDefinition definition) n closed r h = h
+leaf-none (MetadataBlock kind) n closed r h = h
+leaf-none (Table alignments) n closed r h = h
+
+html-leads : (other : ℕ → Bool) → (z : Bool) (closed : Blocks) (kind : ℕ) (r : Row) → first_leads other true closed ≡ true → LeadsOpen other (html_begun z closed kind r)
+html-leads other true closed kind r h = h
+html-leads other false closed kind r h = h
+
+leaf-leads : (other : ℕ → Bool) → (leaf : Leaf) (n : ℕ) (closed : Blocks) (r : Row) → first_leads other true closed ≡ true → LeadsOpen other (leaf_begun leaf n closed r)
+leaf-leads other ThematicBreak n closed r h = h
+leaf-leads other (AtxHeading level) n closed r h = h
+leaf-leads other IndentedCode n closed r h = h
+leaf-leads other (FencedCode fence) n closed r h = h
+leaf-leads other (HtmlBlock kind) n closed r h = html-leads other (nat_le kind 5 && holds_end kind (words_of r)) closed kind r h
+leaf-leads other (LinkDefinition definition) n closed r h = h
+leaf-leads other (MetadataBlock kind) n closed r h = h
+leaf-leads other (Table alignments) n closed r h = h
+
+pub begun-none : (o : Opening) (inside : Container → OpenLines) (closed : Blocks) (r : Row) → NoDefinition o → NoDefinitions closed → NoneOpen (lines_begin_as o inside closed r)
+begun-none Blank inside closed r n h = no-join closed (BlankLine r Nil) h tt
+begun-none (Nests k) inside closed r n h = (h, n)
+begun-none (Takes leaf m) inside closed r n h = leaf-none leaf m closed r h
+begun-none Plain inside closed r n h = h
+
+begun-leads : (other : ℕ → Bool) → (o : Opening) (inside : Container → OpenLines) (closed : Blocks) (r : Row) → first_leads other false closed ≡ true → LeadsOpen other (lines_begin_as o inside closed r)
+begun-leads other Blank inside closed r h = leads-join other false closed (BlankLine r Nil) ∙ h
+begun-leads other (Nests k) inside closed r h = leads-more other (leads_in other k) closed h
+begun-leads other (Takes leaf m) inside closed r h = leaf-leads other leaf m closed r (leads-more other true closed h)
+begun-leads other Plain inside closed r h = leads-more other true closed h
+
+-- the first line
+abbrev Leads : (other : ℕ → Bool) → Opening → Type 0
+Leads other Blank = ⊥
+Leads other (Nests k) = leads_in other k ≡ true
+Leads other (Takes leaf more) = Unit {0}
+Leads other Plain = Unit {0}
+
+first-leads : (other : ℕ → Bool) → (o : Opening) (inside : Container → OpenLines) (r : Row) → Leads other o → LeadsOpen other (lines_begin_as o inside Nil r)
+first-leads other Blank inside r e = absurd e
+first-leads other (Nests k) inside r e = e
+first-leads other (Takes leaf m) inside r e = leaf-leads other leaf m Nil r refl
+first-leads other Plain inside r e = refl
+
+-- no item
+outside-leads : (o : Opening) → is_outside_of_lists o ≡ true → Leads (λ m. false) o
+outside-leads Blank e = absurd (true≢false (sym e))
+outside-leads (Nests (BlockQuote alert)) e = refl
+outside-leads (Nests (Item delimiter number width task)) e = absurd (true≢false (sym e))
+outside-leads (Nests (Footnote label old size)) e = refl
+outside-leads (Nests (ListDefinition width)) e = absurd (true≢false (sym e))
+outside-leads (Takes leaf m) e = tt
+outside-leads Plain e = tt
+
+-- no item of this list
+another-leads : (d : ℕ) (o : Opening) → may_continue (Some d) o ≡ false → Leads (λ m. not (m == d)) o
+another-leads d Blank e = absurd (true≢false e)
+another-leads d (Nests (BlockQuote alert)) e = refl
+another-leads d (Nests (Item delimiter number width task)) e = ap not e
+another-leads d (Nests (Footnote label old size)) e = refl
+another-leads d (Nests (ListDefinition width)) e = absurd (true≢false e)
+another-leads d (Takes leaf m) e = tt
+another-leads d Plain e = tt
+
+module _ (options : Options) (off : options.definition_list ≡ false) (other : ℕ → Bool) where
+  abbrev Good : OpenLines → Type 0
+  Good o = NoneOpen o × LeadsOpen other o
+
+  begin-good : (closed : Blocks) (r : Row) (ahead : List Row) → NoDefinitions closed → first_leads other false closed ≡ true → Good (lines_begin options closed r ahead)
+  unfolding lines_begin
+  begin-good closed r ahead n h =
+      let inside = lines_inside r ahead in (
+        begun-none (opens_at options (place_behind Apart closed) r ahead) inside closed r (no-at options off closed r ahead) n,
+        begun-leads other (opens_at options (place_behind Apart closed) r ahead) inside closed r h,
+      )
+    where
+      lines_inside : Row → List Row → Container → OpenLines
+      lines_inside r ahead k = lines_begin_in options (length r.columns) (place_in k) Nil (enter k r) (within k (is_bare_start k r) ahead)
+
+  -- where something ends, a line begins behind it
+  behind-good : (o : OpenLines) (r : Row) (ahead : List Row) → Good o → Good (lines_begin options (close_lines o) r ahead)
+  behind-good o r ahead g = begin-good (close_lines o) r ahead (close-none o g.0) (close-leads other o g.1)
+
+  feed-good : (o : OpenLines) (r : Row) (ahead : List Row) → Good o → Good (lines_feed options o r ahead)
+  feed-good (Between closed) r ahead g = begin-good closed r ahead g.0 g.1
+  feed-good BehindTag r ahead g = absurd g.0
+  feed-good (InParagraph closed first more) r ahead g = go (underlines r) (texts options r ahead) (behind-good (InParagraph closed first more) r ahead g)
+    where
+      go : (u : Option ℕ) (t : Bool) → Good (lines_begin options (join closed (Paragraph first more Nil)) r ahead)
+          → Good (lines_underline_or u (λ level. Between (join closed (SetextHeading level first more r Nil))) (lines_go_on_or t (InParagraph closed first (more ++ r ∷ [])) (lines_begin options (join closed (Paragraph first more Nil)) r ahead)))
+      go (Some level) t b = (no-join closed (SetextHeading level first more r Nil) g.0 tt, leads-join other false closed (SetextHeading level first more r Nil) ∙ g.1)
+      go None true b = g
+      go None false b = b
+  feed-good (InLeaf closed leaf first had zero) r ahead g = behind-good (InLeaf closed leaf first had 0) r ahead g
+  feed-good (InLeaf closed leaf first had (suc left)) r ahead g = g
+  feed-good (InVerbatim closed verbatim first had waiting) r ahead g = go (continuation_if r.lazy verbatim r) (behind-good (InVerbatim closed verbatim first had waiting) r ahead g)
+    where
+      go : (c : Continuation) → Good (lines_begin options (join (join closed (LeafBlock (leaf_in verbatim) first had Nil)) (blank_lines waiting)) r ahead)
+          → Good (verbatim_line c closed verbatim first had waiting r (lines_begin options (join (join closed (LeafBlock (leaf_in verbatim) first had Nil)) (blank_lines waiting)) r ahead))
+      go GoesOn b = g
+      go Closes b = g
+      go Waits b = g
+      go Stops b = b
+  feed-good (InContainer closed k first more inside) r ahead g = go (keeps k (bare_after (is_bare_start k first) more) r) (lazily options k r ahead && lines_take_lazy inside) (behind-good (InContainer closed k first more inside) r ahead g)
+    where
+      on : OpenLines
+      on = lines_feed options inside (strip k (bare_after (is_bare_start k first) more) r) (within k false ahead)
+
+      go : (o : Option Row) (z : Bool) → Good (lines_begin options (join closed (ContainerBlock k first more (close_lines inside) Nil)) r ahead)
+          → Good (lines_kept_or o z (InContainer closed k first (more ++ r ∷ []) on) (lines_begin options (join closed (ContainerBlock k first more (close_lines inside) Nil)) r ahead))
+      go (Some s) z b = g
+      go None true b = g
+      go None false b = b
+
+  all-good : (o : OpenLines) (rs : List Row) → Good o → Good (lines_feed_all options o rs)
+  all-good o [] g = g
+  all-good o (r ∷ rs) g = all-good (lines_feed options o r (shown rs)) rs (feed-good o r (shown rs) g)
+
+  first-good : (r : Row) (ahead : List Row) → Leads other (opens_at options Apart r ahead) → Good (lines_begin options Nil r ahead)
+  unfolding lines_begin
+  first-good r ahead e = (begun-none (opens_at options Apart r ahead) lines_inside Nil r (no-at options off Nil r ahead) tt, first-leads other (opens_at options Apart r ahead) lines_inside r e)
+    where
+      lines_inside : Container → OpenLines
+      lines_inside k = lines_begin_in options (length r.columns) (place_in k) Nil (enter k r) (within k (is_bare_start k r) ahead)
+
+  text-good : (r : Row) (rs : List Row) → Leads other (opens_at options Apart r (shown rs)) → Good (lines_feed_all options (Between Nil) (r ∷ rs))
+  text-good r rs e = all-good (lines_begin options Nil r (shown rs)) rs (first-good r (shown rs) e)
+
+module _ (options : Options) (off : options.definition_list ≡ false) (r : Row) (rs : List Row) where
+  abbrev after_all : OpenLines
+  after_all = lines_feed_all options (Between Nil) (r ∷ rs)
+
+  pub lines-apart : is_outside_of_lists (opens_at options Apart r (shown rs)) ≡ true → begins_apart (close_lines after_all) ≡ true
+  lines-apart e =
+      let g = text-good options off (λ m. false) r rs (outside-leads (opens_at options Apart r (shown rs)) e) in
+      apart-of (close_lines after_all) (close-none after_all g.0) (close-leads (λ m. false) after_all g.1)
+
+  pub lines-continue : (list : Option ℕ) → may_continue list (opens_at options Apart r (shown rs)) ≡ false → continues list (close_lines after_all) ≡ false
+  lines-continue None e = refl
+  lines-continue (Some d) e =
+      let g = text-good options off (λ m. not (m == d)) r rs (another-leads d (opens_at options Apart r (shown rs)) e) in
+      goes-of d (close_lines after_all) (close-none after_all g.0) (close-leads (λ m. not (m == d)) after_all g.1)

@@ -1,0 +1,435 @@
+-- What a line sees of those ahead: nothing, where it has no bracket and no pipe, and else nothing past a blank line.
+use Rattle.std.proofs.Common.{◌≡◌, ◌⊎◌, inl, inr, ⊎_elim, ℕ, zero, suc, ◌-◌, Bool, true, false, ◌==◌, ◌&&◌, ◌||◌, not, List, [], ◌∷◌, ◌++◌, length, drop, take_while, refl, sym, ap, ◌∙◌, subst, append-nil, Option, Some, None, true≢false}
+use Rattle.std.specs.Prelude.{if◌then◌else◌, cond, nat_le, nat_lt}
+use Rattle.std.proofs.lemmas.List.Sums.{take_while-cons}
+use Rattle.cmark_grammar.specs.Alignment.{Alignment}
+use Rattle.cmark_grammar.specs.Columns.{Column, is_blank, without_indent, bytes_of}
+use Rattle.cmark_grammar.specs.Lines.{onto}
+use Rattle.cmark_grammar.specs.MetadataBlockKind.{MetadataBlockKind, YamlStyle, PlusesStyle}
+use Rattle.cmark_grammar.specs.Metadata.{metadata_of, has_metadata, metadata_if, metadata_kind}
+use Rattle.cmark_grammar.specs.Options.{Options}
+use Rattle.cmark_grammar.specs.Places.{Place, Apart, BehindLazy, is_behind_task}
+use Rattle.cmark_grammar.specs.Rows.{Row, rows, shown, show_as, is_bare, is_blank_line, is_whole_line, indent_of, words_of}
+use Rattle.cmark_grammar.specs.Leaves.{Fence, underlines, is_thematic_break, is_atx_heading, run, fence_of, counted, code_continuation}
+use Rattle.cmark_grammar.specs.LinkDefinitions.{definition_in, further_bytes, bytes_over}
+use Rattle.cmark_grammar.specs.HtmlBlocks.{html_kind}
+use Rattle.cmark_grammar.specs.Containers.{Container, is_alert, enter, keeps, strip, strip_as, strips, is_bare_start, bare_after, container_of, width_of}
+use Rattle.cmark_grammar.specs.DefinitionLists.{definition_at, begins_definition, is_definition}
+use Rattle.cmark_grammar.specs.Footnotes.{footnotes_in}
+use Rattle.cmark_grammar.specs.TableRows.{parts, count_missing, most_filled, one_more_if, holds_pipe, with_columns, delimited_ahead, count_cells, table_head, is_some_head, begins_with_pipe, table_interrupts}
+use Rattle.cmark_grammar.specs.Tables.{delimiter_row}
+use Rattle.cmark_grammar.specs.Openings.{Leaf, ThematicBreak, AtxHeading, IndentedCode, FencedCode, HtmlBlock, LinkDefinition, MetadataBlock, Table, Opening, Blank, Nests, Takes, Plain, or_else, nests_if, fenced_if, html_if, break_if, heading_if, metadata_begun, defined_if, begins_no_link, put_if, is_none, interrupts, texts, lazily, text_lines, definition_of, count_rows, table_if, text_of, leaf_of, whole_opens, opens, text_begun, definition_or, opens_at}
+use Rattle.cmark_grammar.specs.Blocks.{Blocks, Nil, Paragraph, SetextHeading, LeafBlock, ContainerBlock, join, place_in}
+use Rattle.cmark_grammar.specs.BlocksModel.{within, place_behind}
+use Rattle.cmark_grammar.specs.BlocksByLine.{leaf_in, continuation_if, OpenLines, Between, BehindTag, InParagraph, InLeaf, InVerbatim, InContainer, blank_lines, close_lines, lines_take_lazy, leaf_begun, lines_inside_begun, lines_begin_as, lines_underline_or, lines_go_on_or, lines_kept_or, verbatim_line, lines_begin_in, lines_begin, lines_feed, lines_feed_all}
+use Rattle.cmark_grammar.proofs.RowPlaces.{kept-behind}
+use Rattle.cmark_stream_model.specs.Growth.{fed_before, open_after, looks_ahead, are_blind, has_blank_line, are_resolved, HasNoMetadata}
+
+both : (a b : Bool) → (a && b) ≡ true → (a ≡ true) × (b ≡ true)
+both true b e = (refl, e)
+both false b e = absurd (true≢false (sym e))
+
+-- ## Lines that look at none ahead
+
+blind-drop : (n : ℕ) (cs : List Column) → are_blind cs ≡ true → are_blind (drop n cs) ≡ true
+blind-drop zero cs e = e
+blind-drop (suc n) [] e = refl
+blind-drop (suc n) (c ∷ cs) e = blind-drop n cs (both (not (looks_ahead c.byte)) (are_blind cs) e).1
+
+-- no byte of these looks ahead
+abbrev blind_bytes : List ℕ → Bool
+blind_bytes [] = true
+blind_bytes (b ∷ bs) = not (looks_ahead b) && blind_bytes bs
+
+blind-bytes : (cs : List Column) → are_blind cs ≡ true → blind_bytes (bytes_of cs) ≡ true
+blind-bytes [] e = refl
+blind-bytes (c ∷ cs) e = go (c.part == 0) (blind-bytes cs (both (not (looks_ahead c.byte)) (are_blind cs) e).1)
+  where
+    go : (z : Bool) → blind_bytes (bytes_of cs) ≡ true → blind_bytes (if z then c.byte ∷ bytes_of cs else bytes_of cs) ≡ true
+    go true ih = ap (λ x. x && blind_bytes (bytes_of cs)) (both (not (looks_ahead c.byte)) (are_blind cs) e).0 ∙ ih
+    go false ih = ih
+
+blind-words : (r : Row) → are_blind r.columns ≡ true → blind_bytes (words_of r) ≡ true
+blind-words r e = blind-bytes (without_indent r.columns) (blind-drop _ r.columns e)
+
+not-both : (a b : Bool) → not (a || b) ≡ true → (a ≡ false) × (b ≡ false)
+not-both true b e = absurd (true≢false (sym e))
+not-both false true e = absurd (true≢false (sym e))
+not-both false false e = (refl, refl)
+
+-- no pipe parts them
+blind-parts : (escaped : Bool) (bs : List ℕ) → blind_bytes bs ≡ true → (part : List ℕ) × (parts escaped bs ≡ part ∷ [])
+blind-parts escaped [] e = ([], refl)
+blind-parts escaped (b ∷ bs) e =
+    let h = both (not (looks_ahead b)) (blind_bytes bs) e in
+    let ih = blind-parts (b == 92) bs h.1 in
+    (b ∷ ih.0, ap (λ z. if z && not escaped then [] ∷ parts false bs else onto b (parts (b == 92) bs)) (not-both (b == 91) (b == 124) h.0).1 ∙ ap (onto b) ih.1)
+
+blind-pipe : (bs : List ℕ) → blind_bytes bs ≡ true → holds_pipe bs ≡ false
+blind-pipe bs e = ap (λ l. nat_lt 1 (length l)) (blind-parts false bs e).1
+
+-- nor does a definition begin with them
+further-none : (r : Row) (more : List Row) → definition_in (further_bytes r more) ≡ None
+further-none r [] = refl
+further-none r (s ∷ more) = go (nat_le 2 (r.line_end - r.content_end))
+  where
+    go : (z : Bool) → definition_in ((if z then 13 ∷ 10 ∷ [] else 10 ∷ []) ++ (bytes_of s.columns ++ further_bytes s more)) ≡ None
+    go true = refl
+    go false = refl
+
+blind-defined : (r : Row) (words : List ℕ) (more : List Row) → blind_bytes words ≡ true → definition_in (words ++ further_bytes r more) ≡ None
+blind-defined r [] more e = further-none r more
+blind-defined r (b ∷ bs) more e = rw ((not-both (b == 91) (b == 124) (both (not (looks_ahead b)) (blind_bytes bs) e).0).0) refl
+
+either : (z : Bool) (x : Option (List Alignment)) → (if z then x else x) ≡ x
+either true x = refl
+either false x = refl
+
+and-none : (a b : Bool) → (a && (b && false)) ≡ false
+and-none true true = refl
+and-none true false = refl
+and-none false b = refl
+
+module _ (options : Options) where
+  -- ## Blank lines
+
+  bare-front : (c : Column) (cs : List Column) (z : Bool) → is_blank c ≡ z → without_indent (c ∷ cs) ≡ drop (length (cond z (c ∷ take_while is_blank cs) [])) (c ∷ cs)
+  bare-front c cs z e = ap (λ n. drop n (c ∷ cs)) (ap length (take_while-cons is_blank c cs ∙ ap (λ z. cond z (c ∷ take_while is_blank cs) []) e))
+
+  bare-behind : (c : Column) (cs : List Column) → is_bare (without_indent (c ∷ cs)) ≡ true → is_bare (without_indent cs) ≡ true
+  bare-behind c cs e = go (is_blank c) refl
+    where
+      go : (z : Bool) → is_blank c ≡ z → is_bare (without_indent cs) ≡ true
+      go true q = sym (ap is_bare (bare-front c cs true q)) ∙ e
+      go false q = absurd (true≢false (sym e ∙ ap is_bare (bare-front c cs false q)))
+
+  bare-drop : (n : ℕ) (cs : List Column) → is_bare (without_indent cs) ≡ true → is_bare (without_indent (drop n cs)) ≡ true
+  bare-drop zero cs e = e
+  bare-drop (suc n) [] e = e
+  bare-drop (suc n) (c ∷ cs) e = bare-drop n cs (bare-behind c cs e)
+
+  strip-blank : (k : Container) (bare : Bool) (r : Row) → is_blank_line r ≡ true → is_blank_line (strip k bare r) ≡ true
+  strip-blank k bare r e = go (keeps k bare r) refl
+    where
+      go : (o : Option Row) → keeps k bare r ≡ o → is_blank_line (strip_as o r) ≡ true
+      go None q = e
+      go (Some s) q = let w = kept-behind k bare r s q in subst (λ x. is_blank_line x ≡ true) w.1.1 (bare-drop w.0 r.columns e)
+
+  strip-blind : (k : Container) (bare : Bool) (r : Row) → are_blind r.columns ≡ true → are_blind (strip k bare r).columns ≡ true
+  strip-blind k bare r e = go (keeps k bare r) refl
+    where
+      go : (o : Option Row) → keeps k bare r ≡ o → are_blind (strip_as o r).columns ≡ true
+      go None q = e
+      go (Some s) q = let w = kept-behind k bare r s q in subst (λ x. are_blind x.columns ≡ true) w.1.1 (blind-drop w.0 r.columns e)
+
+  enter-blind : (k : Container) (r : Row) → are_blind r.columns ≡ true → are_blind (enter k r).columns ≡ true
+  unfolding enter
+  enter-blind k r e = blind-drop (width_of k r) r.columns e
+
+  blank-words : (r : Row) → is_blank_line r ≡ true → words_of r ≡ []
+  blank-words r e = go (without_indent r.columns) e
+    where
+      go : (cs : List Column) → is_bare cs ≡ true → bytes_of cs ≡ []
+      go [] q = refl
+      go (c ∷ cs) q = absurd (true≢false (sym q))
+
+  blank-interrupts : (same : Bool) (r : Row) (ahead : List Row) → is_blank_line r ≡ true → interrupts options same r ahead ≡ true
+  blank-interrupts same r ahead e = rw e refl
+
+  blank-texts : (r : Row) (ahead : List Row) → is_blank_line r ≡ true → texts options r ahead ≡ false
+  unfolding texts
+  blank-texts r ahead e = ap (λ z. not (z || (table_interrupts options r ahead || begins_definition options r))) (blank-interrupts (not r.lazy) r ahead e)
+
+  -- ## The lines ahead, which are the same up to a blank line
+
+  abbrev Alike : List Row → List Row → Type 0
+  Alike [] [] = Unit {0}
+  Alike [] (s ∷ ss) = ⊥
+  Alike (r ∷ rs) [] = ⊥
+  Alike (r ∷ rs) (s ∷ ss) = (s ≡ r) × ((is_blank_line r ≡ true) ⊎ Alike rs ss)
+
+  alike-behind : (rs x y : List Row) → has_blank_line rs ≡ true → Alike (rs ++ x) (rs ++ y)
+  alike-behind [] x y e = absurd (true≢false (sym e))
+  alike-behind (r ∷ rs) x y e = (refl, go (is_blank_line r) refl (λ q. alike-behind rs x y q))
+    where
+      go : (z : Bool) → is_blank_line r ≡ z → (has_blank_line rs ≡ true → Alike (rs ++ x) (rs ++ y)) → (is_blank_line r ≡ true) ⊎ Alike (rs ++ x) (rs ++ y)
+      go true q ih = inl q
+      go false q ih = inr (ih (ap (λ z. z || has_blank_line rs) (sym q) ∙ e))
+
+  shown-alike : (a b : List Row) → Alike a b → Alike (shown a) (shown b)
+  shown-alike [] [] h = tt
+  shown-alike [] (s ∷ ss) h = absurd h
+  shown-alike (r ∷ rs) [] h = absurd h
+  shown-alike (r ∷ rs) (s ∷ ss) h = subst (λ x. Alike (shown (r ∷ rs)) (shown (x ∷ ss))) (sym h.0) (go r.lazy (⊎_elim (λ q. inl q) (λ t. inr (shown-alike rs ss t)) h.1))
+    where
+      go : (z : Bool) → ((is_blank_line r ≡ true) ⊎ Alike (shown rs) (shown ss)) → Alike (show_as z r (shown rs)) (show_as z r (shown ss))
+      go true t = tt
+      go false t = (refl, t)
+
+  strips-alike : (k : Container) (bare : Bool) (a b : List Row) → Alike a b → Alike (strips k bare a) (strips k bare b)
+  strips-alike k bare [] [] h = tt
+  strips-alike k bare [] (s ∷ ss) h = absurd h
+  strips-alike k bare (r ∷ rs) [] h = absurd h
+  strips-alike k bare (r ∷ rs) (s ∷ ss) h = (ap (strip k bare) h.0, ⊎_elim (λ q. inl (strip-blank k bare r q)) (λ t. inr (strips-alike k false rs ss t)) h.1)
+
+  within-alike : (k : Container) (bare : Bool) (a b : List Row) → Alike a b → Alike (within k bare a) (within k bare b)
+  within-alike k bare a b h = shown-alike (strips k bare a) (strips k bare b) (strips-alike k bare a b h)
+
+  -- what a line sees of both is the same
+  abbrev Sees : Row → List Row → List Row → Type 0
+  Sees r a b = (are_blind r.columns ≡ true) ⊎ Alike a b
+
+  sees-inside : (k : Container) (bare shows : Bool) (r : Row) (a b : List Row) → Sees r a b → Sees (strip k bare r) (within k shows a) (within k shows b)
+  sees-inside k bare shows r a b h = ⊎_elim (λ e. inl (strip-blind k bare r e)) (λ t. inr (within-alike k shows a b t)) h
+
+  sees-entered : (k : Container) (shows : Bool) (r : Row) (a b : List Row) → Sees r a b → Sees (enter k r) (within k shows a) (within k shows b)
+  sees-entered k shows r a b h = ⊎_elim (λ e. inl (enter-blind k r e)) (λ t. inr (within-alike k shows a b t)) h
+
+  delimited-alike : (columns : ℕ) (a b : List Row) → Alike a b → delimited_ahead columns a ≡ delimited_ahead columns b
+  delimited-alike columns [] [] h = refl
+  delimited-alike columns [] (s ∷ ss) h = absurd h
+  delimited-alike columns (r ∷ rs) [] h = absurd h
+  delimited-alike columns (r ∷ rs) (s ∷ ss) h = ap (λ x. if nat_le (indent_of x) 3 then with_columns columns (delimiter_row (words_of x)) else None) (sym h.0)
+
+  blind-head : (r : Row) (ahead : List Row) → are_blind r.columns ≡ true → table_head options r ahead ≡ None
+  blind-head r ahead e =
+      ap (λ z. if options.tables && (not r.lazy && z) then delimited_ahead (count_cells r) ahead else None) (blind-pipe (words_of r) (blind-words r e))
+      ∙ ap (λ z. if z then delimited_ahead (count_cells r) ahead else None) (and-none options.tables (not r.lazy))
+
+  head-same : (r : Row) (a b : List Row) → Sees r a b → table_head options r a ≡ table_head options r b
+  head-same r a b h =
+      ⊎_elim (λ e. blind-head r a e ∙ sym (blind-head r b e))
+      (λ t. ap (λ d. if options.tables && (not r.lazy && holds_pipe (words_of r)) then d else None) (delimited-alike (count_cells r) a b t)) h
+
+  table_interrupts-same : (r : Row) (a b : List Row) → Sees r a b → table_interrupts options r a ≡ table_interrupts options r b
+  table_interrupts-same r a b h = ap (λ t. nat_le (indent_of r) 3 && (begins_with_pipe (words_of r) && is_some_head t)) (head-same r a b h)
+
+  texts-same : (r : Row) (a b : List Row) → Sees r a b → texts options r a ≡ texts options r b
+  unfolding texts
+  texts-same r a b h = ap (λ t. not (interrupts options (not r.lazy) r a || (t || begins_definition options r))) (table_interrupts-same r a b h)
+
+  lazily-same : (k : Container) (r : Row) (a b : List Row) → Sees r a b → lazily options k r a ≡ lazily options k r b
+  unfolding lazily
+  lazily-same k r a b h = ap (λ t. not (interrupts options false r a || (t || (is_definition k && begins_definition options r)))) (table_interrupts-same r a b h)
+
+  text_lines-alike : (a b : List Row) → Alike a b → text_lines options a ≡ text_lines options b
+  text_lines-alike [] [] h = refl
+  text_lines-alike [] (s ∷ ss) h = absurd h
+  text_lines-alike (r ∷ rs) [] h = absurd h
+  text_lines-alike (r ∷ rs) (s ∷ ss) h =
+      ⊎_elim (λ e. ap (λ z. put_if (z && is_none (underlines r)) r (text_lines options rs)) (blank-texts r rs e) ∙ sym (ap (λ z. put_if (z && is_none (underlines r)) r (text_lines options ss)) (blank-texts r ss e)))
+      (λ t. ap (λ z. put_if (z && is_none (underlines r)) r (text_lines options rs)) (texts-same r rs ss (inr t)) ∙ ap (put_if (texts options r ss && is_none (underlines r)) r) (text_lines-alike rs ss t)) h.1
+      ∙ ap (λ x. put_if (texts options x ss && is_none (underlines x)) x (text_lines options ss)) (sym h.0)
+
+  count_rows-alike : (columns left : ℕ) (a b : List Row) → Alike a b → count_rows options columns left a ≡ count_rows options columns left b
+  count_rows-alike columns left [] [] h = refl
+  count_rows-alike columns left [] (s ∷ ss) h = absurd h
+  count_rows-alike columns left (r ∷ rs) [] h = absurd h
+  count_rows-alike columns left (r ∷ rs) (s ∷ ss) h =
+      ⊎_elim (λ e. counted-blank e rs ∙ sym (counted-blank e ss))
+      (λ t. ap (one_more_if (not (interrupts options false r rs) && nat_le (count_missing columns r) left)) (count_rows-alike columns (left - count_missing columns r) rs ss t)) h.1
+      ∙ ap (λ x. count_rows options columns left (x ∷ ss)) (sym h.0)
+    where
+      counted-blank : is_blank_line r ≡ true → (x : List Row) → count_rows options columns left (r ∷ x) ≡ 0
+      counted-blank e x = ap (λ z. one_more_if (not z && nat_le (count_missing columns r) left) (count_rows options columns (left - count_missing columns r) x)) (blank-interrupts false r x e)
+
+  blank-delimited : (columns : ℕ) (s : Row) (ahead : List Row) → is_blank_line s ≡ true → delimited_ahead columns (s ∷ ahead) ≡ None
+  blank-delimited columns s ahead e = ap (λ w. if nat_le (indent_of s) 3 then with_columns columns (delimiter_row w) else None) (blank-words s e) ∙ go (nat_le (indent_of s) 3)
+    where
+      go : (z : Bool) → (if z then with_columns columns (delimiter_row []) else None) ≡ None
+      go true = refl
+      go false = refl
+
+  -- a table begins with both
+  table-alike : (r : Row) (a b : List Row) → Alike a b → table_if options (table_head options r a) a ≡ table_if options (table_head options r a) b
+  table-alike r [] [] h = refl
+  table-alike r [] (s ∷ ss) h = absurd h
+  table-alike r (x ∷ rs) [] h = absurd h
+  table-alike r (x ∷ rs) (s ∷ ss) h =
+      ⊎_elim (λ e. ap (λ t. table_if options t (x ∷ rs)) (none e) ∙ sym (ap (λ t. table_if options t (s ∷ ss)) (none e))) (λ t. go (table_head options r (x ∷ rs)) t) h.1
+    where
+      none : is_blank_line x ≡ true → table_head options r (x ∷ rs) ≡ None
+      none e = ap (λ d. if options.tables && (not r.lazy && holds_pipe (words_of r)) then d else None) (blank-delimited (count_cells r) x rs e) ∙ either (options.tables && (not r.lazy && holds_pipe (words_of r))) None
+
+      go : (t : Option (List Alignment)) → Alike rs ss → table_if options t (x ∷ rs) ≡ table_if options t (s ∷ ss)
+      go None h = refl
+      go (Some alignments) h = ap (λ n. Takes (Table alignments) (suc n)) (count_rows-alike (length alignments) most_filled rs ss h)
+
+  blind-definition : (r : Row) (ahead : List Row) → are_blind r.columns ≡ true → definition_of options r ahead ≡ Plain
+  blind-definition r ahead e =
+      ap (λ d. if begins_no_link (footnotes_in options) (words_of r) then Plain else defined_if (length (text_lines options ahead)) d) (blind-defined r (words_of r) (text_lines options ahead) (blind-words r e)) ∙ go (begins_no_link (footnotes_in options) (words_of r))
+    where
+      go : (z : Bool) → (if z then Plain else Plain) ≡ Plain
+      go true = refl
+      go false = refl
+
+  blind-text : (r : Row) (ahead : List Row) → are_blind r.columns ≡ true → text_of options r ahead ≡ Plain
+  blind-text r ahead e = ap (λ o. or_else o (table_if options (table_head options r ahead) ahead)) (blind-definition r ahead e) ∙ ap (λ t. table_if options t ahead) (blind-head r ahead e)
+
+  text-same : (r : Row) (a b : List Row) → Sees r a b → text_of options r a ≡ text_of options r b
+  text-same r a b h =
+      ⊎_elim (λ e. blind-text r a e ∙ sym (blind-text r b e))
+      (λ t. ap (λ l. or_else (if begins_no_link (footnotes_in options) (words_of r) then Plain else defined_if (length l) (definition_in (bytes_over r l))) (table_if options (table_head options r a) a)) (text_lines-alike a b t)
+      ∙ ap (or_else (definition_of options r b)) (table-alike r a b t ∙ ap (λ x. table_if options x b) (head-same r a b (inr t)))) h
+
+  -- ## What a line begins, without the count of lines where they are judged one by one
+
+  abbrev quiet_leaf : Leaf → ℕ → ℕ
+  quiet_leaf ThematicBreak n = n
+  quiet_leaf (AtxHeading level) n = n
+  quiet_leaf IndentedCode n = 0
+  quiet_leaf (FencedCode fence) n = 0
+  quiet_leaf (HtmlBlock kind) n = 0
+  quiet_leaf (LinkDefinition definition) n = n
+  quiet_leaf (MetadataBlock kind) n = 0
+  quiet_leaf (Table alignments) n = n
+
+  abbrev quiet : Opening → Opening
+  quiet Blank = Blank
+  quiet (Nests k) = Nests k
+  quiet (Takes leaf n) = Takes leaf (quiet_leaf leaf n)
+  quiet Plain = Plain
+
+  quiet-begun : (leaf : Leaf) (n : ℕ) (closed : Blocks) (r : Row) → leaf_begun leaf (quiet_leaf leaf n) closed r ≡ leaf_begun leaf n closed r
+  quiet-begun ThematicBreak n closed r = refl
+  quiet-begun (AtxHeading level) n closed r = refl
+  quiet-begun IndentedCode n closed r = refl
+  quiet-begun (FencedCode fence) n closed r = refl
+  quiet-begun (HtmlBlock kind) n closed r = refl
+  quiet-begun (LinkDefinition definition) n closed r = refl
+  quiet-begun (MetadataBlock kind) n closed r = refl
+  quiet-begun (Table alignments) n closed r = refl
+
+  quiet-begins : (o : Opening) (inside : Container → OpenLines) (closed : Blocks) (r : Row) → lines_begin_as (quiet o) inside closed r ≡ lines_begin_as o inside closed r
+  quiet-begins Blank inside closed r = refl
+  quiet-begins (Nests k) inside closed r = refl
+  quiet-begins (Takes leaf n) inside closed r = quiet-begun leaf n closed r
+  quiet-begins Plain inside closed r = refl
+
+  quiet-or : (x y : Opening) → quiet (or_else x y) ≡ or_else (quiet x) (quiet y)
+  quiet-or Blank y = refl
+  quiet-or (Nests k) y = refl
+  quiet-or (Takes leaf n) y = refl
+  quiet-or Plain y = refl
+
+  or-quiet : (x x' y y' : Opening) → quiet x ≡ quiet x' → quiet y ≡ quiet y' → quiet (or_else x y) ≡ quiet (or_else x' y')
+  or-quiet x x' y y' e f = quiet-or x y ∙ ap (λ o. or_else o (quiet y)) e ∙ ap (or_else (quiet x')) f ∙ sym (quiet-or x' y')
+
+  html-quiet : (r : Row) (a b : List Row) (k : Option ℕ) → quiet (html_if r a k) ≡ quiet (html_if r b k)
+  html-quiet r a b None = refl
+  html-quiet r a b (Some kind) = refl
+
+  fence-quiet : (f : Option Fence) (a b : List Row) → quiet (fenced_if f a) ≡ quiet (fenced_if f b)
+  fence-quiet None a b = refl
+  fence-quiet (Some fence) a b = refl
+
+  leaf-quiet : (r : Row) (a b : List Row) → Sees r a b → quiet (leaf_of options r a) ≡ quiet (leaf_of options r b)
+  leaf-quiet r a b h =
+      or-quiet (html_if r a (html_kind (words_of r))) (html_if r b (html_kind (words_of r))) _ _ (html-quiet r a b (html_kind (words_of r)))
+      (or-quiet (break_if (is_thematic_break (words_of r))) (break_if (is_thematic_break (words_of r))) _ _ refl
+      (or-quiet (heading_if (is_atx_heading (words_of r)) (run 35 (words_of r))) (heading_if (is_atx_heading (words_of r)) (run 35 (words_of r))) _ _ refl
+      (or-quiet (fenced_if (fence_of (indent_of r) (words_of r)) a) (fenced_if (fence_of (indent_of r) (words_of r)) b) _ _ (fence-quiet (fence_of (indent_of r) (words_of r)) a b)
+      (ap quiet (text-same r a b h)))))
+
+  whole-quiet : (r : Row) (a b : List Row) → Sees r a b → quiet (whole_opens options r a) ≡ quiet (whole_opens options r b)
+  whole-quiet r a b h = go (is_blank_line r) (nat_le 4 (indent_of r))
+    where
+      go : (x y : Bool)
+          → quiet (if x then Blank else if y then Takes IndentedCode (counted code_continuation a) else or_else (nests_if (container_of options r)) (leaf_of options r a))
+          ≡ quiet (if x then Blank else if y then Takes IndentedCode (counted code_continuation b) else or_else (nests_if (container_of options r)) (leaf_of options r b))
+      go true y = refl
+      go false true = refl
+      go false false = or-quiet (nests_if (container_of options r)) (nests_if (container_of options r)) (leaf_of options r a) (leaf_of options r b) refl (leaf-quiet r a b h)
+
+  no-metadata : HasNoMetadata options → (r : Row) → metadata_kind options r ≡ None
+  no-metadata m r = go (is_whole_line r) (metadata_of (bytes_of r.columns))
+    where
+      off : (kind : MetadataBlockKind) → has_metadata options kind ≡ false
+      off YamlStyle = m.0
+      off PlusesStyle = m.1
+
+      go : (z : Bool) (o : Option MetadataBlockKind) → (if z then metadata_if options o else None) ≡ None
+      go true None = refl
+      go true (Some kind) = ap (λ x. if x then Some kind else None) (off kind)
+      go false o = refl
+
+  opens-quiet : HasNoMetadata options → (r : Row) (a b : List Row) → Sees r a b → quiet (opens options r a) ≡ quiet (opens options r b)
+  unfolding opens
+  opens-quiet m r a b h =
+      ap (λ k. quiet (if r.lazy then Plain else or_else (metadata_begun k a) (whole_opens options r a))) (no-metadata m r)
+      ∙ go r.lazy
+      ∙ sym (ap (λ k. quiet (if r.lazy then Plain else or_else (metadata_begun k b) (whole_opens options r b))) (no-metadata m r))
+    where
+      go : (z : Bool) → quiet (if z then Plain else whole_opens options r a) ≡ quiet (if z then Plain else whole_opens options r b)
+      go true = refl
+      go false = whole-quiet r a b h
+
+  at-quiet : HasNoMetadata options → (place : Place) (r : Row) (a b : List Row) → Sees r a b → quiet (opens_at options place r a) ≡ quiet (opens_at options place r b)
+  at-quiet m place r a b h = go (is_behind_task place && not r.lazy) (definition_at options place r)
+    where
+      go : (z : Bool) (d : Option ℕ) → quiet (if z then text_begun r else definition_or d (opens options r a)) ≡ quiet (if z then text_begun r else definition_or d (opens options r b))
+      go true d = refl
+      go false (Some width) = refl
+      go false None = opens-quiet m r a b h
+
+  begins-inside : (o : Opening) (one other : Container → OpenLines) (closed : Blocks) (r : Row) → ((k : Container) → one k ≡ other k) → lines_begin_as o one closed r ≡ lines_begin_as o other closed r
+  begins-inside Blank one other closed r e = refl
+  begins-inside (Nests k) one other closed r e = ap (λ x. InContainer closed k r [] (lines_inside_begun (is_alert k) x)) (e k)
+  begins-inside (Takes leaf n) one other closed r e = refl
+  begins-inside Plain one other closed r e = refl
+
+  begin_in-same : HasNoMetadata options → (n : ℕ) (place : Place) (closed : Blocks) (r : Row) (a b : List Row) → Sees r a b → lines_begin_in options n place closed r a ≡ lines_begin_in options n place closed r b
+  begin_in-same m zero place closed r a b h = refl
+  begin_in-same m (suc n) place closed r a b h =
+      sym (quiet-begins (opens_at options place r a) (inside a) closed r)
+      ∙ ap (λ o. lines_begin_as o (inside a) closed r) (at-quiet m place r a b h)
+      ∙ quiet-begins (opens_at options place r b) (inside a) closed r
+      ∙ begins-inside (opens_at options place r b) (inside a) (inside b) closed r (λ k. begin_in-same m n (place_in k) Nil (enter k r) (within k (is_bare_start k r) a) (within k (is_bare_start k r) b) (sees-entered k (is_bare_start k r) r a b h))
+    where
+      inside : List Row → Container → OpenLines
+      inside x k = lines_begin_in options n (place_in k) Nil (enter k r) (within k (is_bare_start k r) x)
+
+  begin-same : HasNoMetadata options → (closed : Blocks) (r : Row) (a b : List Row) → Sees r a b → lines_begin options closed r a ≡ lines_begin options closed r b
+  unfolding lines_begin
+  begin-same m closed r a b h = begin_in-same m (suc (length r.columns)) (place_behind Apart closed) closed r a b h
+
+  -- ## One more line
+
+  feed-same : HasNoMetadata options → (o : OpenLines) (r : Row) (a b : List Row) → Sees r a b → lines_feed options o r a ≡ lines_feed options o r b
+  feed-same m (Between closed) r a b h = begin-same m closed r a b h
+  feed-same m BehindTag r a b h = begin_in-same m (suc (length r.columns)) BehindLazy Nil r a b h
+  feed-same m (InParagraph closed first more) r a b h =
+      ap (λ t. lines_underline_or (underlines r) (λ level. Between (join closed (SetextHeading level first more r Nil))) (lines_go_on_or t (InParagraph closed first (more ++ r ∷ [])) (lines_begin options (join closed (Paragraph first more Nil)) r a))) (texts-same r a b h)
+      ∙ ap (λ x. lines_underline_or (underlines r) (λ level. Between (join closed (SetextHeading level first more r Nil))) (lines_go_on_or (texts options r b) (InParagraph closed first (more ++ r ∷ [])) x)) (begin-same m (join closed (Paragraph first more Nil)) r a b h)
+  feed-same m (InLeaf closed leaf first had zero) r a b h = begin-same m (join closed (LeafBlock leaf first had Nil)) r a b h
+  feed-same m (InLeaf closed leaf first had (suc left)) r a b h = refl
+  feed-same m (InVerbatim closed verbatim first had waiting) r a b h =
+      ap (verbatim_line (continuation_if r.lazy verbatim r) closed verbatim first had waiting r) (begin-same m (join (join closed (LeafBlock (leaf_in verbatim) first had Nil)) (blank_lines waiting)) r a b h)
+  feed-same m (InContainer closed k first more inside) r a b h =
+      ap (λ z. lines_kept_or (keeps k bare r) (z && lines_take_lazy inside) (InContainer closed k first (more ++ r ∷ []) (lines_feed options inside (strip k bare r) (within k false a))) (lines_begin options (join closed (ContainerBlock k first more (close_lines inside) Nil)) r a)) (lazily-same k r a b h)
+      ∙ ap (λ x. lines_kept_or (keeps k bare r) (lazily options k r b && lines_take_lazy inside) (InContainer closed k first (more ++ r ∷ []) x) (lines_begin options (join closed (ContainerBlock k first more (close_lines inside) Nil)) r a)) (feed-same m inside (strip k bare r) (within k false a) (within k false b) (sees-inside k bare false r a b h))
+      ∙ ap (λ x. lines_kept_or (keeps k bare r) (lazily options k r b && lines_take_lazy inside) (InContainer closed k first (more ++ r ∷ []) (lines_feed options inside (strip k bare r) (within k false b))) x) (begin-same m (join closed (ContainerBlock k first more (close_lines inside) Nil)) r a b h)
+    where
+      bare : Bool
+      bare = bare_after (is_bare_start k first) more
+
+  -- what the lines lead to does not hang on those behind them
+  fed-same : HasNoMetadata options → (o : OpenLines) (rs x y : List Row) → are_resolved rs ≡ true → fed_before options x o rs ≡ fed_before options y o rs
+  fed-same m o [] x y e = refl
+  fed-same m o (r ∷ rs) x y e =
+      ap (λ z. fed_before options x z rs) (feed-same m o r (shown (rs ++ x)) (shown (rs ++ y)) sees) ∙ fed-same m (lines_feed options o r (shown (rs ++ y))) rs x y (both (are_blind r.columns || has_blank_line rs) (are_resolved rs) e).1
+    where
+      sees : Sees r (shown (rs ++ x)) (shown (rs ++ y))
+      sees = go (are_blind r.columns) (has_blank_line rs) refl refl (both (are_blind r.columns || has_blank_line rs) (are_resolved rs) e).0
+        where
+          go : (z w : Bool) → are_blind r.columns ≡ z → has_blank_line rs ≡ w → (z || w) ≡ true → Sees r (shown (rs ++ x)) (shown (rs ++ y))
+          go true w p q t = inl p
+          go false true p q t = inr (shown-alike (rs ++ x) (rs ++ y) (alike-behind rs x y q))
+          go false false p q t = absurd (true≢false (sym t))
+
+  fed-alone : (o : OpenLines) (rs : List Row) → fed_before options [] o rs ≡ lines_feed_all options o rs
+  fed-alone o [] = refl
+  fed-alone o (r ∷ rs) = ap (λ l. fed_before options [] (lines_feed options o r (shown l)) rs) (append-nil rs) ∙ fed-alone (lines_feed options o r (shown rs)) rs
+
+  pub resolved-settled : HasNoMetadata options → (front : List ℕ) (behind : List Row) → are_resolved (rows front) ≡ true → fed_before options behind (Between Nil) (rows front) ≡ open_after options front
+  resolved-settled m front behind e = fed-same m (Between Nil) (rows front) behind [] e ∙ fed-alone (Between Nil) (rows front)

@@ -1,0 +1,224 @@
+//! Theorems about a text that grows. Each is the contract of a function that does nothing.
+
+ghost use Rattle.std.specs.Prelude.{◌≡◌, ℕ, ◌≤◌, ◌<◌, Bool, true, false, ◌||◌, List, [], ◌∷◌, ◌++◌, length, take, Option, None};
+ghost use Rattle.cmark_grammar.specs.Answers.{Lookup};
+ghost use Rattle.cmark_grammar.specs.BlockDocument.{Reference};
+ghost use Rattle.cmark_grammar.specs.Blocks.{Blocks, Nil, join};
+ghost use Rattle.cmark_grammar.specs.BlocksByLine.{Between as BetweenBlocks};
+ghost use Rattle.cmark_grammar.specs.BlocksModel.{blocks, place_behind};
+ghost use Rattle.cmark_grammar.specs.Derivation.{document};
+ghost use Rattle.cmark_grammar.specs.Event.{Event, Ranged};
+ghost use Rattle.cmark_grammar.specs.Html.{moved_all, pieces_from, at_line_start, pieces, last_piece, html};
+ghost use Rattle.cmark_grammar.specs.Labels.{fold};
+ghost use Rattle.cmark_grammar.specs.Openings.{opens_at};
+ghost use Rattle.cmark_grammar.specs.Places.{Apart};
+ghost use Rattle.cmark_grammar.specs.LeafReading.{Between};
+ghost use Rattle.cmark_grammar.specs.Lines.{lines};
+ghost use Rattle.cmark_grammar.specs.Options.{Options};
+ghost use Rattle.cmark_grammar.specs.Questions.{Exchange, IsNext, Plan};
+ghost use Rattle.cmark_grammar.specs.Readers.{Reader};
+ghost use Rattle.cmark_grammar.specs.References.{first_with, references};
+ghost use Rattle.cmark_grammar.specs.Rows.{Row, rows, rows_from, shown};
+ghost use Rattle.cmark_grammar.specs.SpanDocuments.{Left, Profile, Segment, ReadsAll, segments, footnote_labels, has_label, reader_of, at_start, IsReading};
+ghost use Rattle.cmark_inline_model.specs.PlannedAnswers.{AreByPlan};
+ghost use Rattle.cmark_stream_model.specs.Continued.{Agree, reader_with, AreKept, AskAlike, definitions_of, footnotes_of, with_more, with_limit_more};
+ghost use Rattle.cmark_block_model.specs.Tails.{document_after};
+ghost use Rattle.cmark_stream_model.specs.Tails.{IsJoinedAt};
+ghost use Rattle.cmark_stream_model.specs.Growth.{is_blank, ends_whole, fed_before, open_after, Parts, blocks_at, IsCut, begins_apart, last_list, continues, may_continue, document_before, document_of_tail, ReadInTurn, are_resolved, HasNoMetadata, definition_or, is_outside_of_lists, IsJoined};
+
+/// The blocks before a cut are the blocks of the first bytes alone, whatever follows. The blocks after it are those of the tail's
+/// lines alone.
+pub fn blocks_before_a_cut_stay()
+    ensures { (options : Options) (front tail : List ℕ) (r : Row) (rs : List Row)
+        → ends_whole front tail ≡ true → rows_from (length front) (lines tail) ≡ r ∷ rs → IsCut options front r rs
+        → blocks options (front ++ tail) ≡ join (blocks options front) (blocks_at options (length front) tail) }
+{}
+
+/// Some lines look at no later line, and others have a blank line after them. If no metadata is read, later lines do not change their
+/// effect.
+pub fn resolved_lines_are_settled()
+    ensures { (options : Options) → HasNoMetadata options → (front : List ℕ) (tail : List Row)
+        → are_resolved (rows front) ≡ true → fed_before options tail (BetweenBlocks Nil) (rows front) ≡ open_after options front }
+{}
+
+/// The document of a text with a cut is the document of the bytes before the cut, followed by the document of the tail, if the tail
+/// continues no list.
+pub fn documents_are_cut()
+    ensures { (options : Options) (lookup : Lookup) (front tail : List ℕ) (r : Row) (rs : List Row)
+        → ends_whole front tail ≡ true → rows_from (length front) (lines tail) ≡ r ∷ rs → IsCut options front r rs
+        → begins_apart (blocks_at options (length front) tail) ≡ true → IsJoined options lookup front tail }
+{}
+
+/// The definitions of a joined document are those of the first part, followed by those of the tail. The same is true of its
+/// footnotes.
+pub fn tables_are_cut()
+    ensures { (options : Options) (lookup : Lookup) (front tail : List ℕ) → IsJoined options lookup front tail
+        → (references (document (front ++ tail) options lookup)
+        ≡ references (document_before options lookup (front ++ tail) front) ++ references (document_of_tail options lookup (front ++ tail) (length front) tail))
+        × (footnote_labels (document (front ++ tail) options lookup)
+        ≡ footnote_labels (document_before options lookup (front ++ tail) front) ++ footnote_labels (document_of_tail options lookup (front ++ tail) (length front) tail)) }
+{}
+
+/// A reading of a joined document consists of the events of the first part, followed by the events of the tail. The tail is read with
+/// the rest of the reference expansion limit, and after the questions of the first part.
+pub fn readings_are_read_in_turn()
+    ensures { (profile : Profile) (front tail : List ℕ) (exchanges : List Exchange) (events : List Ranged)
+        → IsJoined profile.options profile.lookup front tail → (h : IsReading (front ++ tail) profile exchanges events)
+        → ReadInTurn (reader_of (front ++ tail) profile h.document) (IsNext exchanges)
+        (segments (document_before profile.options profile.lookup (front ++ tail) front))
+        (segments (document_of_tail profile.options profile.lookup (front ++ tail) (length front) tail))
+        (at_start profile) events h.after }
+{}
+
+/// A label that has a definition before a cut keeps it, whatever follows (CommonMark 4.7). Any other label has the first definition
+/// after the cut. Footnotes have the same law.
+pub fn definitions_stay()
+    ensures definitions { (folded : List ℕ) (earlier later : List Reference)
+        → first_with fold folded (earlier ++ later) ≡ definition_or (first_with fold folded earlier) (first_with fold folded later) }
+    ensures footnotes { (folded : List ℕ) (earlier later : List (List ℕ))
+        → has_label folded (earlier ++ later) ≡ (has_label folded earlier || has_label folded later) }
+{}
+
+/// The HTML of two lists of events is the pieces of the first, followed by the pieces of the second, with the state that the writer
+/// has after the first.
+pub fn html_is_cut()
+    ensures { (earlier later : List Event)
+        → html (earlier ++ later) ≡ pieces earlier ++ (pieces_from (moved_all at_line_start earlier) later ++ last_piece (moved_all (moved_all at_line_start earlier) later).image) }
+{}
+
+/// If no definition lists are read, a line begins the same block after other blocks as at the beginning of a text.
+pub fn lines_begin_apart()
+    ensures { (options : Options) (before : Blocks) (r : Row) (ahead : List Row) → options.definition_list ≡ false
+        → opens_at options (place_behind Apart before) r ahead ≡ opens_at options Apart r ahead }
+{}
+
+/// Leaves among the first bytes of a text are read as the same events if the text grows, with the same questions and the same rest of
+/// the reference expansion limit. The labels that they may look up must lead to the same definitions.
+pub fn settled_leaves_are_read_as_before()
+    ensures { (profile : Profile) (size : ℕ) (s t : List ℕ) → Agree size s t
+        → (d e : List ℕ → Option Reference) (f g : List ℕ → Bool) → size ≤ length s
+        → (exchanges : List Exchange) (segments : List Segment) (before after : Between) (events : List Ranged)
+        → AreKept profile size s d e f g segments
+        → ReadsAll (reader_with profile s d f) (IsNext exchanges) segments before events after
+        → ReadsAll (reader_with profile t e g) (IsNext exchanges) segments before events after }
+{}
+
+/// The document of the bytes before a cut is the document of these bytes alone, whatever follows.
+pub fn documents_stay()
+    ensures { (options : Options) (lookup : Lookup) (front tail : List ℕ)
+        → document_before options lookup (front ++ tail) front ≡ document front options lookup }
+{}
+
+/// The bytes before a cut are read as the same events, whatever follows, with the same questions and the same rest of the reference
+/// expansion limit. The labels that their leaves may look up must lead to the same definitions.
+pub fn settled_events_stay()
+    ensures { (profile : Profile) (front tail other : List ℕ) (d e : List ℕ → Option Reference) (f g : List ℕ → Bool)
+        → (exchanges : List Exchange) (before after : Between) (events : List Ranged)
+        → AskAlike profile (front ++ tail) d e f g (segments (document front profile.options profile.lookup))
+        → ReadsAll (reader_with profile (front ++ tail) d f) (IsNext exchanges) (segments (document front profile.options profile.lookup)) before events after
+        → ReadsAll (reader_with profile (front ++ other) e g) (IsNext exchanges) (segments (document front profile.options profile.lookup)) before events after }
+{}
+
+/// The law of a text that grows. Two texts have the same first bytes, and both documents are joined after them. Then both readings
+/// begin with the same events, those of the first bytes, if the labels that their leaves may look up lead to the same definitions.
+pub fn readings_share_the_settled_events()
+    ensures { (profile : Profile) (front one other : List ℕ) (exchanges : List Exchange) (first second : List Ranged)
+        → IsJoined profile.options profile.lookup front one → IsJoined profile.options profile.lookup front other
+        → (h : IsReading (front ++ one) profile exchanges first) → (k : IsReading (front ++ other) profile exchanges second)
+        → AskAlike profile (front ++ one) (definitions_of h.document) (definitions_of k.document) (footnotes_of h.document) (footnotes_of k.document)
+        (segments (document front profile.options profile.lookup))
+        → (settled later others : List Ranged) × (first ≡ settled ++ later) × (second ≡ settled ++ others) }
+{}
+
+/// The law of a text that grows, if the answers of the callback are given by a plan. A callback that returns the same answer each time it is
+/// asked the same question has a plan.
+pub fn readings_by_a_plan_share_the_settled_events()
+    ensures { (plan : Plan) (profile : Profile) (front one other : List ℕ) (asked others_asked : List Exchange) (first second : List Ranged)
+        → IsJoined profile.options profile.lookup front one → IsJoined profile.options profile.lookup front other
+        → AreByPlan plan [] asked → AreByPlan plan [] others_asked
+        → (h : IsReading (front ++ one) profile asked first) → (k : IsReading (front ++ other) profile others_asked second)
+        → AskAlike profile (front ++ one) (definitions_of h.document) (definitions_of k.document) (footnotes_of h.document) (footnotes_of k.document)
+        (segments (document front profile.options profile.lookup))
+        → (settled later others : List Ranged) × (first ≡ settled ++ later) × (second ≡ settled ++ others) }
+{}
+
+/// If no definition lists are read, a tail continues no list if its first line begins no list item.
+pub fn tails_continue_no_list()
+    ensures { (options : Options) → options.definition_list ≡ false → (at : ℕ) (tail : List ℕ) (r : Row) (rs : List Row) → rows_from at (lines tail) ≡ r ∷ rs
+        → is_outside_of_lists (opens_at options Apart r (shown rs)) ≡ true → begins_apart (blocks_at options at tail) ≡ true }
+{}
+
+/// If neither metadata nor definition lists are read, a line is a cut if it begins a block outside of all open ones, and each earlier
+/// line looks at no later line or has a blank line after it.
+pub fn tested_cuts_are_cuts()
+    ensures { (options : Options) → HasNoMetadata options → options.definition_list ≡ false → (front : List ℕ) (r : Row) (rs : List Row)
+        → are_resolved (rows front) ≡ true → Parts options (open_after options front) r (shown rs)
+        → is_blank (opens_at options Apart r (shown rs)) ≡ false → IsCut options front r rs }
+{}
+
+/// If some of the reference expansion limit is left after a reading, a greater limit gives the same events and the same questions.
+/// The increase is left in addition.
+pub fn a_greater_limit_reads_the_same()
+    ensures { (reader : Reader) (more : ℕ) (exchanges : List Exchange) (segments : List Segment) (before after : Between) (events : List Ranged)
+        → 0 < after.expansion_left → ReadsAll reader (IsNext exchanges) segments before events after
+        → ReadsAll reader (IsNext exchanges) segments (with_more more before) events (with_more more after) }
+{}
+
+/// The law of a text that grows, if the second text has a greater limit, as a longer text has by default. Some of the first limit
+/// must be left after the settled events.
+pub fn readings_share_with_a_greater_limit()
+    ensures { (profile : Profile) (more : ℕ) (front one other : List ℕ) (exchanges : List Exchange) (first second : List Ranged)
+        → IsJoined profile.options profile.lookup front one → IsJoined profile.options profile.lookup front other
+        → (h : IsReading (front ++ one) profile exchanges first) → (k : IsReading (front ++ other) (with_limit_more more profile) exchanges second)
+        → AskAlike profile (front ++ one) (definitions_of h.document) (definitions_of k.document) (footnotes_of h.document) (footnotes_of k.document)
+        (segments (document front profile.options profile.lookup))
+        → ((events : List Ranged) (between : Between) → ReadsAll (reader_of (front ++ one) profile h.document) (IsNext exchanges)
+        (segments (document front profile.options profile.lookup)) (at_start profile) events between → 0 < between.expansion_left)
+        → (settled later others : List Ranged) × (first ≡ settled ++ later) × (second ≡ settled ++ others) }
+{}
+
+/// A joined document is joined at the offset after the first part.
+pub fn joined_documents_are_joined_at_an_offset()
+    ensures { (options : Options) (lookup : Lookup) (front tail : List ℕ)
+        → IsJoined options lookup front tail → IsJoinedAt options lookup (front ++ tail) (length front) }
+{}
+
+/// If a document is joined at an offset, its events and leaves are those of the bytes before the offset, followed by those of the lines after
+/// it. The same is true of its definitions and of its footnotes.
+pub fn joined_documents_are_read_in_parts()
+    ensures segments { (text : List ℕ) (options : Options) (lookup : Lookup) (from : ℕ) → IsJoinedAt options lookup text from
+        → segments (document text options lookup) ≡ segments (document (take from text) options lookup) ++ segments (document_after text options lookup from) }
+    ensures definitions { (text : List ℕ) (options : Options) (lookup : Lookup) (from : ℕ) → IsJoinedAt options lookup text from
+        → references (document text options lookup) ≡ references (document (take from text) options lookup) ++ references (document_after text options lookup from) }
+    ensures footnotes { (text : List ℕ) (options : Options) (lookup : Lookup) (from : ℕ) → IsJoinedAt options lookup text from
+        → footnote_labels (document text options lookup) ≡ footnote_labels (document (take from text) options lookup) ++ footnote_labels (document_after text options lookup from) }
+{}
+
+/// A reading of the bytes before an offset and a reading of the lines after it, with the rest of the reference expansion limit, are a reading
+/// of the text, if its document is joined there. No questions are asked.
+pub fn readings_continue_at_an_offset()
+    ensures { (text : List ℕ) (profile : Profile) (from : ℕ) → IsJoinedAt profile.options profile.lookup text from
+        → (first later : List Ranged) (between : Between)
+        → ReadsAll (reader_of text profile (document text profile.options profile.lookup)) (IsNext [])
+        (segments (document (take from text) profile.options profile.lookup)) (at_start profile) first between
+        → between.asked ≡ []
+        → Left (reader_of text profile (document text profile.options profile.lookup))
+        (segments (document_after text profile.options profile.lookup from)) between.expansion_left [] later
+        → IsReading text profile [] (first ++ later) }
+{}
+
+/// If no definition lists are read, the document is joined at a cut unless the tail continues the list before it. The list before a cut and a
+/// list of another character after it are two lists.
+pub fn documents_are_cut_between_lists()
+    ensures { (options : Options) → options.definition_list ≡ false → (lookup : Lookup) (front tail : List ℕ) (r : Row) (rs : List Row)
+        → ends_whole front tail ≡ true → rows_from (length front) (lines tail) ≡ r ∷ rs → IsCut options front r rs
+        → continues (last_list None (blocks_at options 0 front)) (blocks_at options (length front) tail) ≡ false
+        → IsJoined options lookup front tail }
+{}
+
+/// If no definition lists are read, the first line of a tail decides whether the tail may continue a list.
+pub fn first_lines_decide_about_lists()
+    ensures { (options : Options) → options.definition_list ≡ false → (list : Option ℕ) (at : ℕ) (tail : List ℕ) (r : Row) (rs : List Row)
+        → rows_from at (lines tail) ≡ r ∷ rs
+        → may_continue list (opens_at options Apart r (shown rs)) ≡ false → continues list (blocks_at options at tail) ≡ false }
+{}
