@@ -162,6 +162,8 @@ def try_classes(judge, draw):
     ended = [Heading(3).to_end(), List(0).to_end(), List().to_end(), BlockQuote("Tip").to_end()]
     judge("the ends of a heading, of lists and of a quote", ended, [HeadingEnd(3), ListEnd(True), ListEnd(False), BlockQuoteEnd("Tip")])
     judge("an event that there is not", raised(Event, "Txt", "a"), ValueError)
+    changed = [Event._make(("Text", "a", 0, 1)), Text("a", 0, 1)._replace(name="Code"), Text("a")._replace(value="b")]
+    judge("classes of changed events", [(type(it), it.value) for it in changed], [(Text, "a"), (Code, "a"), (Text, "b")])
 
 
 # Programs with patterns, which Python has from 3.10 on.

@@ -67,7 +67,9 @@ def html(
     100,000 bytes, or the length of the text if that is more.
 
     ``broken_link`` is asked about each link whose label has no definition, as by ``events``. With ``all_entities=True`` all entity names of
-    HTML are known, and otherwise eleven. Of ``safe``, ``expansion_limit`` and ``broken_link`` a call takes one: others raise ``ValueError``.
+    HTML are known, and otherwise eleven. A call takes at most one of ``safe``, ``expansion_limit`` and ``broken_link``.
+
+    Raises ``ValueError`` if it is given more of these, or bits that are no options.
 
     Raises ``UnicodeError`` if the text is not UTF-8 or cannot be encoded as UTF-8, and ``MemoryError`` if memory is refused.
     """
