@@ -19,6 +19,7 @@ from pulldown_cmark import (
     Item, Lines, Link, LinkDef, List, ListEnd, MetadataBlock, Options, Paragraph, Place, SoftBreak, Start, Table, Tag, TagEnd, TaskListMarker, Text, WikiLink,
     _records, events, html, merged, references, render,
 )  # fmt: skip
+from pulldown_cmark._library import answer, library
 from pulldown_cmark._writing import records_of
 
 # What values a field may have, by its name. `attrs`, `classes` and `alignments` are lists of these.
@@ -223,7 +224,7 @@ def try_each(judge, texts, wanted):
         joined = [*merged(given)]
         judge(f"merged texts of {text!r}", joined, merged_by_groups(given))
         judge(f"the HTML of merged texts of {text!r}", render(joined), render(given))
-    judge("events are equal", [events("*a*") == events("*a*"), events("*a*") == events("_a_"), events("a")[:0] == events(""), events("a") == 1], [True, True, True, False])
+    judge("events are equal", [events("*a*") == events("*a*"), events("*a*") == events("_a_"), events("a")[:0] == events(""), events("a")[:2] == events("a"), events("a") == 1], [True, True, True, False, False])
     judge("a slice of a slice", [it.value for it in events("a\nb\nc")[1:-1][::2]], ["a", "b", "c"])
     judge("the HTML of a slice", render(events("*a* b")[1:4]), "<em>a</em>")
     kept = pickle.loads(pickle.dumps(events("é *a*")))
@@ -269,14 +270,14 @@ def try_merged(judge):
     judge("merged events of a text", [it.value for it in merged(events("a \\* b [c] &amp; d")) if it.name == "Text"], ["a * b [c] & d"])
 
 
-def try_changed(judge, library, draw):
+def try_changed(judge, flat, draw):
     """Random events, balanced or not: `render` writes the records that the layout says, and the library's HTML for them."""
     for _ in range(ROUNDS):
         given = [made(draw.choice(NAMES), draw) for _ in range(draw.randrange(12))]
         records = written(given)
         judge(f"{given!r} read again", [it[:2] for it in Events(records, "")], [it[:2] for it in given])
         judge(f"the records of {given!r}", records_of(given), records)
-        judge(f"the HTML of {given!r}", (bindings_flat.DONE, render(given).encode()), library.render(records))
+        judge(f"the HTML of {given!r}", (bindings_flat.DONE, render(given).encode()), flat.render(records))
         judge(f"the HTML of {given!r} by an iterator", render(iter(given)), render(given))
     lifted = [it._replace(value=it.value._replace(level=it.value.level + 1)) if isinstance(it.value, (Heading, HeadingEnd)) else it for it in events("# a\n\nb\n===\n\n## c")]
     judge("lifted headings", render(lifted), "<h2>a</h2>\n<h2>b</h2>\n<h3>c</h3>\n")
@@ -301,6 +302,14 @@ WRONG = {
 }  # fmt: skip
 
 
+def ends_inside(records):
+    """Whether the last record is cut short."""
+    at = 0
+    while at + bindings_flat.HEAD.size <= len(records):
+        at += bindings_flat.HEAD.size + bindings_flat.HEAD.unpack_from(records, at)[-1]
+    return at != len(records)
+
+
 def try_wrong(judge, texts, draw):
     """Events that are none, and records that are cut short or damaged: always an error of Python, and never another one."""
     for wrong, error in ((it, error) for error, values in WRONG.items() for it in values):
@@ -308,19 +317,26 @@ def try_wrong(judge, texts, draw):
     for wrong in (3, None, Paragraph()):
         judge(f"render of {wrong!r}", raised(render, wrong), None if wrong == Paragraph() else TypeError)
     judge("the events are unchanged by an error", render([Text("a")]), "a")
-    cut = damaged = 0
+    damaged = 0
     for text in texts[::7]:
-        records = written(events(text, options=ALL))
+        pieces = [written([it]) for it in events(text, options=ALL)]
+        records = b"".join(pieces)
         for size in draw.sample(range(len(records) + 1), min(8, len(records))):
-            kind = raised(list, Events(records[:size], text.decode()))
-            at_an_end = kind is None
-            cut += not at_an_end
-            judge(f"records of {text!r} cut to {size}", kind in (None, ValueError), True)
+            if ends_inside(records[:size]):
+                judge(f"records of {text!r} cut to {size}", raised(list, Events(records[:size], "")), ValueError)
+        for number in draw.sample(range(len(pieces)), min(2, len(pieces))):
+            judge(f"the first {number} events of {text!r}", len([*Events(b"".join(pieces[:number]), "")]), number)
         for bad in bindings_flat.damaged(records, draw) if records else ():
             kind = raised(list, Events(bad, text.decode()))
             damaged += kind is not None
             judge(f"damaged records {bad!r}", kind is None or issubclass(kind, ValueError), True)
-    judge("records were refused", (cut > 100, damaged > 100), (True, True))
+    judge("damaged records were refused", damaged > 100, True)
+    for what, bad in bindings_flat.REFUSED:
+        if what in ("a link type that is none", "a column that is none", "a tag that is none", "a link without a title"):
+            judge(what, raised(list, Events(bindings_flat.joined(bad), "")), ValueError)
+    value = [(1, 2, 1, 0, 1, b""), (0, bindings_flat.VALUE, 0, 0, 0, b"a")]
+    judge("a value without its attribute", raised(list, Events(bindings_flat.joined(value), "")), ValueError)
+    judge("records that the library refuses", raised(answer, library.pcm_render, 256, b"\1" * 40), ValueError)
     judge("a further record without a start", raised(list, Events(bindings_flat.joined([(0, 1, 0, 0, 0, b"")]), "")), ValueError)
     judge("a kind that is not known", raised(list, Events(bindings_flat.joined([(17, 0, 0, 0, 0, b"")]), "")), ValueError)
 
@@ -360,7 +376,7 @@ def try_callback(judge, texts, wanted):
     for call in (html, events):
         judge(f"{call.__name__} raises what the callback raises", raised(call, "[a]", broken_link=stop), Stop)
         judge(f"{call.__name__} without questions", raised(call, "[a](b)", broken_link=stop), None)
-        for wrong in (3, "/a", ("/a",), ["/a", ""], ("/a", "b", "c"), ("/a", None), (None, ""), (b"/a", "")):
+        for wrong in (3, 0, False, "", (), "/a", ("/a",), ["/a", ""], ("/a", "b", "c"), ("/a", None), (None, ""), (b"/a", "")):
             judge(f"{call.__name__} with the answer {wrong!r}", raised(call, "[a]", broken_link=lambda _, it=wrong: it), TypeError)
         judge(f"{call.__name__} with half a pair", raised(call, "[a]", broken_link=lambda _: ("\ud800", "")), UnicodeEncodeError)
         judge(f"{call.__name__} with a callback that is none", raised(call, "[a]", broken_link=3), TypeError)
