@@ -336,7 +336,11 @@ def try_wrong(judge, texts, draw):
             judge(what, raised(list, Events(bindings_flat.joined(bad), "")), ValueError)
     value = [(1, 2, 1, 0, 1, b""), (0, bindings_flat.VALUE, 0, 0, 0, b"a")]
     judge("a value without its attribute", raised(list, Events(bindings_flat.joined(value), "")), ValueError)
-    judge("records that the library refuses", raised(answer, library.pcm_render, 256, b"\1" * 40), ValueError)
+    try:
+        answer(library.pcm_render, 256, b"\1" * 40)
+        judge("records that the library refuses", "an answer", "an error")
+    except ValueError as error:
+        judge("records that the library refuses", str(error), "the records are malformed")
     judge("a further record without a start", raised(list, Events(bindings_flat.joined([(0, 1, 0, 0, 0, b"")]), "")), ValueError)
     judge("a kind that is not known", raised(list, Events(bindings_flat.joined([(17, 0, 0, 0, 0, b"")]), "")), ValueError)
 
