@@ -69,10 +69,11 @@ def html(
     ``broken_link`` is asked about each link whose label has no definition, as by ``events``. With ``all_entities=True`` all entity names of
     HTML are known, and otherwise eleven. A call takes at most one of ``safe``, ``expansion_limit`` and ``broken_link``.
 
-    Raises ``ValueError`` if it is given more of these, or bits that are no options; ``UnicodeError`` if the text is not UTF-8 or cannot be encoded as UTF-8, and ``MemoryError`` if memory is refused.
+    Raises ``ValueError`` if it is given more of these, or bits that are no options; ``UnicodeError`` if the text is not UTF-8 or cannot be
+    encoded as UTF-8, and ``MemoryError`` if memory is refused.
     """
-    if safe + (expansion_limit is not None) + (broken_link is not None) > 1:
-        raise ValueError("a call takes one of safe, expansion_limit and broken_link")
+    if (bool(safe), expansion_limit is not None, broken_link is not None).count(True) > 1:
+        raise ValueError("a call takes at most one of safe, expansion_limit and broken_link")
     if broken_link is not None:
         return render(events(text, options=options, broken_link=broken_link, all_entities=all_entities))
     data, bits = bytes_of(text), bits_of(options, all_entities)
