@@ -15,10 +15,11 @@ import pulldown_cmark
 from bindings_python import plain, raised
 from programs import ALL, NONE
 from pulldown_cmark import (
-    BlockQuote, BrokenLink, Code, CodeBlock, End, Event, Events, Fenced, FootnoteDefinition, HardBreak, Heading, HeadingEnd, Image, Indented, Lines, Link, LinkDef,
-    List, ListEnd, MetadataBlock, Options, Paragraph, Place, SoftBreak, Start, Table, Tag, TagEnd, TaskListMarker, Text, WikiLink, events, html, merged, references, render,
+    BlockQuote, BlockQuoteEnd, BrokenLink, Code, CodeBlock, End, Event, Events, Fenced, FootnoteDefinition, HardBreak, Heading, HeadingEnd, Image, Indented,
+    Item, Lines, Link, LinkDef, List, ListEnd, MetadataBlock, Options, Paragraph, Place, SoftBreak, Start, Table, Tag, TagEnd, TaskListMarker, Text, WikiLink,
+    _records, events, html, merged, references, render,
 )  # fmt: skip
-from pulldown_cmark import _records
+from pulldown_cmark._library import answer, library
 from pulldown_cmark._writing import records_of
 
 # What values a field may have, by its name. `attrs`, `classes` and `alignments` are lists of these.
@@ -156,10 +157,14 @@ def try_classes(judge, draw):
     for tag in TAGS.values():
         judge(f"{tag.__name__} was made, and its end", {("Start", tag), ("End", ENDS[tag.__name__])} - {it[:2] for it in seen}, set())
     judge("all link types, quotes, code blocks and metadata", len({it[2] for it in seen if isinstance(it[2], (str, WikiLink, Fenced, Indented))}), 11 + 5 + 1 + len(WORDS) + 2)
-    judge("tags of other classes differ", [Paragraph() == BlockQuote(), Link("Inline", "") == Image("Inline", ""), Paragraph() != pulldown_cmark.Item(), Indented() == ()], [False, False, True, False])
-    judge("tags are keys", len({Paragraph(), Paragraph(), pulldown_cmark.Item(), Heading(1), Heading(1), Heading(2)}), 4)
-    judge("the end of a heading, a list and a quote", [Heading(3).to_end(), List(0).to_end(), BlockQuote("Tip").to_end()], [HeadingEnd(3), ListEnd(True), pulldown_cmark.BlockQuoteEnd("Tip")])
+    equal = [Paragraph() == BlockQuote(), Link("Inline", "") == Image("Inline", ""), Indented() == (), not Paragraph() != Item()]
+    judge("tags of other classes differ", equal, [False] * 4)
+    judge("tags are keys", len({Paragraph(), Paragraph(), Item(), Heading(1), Heading(1), Heading(2)}), 4)
+    ended = [Heading(3).to_end(), List(0).to_end(), List().to_end(), BlockQuote("Tip").to_end()]
+    judge("the ends of a heading, of lists and of a quote", ended, [HeadingEnd(3), ListEnd(True), ListEnd(False), BlockQuoteEnd("Tip")])
     judge("an event that there is not", raised(Event, "Txt", "a"), ValueError)
+    changed = [Event._make(("Text", "a", 0, 1)), Text("a", 0, 1)._replace(name="Code"), Text("a")._replace(value="b")]
+    judge("classes of changed events", [(type(it), it.value) for it in changed], [(Text, "a"), (Code, "a"), (Text, "b")])
 
 
 # Programs with patterns, which Python has from 3.10 on.
@@ -219,7 +224,7 @@ def try_each(judge, texts, wanted):
         joined = [*merged(given)]
         judge(f"merged texts of {text!r}", joined, merged_by_groups(given))
         judge(f"the HTML of merged texts of {text!r}", render(joined), render(given))
-    judge("events are equal", [events("*a*") == events("*a*"), events("*a*") == events("_a_"), events("a")[:0] == events(""), events("a") == 1], [True, True, True, False])
+    judge("events are equal", [events("*a*") == events("*a*"), events("*a*") == events("_a_"), events("a")[:0] == events(""), events("a")[:2] == events("a"), events("a") == 1], [True, True, True, False, False])
     judge("a slice of a slice", [it.value for it in events("a\nb\nc")[1:-1][::2]], ["a", "b", "c"])
     judge("the HTML of a slice", render(events("*a* b")[1:4]), "<em>a</em>")
     kept = pickle.loads(pickle.dumps(events("é *a*")))
@@ -265,53 +270,77 @@ def try_merged(judge):
     judge("merged events of a text", [it.value for it in merged(events("a \\* b [c] &amp; d")) if it.name == "Text"], ["a * b [c] & d"])
 
 
-def try_changed(judge, library, draw):
+def try_changed(judge, flat, draw):
     """Random events, balanced or not: `render` writes the records that the layout says, and the library's HTML for them."""
     for _ in range(ROUNDS):
         given = [made(draw.choice(NAMES), draw) for _ in range(draw.randrange(12))]
         records = written(given)
         judge(f"{given!r} read again", [it[:2] for it in Events(records, "")], [it[:2] for it in given])
         judge(f"the records of {given!r}", records_of(given), records)
-        judge(f"the HTML of {given!r}", (bindings_flat.DONE, render(given).encode()), library.render(records))
+        judge(f"the HTML of {given!r}", (bindings_flat.DONE, render(given).encode()), flat.render(records))
         judge(f"the HTML of {given!r} by an iterator", render(iter(given)), render(given))
     lifted = [it._replace(value=it.value._replace(level=it.value.level + 1)) if isinstance(it.value, (Heading, HeadingEnd)) else it for it in events("# a\n\nb\n===\n\n## c")]
     judge("lifted headings", render(lifted), "<h2>a</h2>\n<h2>b</h2>\n<h3>c</h3>\n")
 
 
-# Events that are none, and the error of each.
-WRONG = [
-    (3, TypeError), ("a", TypeError), (("Text", "a", 0, 1), TypeError), (Text(3), TypeError), (Text(None), TypeError), (Code(b"a"), TypeError), (Start("Paragraph"), TypeError),
-    (Start(pulldown_cmark.ParagraphEnd()), TypeError), (Start(Tag()), TypeError), (End(TagEnd()), TypeError), (End(Paragraph()), TypeError), (End(None), TypeError), (TaskListMarker("x"), TypeError), (TaskListMarker(None), TypeError),
-    (Text("\ud800"), UnicodeEncodeError), (Start(Heading(0)), ValueError), (Start(Heading(7)), ValueError), (Start(Heading("1")), TypeError), (Start(Heading(1.0)), TypeError), (End(HeadingEnd(7)), ValueError),
-    (Start(Heading(1, 3)), TypeError), (Start(Heading(1, None, "a")), TypeError), (Start(Heading(1, None, (3,))), TypeError), (Start(Heading(1, None, (), (("a",),))), ValueError),
-    (Start(Heading(1, None, (), ((1, "a"),))), TypeError), (Start(Heading(1, None, (), (("a", 1),))), TypeError), (Start(Heading(1, None, (), "ab")), TypeError),
-    (Start(Link("Inlin", "/")), ValueError), (Start(Link(0, "/")), TypeError), (Start(Link("Inline", None)), TypeError), (Start(Link("Inline", "/", None)), TypeError), (Start(Image("Inline", "/", "", 3)), TypeError),
-    (Start(List(-1)), ValueError), (Start(List(2**64)), ValueError), (Start(List("1")), TypeError), (End(ListEnd(2)), TypeError), (Start(BlockQuote("note")), ValueError), (Start(BlockQuote(1)), TypeError),
-    (Start(CodeBlock("Indented")), TypeError), (Start(CodeBlock(Fenced(None))), TypeError), (Start(Table(("left",))), ValueError), (Start(Table((1,))), TypeError),
-    (Start(Table("Left")), TypeError), (Start(FootnoteDefinition(1)), TypeError), (Start(MetadataBlock("Yaml")), ValueError), (Start(MetadataBlock(None)), TypeError),
-]  # fmt: skip
+# Values that are no events, and events with values that their fields do not take, by the error of each.
+WRONG = {
+    TypeError: [
+        3, "a", ("Text", "a", 0, 1), Text(3), Text(None), Code(b"a"), TaskListMarker("x"), TaskListMarker(None),
+        Start("Paragraph"), Start(pulldown_cmark.ParagraphEnd()), Start(Tag()), End(TagEnd()), End(Paragraph()), End(None), End(ListEnd(2)),
+        Start(Heading("1")), Start(Heading(1.0)), Start(Heading(1, 3)), Start(Heading(1, None, "a")), Start(Heading(1, None, (3,))),
+        Start(Heading(1, None, (), "ab")), Start(Heading(1, None, (), ((1, "a"),))), Start(Heading(1, None, (), (("a", 1),))),
+        Start(Link(0, "/")), Start(Link("Inline", None)), Start(Link("Inline", "/", None)), Start(Image("Inline", "/", "", 3)),
+        Start(List("1")), Start(BlockQuote(1)), Start(CodeBlock("Indented")), Start(CodeBlock(Fenced(None))),
+        Start(Table((1,))), Start(Table("Left")), Start(FootnoteDefinition(1)), Start(MetadataBlock(None)),
+    ],
+    ValueError: [
+        Start(Heading(0)), Start(Heading(7)), End(HeadingEnd(7)), Start(Heading(1, None, (), (("a",),))), Start(List(-1)), Start(List(2**64)),
+        Start(Link("Inlin", "/")), Start(BlockQuote("note")), Start(Table(("left",))), Start(MetadataBlock("Yaml")),
+    ],
+    UnicodeEncodeError: [Text("\ud800"), Start(CodeBlock(Fenced("\ud800"))), Start(Link("Inline", "\ud800"))],
+}  # fmt: skip
+
+
+def ends_inside(records):
+    """Whether the last record is cut short."""
+    at = 0
+    while at + bindings_flat.HEAD.size <= len(records):
+        at += bindings_flat.HEAD.size + bindings_flat.HEAD.unpack_from(records, at)[-1]
+    return at != len(records)
 
 
 def try_wrong(judge, texts, draw):
     """Events that are none, and records that are cut short or damaged: always an error of Python, and never another one."""
-    for wrong, error in WRONG:
+    for wrong, error in ((it, error) for error, values in WRONG.items() for it in values):
         judge(f"render of {wrong!r}", raised(render, [Text("a"), wrong]), error)
     for wrong in (3, None, Paragraph()):
         judge(f"render of {wrong!r}", raised(render, wrong), None if wrong == Paragraph() else TypeError)
     judge("the events are unchanged by an error", render([Text("a")]), "a")
-    cut = damaged = 0
+    damaged = 0
     for text in texts[::7]:
-        records = written(events(text, options=ALL))
+        pieces = [written([it]) for it in events(text, options=ALL)]
+        records = b"".join(pieces)
         for size in draw.sample(range(len(records) + 1), min(8, len(records))):
-            kind = raised(list, Events(records[:size], text.decode()))
-            at_an_end = kind is None
-            cut += not at_an_end
-            judge(f"records of {text!r} cut to {size}", kind in (None, ValueError), True)
+            if ends_inside(records[:size]):
+                judge(f"records of {text!r} cut to {size}", raised(list, Events(records[:size], "")), ValueError)
+        for number in draw.sample(range(len(pieces)), min(2, len(pieces))):
+            judge(f"the first {number} events of {text!r}", len([*Events(b"".join(pieces[:number]), "")]), number)
         for bad in bindings_flat.damaged(records, draw) if records else ():
             kind = raised(list, Events(bad, text.decode()))
             damaged += kind is not None
             judge(f"damaged records {bad!r}", kind is None or issubclass(kind, ValueError), True)
-    judge("records were refused", (cut > 100, damaged > 100), (True, True))
+    judge("damaged records were refused", damaged > 100, True)
+    for what, bad in bindings_flat.REFUSED:
+        if what in ("a link type that is none", "a column that is none", "a tag that is none", "a link without a title"):
+            judge(what, raised(list, Events(bindings_flat.joined(bad), "")), ValueError)
+    value = [(1, 2, 1, 0, 1, b""), (0, bindings_flat.VALUE, 0, 0, 0, b"a")]
+    judge("a value without its attribute", raised(list, Events(bindings_flat.joined(value), "")), ValueError)
+    try:
+        answer(library.pcm_render, 256, b"\1" * 40)
+        judge("records that the library refuses", "an answer", "an error")
+    except ValueError as error:
+        judge("records that the library refuses", str(error), "the records are malformed")
     judge("a further record without a start", raised(list, Events(bindings_flat.joined([(0, 1, 0, 0, 0, b"")]), "")), ValueError)
     judge("a kind that is not known", raised(list, Events(bindings_flat.joined([(17, 0, 0, 0, 0, b"")]), "")), ValueError)
 
@@ -351,7 +380,7 @@ def try_callback(judge, texts, wanted):
     for call in (html, events):
         judge(f"{call.__name__} raises what the callback raises", raised(call, "[a]", broken_link=stop), Stop)
         judge(f"{call.__name__} without questions", raised(call, "[a](b)", broken_link=stop), None)
-        for wrong in (3, "/a", ("/a",), ["/a", ""], ("/a", "b", "c"), ("/a", None), (None, ""), (b"/a", "")):
+        for wrong in (3, 0, False, "", (), "/a", ("/a",), ["/a", ""], ("/a", "b", "c"), ("/a", None), (None, ""), (b"/a", "")):
             judge(f"{call.__name__} with the answer {wrong!r}", raised(call, "[a]", broken_link=lambda _, it=wrong: it), TypeError)
         judge(f"{call.__name__} with half a pair", raised(call, "[a]", broken_link=lambda _: ("\ud800", "")), UnicodeEncodeError)
         judge(f"{call.__name__} with a callback that is none", raised(call, "[a]", broken_link=3), TypeError)

@@ -14,7 +14,8 @@ import pathlib
 PROGRAM = '''
 from typing import Optional, Tuple
 from pulldown_cmark import (
-    BrokenLink, Code, CodeBlock, End, Event, Fenced, Heading, HeadingEnd, HardBreak, Link, List, Lines, SoftBreak, Start, Table, TaskListMarker, Text, events, html, merged, references, render,
+    BrokenLink, Code, CodeBlock, End, Event, Fenced, HardBreak, Heading, HeadingEnd, Lines, Link, List, SoftBreak, Start, Table, TaskListMarker, Text,
+    events, html, merged, references, render,
 )
 
 def by_class(event: Event) -> None:

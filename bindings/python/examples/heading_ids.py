@@ -1,33 +1,23 @@
 """Writes the HTML of a Markdown file in which each heading has an id, made of its text, for links to it."""
 import sys
-from collections import Counter
-from typing import Iterable, Iterator, List, Optional
+from collections.abc import Iterator
 
-from links import slug
-from pulldown_cmark import Code, Event, Heading, HeadingEnd, Start, Text, events, render
+from links import anchors
+from outline import outline
+from pulldown_cmark import Event, Heading, Start, events, render
 
 
-def with_ids(found: Iterable[Event]) -> Iterator[Event]:
-    """The events, with an id for each heading that has none. The events inside a heading wait until its whole text is known."""
-    times: "Counter[str]" = Counter()
-    heading: Optional[Heading] = None
-    inside: List[Event] = []
-    for event in found:
+def with_ids(text: str) -> Iterator[Event]:
+    """The events of a text, with an id for each heading that has none."""
+    names = anchors(title for _, _, title in outline(text))
+    for event in events(text):
         if isinstance(event.value, Heading):
-            heading, inside = event.value, []
-        elif isinstance(event.value, HeadingEnd) and heading:
-            name = slug("".join(it.value for it in inside if isinstance(it, (Text, Code))))
-            times[name] += 1
-            number = f"-{times[name] - 1}" if times[name] > 1 else ""
-            yield Start(heading._replace(id=heading.id or name + number))
-            yield from [*inside, event]
-            heading = None
-        elif heading:
-            inside.append(event)
+            name = next(names)
+            yield Start(event.value._replace(id=event.value.id or name))
         else:
             yield event
 
 
 if __name__ == "__main__":
     with open(sys.argv[1], encoding="utf-8") as file:
-        print(render(with_ids(events(file.read()))), end="")
+        print(render(with_ids(file.read())), end="")

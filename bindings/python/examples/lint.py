@@ -1,11 +1,11 @@
 """Names the places of a Markdown file that break one of three rules."""
 import sys
-from typing import Iterator, Tuple
+from collections.abc import Iterator
 
 from pulldown_cmark import CodeBlock, Fenced, Heading, InlineHtml, Options, Start, events
 
 
-def lint(text: str) -> Iterator[Tuple[int, int, str]]:
+def lint(text: str) -> Iterator[tuple[int, int, str]]:
     """The line, the column and the fault of each place."""
     found, last = events(text, options=Options.TABLES), 0
     for event in found:

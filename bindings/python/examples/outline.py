@@ -1,14 +1,14 @@
 """Prints the headings of a Markdown file: the line, the level and the text of each."""
 import sys
-from typing import Iterator, List, Tuple
+from collections.abc import Iterator
 
 from pulldown_cmark import Code, End, HardBreak, Heading, HeadingEnd, SoftBreak, Start, Text, events
 
 
-def outline(text: str) -> Iterator[Tuple[int, int, str]]:
+def outline(text: str) -> Iterator[tuple[int, int, str]]:
     """The line, the level and the text of each heading."""
     found = events(text)
-    words: List[str] = []
+    words: list[str] = []
     for event in found:
         match event:
             case Start(Heading()):

@@ -68,6 +68,10 @@ class Event(_Fields):
             raise ValueError(f"there is no event {name!r}")
         return _new(CLASSES[name], (name, value, start, end))
 
+    @classmethod
+    def _make(cls, fields: Iterable[Any]) -> Any:
+        return Event(*fields)
+
     def __repr__(self) -> str:
         return f"{self.__class__.__name__}({self.value!r}, start={self.start}, end={self.end})"
 
