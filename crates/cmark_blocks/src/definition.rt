@@ -83,7 +83,7 @@ impl<'a, E: EntityLookup> Pass<'a, E> {
         last.content_end()
     }
 
-    /// Records a definition with these bytes of the text, unless its label has one.
+    /// Records a definition with these bytes of the text, unless its label has one: then its parts are not read.
     fn keep_definition(
         &mut self,
         definition: &Definition<'_>,
@@ -95,6 +95,10 @@ impl<'a, E: EntityLookup> Pass<'a, E> {
         ensures text { self.new.text ≡ self.old.text }
         ensures blank_lines { self.new.blank_lines ≡ self.old.blank_lines }
     {
+        let known = self.builder.allocations.refdefs.get(definition.label)?;
+        if known.is_some() {
+            return Ok(());
+        }
         let (label, kept) = link_definition(self.alloc, definition, span, self.entities)?;
         self.builder.allocations.refdefs.insert(label, kept)
     }
