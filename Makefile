@@ -4,8 +4,9 @@
 # make kept       proves and builds both programs and the library for C. It keeps the work of each check for the next one: use it if you
 #                 change the code afterwards.
 # make lib        puts the files that C programs link into bin/: an archive, a shared library, their header and a file for pkg-config.
-# make install    installs all of these below PREFIX, with the manual pages, the list of entities and completions for shells. It builds
-#                 what is missing. With QUICK=yes it installs the files of make quick, which it otherwise refuses.
+# make install    installs all of these below PREFIX, with the manual pages, the list of entities, examples in C and completions for
+#                 shells. The library goes into LIBDIR. It builds what is missing. With QUICK=yes it installs the files of make quick,
+#                 which it otherwise refuses.
 # make dist       packs the proved programs and the library for users without the toolchain, in bin/dist/. make check-dist packs them
 #                 again in another folder and compares each byte.
 # make web        makes the modules of the page in web/ anew, and tests the page in a browser. It is not part of make test.
@@ -16,9 +17,14 @@
 .NOTPARALLEL:
 
 PREFIX = /usr/local
+# The folder of the library, which some systems have elsewhere, such as /usr/lib/x86_64-linux-gnu.
+LIBDIR = $(PREFIX)/lib
 # The files that are installed, and the choice among them.
 BUILT = $(if $(filter yes,$(QUICK)),bin/quick,bin)
 INTO = $(DESTDIR)$(PREFIX)
+INTO_LIB = $(DESTDIR)$(LIBDIR)
+# The lines of the file for pkg-config that have the paths.
+PATHS = -e 's|^prefix=.*|prefix=$(abspath $(PREFIX))|' -e 's|^libdir=.*|libdir=$(abspath $(LIBDIR))|'
 
 all: mdhtml
 
@@ -58,13 +64,15 @@ install: $(BUILT)/mdhtml $(BUILT)/mdevents $(BUILT)/lib/libpulldown_cmark.a
 	install -m 755 $(BUILT)/mdevents $(INTO)/bin
 	install -m 644 share/man/man1/mdevents.1 $(INTO)/share/man/man1
 	tools/completions $(INTO)/share $(BUILT)/mdevents
-	install -d $(INTO)/include $(INTO)/lib/pkgconfig
+	install -d $(INTO)/include $(INTO_LIB)/pkgconfig $(INTO)/share/man/man3
 	install -m 644 include/pulldown_cmark.h $(INTO)/include
-	install -m 644 $(BUILT)/lib/libpulldown_cmark.a $(INTO)/lib
-	install -m 755 $(BUILT)/lib/libpulldown_cmark.so.0.13.6 $(INTO)/lib
-	ln -sf libpulldown_cmark.so.0.13.6 $(INTO)/lib/libpulldown_cmark.so.0
-	ln -sf libpulldown_cmark.so.0 $(INTO)/lib/libpulldown_cmark.so
-	install -m 644 $(BUILT)/lib/pkgconfig/pulldown_cmark.pc $(INTO)/lib/pkgconfig
+	install -m 644 share/man/man3/pulldown_cmark.3 $(INTO)/share/man/man3
+	tools/examples $(INTO)/share/doc/pulldown_cmark/examples
+	install -m 644 $(BUILT)/lib/libpulldown_cmark.a $(INTO_LIB)
+	install -m 755 $(BUILT)/lib/libpulldown_cmark.so.0.13.6 $(INTO_LIB)
+	ln -sf libpulldown_cmark.so.0.13.6 $(INTO_LIB)/libpulldown_cmark.so.0
+	ln -sf libpulldown_cmark.so.0 $(INTO_LIB)/libpulldown_cmark.so
+	sed $(PATHS) $(BUILT)/lib/pkgconfig/pulldown_cmark.pc > $(INTO_LIB)/pkgconfig/pulldown_cmark.pc
 
 dist:
 	tools/dist

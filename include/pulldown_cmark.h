@@ -10,8 +10,9 @@
    - A call does not come from a signal handler, nor from the forked child of a process with threads.
 
    The library has no data of its own: calls on separate memory may run at the same time on any number of threads. It takes memory
-   by malloc and realloc, and has returned it by free at the end of each call. A stack of 24 KB is enough for any text, however deep its
-   parts nest; this is tested, not proved.
+   by malloc and realloc, and has returned it by free at the end of each call. A call takes at most 16 KB of the stack, however deep the
+   parts of a text nest; this is tested, not proved. The data of a thread come on top: on Linux a thread needs a stack of 24 KB, and 16 KB
+   are too few.
 
    The options are the bits below; other bits have no meaning yet, so leave them 0. The known entity names are amp, lt, gt, quot, apos,
    nbsp, copy, reg, hellip, mdash and ndash; the HTML keeps any other as it is written. */
@@ -204,15 +205,29 @@ uint32_t pcm_version(void);
 
 /* The rest of this file are inline functions over some of the functions above. They are tested, not proved. A text of length 0 may be NULL. */
 
-/* The type of pcm_html, pcm_safe_html and pcm_events_json. */
+/* The type of pcm_html, pcm_safe_html, pcm_events_json and pcm_events. */
 typedef uint32_t (*pcm_call)(const uint8_t *, size_t, uint32_t, uint8_t *, size_t, size_t *);
 
+/* The length of the first buffer of pcm_answer, in bytes: times text_len and more, or text_len if that is too large for a size_t. */
+static inline size_t pcm_first_room(size_t text_len, size_t times, size_t more)
+{
+    return text_len <= ((size_t)-1 - more) / times ? times * text_len + more : text_len;
+}
+
 /* Calls one of them with a buffer of its own. At PCM_DONE *answer is the output, with a NUL after its *size bytes; the caller frees it
-   with pcm_free. At any other status *answer is NULL and *size is 0. Never returns PCM_TOO_LONG. */
+   with pcm_free. At any other status *answer is NULL and *size is 0. Never returns PCM_TOO_LONG.
+
+   If the first buffer is too small, the text is read a second time. The first buffer has 16 times the text and 4,096 bytes for
+   pcm_events_json, 8 times and 1,024 for pcm_events, and 2 times and 256 for the others. It was large enough for each of some 800 Markdown
+   files. Most systems do not take memory for the part of it that is not written. */
 static inline uint32_t pcm_answer(pcm_call call, const char *text, size_t text_len, uint32_t options, char **answer, size_t *size)
 {
     const size_t most = (size_t)-1;
-    size_t room_len = text_len <= most / 2 - 64 ? text_len + text_len / 4 + 64 : text_len;
+    size_t room_len = pcm_first_room(text_len, 2, 256);
+    if (call == pcm_events_json)
+        room_len = pcm_first_room(text_len, 16, 4096);
+    else if (call == pcm_events)
+        room_len = pcm_first_room(text_len, 8, 1024);
     *answer = NULL;
     *size = 0;
     if (!text_len)
@@ -248,14 +263,36 @@ static inline uint32_t pcm_safe_html_alloc(const char *text, size_t text_len, ui
     return pcm_answer(pcm_safe_html, text, text_len, options, html, size);
 }
 
-/* Returns the events in memory of their own, as pcm_answer does. */
+/* Returns the lines of pcm_events_json in memory of their own, as pcm_answer does. pcm_records_alloc returns flat records. */
 static inline uint32_t pcm_events_alloc(const char *text, size_t text_len, uint32_t options, char **lines, size_t *size)
 {
     return pcm_answer(pcm_events_json, text, text_len, options, lines, size);
 }
 
-/* Frees the output of pcm_html_alloc, pcm_safe_html_alloc or pcm_events_alloc. NULL is allowed. */
-static inline void pcm_free(char *answer)
+/* Returns the flat records of pcm_events in memory of their own, as pcm_answer does. pcm_next_record reads them. */
+static inline uint32_t pcm_records_alloc(const char *text, size_t text_len, uint32_t options, uint8_t **records, size_t *size)
+{
+    char *answer;
+    uint32_t status = pcm_answer(pcm_events, text, text_len, options, &answer, size);
+    *records = (uint8_t *)answer;
+    return status;
+}
+
+/* pcm_render with the parameters of pcm_html. */
+static inline uint32_t pcm_render_call(const uint8_t *records, size_t records_len, uint32_t options, uint8_t *room, size_t room_len, size_t *size)
+{
+    (void)options;
+    return pcm_render(records, records_len, room, room_len, size);
+}
+
+/* Returns the HTML of flat records in memory of its own, as pcm_answer does. Returns PCM_MALFORMED as pcm_render does. */
+static inline uint32_t pcm_render_alloc(const uint8_t *records, size_t records_len, char **html, size_t *size)
+{
+    return pcm_answer(pcm_render_call, (const char *)records, records_len, 0, html, size);
+}
+
+/* Frees the memory that one of these functions returned. NULL is allowed. */
+static inline void pcm_free(void *answer)
 {
     free(answer);
 }
@@ -331,6 +368,24 @@ static inline int pcm_next_record(const uint8_t *records, size_t size, size_t *a
     record->len = (size_t)len;
     *at += PCM_HEAD + record->len;
     return 1;
+}
+
+/* A function that receives a record. It returns 0 to continue; after any other value it is not called again. The record is valid until it
+   returns. */
+typedef int (*pcm_take_record)(const struct pcm_record *record, void *user);
+
+/* Passes each flat record to take, further records too. *taken is the last value that take returned, or 0 if it was not called. */
+static inline uint32_t pcm_records_to(const char *text, size_t text_len, uint32_t options, pcm_take_record take, void *user, int *taken)
+{
+    uint8_t *records;
+    size_t size, at = 0;
+    struct pcm_record record;
+    uint32_t status = pcm_records_alloc(text, text_len, options, &records, &size);
+    *taken = 0;
+    while (!*taken && status == PCM_DONE && pcm_next_record(records, size, &at, &record))
+        *taken = take(&record, user);
+    pcm_free(records);
+    return status;
 }
 
 #ifdef __cplusplus

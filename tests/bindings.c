@@ -4,8 +4,10 @@
    bindings large     the same for all calls, with the default limit and without further schemes
    bindings safe      the same for the call for safe HTML
    bindings tries     tries the same records for properties that no output shows: short rooms, rooms at the end, refused memory, bad UTF-8
+                      The flat records of each text are the text of pcm_render, here and below
    bindings threads   renders the same records in four threads at once, each all of them, and compares
    bindings stacks    the same in sixteen threads, each with a stack of 24 KB
+   bindings depth     writes the most bytes of the stack that a call takes for the same records
    bindings pages     renders each beginning of each record next to pages that may not be accessed, and compares
    bindings exact     renders the same records in memory of exactly their sizes, for a program that watches each access
    bindings refusals  writes for each record the number of allocations of each call that were refused in turn
@@ -21,8 +23,10 @@
 
 #define FILL 0xA5
 #define GUARD 64
-/* The stack size that the header calls enough, including the thread's own data. */
+/* The stack size that the header calls enough for a thread, including the thread's own data. */
 #define SMALL_STACK (24 * 1024)
+/* A stack whose use is measured. */
+#define LARGE_STACK (256 * 1024)
 
 static long refuse_at = -1, asked, held;
 
@@ -68,9 +72,11 @@ struct record {
 
 static struct record *records;
 static size_t count;
-/* The programs write the outputs of the first two too. */
-#define CALLS 3
-static const pcm_call calls[CALLS] = {pcm_html, pcm_events_json, pcm_safe_html};
+/* The calls that read a text. The programs write the outputs of the first two too. */
+#define CALLS 4
+static const pcm_call calls[CALLS] = {pcm_html, pcm_events_json, pcm_safe_html, pcm_events};
+/* The call that reads flat records. */
+#define RENDER pcm_render_call
 
 static void stop(const char *why, const struct record *it)
 {
@@ -139,9 +145,9 @@ static uint32_t guarded(pcm_call call, const struct record *it, size_t room_len,
         stop("a call that is not done wrote into the room", it);
     if (status == PCM_TOO_LONG && *size <= room_len)
         stop("a call found an answer too long that is not", it);
-    if ((status == PCM_NOT_UTF8 || status == PCM_NO_MEMORY) && *size)
+    if (status != PCM_DONE && status != PCM_TOO_LONG && *size)
         stop("a call without an answer gave it a size", it);
-    if (status > PCM_NO_MEMORY)
+    if (status > PCM_MALFORMED || status == (call == RENDER ? PCM_NOT_UTF8 : PCM_MALFORMED))
         stop("a call answered no status", it);
     return status;
 }
@@ -160,6 +166,17 @@ static uint8_t *answer(pcm_call call, const struct record *it, uint32_t *status,
     }
     memmove(whole, whole + GUARD, *status == PCM_DONE ? *size : 0);
     return whole;
+}
+
+/* The flat records of a text, as a text of pcm_render; the caller frees them. */
+static struct record flat_of(const struct record *it)
+{
+    struct record flat = *it;
+    uint32_t status;
+    size_t size;
+    flat.text = answer(pcm_events, it, &status, &size);
+    flat.len = size;
+    return flat;
 }
 
 /* Writes the status, the size and the output of each of some calls. */
@@ -204,12 +221,81 @@ static void try_rooms(pcm_call call, const struct record *it)
     free(all);
 }
 
+/* The HTML of the records of a text is that of the text. */
+static void try_render(const struct record *it, const struct record *flat)
+{
+    size_t wanted, size, given_size;
+    uint32_t status, rendered;
+    uint8_t *all = answer(pcm_html, it, &status, &wanted), *html = answer(RENDER, flat, &rendered, &size);
+    char *given;
+    if (rendered != PCM_DONE || (status == PCM_DONE && (size != wanted || memcmp(all, html, size))))
+        stop("the records of a text have other HTML", it);
+    if (pcm_render_alloc(flat->text, flat->len, &given, &given_size) != PCM_DONE || given_size != size || memcmp(given, html, size) || given[size])
+        stop("a helper renders other HTML", it);
+    pcm_free(given);
+    free(html);
+    free(all);
+}
+
+/* Records that are cut short at any byte, or changed there, are malformed or have some HTML. */
+static void try_malformed(const struct record *flat)
+{
+    struct record bad = *flat;
+    uint32_t status;
+    size_t at, size;
+    bad.text = memory(flat->len);
+    memcpy(bad.text, flat->text, flat->len);
+    for (at = 0; at < flat->len; at++) {
+        bad.len = at;
+        free(answer(RENDER, &bad, &status, &size));
+        if (status != PCM_DONE && status != PCM_MALFORMED)
+            stop("records that were cut short were judged wrongly", flat);
+        bad.len = flat->len;
+        bad.text[at] ^= 0xFF;
+        free(answer(RENDER, &bad, &status, &size));
+        if (status != PCM_DONE && status != PCM_MALFORMED)
+            stop("records that were changed were judged wrongly", flat);
+        bad.text[at] ^= 0xFF;
+    }
+    free(bad.text);
+}
+
 static int gather(const char *bytes, size_t size, void *user)
 {
     size_t *lines = user;
     if (bytes[size] != 0 && bytes[size] != '\n')
         stop("a helper gave bytes that end elsewhere", NULL);
     return ++*lines == 3;
+}
+
+static int gather_record(const struct pcm_record *record, void *user)
+{
+    size_t *number = user;
+    if (record->kind > PCM_TASK_LIST_MARKER)
+        stop("a helper gave no record", NULL);
+    return ++*number == 3;
+}
+
+/* The helpers for flat records. */
+static void try_record_helpers(const struct record *it)
+{
+    size_t size, given_size, at = 0, all = 0, number = 0;
+    uint32_t status;
+    int taken;
+    uint8_t *wanted = answer(pcm_events, it, &status, &size), *given;
+    struct pcm_record record;
+    if (pcm_records_alloc((const char *)it->text, it->len, (uint32_t)it->options, &given, &given_size) != status || given_size != size)
+        stop("the helper for records answers another status or size", it);
+    if (status == PCM_DONE ? memcmp(given, wanted, size) : given != NULL)
+        stop("the helper for records answers other bytes", it);
+    while (pcm_next_record(given, given_size, &at, &record))
+        all++;
+    if (at != size)
+        stop("the records end before their bytes", it);
+    if (pcm_records_to((const char *)it->text, it->len, (uint32_t)it->options, gather_record, &number, &taken) != status || number != (all < 3 ? all : 3) || taken != (all >= 3))
+        stop("a helper gave other records than there are", it);
+    pcm_free(given);
+    free(wanted);
 }
 
 /* The inline functions of the header. */
@@ -277,14 +363,19 @@ static void try_no_text(void)
     size_t k, size;
     char *given;
     int taken;
-    for (k = 0; k < 2; k++) {
+    for (k = 0; k < CALLS; k++) {
         if (pcm_answer(calls[k], NULL, 0, 0, &given, &size) != PCM_DONE || size || given[0])
             stop("a helper answered something for no text", NULL);
         pcm_free(given);
     }
+    if (pcm_render_alloc(NULL, 0, &given, &size) != PCM_DONE || size || given[0])
+        stop("a helper rendered something for no records", NULL);
+    pcm_free(given);
     size = 0;
     if (pcm_html_to(NULL, 0, 0, gather, &size, &taken) != PCM_DONE || size != 1 || pcm_events_to(NULL, 0, 0, gather, &size, &taken) != PCM_DONE || size != 1)
         stop("a helper gave something for no text", NULL);
+    if (pcm_records_to(NULL, 0, 0, gather_record, &size, &taken) != PCM_DONE || size != 1 || taken)
+        stop("a helper gave a record for no text", NULL);
 }
 
 static void try_bad_utf8(void)
@@ -401,8 +492,11 @@ static void refusals(void)
 {
     size_t i;
     for (i = 0; i < count; i++) {
-        long html = try_refusals(pcm_html, &records[i]), events = try_refusals(pcm_events_json, &records[i]);
-        printf("%ld %ld\n", html, events);
+        struct record flat = flat_of(&records[i]);
+        long html = try_refusals(pcm_html, &records[i]), lines = try_refusals(pcm_events_json, &records[i]);
+        long events = try_refusals(pcm_events, &records[i]), render = try_refusals(RENDER, &flat);
+        printf("%ld %ld %ld %ld\n", html, lines, events, render);
+        free(flat.text);
     }
 }
 
@@ -417,24 +511,33 @@ static void tries(void)
     try_schemes();
     try_limits();
     for (i = 0; i < count; i++) {
+        struct record flat = flat_of(&records[i]);
         try_usual_limit(&records[i]);
         try_helpers(&records[i]);
-        for (k = 0; k < CALLS; k++) {
-            try_rooms(calls[k], &records[i]);
+        try_record_helpers(&records[i]);
+        try_render(&records[i], &flat);
+        try_malformed(&flat);
+        for (k = 0; k <= CALLS; k++) {
+            pcm_call call = k < CALLS ? calls[k] : RENDER;
+            const struct record *given = k < CALLS ? &records[i] : &flat;
+            try_rooms(call, given);
 #ifdef REFUSES
-            refused += try_refusals(calls[k], &records[i]);
+            refused += try_refusals(call, given);
 #else
             (void)try_refusals;
 #endif
         }
+        free(flat.text);
     }
     printf("%ld\n", refused);
 }
 
+/* The outputs of all calls for a text. The last is that of pcm_render for its records. */
 struct wanted {
-    uint32_t status[CALLS];
-    size_t size[CALLS];
-    uint8_t *bytes[CALLS];
+    struct record flat;
+    uint32_t status[CALLS + 1];
+    size_t size[CALLS + 1];
+    uint8_t *bytes[CALLS + 1];
 };
 
 static struct wanted *wanted;
@@ -444,9 +547,9 @@ static void *work(void *user)
     size_t i, k, size, at = (size_t)(uintptr_t)user;
     uint32_t status;
     for (i = 0; i < count; i++, at++)
-        for (k = 0; k < CALLS; k++) {
+        for (k = 0; k <= CALLS; k++) {
             struct wanted *it = &wanted[at % count];
-            uint8_t *given = answer(calls[k], &records[at % count], &status, &size);
+            uint8_t *given = k < CALLS ? answer(calls[k], &records[at % count], &status, &size) : answer(RENDER, &it->flat, &status, &size);
             if (status != it->status[k] || size != it->size[k] || memcmp(given, it->bytes[k], size))
                 stop("a thread answered something else", &records[at % count]);
             free(given);
@@ -464,19 +567,83 @@ static void threads(size_t number, size_t stack)
     if (stack && pthread_attr_setstacksize(&how, stack))
         stop("no thread may have this stack", NULL);
     wanted = memory(count * sizeof *wanted);
-    for (i = 0; i < count; i++)
+    for (i = 0; i < count; i++) {
         for (k = 0; k < CALLS; k++)
             wanted[i].bytes[k] = answer(calls[k], &records[i], &wanted[i].status[k], &wanted[i].size[k]);
+        wanted[i].flat = flat_of(&records[i]);
+        wanted[i].bytes[CALLS] = answer(RENDER, &wanted[i].flat, &wanted[i].status[CALLS], &wanted[i].size[CALLS]);
+    }
     for (i = 0; i < number; i++)
         if (pthread_create(&all[i], &how, work, (void *)(uintptr_t)(i * count / number)))
             stop("a thread was not started", NULL);
     for (i = 0; i < number; i++)
         pthread_join(all[i], NULL);
     pthread_attr_destroy(&how);
-    for (i = 0; i < count; i++)
-        for (k = 0; k < CALLS; k++)
+    for (i = 0; i < count; i++) {
+        for (k = 0; k <= CALLS; k++)
             free(wanted[i].bytes[k]);
+        free(wanted[i].flat.text);
+    }
     free(wanted);
+}
+
+struct job {
+    pcm_call call;
+    const struct record *it;
+    uint8_t *room;
+    size_t room_len, size;
+    uint32_t status;
+};
+
+static void *run_job(void *user)
+{
+    struct job *job = user;
+    if (job->call)
+        job->status = job->call(job->it->text, job->it->len, (uint32_t)job->it->options, job->room, job->room_len, &job->size);
+    return NULL;
+}
+
+/* The number of bytes of a stack that a thread with this job writes. */
+static size_t depth_of(struct job *job, uint8_t *stack)
+{
+    pthread_t thread;
+    pthread_attr_t how;
+    size_t at = 0;
+    memset(stack, FILL, LARGE_STACK);
+    pthread_attr_init(&how);
+    if (pthread_attr_setstack(&how, stack, LARGE_STACK) || pthread_create(&thread, &how, run_job, job))
+        stop("a thread was not started", NULL);
+    pthread_join(thread, NULL);
+    pthread_attr_destroy(&how);
+    while (at < LARGE_STACK && stack[at] == FILL)
+        at++;
+    return LARGE_STACK - at;
+}
+
+static void depth(void)
+{
+    uint8_t *stack = mmap(NULL, LARGE_STACK, PROT_READ | PROT_WRITE, MAP_PRIVATE | MAP_ANONYMOUS, -1, 0);
+    size_t i, k, most = 0;
+    struct job idle = {NULL, NULL, NULL, 0, 0, 0};
+    if (stack == MAP_FAILED)
+        stop("there is no memory for the test itself", NULL);
+    for (i = 0; i < count; i++) {
+        struct record flat = flat_of(&records[i]);
+        for (k = 0; k <= CALLS; k++) {
+            struct job job = {k < CALLS ? calls[k] : RENDER, k < CALLS ? &records[i] : &flat, NULL, 0, 0, 0};
+            size_t found;
+            job.room_len = 256 * records[i].len + 4096;
+            job.room = memory(job.room_len);
+            found = depth_of(&job, stack);
+            if (job.status != PCM_DONE)
+                stop("a call for the measure of its stack is not done", &records[i]);
+            most = found > most ? found : most;
+            free(job.room);
+        }
+        free(flat.text);
+    }
+    printf("%lu\n", (unsigned long)(most - depth_of(&idle, stack)));
+    munmap(stack, LARGE_STACK);
 }
 
 /* Pages that may be read and written, between two that may not be accessed. */
@@ -564,50 +731,83 @@ static long try_pages(pcm_call call, const struct record *whole, size_t len, str
     return wanted ? 6 : 5;
 }
 
+/* Each beginning of a text, with some calls; returns their number. */
+static long try_beginnings(const pcm_call *some, size_t number, const struct record *it, size_t step)
+{
+    size_t k, len, size, most;
+    uint32_t status;
+    long calls_made = 0;
+    struct pages text = pages_of(it->len), room;
+    for (k = 0, most = 0; k < number; k++) {
+        free(answer(some[k], it, &status, &size));
+        most = size > most ? size : most;
+    }
+    /* The output for a beginning may be longer than that for the whole. */
+    room = pages_of(16 * (most + it->len) + 65536);
+    for (len = 0; len <= it->len; len += len + step > it->len && len < it->len ? it->len - len : step)
+        for (k = 0; k < number; k++)
+            calls_made += try_pages(some[k], it, len, text, room);
+    give_pages(text);
+    give_pages(room);
+    return calls_made;
+}
+
+/* Beginnings of texts, and beginnings of their flat records, which mostly are cut short in a record. */
 static void pages(void)
 {
-    size_t i, k, len, size, most;
-    uint32_t status;
+    static const pcm_call read[] = {pcm_html, pcm_events_json, pcm_events}, render[] = {RENDER};
+    size_t i;
     long number = 0;
     signal(SIGSEGV, touched);
     signal(SIGBUS, touched);
     for (i = 0; i < count; i++) {
-        struct pages text = pages_of(records[i].len), room;
-        for (k = 0, most = 0; k < 2; k++) {
-            free(answer(calls[k], &records[i], &status, &size));
-            most = size > most ? size : most;
-        }
-        /* The output for a beginning may be longer than that for the whole. */
-        room = pages_of(16 * (most + records[i].len) + 65536);
-        for (len = 0; len <= records[i].len; len++)
-            for (k = 0; k < 2; k++)
-                number += try_pages(calls[k], &records[i], len, text, room);
-        give_pages(text);
-        give_pages(room);
+        struct record flat = flat_of(&records[i]);
+        number += try_beginnings(read, 3, &records[i], 1);
+        number += try_beginnings(render, 1, &flat, 3);
+        free(flat.text);
     }
     printf("%ld\n", number);
 }
 
-/* Each call in memory of exactly the size that it needs; the bytes of the output are read. */
+/* A call in memory of exactly the size that it needs; the bytes of the output are read. */
+static unsigned long try_exact(pcm_call call, const struct record *it)
+{
+    size_t at, wanted, size;
+    unsigned long sum = 0;
+    uint8_t *room = memory(1);
+    uint32_t status = call(it->text, it->len, (uint32_t)it->options, room, 0, &wanted);
+    free(room);
+    if (status != PCM_TOO_LONG)
+        return 0;
+    room = memory(wanted);
+    if (call(it->text, it->len, (uint32_t)it->options, room, wanted, &size) != PCM_DONE || size != wanted)
+        stop("a room of the answer's size was refused", it);
+    for (at = 0; at < size; at++)
+        sum += room[at] == '<';
+    free(room);
+    return sum;
+}
+
+/* All calls so, and pcm_render also with records that are cut short in their last byte. */
 static void exact(void)
 {
-    size_t i, k, at, wanted, size;
+    size_t i, k;
     unsigned long sum = 0;
-    for (i = 0; i < count; i++)
-        for (k = 0; k < 2; k++) {
-            struct record *it = &records[i];
-            uint8_t *room = memory(1);
-            uint32_t status = calls[k](it->text, it->len, (uint32_t)it->options, room, 0, &wanted);
-            free(room);
-            if (status != PCM_TOO_LONG)
-                continue;
-            room = memory(wanted);
-            if (calls[k](it->text, it->len, (uint32_t)it->options, room, wanted, &size) != PCM_DONE || size != wanted)
-                stop("a room of the answer's size was refused", it);
-            for (at = 0; at < size; at++)
-                sum += room[at] == '<';
-            free(room);
-        }
+    for (i = 0; i < count; i++) {
+        struct record flat = flat_of(&records[i]), cut = flat;
+        for (k = 0; k < CALLS; k++)
+            sum += try_exact(calls[k], &records[i]);
+        cut.text = memory(flat.len);
+        memcpy(cut.text, flat.text, flat.len);
+        sum += try_exact(RENDER, &cut);
+        free(cut.text);
+        cut.len = flat.len ? flat.len - 1 : 0;
+        cut.text = memory(cut.len);
+        memcpy(cut.text, flat.text, cut.len);
+        sum += try_exact(RENDER, &cut);
+        free(cut.text);
+        free(flat.text);
+    }
     printf("%lu\n", sum);
 }
 
@@ -617,7 +817,7 @@ int main(int words, char **word)
     if (words == 2 && !strcmp(word[1], "batch"))
         batch(0, 2);
     else if (words == 2 && !strcmp(word[1], "safe"))
-        batch(2, CALLS);
+        batch(2, 3);
     else if (words == 2 && !strcmp(word[1], "large"))
         large();
     else if (words == 2 && !strcmp(word[1], "tries"))
@@ -626,6 +826,8 @@ int main(int words, char **word)
         threads(4, 0);
     else if (words == 2 && !strcmp(word[1], "stacks"))
         threads(16, SMALL_STACK);
+    else if (words == 2 && !strcmp(word[1], "depth"))
+        depth();
     else if (words == 2 && !strcmp(word[1], "pages"))
         pages();
     else if (words == 2 && !strcmp(word[1], "exact"))
@@ -633,7 +835,7 @@ int main(int words, char **word)
     else if (words == 2 && !strcmp(word[1], "refusals"))
         refusals();
     else
-        stop("say batch, safe, tries, threads, stacks, pages, exact or refusals", NULL);
+        stop("say batch, safe, large, tries, threads, stacks, depth, pages, exact or refusals", NULL);
     give_records();
     return 0;
 }

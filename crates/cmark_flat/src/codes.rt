@@ -3,13 +3,14 @@
 ghost use Rattle.std.specs.Prelude.{◌≡◌, length, option_map};
 ghost use Rattle.cmark_flat.specs.Flat.{alignment_number, code_number, end_datum, end_number, event_datum, event_tag, info_text, kind_number, link_number, list_number, metadata_number, quote_number, tag_datum, tag_number, yes_or_no};
 ghost use Rattle.cmark_grammar.specs.LinkType.{WikiLink};
+ghost use Rattle.cmark_text.specs.Short.{shown_plain};
 ghost use Rattle.cmark_text.specs.Shown.{shown, shown_end, shown_tag};
 ghost use Rattle.cmark_text_parts.specs.Shown.{level_number, shown_alignment, shown_block_quote_kind, shown_code_block_kind, shown_link_type, shown_metadata_block_kind};
 
 use crate::numbers::*;
 use cmark_text::{
     Alignment, BlockQuoteKind, CodeBlockKind, Event, HeadingLevel, LinkType, MetadataBlockKind,
-    Tag, TagEnd,
+    PlainTag, Tag, TagEnd,
 };
 
 /// The kind of an event's record.
@@ -77,6 +78,48 @@ pub fn tag_datum(tag: &Tag<'_>) -> u8
         Tag::Link { link_type, .. } => link_number(*link_type),
         Tag::Image { link_type, .. } => link_number(*link_type),
         Tag::MetadataBlock(kind) => metadata_number(*kind),
+        _ => NO_DATA,
+    }
+}
+
+/// The tag of an element that has no text of its own.
+pub fn plain_number(tag: PlainTag) -> u8
+    ensures { result ≡ tag_number (shown_plain tag) }
+{
+    match tag {
+        PlainTag::Paragraph => PARAGRAPH_TAG,
+        PlainTag::Heading(_) => HEADING_TAG,
+        PlainTag::BlockQuote(_) => BLOCK_QUOTE_TAG,
+        PlainTag::IndentedCode => CODE_BLOCK_TAG,
+        PlainTag::HtmlBlock => HTML_BLOCK_TAG,
+        PlainTag::List(_) => LIST_TAG,
+        PlainTag::Item => ITEM_TAG,
+        PlainTag::DefinitionList => DEFINITION_LIST_TAG,
+        PlainTag::DefinitionListTitle => DEFINITION_LIST_TITLE_TAG,
+        PlainTag::DefinitionListDefinition => DEFINITION_LIST_DEFINITION_TAG,
+        PlainTag::TableHead => TABLE_HEAD_TAG,
+        PlainTag::TableRow => TABLE_ROW_TAG,
+        PlainTag::TableCell => TABLE_CELL_TAG,
+        PlainTag::Emphasis => EMPHASIS_TAG,
+        PlainTag::Strong => STRONG_TAG,
+        PlainTag::Strikethrough => STRIKETHROUGH_TAG,
+        PlainTag::Superscript => SUPERSCRIPT_TAG,
+        PlainTag::Subscript => SUBSCRIPT_TAG,
+        PlainTag::Highlight => HIGHLIGHT_TAG,
+        PlainTag::MetadataBlock(_) => METADATA_BLOCK_TAG,
+    }
+}
+
+/// The data of the start of an element that has no text of its own.
+pub fn plain_datum(tag: PlainTag) -> u8
+    ensures { result ≡ tag_datum (shown_plain tag) }
+{
+    match tag {
+        PlainTag::Heading(level) => level_number(level),
+        PlainTag::BlockQuote(kind) => quote_number(kind),
+        PlainTag::IndentedCode => INDENTED_BLOCK,
+        PlainTag::List(first) => list_number(first),
+        PlainTag::MetadataBlock(kind) => metadata_number(kind),
         _ => NO_DATA,
     }
 }

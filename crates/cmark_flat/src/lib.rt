@@ -15,6 +15,7 @@ mod questions;
 mod read;
 mod record;
 mod replies;
+mod short;
 
 pub use definitions::append_definition;
 pub use error::DecodeError;
@@ -24,3 +25,4 @@ pub use laws::{flat_definitions_are_decoded, flat_events_are_decoded, flat_repli
 pub use put::{append_event, append_given};
 pub use questions::append_question;
 pub use replies::{Answer, Reply, decode_replies};
+pub use short::append_short;

@@ -200,7 +200,7 @@ fn put_linked(out: &mut Vec<u8>, title: &CowStr<'_>, id: &CowStr<'_>) -> Result<
 }
 
 /// Appends the first number of an ordered list.
-fn put_first(out: &mut Vec<u8>, first: Option<u64>) -> Result<(), AllocError>
+pub fn put_first(out: &mut Vec<u8>, first: Option<u64>) -> Result<(), AllocError>
     ensures { OnOk result (out.new.items ≡ out.old.items ++ spelled (first_part first)) }
 {
     let Some(first) = first else {

@@ -20,7 +20,7 @@ use Rattle.cmark_text.specs.declared.short.Short.{Short}
 use Rattle.cmark_text.specs.declared.short.Short.TheVariants as short
 use Rattle.cmark_text_parts.specs.declared.text.CowStr.{CowStr}
 use Rattle.cmark_text.specs.Excerpt.{excerpt_bytes}
-use Rattle.cmark_text.specs.Short.{IsShortZeroCopy, shown_plain, shown_short}
+use Rattle.cmark_text.specs.Short.{IsShortZeroCopy, ranged_short, shown_plain, shown_short}
 use Rattle.cmark_text.specs.Shown.{shown_end}
 use Rattle.cmark_slots.specs.Elements.{emphasis_tag}
 use Rattle.cmark_leaf_events.specs.Shorts.{AreSome, IsAlone, IsCodeOf, IsNextFirst, IsShortFirst, IsTextOf, PassesFirst, StandsFor}
@@ -82,10 +82,11 @@ module _ (leaf : LeafText) (texts : List CowStr) (links : List Link) (slot : Slo
   -- an event of its own
   pub single-first-short : (s : Short) → IsRead leaf → IsPart (text_of leaf) slot.start slot.end → StandsFor leaf slot s → IsInline (shown_short s)
       → IsShortZeroCopy (source_of leaf) s (place_of leaf slot.start) (place_of leaf (slot.end - 1) + 1)
-      → IsShortFirst (source_of leaf) opened s opened (events_of leaf texts links (slot ∷ slots) opened) (events_of leaf texts links slots opened)
-  single-first-short s read part stands inline lent = record {
+      → (start end : ℕ) → start ≡ place_of leaf slot.start → end ≡ place_of leaf (slot.end - 1) + 1
+      → IsShortFirst (source_of leaf) opened s start end opened (events_of leaf texts links (slot ∷ slots) opened) (events_of leaf texts links slots opened)
+  single-first-short s read part stands inline lent start end a b = record {
     given = here (shown_short s);
-    is = refl;
+    is = ap (λ n. ranged_short s n (place_of leaf (slot.end - 1) + 1)) (sym a) ∙ ap (ranged_short s start) (sym b);
     follows = record {
       range = part-range (source_of leaf) (first_of leaf slot) (slot_end leaf slot) (there leaf slot.start slot.end read part);
       opens = short-opens s opened (first_of leaf slot) (slot_end leaf slot) inline;
@@ -124,7 +125,7 @@ module _ (leaf : LeafText) (texts : List CowStr) (links : List Link) (slot : Slo
   -- an element begins
   pub begin-first-short : (tag : PlainTag) (end : TagEnd) (e : Element) → IsRead leaf → IsPart (text_of leaf) slot.start slot.end → slot.kind ≡ kind.Begin e → Some (shown_plain tag) ≡ emphasis_tag e → IsSpan (shown_plain tag)
       → end_of (shown_plain tag) ≡ shown_end end
-      → IsShortFirst (source_of leaf) opened (short.Start tag) (opened ++ (record { tag = end; start = place_of leaf slot.start; end = place_of leaf (slot.end - 1) + 1 } ∷ [])) (events_of leaf texts links (slot ∷ slots) opened)
+      → IsShortFirst (source_of leaf) opened (short.Start tag) (place_of leaf slot.start) (place_of leaf (slot.end - 1) + 1) (opened ++ (record { tag = end; start = place_of leaf slot.start; end = place_of leaf (slot.end - 1) + 1 } ∷ [])) (events_of leaf texts links (slot ∷ slots) opened)
       (events_of leaf texts links slots (opened ++ (record { tag = end; start = place_of leaf slot.start; end = place_of leaf (slot.end - 1) + 1 } ∷ [])))
   begin-first-short tag end e read part is t span same =
       let one : Opened = record { tag = end; start = place_of leaf slot.start; end = place_of leaf (slot.end - 1) + 1 } in
@@ -146,11 +147,15 @@ module _ (leaf : LeafText) (texts : List CowStr) (links : List Link) (slot : Slo
   -- the same lemma, with other names for the open elements and their ranges
   pub begin-short-now : (now : List Opened) (tag : PlainTag) (end : TagEnd) (e : Element) (start stop : ℕ) → IsRead leaf → IsPart (text_of leaf) slot.start slot.end → slot.kind ≡ kind.Begin e → Some (shown_plain tag) ≡ emphasis_tag e → IsSpan (shown_plain tag)
       → end_of (shown_plain tag) ≡ shown_end end → start ≡ place_of leaf slot.start → stop ≡ place_of leaf (slot.end - 1) + 1 → now ≡ opened ++ (record { tag = end; start = start; end = stop } ∷ [])
-      → IsShortFirst (source_of leaf) opened (short.Start tag) now (events_of leaf texts links (slot ∷ slots) opened) (events_of leaf texts links slots now)
+      → IsShortFirst (source_of leaf) opened (short.Start tag) start stop now (events_of leaf texts links (slot ∷ slots) opened) (events_of leaf texts links slots now)
   begin-short-now now tag end e start stop read part is t span same a b last =
       let made : ℕ → ℕ → List Opened = λ x y. opened ++ (record { tag = end; start = x; end = y } ∷ []) in
+      let ranged : IsShortFirst (source_of leaf) opened (short.Start tag) start stop (made (place_of leaf slot.start) (place_of leaf (slot.end - 1) + 1)) (events_of leaf texts links (slot ∷ slots) opened) (events_of leaf texts links slots (made (place_of leaf slot.start) (place_of leaf (slot.end - 1) + 1)))
+      = subst (λ x. IsShortFirst (source_of leaf) opened (short.Start tag) x stop (made (place_of leaf slot.start) (place_of leaf (slot.end - 1) + 1)) (events_of leaf texts links (slot ∷ slots) opened) (events_of leaf texts links slots (made (place_of leaf slot.start) (place_of leaf (slot.end - 1) + 1)))) (sym a)
+      (subst (λ y. IsShortFirst (source_of leaf) opened (short.Start tag) (place_of leaf slot.start) y (made (place_of leaf slot.start) (place_of leaf (slot.end - 1) + 1)) (events_of leaf texts links (slot ∷ slots) opened) (events_of leaf texts links slots (made (place_of leaf slot.start) (place_of leaf (slot.end - 1) + 1)))) (sym b)
+      (begin-first-short tag end e read part is t span same)) in
       let same_now : made (place_of leaf slot.start) (place_of leaf (slot.end - 1) + 1) ≡ now = ap (λ x. made x (place_of leaf (slot.end - 1) + 1)) (sym a) ∙ ap (made start) (sym b) ∙ sym last in
-      subst (λ l. IsShortFirst (source_of leaf) opened (short.Start tag) l (events_of leaf texts links (slot ∷ slots) opened) (events_of leaf texts links slots l)) same_now (begin-first-short tag end e read part is t span same)
+      subst (λ l. IsShortFirst (source_of leaf) opened (short.Start tag) start stop l (events_of leaf texts links (slot ∷ slots) opened) (events_of leaf texts links slots l)) same_now ranged
 
   pub nothing-first : slot.kind ≡ kind.Nothing → events_of leaf texts links (slot ∷ slots) opened ≡ events_of leaf texts links slots opened
   nothing-first is = ap (λ k. from k (shown_opened opened)) is
@@ -158,14 +163,14 @@ module _ (leaf : LeafText) (texts : List CowStr) (links : List Link) (slot : Slo
   -- an element ends in the slot
   pub ended-first : (new : List Opened) (n : Next) → slot.kind ≡ kind.End → IsNextFirst (source_of leaf) opened n new (shown_opened opened) (shown_opened new)
       → PassesFirst (source_of leaf) opened n new (events_of leaf texts links (slot ∷ slots) opened) (events_of leaf texts links slots new)
-  ended-first new (next.Short s) is h = record { given = h.given; is = h.is; follows = h.follows; lent = h.lent; first = ap (λ k. from k (shown_opened opened)) is ∙ ap (from kind.End) h.first }
+  ended-first new (next.Short s start end) is h = record { given = h.given; is = h.is; follows = h.follows; lent = h.lent; first = ap (λ k. from k (shown_opened opened)) is ∙ ap (from kind.End) h.first }
   ended-first new next.Long is h = (h.0.0, behind h.0.1, ap (λ k. from k (shown_opened opened)) is ∙ ap (from kind.End) h.0.2)
   ended-first new next.Over is h = ap (λ k. from k (shown_opened opened)) is ∙ ap (from kind.End) h.0 ∙ sym (ap behind h.1)
 
 -- the element that was opened last ends
-pub end-first-short : (source : List ℕ) (one : Opened) (old new : List Opened) → IsPart source one.start one.end → old ≡ new ++ (one ∷ []) → IsShortFirst source old (short.End one.tag) new (shown_opened old) (shown_opened new)
+pub end-first-short : (source : List ℕ) (one : Opened) (old new : List Opened) → IsPart source one.start one.end → old ≡ new ++ (one ∷ []) → IsShortFirst source old (short.End one.tag) one.start one.end new (shown_opened old) (shown_opened new)
 end-first-short source one old new part last = record {
-  given = record { event = shown_short (short.End one.tag); start = one.start; end = one.end };
+  given = ranged_short (short.End one.tag) one.start one.end;
   is = refl;
   follows = record { range = part-range source one.start one.end part; opens = (one, record { tag_is = refl; start_is = refl; end_is = refl }, last) };
   lent = tt;
@@ -221,10 +226,10 @@ module _ (leaf : LeafText) (texts texts1 : List CowStr) (links links1 : List Lin
     pub passed-over : Passed next.Over → at1 ≡ at + 1 → events_of leaf texts links (drop at slots) opened ≡ events_of leaf texts1 links1 (drop at1 slots1) opened1
     passed-over h place = ap (λ (l : List Slot). events_of leaf texts links l opened) (here-first at1 place) ∙ h texts links (drop at1 slots1) ∙ kept (drop at1 slots1)
 
-    pub given-short : (s : Short) → Passed (next.Short s) → at1 ≡ at + 1 → IsShortFirst (source_of leaf) opened s opened1 (events_of leaf texts links (drop at slots) opened) (events_of leaf texts1 links1 (drop at1 slots1) opened1)
-    given-short s h place =
-        subst (λ (l : List Slot). IsShortFirst (source_of leaf) opened s opened1 (events_of leaf texts links l opened) (events_of leaf texts1 links1 (drop at1 slots1) opened1)) (sym (here-first at1 place))
-        (subst (λ l. IsShortFirst (source_of leaf) opened s opened1 (events_of leaf texts links (slot ∷ drop at1 slots1) opened) l) (kept (drop at1 slots1)) (h texts links (drop at1 slots1)))
+    pub given-short : (s : Short) (start end : ℕ) → Passed (next.Short s start end) → at1 ≡ at + 1 → IsShortFirst (source_of leaf) opened s start end opened1 (events_of leaf texts links (drop at slots) opened) (events_of leaf texts1 links1 (drop at1 slots1) opened1)
+    given-short s start end h place =
+        subst (λ (l : List Slot). IsShortFirst (source_of leaf) opened s start end opened1 (events_of leaf texts links l opened) (events_of leaf texts1 links1 (drop at1 slots1) opened1)) (sym (here-first at1 place))
+        (subst (λ l. IsShortFirst (source_of leaf) opened s start end opened1 (events_of leaf texts links (slot ∷ drop at1 slots1) opened) l) (kept (drop at1 slots1)) (h texts links (drop at1 slots1)))
 
     pub long-some : Passed next.Long → AreSome (events_of leaf texts links (drop at slots) opened)
     long-some h = subst (λ (l : List Slot). AreSome (events_of leaf texts links l opened)) (sym (here-first (at + 1) refl)) (h texts links (drop (at + 1) slots1))

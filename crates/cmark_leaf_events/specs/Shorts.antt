@@ -11,7 +11,7 @@ use Rattle.cmark_text.specs.declared.short.Next.TheVariants as next
 use Rattle.cmark_text.specs.declared.short.Short.{Short}
 use Rattle.cmark_text.specs.declared.short.Short.TheVariants as short
 use Rattle.cmark_text.specs.Excerpt.{excerpt_bytes}
-use Rattle.cmark_text.specs.Short.{IsShortZeroCopy, shown_plain, shown_short}
+use Rattle.cmark_text.specs.Short.{IsShortZeroCopy, ranged_short, shown_plain}
 use Rattle.cmark_leaf_events.specs.declared.leaf_events.Opened.{Opened}
 use Rattle.cmark_slots.specs.declared.slot.Element.{Element}
 use Rattle.cmark_slots.specs.declared.slot.Slot.{Slot}
@@ -45,41 +45,41 @@ StandsFor leaf slot (short.Html part) = ⊥
 StandsFor leaf slot short.Rule = ⊥
 
 abbrev pub IfShort : Next → (Short → Type 0) → Type 0
-IfShort (next.Short short) P = P short
+IfShort (next.Short short start end) P = P short
 IfShort next.Long P = Unit {0}
 IfShort next.Over P = Unit {0}
 
--- this short event, with some range, is given
-pub record GivesShort (source : List ℕ) (old : List Opened) (short : Short) (new : List Opened) : Type 0 where
+-- this short event, with this range, is given
+pub record GivesShort (source : List ℕ) (old : List Opened) (short : Short) (start end : ℕ) (new : List Opened) : Type 0 where
   pub given : Ranged
-  pub is : given.event ≡ shown_short short
+  pub is : given ≡ ranged_short short start end
   pub follows : Follows source old given new
   pub lent : IsShortZeroCopy source short given.start given.end
 
 -- this short event is given, or nothing
 abbrev pub PassesShort : (source : List ℕ) → (old : List Opened) → Next → (new : List Opened) → Type 0
-PassesShort source old (next.Short short) new = GivesShort source old short new
+PassesShort source old (next.Short short start end) new = GivesShort source old short start end new
 PassesShort source old next.Long new = new ≡ old
 PassesShort source old next.Over new = new ≡ old
 
 -- an event of another kind was not given; after the last event no element is open
 abbrev pub GivesNext : (source : List ℕ) → (old : List Opened) → Next → (new : List Opened) → Type 0
-GivesNext source old (next.Short short) new = GivesShort source old short new
+GivesNext source old (next.Short short start end) new = GivesShort source old short start end new
 GivesNext source old next.Long new = new ≡ old
 GivesNext source old next.Over new = (old ≡ []) × (new ≡ [])
 
 -- after an event was given fewer events are left
 abbrev pub LeavesFewer : LeafEvents → Next → LeafEvents → Type 0
-LeavesFewer old (next.Short short) new = events_left new < events_left old
+LeavesFewer old (next.Short short start end) new = events_left new < events_left old
 LeavesFewer old next.Long new = Unit {0}
 LeavesFewer old next.Over new = Unit {0}
 
 -- ## The short event among the events that are still to come
 
--- this short event, with its range, is the first of the events, and `behind` are the others
-pub record IsShortFirst (source : List ℕ) (old : List Opened) (short : Short) (new : List Opened) (events behind : List Ranged) : Type 0 where
+-- this short event, with this range, is the first of the events, and `behind` are the others
+pub record IsShortFirst (source : List ℕ) (old : List Opened) (short : Short) (start end : ℕ) (new : List Opened) (events behind : List Ranged) : Type 0 where
   pub given : Ranged
-  pub is : given.event ≡ shown_short short
+  pub is : given ≡ ranged_short short start end
   pub follows : Follows source old given new
   pub lent : IsShortZeroCopy source short given.start given.end
   pub first : events ≡ given ∷ behind
@@ -90,13 +90,13 @@ AreSome events = (first : Ranged) × (others : List Ranged) × (events ≡ first
 
 -- this short event is the first; or the first event is of another kind, and was not given; or there are no events
 abbrev pub IsNextFirst : (source : List ℕ) → (old : List Opened) → Next → (new : List Opened) → (events behind : List Ranged) → Type 0
-IsNextFirst source old (next.Short short) new events behind = IsShortFirst source old short new events behind
+IsNextFirst source old (next.Short short start end) new events behind = IsShortFirst source old short start end new events behind
 IsNextFirst source old next.Long new events behind = AreSome events × (behind ≡ events)
 IsNextFirst source old next.Over new events behind = (events ≡ []) × (behind ≡ [])
 
 -- this short event is the first of the events from a slot on; or the first event is of another kind; or the slot has no event
 abbrev pub PassesFirst : (source : List ℕ) → (old : List Opened) → Next → (new : List Opened) → (events behind : List Ranged) → Type 0
-PassesFirst source old (next.Short short) new events behind = IsShortFirst source old short new events behind
+PassesFirst source old (next.Short short start end) new events behind = IsShortFirst source old short start end new events behind
 PassesFirst source old next.Long new events behind = AreSome events
 PassesFirst source old next.Over new events behind = events ≡ behind
 

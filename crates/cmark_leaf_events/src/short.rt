@@ -57,9 +57,9 @@ impl<'a> LeafEvents<'a> {
                 return Err(AllocError);
             };
             match next {
-                Next::Short(short) => {
+                Next::Short(short, start, end) => {
                     self.walk.next += 1;
-                    return Ok(Next::Short(short));
+                    return Ok(Next::Short(short, start, end));
                 }
                 Next::Long => return Ok(Next::Long),
                 Next::Over => self.walk.next += 1,
@@ -98,7 +98,7 @@ impl<'a> LeafEvents<'a> {
                     start: range.start,
                     end: range.end,
                 })?;
-                Ok(Next::Short(Short::Start(tag)))
+                Ok(Next::Short(Short::Start(tag), range.start, range.end))
             }
             SlotKind::End => Ok(self.end_short()),
             SlotKind::Nothing => Ok(Next::Over),
@@ -122,7 +122,7 @@ impl<'a> LeafEvents<'a> {
             → IsNextFirst source self.old.walk.opened.items result self.new.walk.opened.items (shown_opened self.old.walk.opened.items) (shown_opened self.new.walk.opened.items) }
     {
         match self.walk.opened.pop() {
-            Some(opened) => Next::Short(Short::End(opened.tag)),
+            Some(opened) => Next::Short(Short::End(opened.tag), opened.start, opened.end),
             None => Next::Over,
         }
     }
@@ -157,7 +157,10 @@ fn single_short<'a>(leaf: &LeafText<'a>, slot: Slot) -> Next<'a>
         → PassesFirst (source_of leaf.now) opened result opened (events_of leaf.now texts links (slot ∷ behind) opened) (events_of leaf.now texts links behind opened) }
 {
     match part_of(leaf, slot) {
-        Some(short) => Next::Short(short),
+        Some(short) => {
+            let range = leaf.range(slot.start, slot.end);
+            Next::Short(short, range.start, range.end)
+        }
         None => Next::Long,
     }
 }

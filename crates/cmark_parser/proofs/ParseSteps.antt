@@ -249,8 +249,8 @@ module _ {E F : Type 0} (Says : F → BrokenLink → Option (CowStr × CowStr) �
 
   -- what the walk gives is handed on
   module _ (old new : Parser E F) (e : old.is_over ≡ false) (text : text_of new ≡ text_of old) (same : definitions new ≡ definitions old) (known : SameFootnotes (footnotes old) (footnotes new)) (counted : IsCounted new) where
-    gives-short : (short : Short) → new.is_over ≡ false → walking.GivesShort (SaysIfAny Says) replacement (reader_for replacement old) old.spans short new.spans → walking.events_left new.spans < walking.events_left old.spans → GivesAs Says replacement old (next.Short short) new
-    gives-short short n h less = record {
+    gives-short : (short : Short) (start end : ℕ) → new.is_over ≡ false → walking.GivesShort (SaysIfAny Says) replacement (reader_for replacement old) old.spans short start end new.spans → walking.events_left new.spans < walking.events_left old.spans → GivesAs Says replacement old (next.Short short start end) new
+    gives-short short start end n h less = record {
       answers = record {
         given = h.given;
         is = h.is;
@@ -292,8 +292,8 @@ module _ {E F : Type 0} (Says : F → BrokenLink → Option (CowStr × CowStr) �
 
     gives-coming : (coming : Coming) → new.is_over ≡ is_last (Ok coming) → walking.GivesNext (SaysIfAny Says) replacement (reader_for replacement old) old.spans (walking.as_next coming) new.spans → walking.LeavesFewer old.spans (walking.as_next coming) new.spans
         → GivesAs Says replacement old (walking.as_next coming) new
-    gives-coming (coming.Span short) n h less = gives-short short n h less
-    gives-coming (coming.Block short) n h less = gives-short short n h less
+    gives-coming (coming.Span short start end) n h less = gives-short short start end n h less
+    gives-coming (coming.Block short start end) n h less = gives-short short start end n h less
     gives-coming coming.Long n h most = record {
       answers = record {
         passes = passes-of [] old new e n h;

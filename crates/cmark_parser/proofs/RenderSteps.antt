@@ -88,7 +88,7 @@ module _ {E F : Type 0} (Says : F → BrokenLink → Option (CowStr × CowStr) �
   pub asks-on : (old mid new : Parser E F) (xs ys : List Exchange) → Asks Says old xs mid → Asks Says mid ys new → Asks Says old (xs ++ ys) new
   asks-on old mid new xs ys h k = answered-on (AnswersIfAny Says) xs ys (callback_of old) (callback_of mid) (callback_of new) h k
 
-  passes-on : (first parser new : Parser E F) (given more : List Ranged) → Passes Says replacement given first parser → Passes Says replacement more parser new → Passes Says replacement (given ++ more) first new
+  pub passes-on : (first parser new : Parser E F) (given more : List Ranged) → Passes Says replacement given first parser → Passes Says replacement more parser new → Passes Says replacement (given ++ more) first new
   passes-on first parser new given more p q = record {
     taken = p.taken ++ q.taken;
     asks = asks-on first parser new p.taken q.taken p.asks q.asks;
@@ -143,11 +143,11 @@ module _ {E F : Type 0} (Says : F → BrokenLink → Option (CowStr × CowStr) �
       one-written parser new f.1.0 mid after (record { taken = gives.next.taken; asks = f.0; back = f.1.2 }) (record { goes = gives.next.goes_on; counted = gives.counted }) (bytes ∙ ap (λ e. mid.bytes ++ piece mid.writing (filtered e)) same) (writing ∙ ap (λ e. moved mid.writing (filtered e)) same)
 
   -- an event that owns nothing, where no image is open, was written as another
-  pub short-written : (parser new : Parser E F) (short made : Short) (mid after : Written) → GivesAs Says replacement parser (next.Short short) new → shown_short made ≡ filtered (shown_short short) → mid.writing.image ≡ None
+  pub short-written : (parser new : Parser E F) (short made : Short) (start end : ℕ) (mid after : Written) → GivesAs Says replacement parser (next.Short short start end) new → shown_short made ≡ filtered (shown_short short) → mid.writing.image ≡ None
       → after.bytes ≡ mid.bytes ++ piece_outside mid.writing (shown_short made) → after.writing ≡ moved_outside mid.writing (shown_short made) → WritesSome Says replacement filtered parser mid new after
-  short-written parser new short made mid after h made_is outside bytes writing =
+  short-written parser new short made start end mid after h made_is outside bytes writing =
       let w = mid.writing in
-      let same : shown_short made ≡ filtered h.answers.given.event = made_is ∙ ap filtered (sym h.answers.is) in
+      let same : shown_short made ≡ filtered h.answers.given.event = made_is ∙ ap (λ r. filtered (Ranged.event r)) (sym h.answers.is) in
       one-written parser new h.answers.given mid after h.answers.passes h.can
       (bytes ∙ ap (λ i. mid.bytes ++ piece_in i w (shown_short made)) (sym outside) ∙ ap (λ e. mid.bytes ++ piece w e) same)
       (writing ∙ ap (λ i. moved_in i w (shown_short made)) (sym outside) ∙ ap (moved w) same)

@@ -35,7 +35,7 @@ use Rattle.cmark_text.specs.declared.event.Event.{Event}
 use Rattle.cmark_text.specs.declared.short.Next.{Next}
 use Rattle.cmark_text.specs.declared.short.Next.TheVariants as next
 use Rattle.cmark_text.specs.declared.short.Short.{Short}
-use Rattle.cmark_text.specs.Short.{IsShortZeroCopy, shown_short}
+use Rattle.cmark_text.specs.Short.{IsShortZeroCopy, ranged_short}
 use Rattle.cmark_text.specs.Shown.{shown}
 use Rattle.cmark_text.specs.ZeroCopy.{IsZeroCopy}
 use Rattle.cmark_text_parts.specs.declared.text.CowStr.{CowStr}
@@ -76,8 +76,8 @@ CutNone text (item ∷ items) = IsRange text item.1.start item.1.end × CutNone 
 
 -- nothing is given behind such an answer
 abbrev pub is_last : Result Coming AllocError → Bool
-is_last (Ok (coming.Span short)) = false
-is_last (Ok (coming.Block short)) = false
+is_last (Ok (coming.Span short start end)) = false
+is_last (Ok (coming.Block short start end)) = false
 is_last (Ok coming.Long) = false
 is_last (Ok coming.Over) = true
 is_last (Err e) = true
@@ -241,10 +241,10 @@ module _ {E F : Type 0} (Says : F → BrokenLink → Option (CowStr × CowStr) �
     pub asks : Asks Says old taken new
     pub back : (rest : List Exchange) (events : List Ranged) → Remains replacement new rest events → Remains replacement old (taken ++ rest) (front ++ events)
 
-  -- the event that such an answer stands for, with some range, is the first of what was left
-  pub record GivesShort (old : Parser E F) (short : Short) (new : Parser E F) : Type 0 where
+  -- the event that such an answer stands for, with this range, is the first of what was left
+  pub record GivesShort (old : Parser E F) (short : Short) (start end : ℕ) (new : Parser E F) : Type 0 where
     pub given : Ranged
-    pub is : given.event ≡ shown_short short
+    pub is : given ≡ ranged_short short start end
     pub range : IsRange (text_of old) given.start given.end
     pub lent : IsShortZeroCopy (text_of old) short given.start given.end
     pub passes : Passes (given ∷ []) old new
@@ -264,7 +264,7 @@ module _ {E F : Type 0} (Says : F → BrokenLink → Option (CowStr × CowStr) �
 
   -- an event that owns nothing is the first of what was left; where it is of another kind, it was not given yet; or nothing was left
   abbrev pub Answers : Parser E F → Next → Parser E F → Type 0
-  Answers old (next.Short short) new = GivesShort old short new
+  Answers old (next.Short short start end) new = GivesShort old short start end new
   Answers old next.Long new = KeepsLeft old new
   Answers old next.Over new = Ends old new
 

@@ -162,8 +162,8 @@ fn write_all<'a, E: EntityLookup, F: BrokenLinkCallback<'a> + Drop, T: Filter>(
     loop {
         match parser.next_short()? {
             // The two calls are inlined, each for what comes there: a span is followed by other events than a block.
-            Coming::Span(short) => write_short(out, writer, filter.short_of(short))?,
-            Coming::Block(short) => write_short(out, writer, filter.short_of(short))?,
+            Coming::Span(short, _, _) => write_short(out, writer, filter.short_of(short))?,
+            Coming::Block(short, _, _) => write_short(out, writer, filter.short_of(short))?,
             Coming::Long => {
                 let is_given = write_long(out, writer, parser, filter)?;
                 if !is_given {

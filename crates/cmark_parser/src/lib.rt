@@ -6,6 +6,7 @@ mod html;
 mod parse;
 mod rest;
 
+pub use cmark_span_walk::Coming;
 pub use html::{to_html, to_html_within, to_safe_html, write_rest};
 pub use parse::{OffsetIter, Parser};
 pub use rest::parse_rest;

@@ -252,7 +252,7 @@ fn is_last(given: &Result<Coming<'_>, AllocError>) -> bool
     ensures { result ≡ is_last given.now }
 {
     match given {
-        Ok(Coming::Span(_) | Coming::Block(_) | Coming::Long) => false,
+        Ok(Coming::Span(_, _, _) | Coming::Block(_, _, _) | Coming::Long) => false,
         Ok(Coming::Over) | Err(_) => true,
     }
 }
@@ -291,7 +291,7 @@ pub struct OffsetIter<'input, E, F = DefaultBrokenLinkCallback> {
 }
 
 impl<'input, E: EntityLookup, F: BrokenLinkCallback<'input> + Drop> OffsetIter<'input, E, F> {
-    ghost use Rattle.cmark_parser.specs.Parsing.{CanGoRanged, callback_of, ranged_definitions, ranged_steps, ranged_text, walk_of};
+    ghost use Rattle.cmark_parser.specs.Parsing.{CanGoRanged, GivesOrErr, GivesStep, IsRangedReady, callback_of, ranged_definitions, ranged_steps, ranged_text, walk_of};
 
     /// The link reference definitions of the text, as those of the parser.
     pub fn reference_definitions(&self) -> &RefDefs<'input>
@@ -305,6 +305,29 @@ impl<'input, E: EntityLookup, F: BrokenLinkCallback<'input> + Drop> OffsetIter<'
         ensures { option_copied result ≡ callback_of (walk_of self.now) }
     {
         self.parser.callback()
+    }
+
+    /// Like `next`, but builds no event: an event that owns nothing is given, and an event of another kind is left as the next one. If memory
+    /// is refused, nothing is given any more.
+    #[inline(always)]
+    pub fn next_short(&mut self) -> Result<Coming<'input>, AllocError>
+        requires goes { CanGoRanged E.replacement self.old }
+        requires ready { IsRangedReady F.ready self.old }
+        ensures gives { GivesOrErr F.answers E.replacement (walk_of self.old) result (walk_of self.new) }
+        ensures ready { IsRangedReady F.ready self.new }
+    {
+        self.parser.next_short()
+    }
+
+    /// Like `next`, but the event and its range are one value.
+    #[inline(always)]
+    pub fn next_ranged(&mut self) -> Option<Result<Ranged<'input>, AllocError>>
+        requires goes { CanGoRanged E.replacement self.old }
+        requires ready { IsRangedReady F.ready self.old }
+        ensures gives { GivesStep F.answers E.replacement (walk_of self.old) result (walk_of self.new) }
+        ensures ready { IsRangedReady F.ready self.new }
+    {
+        self.parser.advance()
     }
 
     /// What the searches of the spans have taken so far, as that of the parser.

@@ -60,8 +60,8 @@ one-line (s ∷ (t ∷ ss)) line e = absurd (let q : line_of s ∷ (line_of t �
     line_of s = record { start = s.start; content_end = s.end; line_end = s.end }
 
 -- the range of a line
-pub plain-range : (source : List ℕ) (lines : List LeafLine) (text : List ℕ) → (only : IsOnlyLine source lines text) → IsRange source only.line.start only.line.content_end
-plain-range source lines text only =
+pub plain-range : (source : List ℕ) (lines : List LeafLine) (text : List ℕ) (start end : ℕ) → (only : IsOnlyLine source lines text start end) → IsRange source only.line.start only.line.content_end
+plain-range source lines text start end only =
     let some = only.part.some in
     record { ordered = (let q : only.line.start ≤ only.line.content_end = omega (arith, some) in q); within = only.part.within; starts = only.part.starts; ends = only.part.ends }
 
@@ -293,10 +293,10 @@ module _ {E F : Type 0} (Says : F → BrokenLink → Option (CowStr × CowStr) �
               (behind-leaf leaf others r is taken rest (events_to_come new.leaf new.events) m.later between leaf-read refl (remains-left replacement reader new read rest events m))
 
       -- a leaf that is one plain text
-      pub plain-passes : (budget : ℕ) (leaf : Leaf) (others : List Segment) (text : List ℕ) (r : IsReadBy replacement reader mid) → r.left ≡ Content leaf ∷ others → walking.Remains walk others → budget ≡ mid.budget - 1
-          → (only : IsOnlyLine (source_of mid) lines.items text) → lines.items ≡ lines_of leaf.stretches → StandUpTo reader.options reader.lookup leaf.is_cell text 0 (length text)
+      pub plain-passes : (budget : ℕ) (leaf : Leaf) (others : List Segment) (text : List ℕ) (start end : ℕ) (r : IsReadBy replacement reader mid) → r.left ≡ Content leaf ∷ others → walking.Remains walk others → budget ≡ mid.budget - 1
+          → (only : IsOnlyLine (source_of mid) lines.items text start end) → lines.items ≡ lines_of leaf.stretches → StandUpTo reader.options reader.lookup leaf.is_cell text 0 (length text)
           → Passes Says replacement reader (record { event = Text text; start = only.line.start; end = only.line.content_end } ∷ []) mid (met-by mid walk lines out same-text budget)
-      plain-passes budget leaf others text r is remains less only are plain = record { taken = []; answered = refl; read_by = read; back = back }
+      plain-passes budget leaf others text start end r is remains less only are plain = record { taken = []; answered = refl; read_by = read; back = back }
         where
           new : SpanWalk E F
           new = met-by mid walk lines out same-text budget

@@ -41,8 +41,8 @@ none-of (Some x) e = absurd (let q : true ≡ false = e in cc)
 none-of None e = refl
 
 -- what holds where something comes next
-pub before-over : (P : Next → Type 0) (n : Next) → (n ≡ next.Over → ⊥) → ((short : Short) → n ≡ next.Short short → P (next.Short short)) → (n ≡ next.Long → P next.Long) → P n
-before-over P (next.Short short) some s l = s short refl
+pub before-over : (P : Next → Type 0) (n : Next) → (n ≡ next.Over → ⊥) → ((short : Short) (start end : ℕ) → n ≡ next.Short short start end → P (next.Short short start end)) → (n ≡ next.Long → P next.Long) → P n
+before-over P (next.Short short start end) some s l = s short start end refl
 before-over P next.Long some s l = l refl
 before-over P next.Over some s l = absurd (some refl)
 

@@ -40,7 +40,7 @@ use Rattle.cmark_leaf_text.specs.Reads as reads
 use Rattle.cmark_leaf_text.specs.Reads.{IsPart, IsRead, text_of}
 use Rattle.cmark_leaf_text.specs.declared.stretch.LeafLine.{LeafLine}
 use Rattle.cmark_text.specs.Ranged.{shown_ranged}
-use Rattle.cmark_text.specs.Short.{IsShortZeroCopy, shown_short}
+use Rattle.cmark_text.specs.Short.{IsShortZeroCopy, ranged_short}
 use Rattle.cmark_text_parts.specs.Shown.{shown_options}
 use Rattle.cmark_text.specs.declared.ranged.Ranged.{Ranged as Given}
 use Rattle.cmark_text.specs.declared.short.Next.{Next}
@@ -59,9 +59,11 @@ use Rattle.cmark_span_walk.specs.declared.span_walk.SpanWalk.{SpanWalk}
 abbrev pub HasRange : (source : List ℕ) → Ranged → Type 0
 HasRange source r = IsRange source r.start r.end
 
--- there is one line alone, and this text, which is not empty and cuts no character, is what stands in it
-pub record IsOnlyLine (source : List ℕ) (lines : List LeafLine) (text : List ℕ) : Type 0 where
+-- there is one line alone, with this range, and this text, which is not empty and cuts no character, is what stands in it
+pub record IsOnlyLine (source : List ℕ) (lines : List LeafLine) (text : List ℕ) (start end : ℕ) : Type 0 where
   pub line : LeafLine
+  pub start_is : start ≡ line.start
+  pub end_is : end ≡ line.content_end
   pub alone : lines ≡ line ∷ []
   pub part : IsPart source line.start line.content_end
   pub is : text ≡ slice source line.start line.content_end
@@ -178,13 +180,13 @@ module _ {E F : Type 0} where
 
   -- fewer are left behind an event that was given, and no more where none was
   abbrev pub LeavesFewer : SpanWalk E F → Next → SpanWalk E F → Type 0
-  LeavesFewer old (next.Short short) new = events_left new < events_left old
+  LeavesFewer old (next.Short short start end) new = events_left new < events_left old
   LeavesFewer old next.Long new = events_left new ≤ events_left old
   LeavesFewer old next.Over new = Unit {0}
 
   -- where nothing is left in a leaf, the walk then stands in none
   abbrev pub LeavesLeaf : Next → SpanWalk E F → Type 0
-  LeavesLeaf (next.Short short) new = Unit {0}
+  LeavesLeaf (next.Short short start end) new = Unit {0}
   LeavesLeaf next.Long new = Unit {0}
   LeavesLeaf next.Over new = new.in_leaf ≡ false
 
@@ -239,7 +241,7 @@ module _ {E F : Type 0} (replacement : E → Lookup) (reader : Reader) where
 
   -- so it is where a leaf has no more events
   abbrev pub KeepsBehindLeaf : SpanWalk E F → Next → SpanWalk E F → Type 0
-  KeepsBehindLeaf old (next.Short short) new = Unit {0}
+  KeepsBehindLeaf old (next.Short short start end) new = Unit {0}
   KeepsBehindLeaf old next.Long new = Unit {0}
   KeepsBehindLeaf old next.Over new = KeepsLeft old new
 
@@ -247,8 +249,8 @@ module _ {E F : Type 0} (replacement : E → Lookup) (reader : Reader) where
 
 -- what comes, whether it is of the spans or of the blocks
 abbrev pub as_next : Coming → Next
-as_next (coming.Span short) = next.Short short
-as_next (coming.Block short) = next.Short short
+as_next (coming.Span short start end) = next.Short short start end
+as_next (coming.Block short start end) = next.Short short start end
 as_next coming.Long = next.Long
 as_next coming.Over = next.Over
 
@@ -282,10 +284,10 @@ module _ {E F : Type 0} (Says : F → BrokenLink → Option (CowStr × CowStr) �
   Gives old None new = Ends old new
   Gives old (Some given) new = HasRange (source_of old) (shown_ranged given) × Passes (shown_ranged given ∷ []) old new
 
-  -- the event that such an answer stands for, with some range, is the first of those that are left
-  pub record GivesShort (old : SpanWalk E F) (short : Short) (new : SpanWalk E F) : Type 0 where
+  -- the event that such an answer stands for, with this range, is the first of those that are left
+  pub record GivesShort (old : SpanWalk E F) (short : Short) (start end : ℕ) (new : SpanWalk E F) : Type 0 where
     pub given : Ranged
-    pub is : given.event ≡ shown_short short
+    pub is : given ≡ ranged_short short start end
     pub range : HasRange (source_of old) given
     pub lent : IsShortZeroCopy (source_of old) short given.start given.end
     pub passes : Passes (given ∷ []) old new
@@ -299,13 +301,13 @@ module _ {E F : Type 0} (Says : F → BrokenLink → Option (CowStr × CowStr) �
 
   -- an event that owns nothing is the first of those that are left; where it is of another kind, it was not given yet; or nothing was left
   abbrev pub GivesNext : SpanWalk E F → Next → SpanWalk E F → Type 0
-  GivesNext old (next.Short short) new = GivesShort old short new
+  GivesNext old (next.Short short start end) new = GivesShort old short start end new
   GivesNext old next.Long new = Passes [] old new
   GivesNext old next.Over new = Ends old new
 
   -- the same in a leaf
   abbrev pub GivesInLeaf : SpanWalk E F → Next → SpanWalk E F → Type 0
-  GivesInLeaf old (next.Short short) new = GivesShort old short new
+  GivesInLeaf old (next.Short short start end) new = GivesShort old short start end new
   GivesInLeaf old next.Long new = Passes [] old new
   GivesInLeaf old next.Over new = Passes [] old new
 

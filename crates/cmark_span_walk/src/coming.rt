@@ -6,10 +6,10 @@ use cmark_text::Short;
 /// each goes on faster: other elements begin and end there.
 #[derive(Clone, Copy)]
 pub enum Coming<'a> {
-    /// An event of a leaf's spans that owns nothing.
-    Span(Short<'a>),
-    /// An event of the blocks that owns nothing.
-    Block(Short<'a>),
+    /// An event of a leaf's spans that owns nothing, and its range in byte offsets of the text.
+    Span(Short<'a>, usize, usize),
+    /// An event of the blocks that owns nothing, and its range.
+    Block(Short<'a>, usize, usize),
     /// An event of another kind, which has not been given yet.
     Long,
     /// Nothing: the document is over.

@@ -187,7 +187,7 @@ impl<'input, 'e, E: EntityLookup, F: BrokenLinkCallback<'input> + Drop> SpanWalk
                 return Err(AllocError);
             };
             match span {
-                Next::Short(short) => return Ok(Coming::Span(short)),
+                Next::Short(short, start, end) => return Ok(Coming::Span(short, start, end)),
                 Next::Long => return Ok(Coming::Long),
                 Next::Over => {}
             }
@@ -195,14 +195,14 @@ impl<'input, 'e, E: EntityLookup, F: BrokenLinkCallback<'input> + Drop> SpanWalk
                 return Err(AllocError);
             };
             match met {
-                Brief::Short(short) => {
+                Brief::Short(short, start, end) => {
                     self.budget -= 1;
-                    return Ok(Coming::Block(short));
+                    return Ok(Coming::Block(short, start, end));
                 }
                 Brief::Leaf { is_cell } => {
                     self.budget -= 1;
-                    if let Some(text) = self.plain_text() {
-                        return Ok(Coming::Span(Short::Text(text)));
+                    if let Some((text, start, end)) = self.plain_text() {
+                        return Ok(Coming::Span(Short::Text(text), start, end));
                     }
                     self.enter_leaf(is_cell)?;
                 }
@@ -307,14 +307,14 @@ impl<'input, 'e, E: EntityLookup, F: BrokenLinkCallback<'input> + Drop> SpanWalk
         Ok(given)
     }
 
-    // The text of the leaf whose lines were met, if that is one short line in which no byte may begin a span, as that of most cells of
-    // tables: its one event is a part of the source.
+    // The text of the leaf whose lines were met, with its range in the source, if that is one short line in which no byte may begin a span, as
+    // that of most cells of tables: its one event is a part of the source.
     #[inline(always)]
-    fn plain_text(&self) -> Option<Excerpt<'input>>
+    fn plain_text(&self) -> Option<(Excerpt<'input>, usize, usize)>
         requires { AreLines (source_of self.now) 0 self.now.lines.items }
-        ensures line { IfSome result (λ text. IsOnlyLine (source_of self.now) self.now.lines.items (excerpt_bytes text)) }
-        ensures plain { IfSome result (λ text. (options : Extensions) (lookup : Lookup) (is_cell : Bool) → IsSetOf options self.now.special
-            → StandUpTo options lookup is_cell (excerpt_bytes text) 0 (length (excerpt_bytes text))) }
+        ensures line { IfSome result (λ found. IsOnlyLine (source_of self.now) self.now.lines.items (excerpt_bytes found.0) found.1 found.2) }
+        ensures plain { IfSome result (λ found. (options : Extensions) (lookup : Lookup) (is_cell : Bool) → IsSetOf options self.now.special
+            → StandUpTo options lookup is_cell (excerpt_bytes found.0) 0 (length (excerpt_bytes found.0))) }
     {
         let [line] = self.lines.as_slice() else {
             return None;
@@ -327,7 +327,8 @@ impl<'input, 'e, E: EntityLookup, F: BrokenLinkCallback<'input> + Drop> SpanWalk
         if self.special.next(text.as_bytes(), ahead.as_bytes(), 0) < text.len() {
             return None;
         }
-        Some(Excerpt::new(ahead, line.content_end - line.start))
+        let excerpt = Excerpt::new(ahead, line.content_end - line.start);
+        Some((excerpt, line.start, line.content_end))
     }
 
     // Into the leaf whose lines were met, perhaps the cell of a table.

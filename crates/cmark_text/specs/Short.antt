@@ -59,6 +59,10 @@ shown_short short.SoftBreak = event.SoftBreak
 shown_short short.HardBreak = event.HardBreak
 shown_short short.Rule = event.Rule
 
+-- an event that owns nothing, with this range
+abbrev pub ranged_short : Short → (start end : ℕ) → event.Ranged
+ranged_short short start end = record { event = shown_short short; start = start; end = end }
+
 -- the zero-copy law of an event that owns nothing and has this range: all its texts are borrowed
 abbrev pub IsShortZeroCopy : (source : List ℕ) → Short → (start end : ℕ) → Type 0
 IsShortZeroCopy source (short.Text text) start end = excerpt_bytes text ≡ slice source start end

@@ -171,8 +171,8 @@ impl<'a> Short<'a> {
 /// The next step of a walk that builds no `Event`.
 #[derive(Clone, Copy, Debug)]
 pub enum Next<'a> {
-    /// An event that owns nothing.
-    Short(Short<'a>),
+    /// An event that owns nothing, and its range in byte offsets of the text.
+    Short(Short<'a>, usize, usize),
     /// An event of another kind, which has not been given yet.
     Long,
     /// The end of the text: no event is left.

@@ -20,38 +20,34 @@ use Rattle.cmark_walk.specs.declared.reading.Brief.TheVariants as brief
 use Rattle.cmark_walk.specs.declared.reading.Stage.TheVariants as stage
 use Rattle.cmark_walk.specs.declared.reading.Met.{Met}
 use Rattle.cmark_walk.specs.declared.walk.Walk.{Walk}
-use Rattle.cmark_walk.specs.Walking.{Gives, GivesBrief, GivesOver, GivesRanged, GivesShort, Goes, IsFirst, Remains, definitions_of, text_of}
+use Rattle.cmark_walk.specs.Walking.{Gives, GivesBrief, GivesRanged, GivesShort, Goes, IsFirst, Remains, definitions_of, text_of}
 use Rattle.cmark_walk.proofs.WalkSteps.{IsFocusAt, IsItem, Lasts, Leaf-at, Reads-at, enters-around-as, enters-leaf-as, gives-met, moved, passes-alone-as, staged}
 
 module _ (walk : Walk) (item : Item) (ix : TreeIndex) (t : Tree Item) (at : IsFocusAt walk ix) (is : IsItem walk.tree ix item) (before : walk.stage ≡ stage.Before) where
-  pub enters-leaf-short : (tag : PlainTag) → Reads-at walk item (reads.Around (shown_plain tag)) → Leaf-at walk item true → GivesOver walk (short.Start tag) item.start item.end (staged walk stage.Lines)
+  pub enters-leaf-short : (tag : PlainTag) → Reads-at walk item (reads.Around (shown_plain tag)) → Leaf-at walk item true → GivesShort walk (short.Start tag) item.start item.end (staged walk stage.Lines)
   enters-leaf-short tag read leaf = record { gives = enters-leaf-as walk item ix t at is before (shown_plain tag) read leaf; lent = tt }
 
   pub enters-around-short : (tag : PlainTag) → Reads-at walk item (reads.Around (shown_plain tag)) → Leaf-at walk item false → ((z : Zip Item) → Holds walk.tree z → HasFocus z → Holds t (pushed z))
-      → GivesOver walk (short.Start tag) item.start item.end (moved walk t)
+      → GivesShort walk (short.Start tag) item.start item.end (moved walk t)
   enters-around-short tag read leaf push = record { gives = enters-around-as walk item ix t at is before (shown_plain tag) read leaf push; lent = tt }
 
   pub passes-short : (s : Short) → Reads-at walk item (reads.Alone (shown_short s)) → ((z : Zip Item) (s : Sibling z ix.ix) → Holds walk.tree z → Holds t (past z ix.ix s))
-      → IsShortZeroCopy (text_of walk) s item.start item.end → GivesOver walk s item.start item.end (moved walk t)
+      → IsShortZeroCopy (text_of walk) s item.start item.end → GivesShort walk s item.start item.end (moved walk t)
   passes-short s read next lent = record { gives = passes-alone-as walk item ix t at is before (shown_short s) read next; lent = lent }
 
 -- the walk continues
-pub goes-short : (old new : Walk) (s : Short) (start end : ℕ) → GivesOver old s start end new → Goes old → Goes new
+pub goes-short : (old new : Walk) (s : Short) (start end : ℕ) → GivesShort old s start end new → Goes old → Goes new
 goes-short old new s start end g goes = let first = g.gives goes.0 goes.1 in (first.0, first.2)
 
--- whatever the range is
-pub some-range : (old new : Walk) (s : Short) (start end : ℕ) → GivesOver old s start end new → GivesShort old s new
-some-range old new s start end g = record { given = record { event = shown_short s; start = start; end = end }; is = refl; gives = g.gives; lent = g.lent }
-
 -- the event of this result is given
-pub gives-made : (old new : Walk) (s : Short) (start end : ℕ) (e : Event) (met : Met) (lines : List LeafLine) → GivesOver old s start end new → shown e ≡ shown_short s → GivesRanged e start end met
+pub gives-made : (old new : Walk) (s : Short) (start end : ℕ) (e : Event) (met : Met) (lines : List LeafLine) → GivesShort old s start end new → shown e ≡ shown_short s → GivesRanged e start end met
     → (left : List Segment) → Remains old left → Gives left met lines new
 gives-made old new s start end e met lines g is ranged left r =
     gives-met e start end met lines left new ranged (subst (λ (x : event.Event). IsFirst left (record { event = x; start = start; end = end }) new) (sym is) (g.gives left r))
 
 -- the result of a step after steps without an event is the result from before these
 pub after-lasting : (old walk new : Walk) (b : Brief) (lines : List LeafLine) → Lasts old walk → GivesBrief walk b lines new → GivesBrief old b lines new
-after-lasting old walk new (brief.Short s) lines l g = record { given = g.given; is = g.is; gives = λ left r. g.gives left (l.remains left r); lent = subst (λ text. IsShortZeroCopy text s g.given.start g.given.end) l.text g.lent }
+after-lasting old walk new (brief.Short s start end) lines l g = record { gives = λ left r. g.gives left (l.remains left r); lent = subst (λ text. IsShortZeroCopy text s start end) l.text g.lent }
 after-lasting old walk new (brief.Leaf is_cell) lines l g = λ left r. g left (l.remains left r)
 after-lasting old walk new brief.Long lines l g = λ left r. g left (l.remains left r)
 after-lasting old walk new brief.Over lines l g = λ left r. g left (l.remains left r)

@@ -5,7 +5,7 @@ use Rattle.cmark_text_parts.specs.declared.text.CowStr.{CowStr}
 use Rattle.cmark_text.specs.declared.event.Event.{Event as TextEvent}
 use Rattle.cmark_text.specs.declared.short.Short.{Short}
 use Rattle.cmark_text.specs.Ranged.{IsRangedZeroCopy, shown_ranged}
-use Rattle.cmark_text.specs.Short.{IsShortZeroCopy, shown_plain, shown_short}
+use Rattle.cmark_text.specs.Short.{IsShortZeroCopy, ranged_short, shown_plain, shown_short}
 use Rattle.cmark_text.specs.Shown.{shown}
 use Rattle.cmark_tree.specs.Forest as forest
 use Rattle.cmark_tree.specs.Forest.{Forest}
@@ -286,16 +286,14 @@ MeetsZeroCopy text met.Over = Unit {0}
 abbrev pub IsFirst : List Segment → event.Ranged → Walk → Type 0
 IsFirst left given walk = (others : List Segment) × (left ≡ Given given ∷ others) × Remains walk others
 
--- the event of this result, with some range, is the first of those left, and the others remain
-pub record GivesShort (old : Walk) (short : Short) (new : Walk) : Type 0 where
-  pub given : event.Ranged
-  pub is : given.event ≡ shown_short short
-  pub gives : (left : List Segment) → Remains old left → IsFirst left given new
-  pub lent : IsShortZeroCopy (text_of old) short given.start given.end
+-- the event of this result, with this range, is the first of those left, and the others remain
+pub record GivesShort (old : Walk) (short : Short) (start end : ℕ) (new : Walk) : Type 0 where
+  pub gives : (left : List Segment) → Remains old left → IsFirst left (ranged_short short start end) new
+  pub lent : IsShortZeroCopy (text_of old) short start end
 
 -- a call gives the first of those left, and the others remain; if that is an event of another kind, it is left too
 abbrev pub GivesBrief : Walk → Brief → List LeafLine → Walk → Type 0
-GivesBrief old (brief.Short short) lines new = GivesShort old short new
+GivesBrief old (brief.Short short start end) lines new = GivesShort old short start end new
 GivesBrief old (brief.Leaf is_cell) lines new = (left : List Segment) → Remains old left → Gives left (met.Leaf is_cell) lines new
 GivesBrief old brief.Long lines new = (left : List Segment) → Remains old left → Remains new left
 GivesBrief old brief.Over lines new = (left : List Segment) → Remains old left → Gives left met.Over lines new
@@ -350,15 +348,10 @@ pub record IsLongAt (walk : Walk) (ix : TreeIndex) : Type 0 where
   pub at : IsAt walk ix
   pub long : IsLongFrom walk.stage walk ix
 
--- that event with this range is the first of those left, and the others remain
-pub record GivesOver (old : Walk) (short : Short) (start end : ℕ) (new : Walk) : Type 0 where
-  pub gives : (left : List Segment) → Remains old left → IsFirst left (record { event = shown_short short; start = start; end = end }) new
-  pub lent : IsShortZeroCopy (text_of old) short start end
-
 -- the result of a step, which may give nothing. Else it is the first of those left, and the others remain; an event of another kind is then
 -- the next one, at the focus
 abbrev pub GivesShortStep : Walk → BriefStep → List LeafLine → Walk → Type 0
-GivesShortStep old (brief_step.Short short start end) lines new = GivesOver old short start end new
+GivesShortStep old (brief_step.Short short start end) lines new = GivesShort old short start end new
 GivesShortStep old (brief_step.Leaf is_cell) lines new = GivesBrief old (brief.Leaf is_cell) lines new
 GivesShortStep old (brief_step.Long ix) lines new = GivesBrief old brief.Long lines new × IsLongAt new ix
 GivesShortStep old brief_step.Silent lines new = (left : List Segment) → Remains old left → Remains new left

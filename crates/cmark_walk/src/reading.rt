@@ -20,8 +20,8 @@ pub enum Met<'a> {
 /// The next item of a walk, without building an `Event`.
 #[derive(Clone, Copy)]
 pub enum Brief<'a> {
-    /// An event that owns nothing.
-    Short(Short<'a>),
+    /// An event that owns nothing, and its range in byte offsets of the text.
+    Short(Short<'a>, usize, usize),
     /// The content of a leaf, whose lines are passed separately.
     Leaf {
         /// Whether it is a table cell.

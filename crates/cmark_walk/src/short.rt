@@ -41,7 +41,9 @@ impl<'a> Walk<'a> {
                 return Err(AllocError);
             };
             match step {
-                BriefStep::Short(short, _, _) => return Ok(Brief::Short(short)),
+                BriefStep::Short(short, start, end) => {
+                    return Ok(Brief::Short(short, start, end));
+                }
                 BriefStep::Leaf { is_cell } => return Ok(Brief::Leaf { is_cell }),
                 BriefStep::Long(_) => return Ok(Brief::Long),
                 BriefStep::Silent => {}

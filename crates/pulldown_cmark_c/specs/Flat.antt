@@ -1,20 +1,18 @@
 -- The outputs of the calls for flat records.
-use Rattle.std.specs.Prelude.{◌≡◌, ◌≤◌, ◌≢◌, ℕ, false, List, [], map, Option, Some, None, Ok}
-use Rattle.std.specs.Iterator.{YieldsThen}
-use Rattle.std.specs.declared.ops.Range.{Range}
+use Rattle.std.specs.Prelude.{◌≡◌, ◌≤◌, ◌≢◌, ℕ, false, List, [], Option, Some, None}
 use Rattle.cmark_flat.specs.Flat.{flat}
 use Rattle.cmark_flat.specs.Render.{rendered}
 use Rattle.cmark_grammar.specs.Answers.{Lookup}
 use Rattle.cmark_grammar.specs.Event.{Ranged}
 use Rattle.cmark_grammar.specs.Headline.{profile}
 use Rattle.cmark_grammar.specs.Options.{Options}
+use Rattle.cmark_grammar.specs.Questions.{Exchange}
 use Rattle.cmark_grammar.specs.SpanDocuments.{IsReading}
 use Rattle.cmark_inline.specs.declared.callback.BrokenLink.{BrokenLink}
 use Rattle.cmark_inline.specs.declared.callback.DefaultBrokenLinkCallback.{DefaultBrokenLinkCallback}
 use Rattle.cmark_parser.specs.declared.parse.OffsetIter.{OffsetIter}
-use Rattle.cmark_parser.specs.Parsing.{GivesRanged, shown_item}
+use Rattle.cmark_parser.specs.Parsing.{AsksRanged, RemainsRanged}
 use Rattle.cmark_room.specs.Statuses.{IsTooLong, Refused, Wrote}
-use Rattle.cmark_text.specs.declared.event.Event.{Event}
 use Rattle.cmark_text_parts.specs.declared.text.CowStr.{CowStr}
 
 -- the output is the flat records of the reading of the text, without a callback
@@ -27,11 +25,13 @@ pub record AreFlatOf (text : List ℕ) (options : Options) (lookup : Lookup) (ou
 abbrev pub says-nothing : DefaultBrokenLinkCallback → BrokenLink → Option (CowStr × CowStr) → DefaultBrokenLinkCallback → Type 0
 says-nothing before link answer after = answer ≡ None
 
--- a walk without a callback gave all items that were left, and the output is their flat records
+-- a walk without a callback gave all events that were left, and the output is their flat records
 pub record AreFlatOfRest {E : Type 0} (replacement : E → Lookup) (old new : OffsetIter E DefaultBrokenLinkCallback) (output : List ℕ) : Type 0 where
-  pub items : List (Event × Range ℕ)
-  pub yields : YieldsThen (GivesRanged says-nothing replacement) old (map Ok items) None new
-  pub output_is : output ≡ flat (map shown_item items)
+  pub exchanges : List Exchange
+  pub events : List Ranged
+  pub left : RemainsRanged replacement old exchanges events
+  pub asks : AsksRanged says-nothing old exchanges new
+  pub output_is : output ≡ flat events
 
 -- the status, room and size after a call with these bytes; the output is the HTML of the events that they stand for
 pub record RenderAnswers (records old new : List ℕ) (size status : ℕ) : Type 0 where

@@ -9,8 +9,8 @@ ghost use Rattle.pulldown_cmark_c.specs.Calls.{options_of};
 ghost use Rattle.pulldown_cmark_c.specs.Flat.{AreFlatOf, AreFlatOfRest, RenderAnswers};
 
 use bitflags::Flags;
-use cmark_flat::{DecodeError, append_given, render};
-use cmark_parser::{OffsetIter, Parser};
+use cmark_flat::{DecodeError, append_given, append_short, render};
+use cmark_parser::{Coming, OffsetIter, Parser};
 use cmark_room::{NO_MEMORY, NOT_UTF8, hand_over};
 use cmark_text_parts::{BasicEntities, EntityLookup, Options};
 use std::alloc::{AllocError, Global};
@@ -84,9 +84,19 @@ fn flat_of_rest<'a, E: EntityLookup>(
     ensures { IfOk result (λ output. AreFlatOfRest E.replacement iter.old iter.new output.items) }
 {
     let mut output = Vec::new(alloc);
-    while let Some(item) = iter.next() {
-        let (event, range) = item?;
-        append_given(&mut output, event, range)?;
+    loop {
+        match iter.next_short()? {
+            Coming::Span(short, start, end) | Coming::Block(short, start, end) => {
+                append_short(&mut output, short, start, end)?
+            }
+            Coming::Over => return Ok(output),
+            Coming::Long => {
+                let Some(item) = iter.next_ranged() else {
+                    return Ok(output);
+                };
+                let given = item?;
+                append_given(&mut output, given.event, given.range)?;
+            }
+        }
     }
-    Ok(output)
 }

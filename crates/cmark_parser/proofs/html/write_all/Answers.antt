@@ -29,7 +29,7 @@ loop-short-preserved-in-Continue-branch-3 g c =
     let new = written (writing c.write_short.new.writer) (string_bytes c.write_short.new.out) in
     let e = c.in_ok-write_short-in-Span.ensures in
     let h = subst (λ n. GivesAs Says replacement parser (as_next n) behind) c.in-Span.is c.in_ok-short.ensures.gives in (
-      joined Says replacement filtered c.args.parser.now parser behind old mid new c.loop-short.invariant.0 (short-written Says replacement filtered parser behind short made mid new h c.short_of.ensures c.loop-short.invariant.1 e.ok e.state),
+      joined Says replacement filtered c.args.parser.now parser behind old mid new c.loop-short.invariant.0 (short-written Says replacement filtered parser behind short made _ _ mid new h c.short_of.ensures c.loop-short.invariant.1 e.ok e.state),
       none-open mid.writing new.writing made e.state,
       c.in_ok-short.ensures.ready,
     )
@@ -48,7 +48,7 @@ loop-short-preserved-in-Continue-branch-4 g c =
     let new = written (writing c.write_short-in-Block.new.writer) (string_bytes c.write_short-in-Block.new.out) in
     let e = c.in_ok-write_short-in-Block.ensures in
     let h = subst (λ n. GivesAs Says replacement parser (as_next n) behind) c.in-Block.is c.in_ok-short.ensures.gives in (
-      joined Says replacement filtered c.args.parser.now parser behind old mid new c.loop-short.invariant.0 (short-written Says replacement filtered parser behind short made mid new h c.short_of-in-Block.ensures c.loop-short.invariant.1 e.ok e.state),
+      joined Says replacement filtered c.args.parser.now parser behind old mid new c.loop-short.invariant.0 (short-written Says replacement filtered parser behind short made _ _ mid new h c.short_of-in-Block.ensures c.loop-short.invariant.1 e.ok e.state),
       none-open mid.writing new.writing made e.state,
       c.in_ok-short.ensures.ready,
     )

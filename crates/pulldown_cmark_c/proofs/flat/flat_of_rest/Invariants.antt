@@ -1,13 +1,11 @@
 use Rattle.std.specs.Prelude.{⊤}
-use Rattle.std.proofs.Common.{◌≡◌, ℕ, List, map, Ok}
-use Rattle.std.specs.declared.ops.Range.{Range}
-use Rattle.cmark_flat.specs.Flat.{flat}
-use Rattle.cmark_parser.specs.Parsing.{CanGo, IsReady, shown_item}
-use Rattle.cmark_text.specs.declared.event.Event.{Event}
+use Rattle.cmark_parser.specs.Parsing.{IsReady, events_left}
+use Rattle.pulldown_cmark_c.specs.Flat.{says-nothing}
+use Rattle.pulldown_cmark_c.proofs.FlatSteps.{WritesFlat}
 use Rattle.pulldown_cmark_c.proofs.flat.flat_of_rest.Given as goal
 
-abbrev pub invariant-loop-item : goal.invariant-loop-item
-invariant-loop-item g l = record {
-  can : CanGo g.E.EntityLookup.replacement l.iter.parser × IsReady (λ _. ⊤) l.iter.parser;
-  so_far : (items : List (Event × Range ℕ)) × (l.yielded ≡ map Ok items) × (l.output.items ≡ flat (map shown_item items));
-}
+abbrev pub invariant-loop-output : goal.invariant-loop-output
+invariant-loop-output g l = WritesFlat says-nothing g.E.EntityLookup.replacement l.initial.iter.parser l.iter.parser l.output.items × IsReady (λ _. ⊤) l.iter.parser
+
+abbrev pub decreases-loop-output : goal.decreases-loop-output
+decreases-loop-output g l = events_left l.iter.parser

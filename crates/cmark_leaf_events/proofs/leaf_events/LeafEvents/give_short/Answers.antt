@@ -43,7 +43,7 @@ pub returns-in_ok-push-in-Begin-clause-gives : goal.returns-in_ok-push-in-Begin-
 returns-in_ok-push-in-Begin-clause-gives c =
     let source = source_of c.args.leaf.now in
     let opened = c.args.self.now.walk.opened.items in
-    subst (GivesShort source opened (short.Start c.in-Some.tag)) (sym c.in_ok-push-in-Begin.ensures.items)
+    subst (GivesShort source opened (short.Start c.in-Some.tag) c.range-range.result.start c.range-range.result.end) (sym c.in_ok-push-in-Begin.ensures.items)
     (begin-gives source c.range-range.result.start c.range-range.result.end c.in-Some.tag c.in-Some.end opened c.range-range.ensures.part c.in-Some.ensures.span c.in-Some.ensures.end)
 
 pub returns-in_ok-push-in-Begin-clause-first : goal.returns-in_ok-push-in-Begin-clause-first

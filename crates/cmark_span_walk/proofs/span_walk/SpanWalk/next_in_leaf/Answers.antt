@@ -46,7 +46,7 @@ returns-clause-stands g c =
     (c.requires.0, spanned-at walk c.next_short.new.self c.requires.0 c.requires.1 c.if-not-self.false e.slots e.opened (e.left (given-left walk c.requires.0 c.requires.1 c.if-not-self.false)))
 
 pub returns-clause-outside : goal.returns-clause-outside
-returns-clause-outside g c = before-over (λ n. LeavesLeaf n (record c.args.self.now { events = c.next_short.new.self })) c.in-Ok.next c.in_default-next.not-Over (λ short is. tt) (λ is. tt)
+returns-clause-outside g c = before-over (λ n. LeavesLeaf n (record c.args.self.now { events = c.next_short.new.self })) c.in-Ok.next c.in_default-next.not-Over (λ short start end is. tt) (λ is. tt)
 
 pub returns-clause-given : goal.returns-clause-given
 returns-clause-given g c = λ reader r.
@@ -55,7 +55,7 @@ returns-clause-given g c = λ reader r.
     let e = c.in-Ok.ensures in
     let at = spanned-at walk c.next_short.new.self r.left r.stands inside e.slots e.opened (e.left (given-left walk r.left r.stands inside)) in
     before-over (λ n. GivesInLeaf g.F.BrokenLinkCallback.answers g.E.EntityLookup.replacement reader walk n (record walk { events = c.next_short.new.self })) c.in-Ok.next c.in_default-next.not-Over
-    (λ short is.
+    (λ short start end is.
     let h = subst (λ (n : Next). IsNextFirst (source_of walk) (opened_of walk) n c.next_short.new.self.walk.opened.items (events_to_come walk.leaf walk.events) (events_to_come walk.leaf c.next_short.new.self)) is e.events in
     record {
       given = h.given;
@@ -69,13 +69,13 @@ returns-clause-given g c = λ reader r.
     spanned g.F.BrokenLinkCallback.answers g.E.EntityLookup.replacement reader walk c.next_short.new.self [] r inside at (sym h.1))
 
 pub returns-clause-kept : goal.returns-clause-kept
-returns-clause-kept g c = λ reader. before-over (λ n. KeepsBehindLeaf g.E.EntityLookup.replacement reader c.args.self.now n (record c.args.self.now { events = c.next_short.new.self })) c.in-Ok.next c.in_default-next.not-Over (λ short is. tt) (λ is. tt)
+returns-clause-kept g c = λ reader. before-over (λ n. KeepsBehindLeaf g.E.EntityLookup.replacement reader c.args.self.now n (record c.args.self.now { events = c.next_short.new.self })) c.in-Ok.next c.in_default-next.not-Over (λ short start end is. tt) (λ is. tt)
 
 pub returns-clause-fewer : goal.returns-clause-fewer
 returns-clause-fewer g c =
     let e = c.in-Ok.ensures in
     before-over (λ n. LeavesFewer c.args.self.now n (record c.args.self.now { events = c.next_short.new.self })) c.in-Ok.next c.in_default-next.not-Over
-    (λ short is. let fewer = subst (λ n. LeavesFewerSpans c.args.self.now.events n c.next_short.new.self) is e.fewer in omega (arith, fewer))
+    (λ short start end is. let fewer = subst (λ n. LeavesFewerSpans c.args.self.now.events n c.next_short.new.self) is e.fewer in omega (arith, fewer))
     (λ is. let most = e.most in omega (arith, most))
 
 pub returns-clause-most : goal.returns-clause-most

@@ -1,12 +1,12 @@
 use Rattle.std.specs.Prelude.{is_some}
 use Rattle.std.proofs.Common.{[], ◌∷◌, refl, sym, ap, ◌∙◌, subst}
-use Rattle.cmark_grammar.specs.Event.{Text}
+use Rattle.cmark_grammar.specs.Event.{Ranged, Text}
 use Rattle.cmark_grammar.specs.SpanDocuments.{Content, Given as GivenOf}
 use Rattle.cmark_grammar.specs.SpecialBytes.{is_special}
 use Rattle.cmark_references.specs.Footnotes.{footnote}
 use Rattle.cmark_text.specs.declared.short.Next.{Next}
 use Rattle.cmark_text.specs.Excerpt.{excerpt_bytes}
-use Rattle.cmark_text.specs.Short.{IsShortZeroCopy}
+use Rattle.cmark_text.specs.Short.{IsShortZeroCopy, ranged_short}
 use Rattle.cmark_text.specs.declared.short.Short.TheVariants as short
 use Rattle.cmark_walk.specs.declared.reading.Brief.{Brief}
 use Rattle.cmark_walk.specs.Walking as walking
@@ -77,8 +77,9 @@ returns-in-Short-met-clause-stands g c =
     let out = subst (λ (n : Next). LeavesLeaf n mid) c.in-Over.is e.outside in
     let s = e.stands in
     let given = subst (λ (b : Brief). walking.GivesBrief mid.walk b lines.items walk) c.in-Short-met.is m.given in
+    let one : Ranged = ranged_short c.in-Short-met.short c.in-Short-met.start c.in-Short-met.end in
     let first = given.gives s.0 s.1.blocks.remains in
-    (first.0, behind-at mid walk lines out m.text _ s.0 (GivenOf given.given) first.0 s.1 first.1 first.2 refl)
+    (first.0, behind-at mid walk lines out m.text _ s.0 (GivenOf one) first.0 s.1 first.1 first.2 refl)
 
 pub returns-in-Short-met-clause-given : goal.returns-in-Short-met-clause-given
 returns-in-Short-met-clause-given g c = λ reader r.
@@ -95,15 +96,16 @@ returns-in-Short-met-clause-given g c = λ reader r.
     let none = subst (λ (n : Next). GivesInLeaf g.F.BrokenLinkCallback.answers g.E.EntityLookup.replacement reader head n mid) c.in-Over.is (e.given reader p.read_by) in
     let q = passes-on g.F.BrokenLinkCallback.answers g.E.EntityLookup.replacement reader old head mid [] p none in
     let by = q.read_by in
+    let one : Ranged = ranged_short c.in-Short-met.short c.in-Short-met.start c.in-Short-met.end in
     let first = given.gives by.left by.stands.blocks.remains in
     let source = e.around.source ∙ c.loop-span.invariant.lasts.source in
-    let event = event-passes g.F.BrokenLinkCallback.answers g.E.EntityLookup.replacement reader mid walk lines out m.text m.definitions _ given.given first.0 by first.1 first.2 refl in
+    let event = event-passes g.F.BrokenLinkCallback.answers g.E.EntityLookup.replacement reader mid walk lines out m.text m.definitions _ one first.0 by first.1 first.2 refl in
     record {
-      given = given.given;
-      is = given.is;
-      range = subst (λ t. HasRange t given.given) source event.0;
-      lent = subst (λ t. IsShortZeroCopy t c.in-Short-met.short given.given.start given.given.end) (by.stands.blocks.same_text ∙ source) given.lent;
-      passes = passes-on g.F.BrokenLinkCallback.answers g.E.EntityLookup.replacement reader old mid _ (given.given ∷ []) q event.1;
+      given = one;
+      is = refl;
+      range = subst (λ t. HasRange t one) source event.0;
+      lent = subst (λ t. IsShortZeroCopy t c.in-Short-met.short one.start one.end) (by.stands.blocks.same_text ∙ source) given.lent;
+      passes = passes-on g.F.BrokenLinkCallback.answers g.E.EntityLookup.replacement reader old mid _ (one ∷ []) q event.1;
     }
 
 pub returns-in-Short-met-clause-fewer : goal.returns-in-Short-met-clause-fewer
@@ -118,8 +120,9 @@ returns-in-Short-met-clause-fewer g c =
     let out = subst (λ (n : Next). LeavesLeaf n mid) c.in-Over.is e.outside in
     let s = e.stands in
     let given = subst (λ (b : Brief). walking.GivesBrief mid.walk b lines.items walk) c.in-Short-met.is m.given in
+    let one : Ranged = ranged_short c.in-Short-met.short c.in-Short-met.start c.in-Short-met.end in
     let first = given.gives s.0 s.1.blocks.remains in
-    met-fewer mid walk lines out m.text old head _ s.0 (GivenOf given.given) first.0 s.1 first.1 c.loop-span.invariant.lasts e.most e.few e.slots e.around.budget refl
+    met-fewer mid walk lines out m.text old head _ s.0 (GivenOf one) first.0 s.1 first.1 c.loop-span.invariant.lasts e.most e.few e.slots e.around.budget refl
 
 pub plain_text-requires : goal.plain_text-requires
 plain_text-requires g c κs =
@@ -173,11 +176,11 @@ returns-in-Some-clause-given g c = λ reader r.
     let plain = c.in-Some.ensures.plain reader.options reader.lookup gives.0.is_cell (λ byte less. special byte less ∙ ap (λ o. is_special o byte) (sym by.same.options_are)) in
     let source = e.around.source ∙ c.loop-span.invariant.lasts.source in
     record {
-      given = record { event = Text (excerpt_bytes c.in-Some.text); start = only.line.start; end = only.line.content_end };
-      is = refl;
-      range = subst (λ t. HasRange t (record { event = Text (excerpt_bytes c.in-Some.text); start = only.line.start; end = only.line.content_end })) source (plain-range mid.leaf.source.now lines.items (excerpt_bytes c.in-Some.text) only);
+      given = ranged_short (short.Text c.in-Some.text) only.line.start only.line.content_end;
+      is = ap (λ n. ranged_short (short.Text c.in-Some.text) n only.line.content_end) (sym only.start_is) ∙ ap (ranged_short (short.Text c.in-Some.text) c.in-Some.start) (sym only.end_is);
+      range = subst (λ t. HasRange t (ranged_short (short.Text c.in-Some.text) only.line.start only.line.content_end)) source (plain-range mid.leaf.source.now lines.items (excerpt_bytes c.in-Some.text) c.in-Some.start c.in-Some.end only);
       lent = subst (λ t. IsShortZeroCopy t (short.Text c.in-Some.text) only.line.start only.line.content_end) source only.is;
-      passes = passes-on g.F.BrokenLinkCallback.answers g.E.EntityLookup.replacement reader old mid _ _ q (plain-passes g.F.BrokenLinkCallback.answers g.E.EntityLookup.replacement reader mid walk lines out m.text m.definitions _ gives.0 gives.1 (excerpt_bytes c.in-Some.text) by gives.2 gives.4 refl only gives.3.are plain);
+      passes = passes-on g.F.BrokenLinkCallback.answers g.E.EntityLookup.replacement reader old mid _ _ q (plain-passes g.F.BrokenLinkCallback.answers g.E.EntityLookup.replacement reader mid walk lines out m.text m.definitions _ gives.0 gives.1 (excerpt_bytes c.in-Some.text) c.in-Some.start c.in-Some.end by gives.2 gives.4 refl only gives.3.are plain);
     }
 
 pub returns-in-Some-clause-fewer : goal.returns-in-Some-clause-fewer

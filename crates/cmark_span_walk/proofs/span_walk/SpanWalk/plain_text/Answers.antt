@@ -20,7 +20,7 @@ pub returns-clause-plain : goal.returns-clause-plain
 returns-clause-plain g c options lookup is_cell set =
     let text = c.source_at-text.result.now in
     let end : c.next.result ≡ length text = omega (arith, c.if-next-text.false, c.next.ensures.within) in
-    let same : text ≡ excerpt_bytes c.new.result = cc in
+    let same : text ≡ excerpt_bytes c.new-excerpt.result = cc in
     subst (λ (bytes : List ℕ). StandUpTo options lookup is_cell bytes 0 (length bytes)) same
     (subst (λ bytes. StandUpTo options lookup is_cell bytes 0 (length text)) c.as_bytes.ensures.value (subst (StandUpTo options lookup is_cell c.as_bytes.result.now 0) end (c.next.ensures.plain options lookup is_cell set)))
 
@@ -43,7 +43,9 @@ returns-clause-line g c =
     let one = one-line source c.as_slice.result.now (subst (AreLines source 0) (sym c.as_slice.ensures.value) c.requires) (omega arith) (omega arith) in
     record {
       line = line;
+      start_is = refl;
+      end_is = refl;
       alone = sym c.as_slice.ensures.value ∙ one.1;
       part = record { some = c.if-line.false; within = omega (arith, one.0.ending, one.0.within); starts = one.0.starts; ends = one.0.stops };
-      is = c.new.ensures ∙ ap (take (line.content_end - line.start)) c.source_ahead-ahead.ensures;
+      is = c.new-excerpt.ensures ∙ ap (take (line.content_end - line.start)) c.source_ahead-ahead.ensures;
     }

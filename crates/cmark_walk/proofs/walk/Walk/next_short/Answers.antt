@@ -1,7 +1,7 @@
 use Rattle.std.proofs.Common.{subst}
 use Rattle.cmark_walk.specs.declared.reading.Brief.TheVariants as brief
 use Rattle.cmark_walk.specs.Walking.{GivesShortStep}
-use Rattle.cmark_walk.proofs.ShortSteps.{after-lasting, lasts-on, some-range}
+use Rattle.cmark_walk.proofs.ShortSteps.{after-lasting, lasts-on}
 use Rattle.cmark_walk.proofs.walk.Walk.next_short.Goals as goal
 
 pub returns-in_default-clause-refused : goal.returns-in_default-clause-refused
@@ -9,9 +9,8 @@ returns-in_default-clause-refused c = λ left r. c.in_default.ensures.refused.re
 
 pub returns-in-Short-clause-given : goal.returns-in-Short-clause-given
 returns-in-Short-clause-given c =
-    after-lasting c.args.self.now c.loop-step.self c.short_step.new.self (brief.Short c.in-Short.short) c.short_step.new.lines.items c.loop-step.invariant
-    (some-range c.loop-step.self c.short_step.new.self c.in-Short.short _ _
-    (subst (λ b. GivesShortStep c.loop-step.self b c.short_step.new.lines.items c.short_step.new.self) c.in-Short.is c.in-Ok.ensures.given))
+    after-lasting c.args.self.now c.loop-step.self c.short_step.new.self (brief.Short c.in-Short.short c.in-Short.start c.in-Short.end) c.short_step.new.lines.items c.loop-step.invariant
+    (subst (λ b. GivesShortStep c.loop-step.self b c.short_step.new.lines.items c.short_step.new.self) c.in-Short.is c.in-Ok.ensures.given)
 
 pub returns-in-Leaf-clause-given : goal.returns-in-Leaf-clause-given
 returns-in-Leaf-clause-given c =
