@@ -1,3 +1,4 @@
+mod BareSteps
 pub mod Boundaries
 pub mod Closers
 mod EmailSteps

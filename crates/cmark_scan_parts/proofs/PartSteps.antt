@@ -1,11 +1,7 @@
 -- A part read from byte to byte.
-use Rattle.std.proofs.Common.{◌≡◌, ℕ, suc, ◌-◌, ◌<◌, List, [], ◌∷◌, ◌++◌, length, take, drop, get_or, Option, None, Some, refl, sym, ap, ◌∙◌, arith, append_assoc, length-append}
+use Rattle.std.proofs.Common.{◌≡◌, ℕ, suc, ◌-◌, ◌<◌, List, [], ◌∷◌, ◌++◌, length, take, drop, get_or, Option, None, Some, refl, sym, ap, ◌∙◌, arith, append_assoc, length-append, take-append-drop}
 use Rattle.cmark_grammar.specs.LinkDefinitions.{Parsed, put}
-
--- bytes that were read before the part that is read after them
-abbrev pub puts : List ℕ → Option Parsed → Option Parsed
-puts [] found = found
-puts (b ∷ bs) found = put b (puts bs found)
+use Rattle.cmark_scan_parts.specs.Steps.{puts}
 
 -- the part read from all bytes is a first part of them, and then the part read from this rest
 pub record Reads (all here : Option Parsed) (bytes rest : List ℕ) : Type 0 where
@@ -26,6 +22,18 @@ reads_more all here next bytes rest others b r is e = record {
   front = r.front ++ b ∷ [];
   cut = r.cut ∙ ap (λ l. r.front ++ l) is ∙ sym (append_assoc r.front (b ∷ []) others);
   same = r.same ∙ ap (puts r.front) e ∙ puts-more r.front b next;
+}
+
+-- any number of bytes more
+puts-all : (front more : List ℕ) (found : Option Parsed) → puts front (puts more found) ≡ puts (front ++ more) found
+puts-all [] more found = refl
+puts-all (b ∷ front) more found = ap (put b) (puts-all front more found)
+
+pub reads_far : (all here next : Option Parsed) (bytes rest others : List ℕ) (n : ℕ) → Reads all here bytes rest → others ≡ drop n rest → here ≡ puts (take n rest) next → Reads all next bytes others
+reads_far all here next bytes rest others n r is e = record {
+  front = r.front ++ take n rest;
+  cut = r.cut ∙ ap (λ l. r.front ++ l) (sym (take-append-drop n rest)) ∙ sym (append_assoc r.front (take n rest) (drop n rest)) ∙ ap (λ l. (r.front ++ take n rest) ++ l) (sym is);
+  same = r.same ∙ ap (puts r.front) e ∙ puts-all r.front (take n rest) next;
 }
 
 -- and no more

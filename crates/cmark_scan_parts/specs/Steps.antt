@@ -26,3 +26,8 @@ abbrev pub OnGoesOn : Step → Type 0 → Type 0
 OnGoesOn Ends P = Unit {0}
 OnGoesOn Fails P = Unit {0}
 OnGoesOn GoesOn P = P
+
+-- the part with these bytes before it
+abbrev pub puts : List ℕ → Option Parsed → Option Parsed
+puts [] found = found
+puts (b ∷ bs) found = put b (puts bs found)

@@ -5,12 +5,16 @@ ghost use Rattle.std.specs.Str.{IsCharBoundary};
 ghost use Rattle.cmark_grammar.specs.LinkDefinitions.{Parsed, up_to, bare_byte, bare_in, depth_after};
 ghost use Rattle.cmark_grammar.specs.Destinations.{link_destination_in};
 ghost use Rattle.cmark_scan_parts.specs.Shown.{shown_cut, cut_behind};
-ghost use Rattle.cmark_scan_parts.specs.Steps.{read_bare, OnEnds, OnGoesOn};
+ghost use Rattle.cmark_scan_parts.specs.Steps.{puts, read_bare, OnEnds, OnGoesOn};
 
 use crate::bytes::escapes_next;
 use crate::closed::{Step, closed_size};
 use crate::find::begins_with;
 use crate::link::Cut;
+use cmark_search::AsciiSet;
+
+/// The rows of ASCII controls, the space, both parentheses and the backslash. All other bytes belong to a bare destination.
+const MARKS: [u8; 16] = [7, 3, 3, 3, 3, 3, 3, 3, 7, 7, 3, 3, 35, 3, 3, 131];
 
 /// The depth of parentheses after a byte of a bare destination.
 fn depth_after(escaped: bool, depth: usize, byte: u8) -> usize
@@ -43,6 +47,19 @@ fn bare_step(escaped: bool, depth: usize, byte: u8) -> Step
     }
 }
 
+/// The number of bytes before the first one that may end a bare destination, escape a byte or change the depth. It is 0 if the first byte is
+/// escaped.
+#[inline(always)]
+fn plain_size(escaped: bool, bytes: &[u8]) -> usize
+    ensures value { (depth : ℕ) → bare_in escaped depth bytes.now ≡ puts (take result bytes.now) (bare_in escaped depth (drop result bytes.now)) }
+    ensures within { result ≤ length bytes.now }
+{
+    if escaped {
+        return 0;
+    }
+    AsciiSet::of_rows(MARKS).find_within(bytes, 0, bytes.len())
+}
+
 /// The number of bytes of the bare destination at the beginning, if its parentheses are balanced.
 fn bare_size(bytes: &[u8]) -> Option<usize>
     ensures value { option_map (λ size. record { bytes = take size bytes.now; behind = drop size bytes.now }) result ≡ bare_in false 0 bytes.now }
@@ -51,7 +68,7 @@ fn bare_size(bytes: &[u8]) -> Option<usize>
 {
     let mut escaped = false;
     let mut depth = 0;
-    let mut rest = bytes;
+    let mut rest = &bytes[plain_size(escaped, bytes)..];
     while let Some((first, others)) = rest.split_first() {
         match bare_step(escaped, depth, *first) {
             Step::Ends => return Some(bytes.len() - rest.len()),
@@ -60,7 +77,7 @@ fn bare_size(bytes: &[u8]) -> Option<usize>
         }
         depth = depth_after(escaped, depth, *first);
         escaped = escapes_next(escaped, *first);
-        rest = others;
+        rest = &others[plain_size(escaped, others)..];
     }
     if depth == 0 { Some(bytes.len()) } else { None }
 }

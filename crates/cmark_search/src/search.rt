@@ -1,6 +1,6 @@
 //! Searches for the first byte of a set, sixteen bytes a step. They are made for short distances: a line has some sixty bytes.
 
-ghost use Rattle.std.specs.Prelude.{◌≡◌, ◌+◌, ◌<◌, ◌≤◌, if◌then◌else◌, ℕ, Bool, List, ◌++◌, None, IfSome, true, false, length, map, drop, replicate, take, slice_index, slice_index_or};
+ghost use Rattle.std.specs.Prelude.{◌≡◌, ◌||◌, ◌+◌, ◌<◌, ◌≤◌, if◌then◌else◌, ℕ, Bool, List, ◌++◌, None, IfSome, true, false, length, map, drop, replicate, take, slice_index, slice_index_or};
 ghost use Rattle.std.specs.List.{position_or_len};
 ghost use Rattle.std.specs.Simd.Lanes.{mask_l};
 ghost use Rattle.memchr.specs.Find.{IsFirstByte, is_byte, is_byte2};
@@ -49,6 +49,25 @@ impl AsciiSet {
             rows[low] = row_of(table, low);
         }
         AsciiSet { rows }
+    }
+
+    /// The set with these rows.
+    #[inline(always)]
+    pub fn of_rows(rows: [u8; 16]) -> AsciiSet
+        ensures { result ≡ rows }
+    {
+        AsciiSet { rows }
+    }
+
+    /// The bytes of both sets.
+    #[inline(always)]
+    pub fn union(&self, other: &AsciiSet) -> AsciiSet
+        ensures has { (byte : ℕ) → in_rows result byte ≡ (in_rows self.now byte || in_rows other.now byte) }
+    {
+        let rows = u8x16::from_slice(&self.rows) | u8x16::from_slice(&other.rows);
+        AsciiSet {
+            rows: rows.to_array(),
+        }
     }
 
     /// The offset of the first byte from `from` on and before `to` that is in the set; `to` if there is none.
