@@ -145,6 +145,9 @@ const MADE = [
 
 /** Events that no text has. */
 const tryMade = () => {
+  const text = (value, begin) => ({ name: "Text", value, start: begin, end: begin + 1 }), rule = { name: "Rule", value: null, start: 0, end: 1 };
+  judge("merged texts", [...merged([text("a", 0), text("", 1), text("b", 2), rule, text("", 4), rule])], [{ ...text("ab", 0), end: 3 }, rule, text("", 4), rule]);
+  judge("merged texts that are empty", [...merged([text("", 0), text("", 1), rule, text("", 2), text("", 3)])], [rule]);
   for (const [made, wanted] of MADE) judge(`render of ${JSON.stringify(made)}`, render(made), wanted);
   const number = 100_000, nested = Array.from({ length: number }, () => start({ name: "BlockQuote" }));
   judge("render of nested block quotes", render(nested), "<blockquote>\n".repeat(number));

@@ -28,9 +28,11 @@ NAMES = set(bindings_flat.KINDS[1:])
 TAGS = set(bindings_flat.TAGS[1:])
 # The types of links without a definition come from a callback alone.
 LINKS = {*(it for it in bindings_flat.LINKS[:-2] if not it.endswith("Unknown")), "WikiLink"}
-# Texts that have the kinds of events which the others may lack.
-KINDS_OF_TEXTS = ["---\na: b\n---\n\n# a {#b .c d=e}\n\n<a@b.c> [[d]] [[e|f]] ![g][h] [i][] [j] $k$ $$l$$ ==m==\n\n[h]: i\n[i]: j\n[j]: k\n", "+++\na\n+++\n"]
+# Texts that have the kinds of events which the others may lack, and the first and last characters of each length in UTF-8.
+KINDS_OF_TEXTS = ["\x7f\x80\u07ff\u0800\uffff\U00010000 *a*", "---\na: b\n---\n\n# a {#b .c d=e}\n\n<a@b.c> [[d]] [[e|f]] ![g][h] [i][] [j] $k$ $$l$$ ==m==\n\n[h]: i\n[i]: j\n[j]: k\n", "+++\na\n+++\n"]
 FILTERS, DAMAGED = 300, 150
+# The time limit for one run of Node, in seconds.
+PATIENCE = 300
 # A text with a name of an entity that is not one of the eleven, and the library's bit for all names.
 ENTITIES, ALL_ENTITIES = b"&ouml; [a]\n\n[a]: &ouml;\n", 1 << 30
 # How Node runs as an engine without vectors.
@@ -54,7 +56,7 @@ class Node:
 
     def run(self, *words, given=b""):
         """The output of Node for these words, in the folder that has the package."""
-        ended = subprocess.run([self.program, *map(str, words)], input=given, capture_output=True, check=False, cwd=self.room)
+        ended = subprocess.run([self.program, *map(str, words)], input=given, capture_output=True, check=False, cwd=self.room, timeout=PATIENCE)
         if ended.returncode:
             raise Failed(f"node {' '.join(map(str, words))[:200]}: {ended.stderr.decode(errors='replace')[-1500:]}")
         return ended.stdout
