@@ -63,6 +63,7 @@ pub mod References
 pub mod SourceOrder
 pub mod SourcePlaces
 pub mod SpanReads
+mod SpecialRows
 pub mod SpecialSteps
 pub mod StillUnclosed
 pub mod StopSteps
