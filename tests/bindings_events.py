@@ -432,19 +432,6 @@ def try_references(judge, texts):
     judge("definitions were used", used > 100, True)
 
 
-def try_entities(judge):
-    """All entity names of HTML."""
-    text = "&ouml; &NotEqualTilde; &amp; &x; [a](&ouml; '&ouml;')"
-    eleven = '<p>&amp;ouml; &amp;NotEqualTilde; &amp; &amp;x; <a href="&amp;ouml;" title="&amp;ouml;">a</a></p>\n'
-    every = '<p>ö \u2242\u0338 &amp; &amp;x; <a href="%C3%B6" title="ö">a</a></p>\n'
-    for how in ({}, {"expansion_limit": 100}, {"safe": True}, {"broken_link": lambda it: None}):
-        judge(f"eleven names with {how}", html(text, **how), eleven)
-        judge(f"all names with {how}", html(text, all_entities=True, **how), every)
-    judge("events with all names", render(events(text, all_entities=True)), every)
-    judge("definitions with all names", [it.dest for flag in (False, True) for it in references("[a]: &ouml;", all_entities=flag)], ["&ouml;", "ö"])
-    judge("the bit is no option", raised(html, "a", options=1 << 30), ValueError)
-
-
 def try_lines(judge, texts):
     """Lines and columns, in characters and in bytes."""
     text = "é\n\nb\r\nc\rd"
@@ -483,7 +470,6 @@ def faults(texts, wanted, path):
     try_wrong(judge, texts, draw)
     try_callback(judge, texts, wanted)
     try_references(judge, texts)
-    try_entities(judge)
     try_lines(judge, texts)
     try_threads(judge, texts, wanted)
     print(f"bindings: Python: events: {judge.tried} comparisons")

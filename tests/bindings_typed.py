@@ -49,7 +49,7 @@ def calls(text: str) -> None:
     reveal_type(found[1:])  #: "pulldown_cmark._records.Events"
     reveal_type(found.lines.place(3).column)  #: "builtins.int"
     reveal_type(render(merged(found)))  #: "builtins.str"
-    reveal_type(html(text.encode(), broken_link=answer, all_entities=True))  #: "builtins.str"
+    reveal_type(html(text.encode(), broken_link=answer))  #: "builtins.str"
     reveal_type(references(text)[0].title)  #: "Union[builtins.str, None]"
     reveal_type(Text("a")._replace(value="b"))  #: "pulldown_cmark._events.Text"
     reveal_type(Event("Text", "a"))  #: "pulldown_cmark._events.Event"

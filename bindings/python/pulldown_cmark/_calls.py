@@ -54,7 +54,6 @@ def html(
     schemes: Iterable[str] = (),
     expansion_limit: Optional[int] = None,
     broken_link: Optional[BrokenLinkCallback] = None,
-    all_entities: bool = False,
 ) -> str:
     """The HTML of a text of Markdown, read with these options.
 
@@ -66,8 +65,8 @@ def html(
     Once the destinations and titles of references have ``expansion_limit`` bytes in all, further references stay text. The default limit is
     100,000 bytes, or the length of the text if that is more.
 
-    ``broken_link`` is asked about each link whose label has no definition, as by ``events``. With ``all_entities=True`` all entity names of
-    HTML are known, and otherwise eleven. A call takes at most one of ``safe``, ``expansion_limit`` and ``broken_link``.
+    ``broken_link`` is asked about each link whose label has no definition, as by ``events``. A call takes at most one of ``safe``,
+    ``expansion_limit`` and ``broken_link``.
 
     Raises ``ValueError`` if it is given more of these, or bits that are no options; ``UnicodeError`` if the text is not UTF-8 or cannot be
     encoded as UTF-8, and ``MemoryError`` if memory is refused.
@@ -75,8 +74,8 @@ def html(
     if (bool(safe), expansion_limit is not None, broken_link is not None).count(True) > 1:
         raise ValueError("a call takes at most one of safe, expansion_limit and broken_link")
     if broken_link is not None:
-        return render(events(text, options=options, broken_link=broken_link, all_entities=all_entities))
-    data, bits = bytes_of(text), bits_of(options, all_entities)
+        return render(events(text, options=options, broken_link=broken_link))
+    data, bits = bytes_of(text), bits_of(options)
     room_len = 2 * len(data) + 256
     if safe:
         names = " ".join(schemes).encode("utf-8")
@@ -86,7 +85,7 @@ def html(
     return answer(library.pcm_html, room_len, data, bits).decode("utf-8")
 
 
-def events(text: Text, *, options: int = Options.NONE, broken_link: Optional[BrokenLinkCallback] = None, all_entities: bool = False) -> Events:
+def events(text: Text, *, options: int = Options.NONE, broken_link: Optional[BrokenLinkCallback] = None) -> Events:
     """The events of a text of Markdown, in order, read with these options.
 
     The whole text is read at once, and each event is made when it is asked for. Errors are raised by this call, as by ``html``.
@@ -95,7 +94,7 @@ def events(text: Text, *, options: int = Options.NONE, broken_link: Optional[Bro
     destination and the title of the link, or ``None`` if it is no link. What it raises, this call raises. It may also be asked about a link
     that overlaps another one; if both are answered, the one that ends first is a link.
     """
-    data, bits = bytes_of(text), bits_of(options, all_entities)
+    data, bits = bytes_of(text), bits_of(options)
     # Of the 797 Markdown files of one machine, at most 1 in 100 need a second call.
     room_len = 5 * len(data) + 1024
     kept: Text = text if isinstance(text, str) else data
@@ -126,12 +125,12 @@ def _answered(data: bytes, bits: int, room_len: int, broken_link: BrokenLinkCall
         answers += b"".join(added)
 
 
-def references(text: Text, *, options: int = Options.NONE, all_entities: bool = False) -> List[LinkDef]:
+def references(text: Text, *, options: int = Options.NONE) -> List[LinkDef]:
     """The link reference definitions of a text, in its order. If several define a label, only the first one is listed, and it counts.
 
     Raises what ``html`` raises.
     """
-    data, bits = bytes_of(text), bits_of(options, all_entities)
+    data, bits = bytes_of(text), bits_of(options)
     records = answer(library.pcm_references, len(data) + 1024, data, bits)
     moved = continuations(text)
     found = []

@@ -11,8 +11,6 @@ from ._lines import Text
 
 # The statuses of a call, as pulldown_cmark.h defines them.
 _DONE, _TOO_LONG, _NOT_UTF8, _NO_MEMORY, _MALFORMED = range(5)
-# The bit of the library for all entity names of HTML. It is no option of the Rust crate, so calls have an argument for it.
-_ALL_ENTITIES = 1 << 30
 
 
 class Options(enum.IntFlag):
@@ -87,12 +85,12 @@ def bytes_of(text: Text) -> bytes:
     raise TypeError(f"Markdown is str or bytes, not {type(text).__name__}")
 
 
-def bits_of(options: int, all_entities: bool) -> int:
-    """The bits of a set of options, and of all entity names."""
+def bits_of(options: int) -> int:
+    """The bits of a set of options."""
     bits = operator.index(options)
     if bits & ~_ALL:
         raise ValueError(f"there is no option of the bits {bits & ~_ALL}")
-    return bits | (_ALL_ENTITIES if all_entities else 0)
+    return bits
 
 
 def limit_of(limit: int) -> int:
