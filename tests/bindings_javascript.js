@@ -189,17 +189,14 @@ const tryTexts = () => {
   judge("a text with a byte order mark", [...events("\ufeffa")].map((it) => it.value), [{ name: "Paragraph" }, "\ufeffa", { name: "Paragraph" }]);
 };
 
-/** The HTML of a text without and with all names of entities. The ways to the same answer are compared here. */
+/** The ways to the HTML of a text whose names of entities are not all known. */
 const entities = () => {
-  const text = "&ouml; [a]\n\n[a]: &ouml;\n";
-  return [false, true].map((allEntities) => {
-    const plain = html(text, 0, { allEntities }), [{ dest: destUrl }] = references(text, 0, { allEntities });
-    judge(`the HTML of events with allEntities ${allEntities}`, render(events(text, 0, { allEntities })), plain);
-    judge(`the HTML with a callback with allEntities ${allEntities}`, html(text, 0, { allEntities, brokenLink: () => null }), plain);
-    judge(`the safe HTML with allEntities ${allEntities}`, html(text, 0, { allEntities, safe: true }), plain);
-    judge(`the definitions with allEntities ${allEntities}`, render([start({ name: "Link", linkType: "Inline", destUrl, title: "", id: "" })]), plain.match(/<a.*?>/)[0]);
-    return plain;
-  });
+  const text = "&ouml;&copy; [a]\n\n[a]: &ouml;&copy;\n", plain = html(text), [{ dest: destUrl }] = references(text);
+  judge("the HTML of events", render(events(text)), plain);
+  judge("the HTML with a callback", html(text, 0, { brokenLink: () => null }), plain);
+  judge("the safe HTML", html(text, 0, { safe: true }), plain);
+  judge("the definitions", render([start({ name: "Link", linkType: "Inline", destUrl, title: "", id: "" })]), plain.match(/<a.*?>/)[0]);
+  return plain;
 };
 
 const { cases, filters, damaged } = JSON.parse(readFileSync(0, "utf8"));

@@ -34,7 +34,7 @@ FILTERS, DAMAGED = 300, 150
 # The time limit for one run of Node, in seconds.
 PATIENCE = 300
 # A text with a name of an entity that is not one of the eleven, and the library's bit for all names.
-ENTITIES, ALL_ENTITIES = b"&ouml; [a]\n\n[a]: &ouml;\n", 1 << 30
+ENTITIES = b"&ouml;&copy; [a]\n\n[a]: &ouml;&copy;\n"
 # How Node runs as an engine without vectors.
 NO_VECTORS = "WebAssembly.validate = () => false;"
 PRELUDES = {"module.js": NO_VECTORS, modules.WITH_VECTORS: ""}
@@ -118,9 +118,9 @@ def compared(node, name, library, texts, wanted):
         found += [f"{name}: {key} of {text!r} with {WORDS_OF[bits]}: {answer[key]!r}" for key in right if answer[key] != right[key]]
     for key in ("filters", "damaged"):
         found += [f"{name}: {key}: {case!r}: {a!r} in place of {b!r}" for case, a, b in zip(given[key], answers[key], expected[key]) if a != b]
-    entities = [library.render(library.events(ENTITIES, bits)[1])[1].decode() for bits in (NONE, ALL_ENTITIES)]
+    entities = library.render(library.events(ENTITIES, NONE)[1])[1].decode()
     if answers["entities"] != entities:
-        found.append(f"{name}: {ENTITIES!r} without and with all names of entities: {answers['entities']} in place of {entities}")
+        found.append(f"{name}: {ENTITIES!r}: {answers['entities']} in place of {entities}")
     kinds = kinds_found(answers["cases"])
     if kinds != (NAMES, TAGS, LINKS):
         found.append(f"{name}: these kinds do not occur: {[b - a for a, b in zip(kinds, (NAMES, TAGS, LINKS))]}")
@@ -173,7 +173,7 @@ TYPED = """
 import { html, events, references, merged, render, version, Options, MalformedError, NotUtf8Error, OutOfMemoryError } from "pulldown-cmark-proved";
 import type { BrokenLink, Event, Events, LinkDef, Tag, TagEnd } from "pulldown-cmark-proved";
 const safe: string = html("a", Options.TABLES | Options.MATH, { safe: true, schemes: ["tel"] as const });
-const answered: string = html(new Uint8Array(), 0, { allEntities: true, brokenLink: (link: BrokenLink) => ({ destUrl: link.reference }) });
+const answered: string = html(new Uint8Array(), 0, { brokenLink: (link: BrokenLink) => ({ destUrl: link.reference }) });
 const found: Events = events("a", 0, { brokenLink: () => null });
 const last: Event | undefined = found.at(-1);
 const lines: number[] = [...found].map((it) => found.placeOf(it).line);

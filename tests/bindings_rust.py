@@ -28,9 +28,9 @@ CRATE = ROOT / "bindings" / "rust"
 DEBIAN = pathlib.Path("/usr/share/cargo/registry")
 NEEDED = ["bitflags", "serde", "unicase"]
 EXAMPLES = ["outline", "links", "lint", "filter"]
-# The options of pulldown-cmark, and the flags of the programs for its reading: it always reads these two.
+# The options of pulldown-cmark, and the flag of the programs for a rule that it always applies.
 OPTIONS = {flag: bits for flag, bits in zip(FLAGS, BITS) if flag not in ("highlight", "email-autolinks")}
-ALWAYS = ["--email-autolinks", "--entities", str(ROOT / "share" / "entities.json")]
+ALWAYS = ["--email-autolinks"]
 README_SAYS = "<p><del>HI</del>, <em>YOU</em></p>\n"
 USER = """[package]
 name = "user"
@@ -47,11 +47,11 @@ USER_PROGRAM = """use pulldown_cmark::{html, Options, Parser};
 
 fn main() {
     let mut out = String::new();
-    html::push_html(&mut out, Parser::new_ext("~~a~~ &ouml;", Options::ENABLE_STRIKETHROUGH));
+    html::push_html(&mut out, Parser::new_ext("~~a~~ &copy;", Options::ENABLE_STRIKETHROUGH));
     print!("{out}");
 }
 """
-USER_SAYS = "<p><del>a</del> ö</p>\n"
+USER_SAYS = "<p><del>a</del> ©</p>\n"
 
 
 def sources():

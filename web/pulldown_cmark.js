@@ -17,8 +17,6 @@ var pulldownCmark = ((records) => {
     DEFINITION_LIST: 4096, SUPERSCRIPT: 8192, SUBSCRIPT: 16384, WIKILINKS: 32768, HIGHLIGHT: 65536, EMAIL_AUTOLINKS: 131072,
   };
   const ALL = Object.values(OPTIONS).reduce((set, bits) => set | bits);
-  /** The bit of the library for all names of entities. */
-  const ALL_ENTITIES = 1 << 30;
 
   /** The error for bytes that are not UTF-8, and for a string with half of a pair of surrogates. */
   class NotUtf8Error extends TypeError {
@@ -89,10 +87,10 @@ var pulldownCmark = ((records) => {
   };
 
   /** The bits of a set of options. */
-  const bitsOf = (options, allEntities) => {
+  const bitsOf = (options) => {
     if (!Number.isInteger(options)) throw new TypeError("options are a number, joined by |");
     if (options !== (options & ALL)) throw new RangeError(`there is no such set of options: ${options}`);
-    return allEntities ? options | ALL_ENTITIES : options;
+    return options;
   };
 
   /** A limit as the module takes it. A limit that does not fit is replaced by the greatest one, which no text reaches. */
@@ -327,11 +325,11 @@ var pulldownCmark = ((records) => {
      * then HTML is shown as text, a heading has no attribute but its anchor, and addresses are relative or begin with http:, https:, mailto:
      * or one of `schemes`. Safe HTML may still link to bad places, track by images, or mislead a math renderer.
      * Once the destinations and titles of references have `expansionLimit` bytes in all, further references stay text. The default limit is
-     * 100,000 bytes, or the length of the text if that is more. `brokenLink` is asked about links without a definition, as by `events`. With
-     * `allEntities` all names of entities are known, and otherwise eleven. Of `safe`, `expansionLimit` and `brokenLink` a call takes one.
+     * 100,000 bytes, or the length of the text if that is more. `brokenLink` is asked about links without a definition, as by `events`. Of
+     * `safe`, `expansionLimit` and `brokenLink` a call takes one.
      */
-    const html = (text, options = 0, { safe = false, schemes = [], expansionLimit = null, brokenLink = null, allEntities = false } = {}) => {
-      const data = encoded(text), bits = bitsOf(options, allEntities);
+    const html = (text, options = 0, { safe = false, schemes = [], expansionLimit = null, brokenLink = null } = {}) => {
+      const data = encoded(text), bits = bitsOf(options);
       if ([safe, expansionLimit !== null, brokenLink !== null].filter(Boolean).length > 1) throw new RangeError("a call takes one of safe, expansionLimit and brokenLink");
       if (safe && schemes.length) return instance.html("pcm_safe_html_with", data, [bits, encoded(schemes.join(" "))]);
       if (safe) return instance.html("pcm_safe_html", data, [bits]);
@@ -345,14 +343,14 @@ var pulldownCmark = ((records) => {
      * a string, and in bytes for bytes. `brokenLink` is a function that is asked once about each link without a definition. It gets
      * `{ linkType, reference, start, end }` and returns `{ destUrl, title }`, or null.
      */
-    const events = (text, options = 0, { brokenLink = null, allEntities = false } = {}) => {
+    const events = (text, options = 0, { brokenLink = null } = {}) => {
       const data = encoded(text);
-      return new Events(recordsIn(instance, text, data, bitsOf(options, allEntities), brokenLink), text, placedIn(text, data.length));
+      return new Events(recordsIn(instance, text, data, bitsOf(options), brokenLink), text, placedIn(text, data.length));
     };
 
     /** The link reference definitions of a text, each `{ label, dest, title, start, end }`. The title is null if there is none. */
-    const references = (text, options = 0, { allEntities = false } = {}) => {
-      const data = encoded(text), bits = bitsOf(options, allEntities);
+    const references = (text, options = 0) => {
+      const data = encoded(text), bits = bitsOf(options);
       return records.readReferences(instance.records("pcm_references", data, [bits]), placedIn(text, data.length));
     };
 

@@ -91,8 +91,6 @@ export type BrokenLinkCallback = (link: BrokenLink) => { destUrl: string; title?
 export interface EventsWishes {
   /** Answers for links without a definition. */
   brokenLink?: BrokenLinkCallback | null;
-  /** Whether all names of entities of HTML are known, and not only eleven. */
-  allEntities?: boolean;
 }
 
 /** Further settings of the HTML of a text. At most one of `safe`, `expansionLimit` and `brokenLink` may be set. */
@@ -131,7 +129,7 @@ export declare function html(text: string | Uint8Array, options?: number, wishes
 /** The events of a text, in order. */
 export declare function events(text: string | Uint8Array, options?: number, wishes?: EventsWishes): Events;
 /** The link reference definitions of a text, in order. Of definitions with the same label the first one counts. */
-export declare function references(text: string | Uint8Array, options?: number, wishes?: { allEntities?: boolean }): LinkDef[];
+export declare function references(text: string | Uint8Array, options?: number): LinkDef[];
 /** The events, with adjacent texts joined. */
 export declare function merged(events: Iterable<Event>): IterableIterator<Event>;
 /** The HTML of events, or of their records. They need not be balanced, and need no ranges. The HTML is not safe to show for a stranger. */
