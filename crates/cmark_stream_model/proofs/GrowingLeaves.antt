@@ -1,10 +1,10 @@
 -- A leaf among the first bytes of a text is read as the same events where the text goes on, if the labels that it may ask for lead to the same.
-use Rattle.std.proofs.Common.{◌≡◌, inl, inr, ℕ, zero, suc, ◌+◌, ◌-◌, ◌≤◌, Bool, true, false, not, ◌==◌, ◌&&◌, ◌||◌, List, [], ◌∷◌, ◌++◌, length, drop, take, refl, sym, ap, ◌∙◌, subst, arith, length-drop, Option, Some, None}
+use Rattle.std.proofs.Common.{◌≡◌, inl, inr, ℕ, zero, suc, ◌+◌, ◌-◌, ◌≤◌, Bool, true, false, not, ◌==◌, ◌&&◌, ◌||◌, List, [], ◌∷◌, ◌++◌, length, drop, take, refl, sym, ap, ◌∙◌, subst, arith, true≢false, length-drop, Option, Some, None}
 use Rattle.std.specs.Prelude.{if◌then◌else◌, min, max, reverse, chars, codes, map}
 use Rattle.std.specs.List.{prefix_len}
 use Rattle.cmark_grammar.specs.BlockDocument.{Reference as Definition}
 use Rattle.cmark_grammar.specs.Autolinks.{autolink_in}
-use Rattle.cmark_grammar.specs.BracketDecisions.{Named, behind, between, place, stays, defined_or_asked, refers, one_line_footnotes, is_footnote_label, footnote_reference, as_label, collapsed_or_shortcut, by_own_label, full_reference, reference_or, unless_footnote, link_or, with_taken, wiki_text, wikilink_or, decide, is_there, forms, name_in, behind_pipe}
+use Rattle.cmark_grammar.specs.BracketDecisions.{Named, behind, between, place, stays, question, answered, with_answer, defined_or_asked, refers, one_line_footnotes, is_footnote_label, footnote_reference, as_label, collapsed_or_shortcut, by_own_label, full_reference, reference_or, unless_footnote, link_or, with_taken, wiki_text, wikilink_or, decide, is_there, forms, name_in, behind_pipe}
 use Rattle.cmark_grammar.specs.BracketReading.{Reads, Comes}
 use Rattle.cmark_grammar.specs.BracketStates.{Opener, State, moved, opened, Result, StaysText, Forms, Outcome, Decision, Settled, Asks}
 use Rattle.cmark_grammar.specs.CodeSpans.{is_backtick, backticks, code_in}
@@ -52,7 +52,8 @@ use Rattle.cmark_inline_model.proofs.ReadingPlaces.{reading-reaches}
 use Rattle.cmark_inline_model.proofs.SiblingsOne.{spans-one}
 use Rattle.cmark_inline_model.proofs.SpanRanges.{InlineOrder, inline-up}
 use Rattle.cmark_inline_model.proofs.WikiGaps.{decide-far, reading-gaps}
-use Rattle.cmark_stream_model.specs.Continued.{Agree, reader_with, MayAskFor, AreKept}
+use Rattle.cmark_stream_model.proofs.FoldedLabels.{fold-again}
+use Rattle.cmark_stream_model.specs.Continued.{Agree, reader_with, MayAskFor, AreKept, AreKeptButLabels}
 
 -- a choice of two that are the same each
 either-token : (z : Bool) (a b c d : Token) → a ≡ b → c ≡ d → (if z then a else c) ≡ (if z then b else d)
@@ -232,16 +233,23 @@ module _ (profile : Profile) (size : ℕ) (s t : List ℕ) (agree : Agree size s
   defined-same None named taken closer st = refl
   defined-same (Some found) named taken closer st = refl
 
-  refers-same : (named : Named) (taken : Taken) (closer : Bracket) (st : State) → d (fold named.label) ≡ e (fold named.label) → refers one leaf named taken closer st ≡ refers other leaf named taken closer st
-  refers-same named taken closer st h =
+  -- the labels that the leaf may ask for lead to the same
+  abbrev pub Alike : Type 0
+  Alike = (label : List ℕ) → MayAskFor one leaf label → (d (fold label) ≡ e (fold label)) × (f (fold label) ≡ g (fold label))
+
+  abbrev pub FootnotesAlike : Type 0
+  FootnotesAlike = (label : List ℕ) → MayAskFor one leaf label → f (fold label) ≡ g (fold label)
+
+  -- a reference is decided about in the same way
+  abbrev pub SameReference : Named → Taken → Bracket → State → Type 0
+  SameReference named taken closer st = refers one leaf named taken closer st ≡ refers other leaf named taken closer st
+
+  refers-alike : (named : Named) (taken : Taken) (closer : Bracket) (st : State) → d (fold named.label) ≡ e (fold named.label) → SameReference named taken closer st
+  refers-alike named taken closer st h =
       either-decision (st.expansion_left == 0) _ _ _ _ refl (ap (λ o. defined_or_asked one leaf o named taken closer st) h ∙ defined-same (e (fold named.label)) named taken closer st)
 
   footnote-same : (label : List ℕ) (taken : Taken) (closer : Bracket) (st : State) → f (fold label) ≡ g (fold label) → footnote_reference one leaf label taken closer st ≡ footnote_reference other leaf label taken closer st
   footnote-same label taken closer st h = ap (λ z. if one_line_footnotes one leaf && not z then Settled (stays one leaf closer st) else Settled (forms one leaf taken (Footnote (normal_form label) closer.end) closer.end (map dropped) st)) h
-
-  -- the labels that the leaf may ask for lead to the same
-  abbrev Alike : Type 0
-  Alike = (label : List ℕ) → MayAskFor one leaf label → (d (fold label) ≡ e (fold label)) × (f (fold label) ≡ g (fold label))
 
   named-label : (label : List ℕ) (end : ℕ) (o : Option (List ℕ)) → (collapsed_or_shortcut one leaf label end o).label ≡ label
   named-label label end None = refl
@@ -255,34 +263,6 @@ module _ (profile : Profile) (size : ℕ) (s t : List ℕ) (agree : Agree size s
   abbrev IsOpener : Bracket → Type 0
   IsOpener b = (place : ℕ) × (token one leaf place ≡ Opens b)
 
-  own-same : Alike → (at : ℕ) (taken : Taken) (closer : Bracket) (st : State) → token one leaf at ≡ Closes closer → IsOpener taken.opener.bracket → by_own_label one leaf (between one leaf taken.opener.bracket.end closer.start) taken closer st ≡ by_own_label other leaf (between other leaf taken.opener.bracket.end closer.start) taken closer st
-  own-same alike at taken closer st q o =
-      either-decision (is_footnote_label one leaf (between one leaf start end)) _ _ _ _ (footnote-same (as_label one leaf (drop 1 (between one leaf start end))) taken closer st (alike _ (at, closer, q, inr (o.0, taken.opener.bracket, o.1, inr refl))).1)
-      (either-decision (is_bracketed_label (between one leaf start end)) _ _ _ _
-      (ap (λ l. refers one leaf (collapsed_or_shortcut one leaf label closer.end (behind_collapsed l)) taken closer st) (from-same closer.end)
-      ∙ refers-same (collapsed_or_shortcut one leaf label closer.end (behind_collapsed (behind other leaf closer.end))) taken closer st
-      (subst (λ l. d (fold l) ≡ e (fold l)) (sym (named-label label closer.end (behind_collapsed (behind other leaf closer.end)))) (alike label (at, closer, q, inr (o.0, taken.opener.bracket, o.1, inl refl))).0)
-      ∙ ap (λ n. refers other leaf n taken closer st) (named-same label closer.end (behind_collapsed (behind other leaf closer.end)))) refl)
-      ∙ ap (λ l. by_own_label other leaf l taken closer st) (between-same start end)
-    where
-      start : ℕ
-      start = taken.opener.bracket.end
-
-      end : ℕ
-      end = closer.start
-
-      label : List ℕ
-      label = as_label one leaf (between one leaf taken.opener.bracket.end closer.start)
-
-  full-same : Alike → (found : Parsed) (at : ℕ) (taken : Taken) (closer : Bracket) (st : State) → token one leaf at ≡ Closes closer → reference_label_in (from one leaf closer.end) ≡ Some found → full_reference one leaf found taken closer st ≡ full_reference other leaf found taken closer st
-  full-same alike found at taken closer st c q =
-      refers-same (record { label = as_label one leaf found.bytes; link_type = Reference; end = place one leaf found.behind; resume = place one leaf found.behind }) taken closer (record st { label_close = Some (place one leaf found.behind - 1) })
-      (alike (as_label one leaf found.bytes) (at, closer, c, inl (found, q, refl))).0
-
-  reference-same : Alike → (o : Option Parsed) (at : ℕ) (taken : Taken) (closer : Bracket) (st : State) → token one leaf at ≡ Closes closer → IsOpener taken.opener.bracket → ((found : Parsed) → o ≡ Some found → reference_label_in (from one leaf closer.end) ≡ Some found) → reference_or one leaf o taken closer st ≡ reference_or other leaf o taken closer st
-  reference-same alike None at taken closer st c b h = either-decision (is_there closer.start st.label_close) _ _ _ _ refl (own-same alike at taken closer st c b)
-  reference-same alike (Some found) at taken closer st c b h = full-same alike found at taken closer st c (h found refl)
-
   unless-found : (o : Option Parsed) (found : Parsed) → unless_footnote one leaf o ≡ Some found → o ≡ Some found
   unless-found None found q = q
   unless-found (Some x) found q = go (is_footnote_label one leaf x.bytes) q
@@ -295,45 +275,89 @@ module _ (profile : Profile) (size : ℕ) (s t : List ℕ) (agree : Agree size s
   unless-same None = refl
   unless-same (Some x) = refl
 
-  link-same : Alike → (at : ℕ) (taken : Taken) (closer : Bracket) (st : State) → token one leaf at ≡ Closes closer → IsOpener taken.opener.bracket → link_or one leaf (link_tail_in (behind one leaf closer.end)) taken closer st ≡ link_or other leaf (link_tail_in (behind other leaf closer.end)) taken closer st
-  link-same alike at taken closer st c b = ap (λ l. link_or one leaf (link_tail_in l) taken closer st) (from-same closer.end) ∙ go (link_tail_in (behind other leaf closer.end))
-    where
-      go : (o : Option LinkTail) → link_or one leaf o taken closer st ≡ link_or other leaf o taken closer st
-      go (Some tail) = refl
-      go None =
-          reference-same alike (unless_footnote one leaf (reference_label_in (behind one leaf closer.end))) at taken closer st c b (λ found q. unless-found (reference_label_in (behind one leaf closer.end)) found q)
-          ∙ ap (λ l. reference_or other leaf (unless_footnote one leaf (reference_label_in l)) taken closer st) (from-same closer.end)
-          ∙ ap (λ o. reference_or other leaf o taken closer st) (unless-same (reference_label_in (behind other leaf closer.end)))
-
   -- the taken bracket is one of the leaf
   abbrev IsTakenOpener : Option Taken → Type 0
   IsTakenOpener None = Unit {0}
   IsTakenOpener (Some taken) = IsOpener taken.opener.bracket
 
-  taken-same : Alike → (at : ℕ) (o : Option Taken) (closer : Bracket) (st : State) → token one leaf at ≡ Closes closer → IsTakenOpener o → with_taken one leaf o closer st ≡ with_taken other leaf o closer st
-  taken-same alike at None closer st c b = refl
-  taken-same alike at (Some taken) closer st c b = either-decision taken.opener.is_inactive _ _ _ _ refl (link-same alike at taken closer st c b)
+  -- references are decided about in the same way if this holds of a decision
+  module _ (Holds : Decision → Type 0) (footnotes : FootnotesAlike)
+      (refers-same : (named : Named) (taken : Taken) (closer : Bracket) (st : State) → MayAskFor one leaf named.label → Holds (refers one leaf named taken closer st) → SameReference named taken closer st) where
+    either-held : (z : Bool) (a b x y : Decision) → Holds (if z then a else b) → (Holds a → a ≡ x) → (Holds b → b ≡ y) → (if z then a else b) ≡ (if z then x else y)
+    either-held true a b x y k e f = e k
+    either-held false a b x y k e f = f k
 
-  wikilink-same : Alike → (at : ℕ) (first : Option Taken) (o : Option Taken) (closer : Bracket) (st : State) → closer.start ≤ size → token one leaf at ≡ Closes closer → IsTakenOpener o → wikilink_or one leaf first o closer st ≡ wikilink_or other leaf first o closer st
-  wikilink-same alike at None o closer st w c b = taken-same alike at o closer st c b
-  wikilink-same alike at (Some first) o closer st w c b =
-      ap (λ l. form one l) (wiki_text-same first closer w)
-      ∙ either-decision (first.opener.is_inactive || (length (name_in (wiki_text other leaf first closer)) == 0)) _ _ _ _ (taken-same alike at o closer (record st { openers = tried first.nearer st.openers }) c b) refl
-    where
-      form : Reader → List ℕ → Decision
-      form reader l =
-          if first.opener.is_inactive || (length (name_in l) == 0)
-          then with_taken reader leaf o closer (record st { openers = tried first.nearer st.openers })
-          else Settled (forms reader leaf first (Wiki (name_in l) (behind_pipe (suc first.opener.bracket.end) l) (suc closer.end)) (suc closer.end) (λ os. map undoubled (map inactive os)) st)
+    own-same : (at : ℕ) (taken : Taken) (closer : Bracket) (st : State) → token one leaf at ≡ Closes closer → IsOpener taken.opener.bracket → Holds (by_own_label one leaf (between one leaf taken.opener.bracket.end closer.start) taken closer st)
+        → by_own_label one leaf (between one leaf taken.opener.bracket.end closer.start) taken closer st ≡ by_own_label other leaf (between other leaf taken.opener.bracket.end closer.start) taken closer st
+    own-same at taken closer st q o k =
+        either-held (is_footnote_label one leaf (between one leaf start end)) _ _ _ _ k
+        (λ h. footnote-same (as_label one leaf (drop 1 (between one leaf start end))) taken closer st (footnotes _ (at, closer, q, inr (o.0, taken.opener.bracket, o.1, inr refl))))
+        (λ h. either-held (is_bracketed_label (between one leaf start end)) _ _ _ _ h
+        (λ h. refers-same named taken closer st (subst (MayAskFor one leaf) (sym (named-label label closer.end (behind_collapsed (behind one leaf closer.end)))) (at, closer, q, inr (o.0, taken.opener.bracket, o.1, inl refl))) h
+        ∙ ap (λ l. refers other leaf (collapsed_or_shortcut one leaf label closer.end (behind_collapsed l)) taken closer st) (from-same closer.end)
+        ∙ ap (λ n. refers other leaf n taken closer st) (named-same label closer.end (behind_collapsed (behind other leaf closer.end))))
+        (λ h. refl))
+        ∙ ap (λ l. by_own_label other leaf l taken closer st) (between-same start end)
+      where
+        start : ℕ
+        start = taken.opener.bracket.end
 
-  decide-same : Alike → (at : ℕ) (st : State) (closer : Bracket) → closer.start ≤ size → token one leaf at ≡ Closes closer → IsTakenOpener (nearest st.openers) → decide one leaf st closer ≡ decide other leaf st closer
-  unfolding decide
-  decide-same alike at st closer w c b =
-      ap (λ l. if profile.options.wikilinks && first_is (λ b. b == 93) l then wikilink_or one leaf (doubled now.openers) (nearest st.openers) closer now else with_taken one leaf (nearest st.openers) closer now) (from-same closer.end)
-      ∙ either-decision (profile.options.wikilinks && first_is (λ b. b == 93) (behind other leaf closer.end)) _ _ _ _ (wikilink-same alike at (doubled now.openers) (nearest st.openers) closer now w c b) (taken-same alike at (nearest st.openers) closer now c b)
-    where
-      now : State
-      now = record st { openers = used_up st.openers }
+        end : ℕ
+        end = closer.start
+
+        label : List ℕ
+        label = as_label one leaf (between one leaf taken.opener.bracket.end closer.start)
+
+        named : Named
+        named = collapsed_or_shortcut one leaf label closer.end (behind_collapsed (behind one leaf closer.end))
+
+    full-same : (found : Parsed) (at : ℕ) (taken : Taken) (closer : Bracket) (st : State) → token one leaf at ≡ Closes closer → reference_label_in (from one leaf closer.end) ≡ Some found → Holds (full_reference one leaf found taken closer st)
+        → full_reference one leaf found taken closer st ≡ full_reference other leaf found taken closer st
+    full-same found at taken closer st c q k =
+        refers-same (record { label = as_label one leaf found.bytes; link_type = Reference; end = place one leaf found.behind; resume = place one leaf found.behind }) taken closer (record st { label_close = Some (place one leaf found.behind - 1) })
+        (at, closer, c, inl (found, q, refl)) k
+
+    reference-same : (o : Option Parsed) (at : ℕ) (taken : Taken) (closer : Bracket) (st : State) → token one leaf at ≡ Closes closer → IsOpener taken.opener.bracket → ((found : Parsed) → o ≡ Some found → reference_label_in (from one leaf closer.end) ≡ Some found)
+        → Holds (reference_or one leaf o taken closer st) → reference_or one leaf o taken closer st ≡ reference_or other leaf o taken closer st
+    reference-same None at taken closer st c b h k = either-held (is_there closer.start st.label_close) _ _ _ _ k (λ z. refl) (λ z. own-same at taken closer st c b z)
+    reference-same (Some found) at taken closer st c b h k = full-same found at taken closer st c (h found refl) k
+
+    link-same : (at : ℕ) (taken : Taken) (closer : Bracket) (st : State) → token one leaf at ≡ Closes closer → IsOpener taken.opener.bracket → Holds (link_or one leaf (link_tail_in (behind one leaf closer.end)) taken closer st)
+        → link_or one leaf (link_tail_in (behind one leaf closer.end)) taken closer st ≡ link_or other leaf (link_tail_in (behind other leaf closer.end)) taken closer st
+    link-same at taken closer st c b k = go (link_tail_in (behind one leaf closer.end)) k ∙ ap (λ l. link_or other leaf (link_tail_in l) taken closer st) (from-same closer.end)
+      where
+        go : (o : Option LinkTail) → Holds (link_or one leaf o taken closer st) → link_or one leaf o taken closer st ≡ link_or other leaf o taken closer st
+        go (Some tail) k = refl
+        go None k =
+            reference-same (unless_footnote one leaf (reference_label_in (behind one leaf closer.end))) at taken closer st c b (λ found q. unless-found (reference_label_in (behind one leaf closer.end)) found q) k
+            ∙ ap (λ l. reference_or other leaf (unless_footnote one leaf (reference_label_in l)) taken closer st) (from-same closer.end)
+            ∙ ap (λ o. reference_or other leaf o taken closer st) (unless-same (reference_label_in (behind other leaf closer.end)))
+
+    taken-same : (at : ℕ) (o : Option Taken) (closer : Bracket) (st : State) → token one leaf at ≡ Closes closer → IsTakenOpener o → Holds (with_taken one leaf o closer st) → with_taken one leaf o closer st ≡ with_taken other leaf o closer st
+    taken-same at None closer st c b k = refl
+    taken-same at (Some taken) closer st c b k = either-held taken.opener.is_inactive _ _ _ _ k (λ h. refl) (λ h. link-same at taken closer st c b h)
+
+    wikilink-same : (at : ℕ) (first : Option Taken) (o : Option Taken) (closer : Bracket) (st : State) → closer.start ≤ size → token one leaf at ≡ Closes closer → IsTakenOpener o → Holds (wikilink_or one leaf first o closer st)
+        → wikilink_or one leaf first o closer st ≡ wikilink_or other leaf first o closer st
+    wikilink-same at None o closer st w c b k = taken-same at o closer st c b k
+    wikilink-same at (Some first) o closer st w c b k =
+        either-held (first.opener.is_inactive || (length (name_in (wiki_text one leaf first closer)) == 0)) _ _ _ _ k (λ h. taken-same at o closer (record st { openers = tried first.nearer st.openers }) c b h) (λ h. refl)
+        ∙ ap (λ l. form other l) (wiki_text-same first closer w)
+      where
+        form : Reader → List ℕ → Decision
+        form reader l =
+            if first.opener.is_inactive || (length (name_in l) == 0)
+            then with_taken reader leaf o closer (record st { openers = tried first.nearer st.openers })
+            else Settled (forms reader leaf first (Wiki (name_in l) (behind_pipe (suc first.opener.bracket.end) l) (suc closer.end)) (suc closer.end) (λ os. map undoubled (map inactive os)) st)
+
+    decide-same : (at : ℕ) (st : State) (closer : Bracket) → closer.start ≤ size → token one leaf at ≡ Closes closer → IsTakenOpener (nearest st.openers) → Holds (decide one leaf st closer) → decide one leaf st closer ≡ decide other leaf st closer
+    unfolding decide
+    decide-same at st closer w c b k =
+        either-held (profile.options.wikilinks && first_is (λ b. b == 93) (behind one leaf closer.end)) _ _ _ _ k (λ h. wikilink-same at (doubled now.openers) (nearest st.openers) closer now w c b h) (λ h. taken-same at (nearest st.openers) closer now c b h)
+        ∙ ap (λ l. if profile.options.wikilinks && first_is (λ b. b == 93) l then wikilink_or other leaf (doubled now.openers) (nearest st.openers) closer now else with_taken other leaf (nearest st.openers) closer now) (from-same closer.end)
+      where
+        now : State
+        now = record st { openers = used_up st.openers }
 
   -- ## Parts
 
@@ -391,27 +415,35 @@ module _ (profile : Profile) (size : ℕ) (s t : List ℕ) (agree : Agree size s
   openers-kept Says a (Closing closer after) b h k = openers-kept Says h.next after b h.after (openers-behind Says a.asked a closer (record { result = StaysText; after = h.next }) h.comes k)
   openers-kept Says a (Opening opener after) b h k = openers-kept Says (opened opener a) after b h.1 ((a.at, h.0), k)
 
-  reads-same : Alike → (Says : Saying) (a : State) (parts : Parts) (b : State) → AreOpeners a.openers → Reads (token one leaf) (decide one leaf) Says a parts b → Reads (token other leaf) (decide other leaf) Says a parts b
-  reads-same alike Says a NoParts b k h = h
-  reads-same alike Says a (SinglePart item after) b k h = (h.0, sym (token-same a.at) ∙ h.1, reads-same alike Says (moved h.0 a) after b k h.2)
-  reads-same alike Says a (Form opener inside closer formed after) b k h =
+  -- each closing bracket of a reading is decided about in the same way
+  abbrev pub SameDecisions : Saying → Type 0
+  SameDecisions Says =
+      (at : ℕ) (st : State) (closer : Bracket) (o : Outcome) → closer.start ≤ size → token one leaf at ≡ Closes closer → IsTakenOpener (nearest st.openers) → Comes Says st.asked (decide one leaf st closer) o → decide one leaf st closer ≡ decide other leaf st closer
+
+  reads-same : (Says : Saying) → SameDecisions Says → (a : State) (parts : Parts) (b : State) → AreOpeners a.openers → Reads (token one leaf) (decide one leaf) Says a parts b → Reads (token other leaf) (decide other leaf) Says a parts b
+  reads-same Says same a NoParts b k h = h
+  reads-same Says same a (SinglePart item after) b k h = (h.0, sym (token-same a.at) ∙ h.1, reads-same Says same (moved h.0 a) after b k h.2)
+  reads-same Says same a (Form opener inside closer formed after) b k h =
       let until_openers = openers-kept Says (opened opener a) inside h.until h.inside ((a.at, h.opens), k) in
+      let o : Outcome = record { result = Forms (openings inside) formed; after = h.next } in
       record {
         until = h.until;
         next = h.next;
         opens = sym (token-same a.at) ∙ h.opens;
-        inside = reads-same alike Says (opened opener a) inside h.until ((a.at, h.opens), k) h.inside;
+        inside = reads-same Says same (opened opener a) inside h.until ((a.at, h.opens), k) h.inside;
         closes = sym (token-same h.until.at) ∙ h.closes;
-        comes = subst (λ x. Comes Says h.until.asked x (record { result = Forms (openings inside) formed; after = h.next })) (decide-same alike h.until.at h.until closer (closer-low h.until.at closer h.closes) h.closes (nearest-opener h.until.openers until_openers)) h.comes;
-        after = reads-same alike Says h.next after b (openers-behind Says h.until.asked h.until closer (record { result = Forms (openings inside) formed; after = h.next }) h.comes until_openers) h.after;
+        comes = subst (λ x. Comes Says h.until.asked x o) (same h.until.at h.until closer o (closer-low h.until.at closer h.closes) h.closes (nearest-opener h.until.openers until_openers) h.comes) h.comes;
+        after = reads-same Says same h.next after b (openers-behind Says h.until.asked h.until closer o h.comes until_openers) h.after;
       }
-  reads-same alike Says a (Closing closer after) b k h = record {
-    next = h.next;
-    closes = sym (token-same a.at) ∙ h.closes;
-    comes = subst (λ x. Comes Says a.asked x (record { result = StaysText; after = h.next })) (decide-same alike a.at a closer (closer-low a.at closer h.closes) h.closes (nearest-opener a.openers k)) h.comes;
-    after = reads-same alike Says h.next after b (openers-behind Says a.asked a closer (record { result = StaysText; after = h.next }) h.comes k) h.after;
-  }
-  reads-same alike Says a (Opening opener after) b k h = (sym (token-same a.at) ∙ h.0, reads-same alike Says (opened opener a) after b ((a.at, h.0), k) h.1)
+  reads-same Says same a (Closing closer after) b k h =
+      let o : Outcome = record { result = StaysText; after = h.next } in
+      record {
+        next = h.next;
+        closes = sym (token-same a.at) ∙ h.closes;
+        comes = subst (λ x. Comes Says a.asked x o) (same a.at a closer o (closer-low a.at closer h.closes) h.closes (nearest-opener a.openers k) h.comes) h.comes;
+        after = reads-same Says same h.next after b (openers-behind Says a.asked a closer o h.comes k) h.after;
+      }
+  reads-same Says same a (Opening opener after) b k h = (sym (token-same a.at) ∙ h.0, reads-same Says same (opened opener a) after b ((a.at, h.0), k) h.1)
 
   -- ## Events
 
@@ -459,20 +491,64 @@ module _ (profile : Profile) (size : ℕ) (s t : List ℕ) (agree : Agree size s
       begin-place (x ∷ more) ended turn = (size_of (x ∷ more), (omega arith, sym (place-first s x more ended)))
 
   -- the leaf is read as the same events
-  pub leaf-same : size ≤ length s → HaveLineEnds s leaf.stretches → Alike → (Says : Saying) (before after : Between) (events : List Ranged) → ReadsLeaf one Says leaf before events after → ReadsLeaf other Says leaf before events after
-  leaf-same bound lines alike Says before after events h =
+  leaf-read : size ≤ length s → HaveLineEnds s leaf.stretches → (Says : Saying) → SameDecisions Says → (before after : Between) (events : List Ranged) → ReadsLeaf one Says leaf before events after → ReadsLeaf other Says leaf before events after
+  leaf-read bound lines Says same before after events h =
       let k = spans-stand bound lines Says before after events h in
       let are : h.spans ≡ spans_in profile.options h.parts = spans-one profile.options h.parts h.spans h.are in
       record {
         parts = h.parts;
         last = h.last;
         spans = h.spans;
-        reads = record { reads = reads-same alike Says (entering leaf before) h.parts h.last tt h.reads.reads; ends = sym (token-same h.last.at) ∙ h.reads.ends };
+        reads = record { reads = reads-same Says same (entering leaf before) h.parts h.last tt h.reads.reads; ends = sym (token-same h.last.at) ∙ h.reads.ends };
         are = h.are;
         events_are =
             h.events_are ∙ ap (inline_events s) are ∙ inline-same (IsBehindPipe profile.options s) (begin_of leaf.stretches) (spans_in profile.options h.parts) h.last.at k.0 k.1 ∙ ap (inline_events t) (sym are);
         after_is = h.after_is;
       }
+
+  -- by the labels that the leaf may ask for
+  pub leaf-same : size ≤ length s → HaveLineEnds s leaf.stretches → Alike → (Says : Saying) (before after : Between) (events : List Ranged) → ReadsLeaf one Says leaf before events after → ReadsLeaf other Says leaf before events after
+  leaf-same bound lines alike Says before after events h =
+      leaf-read bound lines Says
+      (λ at st closer o w c b k.
+      decide-same (λ x. Unit {0}) (λ label may. (alike label may).1) (λ named taken closer st may h. refers-alike named taken closer st (alike named.label may).0) at st closer w c b tt) before after events h
+
+  -- by the questions that were put: none of them is about a label that has a definition now
+  abbrev pub Unanswered : Decision → Type 0
+  Unanswered (Settled o) = Unit {0}
+  Unanswered (Asks question answered) = e (fold question.reference) ≡ None
+
+  refers-unanswered : profile.has_callback ≡ true → ((folded : List ℕ) (r : Definition) → d folded ≡ Some r → e folded ≡ Some r)
+      → (named : Named) (taken : Taken) (closer : Bracket) (st : State) → Unanswered (refers one leaf named taken closer st) → SameReference named taken closer st
+  refers-unanswered on stay named taken closer st k = go (st.expansion_left == 0) (d (fold named.label)) refl k
+    where
+      asked : (z : Bool) → profile.has_callback ≡ z → z ≡ true → Unanswered (if z then Asks (question one leaf named taken.opener.bracket) (λ answer. answered one leaf named taken closer (with_answer one leaf (question one leaf named taken.opener.bracket) answer st) answer) else Settled (stays one leaf closer st))
+          → e (fold (normal_form named.label)) ≡ None
+      asked true p q k = k
+      asked false p q k = absurd (true≢false (sym q))
+
+      go : (z : Bool) (o : Option Definition) → d (fold named.label) ≡ o → Unanswered (if z then Settled (stays one leaf closer st) else defined_or_asked one leaf o named taken closer st)
+          → (if z then Settled (stays one leaf closer st) else defined_or_asked one leaf (d (fold named.label)) named taken closer st) ≡ (if z then Settled (stays other leaf closer st) else defined_or_asked other leaf (e (fold named.label)) named taken closer st)
+      go true o p k = refl
+      go false (Some r) p k = ap (λ o. defined_or_asked one leaf o named taken closer st) (p ∙ sym (stay (fold named.label) r p)) ∙ defined-same (e (fold named.label)) named taken closer st
+      go false None p k =
+          let none = ap e (sym (fold-again named.label)) ∙ asked profile.has_callback refl on k in
+          ap (λ o. defined_or_asked one leaf o named taken closer st) (p ∙ sym none) ∙ defined-same (e (fold named.label)) named taken closer st
+
+  -- the answers are not about labels that have a definition now
+  abbrev pub SaysOfUndefined : Saying → Saying
+  SaysOfUndefined Says asked question answer = Says asked question answer × (e (fold question.reference) ≡ None)
+
+  told : (Says : Saying) (asked : List Exchange) (x : Decision) (o : Outcome) → Comes (SaysOfUndefined Says) asked x o → Unanswered x
+  told Says asked (Settled s) o k = tt
+  told Says asked (Asks question answered) o k = k.1.1
+
+  pub leaf-unanswered : size ≤ length s → HaveLineEnds s leaf.stretches → FootnotesAlike → profile.has_callback ≡ true → ((folded : List ℕ) (r : Definition) → d folded ≡ Some r → e folded ≡ Some r)
+      → (Says : Saying) (before after : Between) (events : List Ranged) → ReadsLeaf one (SaysOfUndefined Says) leaf before events after → ReadsLeaf other (SaysOfUndefined Says) leaf before events after
+  leaf-unanswered bound lines footnotes on stay Says before after events h =
+      leaf-read bound lines (SaysOfUndefined Says)
+      (λ at st closer o w c b k.
+      decide-same Unanswered footnotes (λ named taken closer st may h. refers-unanswered on stay named taken closer st h) at st closer w c b (told Says st.asked (decide one leaf st closer) o k)) before after events h
 
 module _ (profile : Profile) (size : ℕ) (s t : List ℕ) (agree : Agree size s t) (d e : List ℕ → Option Definition) (f g : List ℕ → Bool) where
   pub all-same : size ≤ length s → (Says : Saying) (segments : List Segment) (before after : Between) (events : List Ranged) → AreKept profile size s d e f g segments
@@ -481,3 +557,12 @@ module _ (profile : Profile) (size : ℕ) (s t : List ℕ) (agree : Agree size s
   all-same bound Says (Given r ∷ others) before after events k h = (h.0, all-same bound Says others before after h.0 k h.1, h.2)
   all-same bound Says (Content leaf ∷ others) before after events k h =
       (h.0, h.1, h.2, leaf-same profile size s t agree d e f g leaf k.0.turn bound k.0.lines k.0.labels Says before h.2 h.0 h.3, all-same bound Says others h.2 after h.1 k.1 h.4, h.5)
+
+  pub all-unanswered : size ≤ length s → profile.has_callback ≡ true → ((folded : List ℕ) (r : Definition) → d folded ≡ Some r → e folded ≡ Some r)
+      → (Says : Saying) (segments : List Segment) (before after : Between) (events : List Ranged) → AreKeptButLabels profile s d f g size segments
+      → ReadsAll (reader_with profile s d f) (λ asked question answer. Says asked question answer × (e (fold question.reference) ≡ None)) segments before events after
+      → ReadsAll (reader_with profile t e g) (λ asked question answer. Says asked question answer × (e (fold question.reference) ≡ None)) segments before events after
+  all-unanswered bound on stay Says [] before after events k h = h
+  all-unanswered bound on stay Says (Given r ∷ others) before after events k h = (h.0, all-unanswered bound on stay Says others before after h.0 k h.1, h.2)
+  all-unanswered bound on stay Says (Content leaf ∷ others) before after events k h =
+      (h.0, h.1, h.2, leaf-unanswered profile size s t agree d e f g leaf k.0.turn bound k.0.lines k.0.footnotes on stay Says before h.2 h.0 h.3, all-unanswered bound on stay Says others h.2 after h.1 k.1 h.4, h.5)

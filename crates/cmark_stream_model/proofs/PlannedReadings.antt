@@ -1,10 +1,10 @@
 -- The law of a text that grows, if the answers are given by a plan.
-use Rattle.std.proofs.Common.{◌≡◌, ℕ, List, [], ◌∷◌, ◌++◌, refl, sym, ap, ◌∙◌, subst, append_assoc, append-nil, Option}
+use Rattle.std.proofs.Common.{◌≡◌, ℕ, List, [], ◌∷◌, ◌++◌, sym, ap, ◌∙◌, subst, append_assoc, append-nil, Option}
 use Rattle.cmark_grammar.specs.Answers.{Destination}
 use Rattle.cmark_grammar.specs.Derivation.{document}
 use Rattle.cmark_grammar.specs.Event.{Ranged}
 use Rattle.cmark_grammar.specs.Questions.{Exchange, Question, Plan, ByPlan, IsNext}
-use Rattle.cmark_grammar.specs.SpanDocuments.{Profile, Segment, segments, reader_of, at_start, ReadsAll, IsReading}
+use Rattle.cmark_grammar.specs.SpanDocuments.{Profile, segments, reader_of, at_start, ReadsAll, IsReading}
 use Rattle.cmark_inline_model.specs.PlannedAnswers.{AreByPlan}
 use Rattle.cmark_inline_model.proofs.GivenAnswers.{all-wider, all-one}
 use Rattle.cmark_stream_model.specs.Continued.{AskAlike, definitions_of, footnotes_of}

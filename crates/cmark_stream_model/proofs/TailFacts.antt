@@ -1,5 +1,5 @@
 -- The rest of a text is a part of its document, so the facts of the document hold of it.
-use Rattle.std.proofs.Common.{◌≡◌, ℕ, zero, suc, ◌+◌, ◌≤◌, Bool, false, List, [], ◌∷◌, ◌++◌, length, take, drop, refl, sym, ap, ◌∙◌, subst, arith, length-append, None}
+use Rattle.std.proofs.Common.{◌≡◌, ℕ, ◌≤◌, false, List, [], ◌∷◌, ◌++◌, length, take, drop, refl, sym, ap, ◌∙◌, subst, arith, length-append, None}
 use Rattle.std.specs.Prelude.{IsUtf8, IsCharBoundary}
 use Rattle.cmark_grammar.specs.Answers.{Lookup}
 use Rattle.cmark_grammar.specs.BlockDocument.{BlockDocument, Nil, Node, join}
@@ -23,7 +23,7 @@ use Rattle.cmark_block_model.specs.Tails.{document_after}
 use Rattle.cmark_block_model.proofs.Drawings.{derived}
 use Rattle.cmark_block_model.proofs.LeafDrawings.{HasWholeLeaves, derived-whole}
 use Rattle.cmark_inline_model.specs.LeafExtents.{extents}
-use Rattle.cmark_stream_model.specs.Growth.{IsJoined, document_before, document_of_tail}
+use Rattle.cmark_stream_model.specs.Growth.{IsJoined, document_of_tail}
 use Rattle.cmark_stream_model.specs.Tails.{IsJoinedAt}
 use Rattle.cmark_stream_model.proofs.JoinedReadings.{document-first, segments-join, references-join, footnotes-join, joined}
 use Rattle.cmark_stream_model.proofs.SettledReadings.{documents-stay}

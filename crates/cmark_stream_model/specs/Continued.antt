@@ -1,5 +1,5 @@
 -- What a leaf of a text is read with, before and after the text grows.
-use Rattle.std.specs.Prelude.{◌≡◌, ◌⊎◌, ℕ, ◌+◌, ◌≤◌, Bool, List, [], ◌∷◌, drop, Option, Some}
+use Rattle.std.specs.Prelude.{◌≡◌, ◌⊎◌, ℕ, ◌+◌, ◌≤◌, Bool, List, [], ◌∷◌, drop, Option, Some, None}
 use Rattle.cmark_grammar.specs.BlockDocument.{BlockDocument, Reference}
 use Rattle.cmark_grammar.specs.BracketDecisions.{as_label, between}
 use Rattle.cmark_grammar.specs.InlineTokens.{from, token}
@@ -9,6 +9,7 @@ use Rattle.cmark_grammar.specs.LeafReading.{Between}
 use Rattle.cmark_grammar.specs.LeafText.{Leaf, InTurn}
 use Rattle.cmark_grammar.specs.LinkDefinitions.{Parsed}
 use Rattle.cmark_grammar.specs.LinkTails.{reference_label_in}
+use Rattle.cmark_grammar.specs.Questions.{Exchange}
 use Rattle.cmark_grammar.specs.Readers.{Reader}
 use Rattle.cmark_grammar.specs.References.{references, first_with}
 use Rattle.cmark_grammar.specs.SpanDocuments.{Profile, Segment, Given, Content, footnote_labels, has_label}
@@ -63,6 +64,37 @@ module _ (profile : Profile) (s : List ℕ) (d e : List ℕ → Option Reference
   AskAlike (Given r ∷ others) = AskAlike others
   AskAlike (Content leaf ∷ others) =
       ((label : List ℕ) → MayAskFor (reader_with profile s d f) leaf label → (d (fold label) ≡ e (fold label)) × (f (fold label) ≡ g (fold label))) × AskAlike others
+
+module _ (profile : Profile) (s : List ℕ) (d : List ℕ → Option Reference) (f g : List ℕ → Bool) where
+  -- the labels that a leaf may look up lead to the same footnotes
+  abbrev pub AskFootnotesAlikeIn : Leaf → Type 0
+  AskFootnotesAlikeIn leaf = (label : List ℕ) → MayAskFor (reader_with profile s d f) leaf label → f (fold label) ≡ g (fold label)
+
+  -- so do those of each leaf
+  abbrev pub AskFootnotesAlike : List Segment → Type 0
+  AskFootnotesAlike [] = Unit {0}
+  AskFootnotesAlike (Given r ∷ others) = AskFootnotesAlike others
+  AskFootnotesAlike (Content leaf ∷ others) = AskFootnotesAlikeIn leaf × AskFootnotesAlike others
+
+  -- a leaf is within the first bytes, and the labels that it may look up lead to the same footnotes
+  pub record IsKeptButLabels (size : ℕ) (leaf : Leaf) : Type 0 where
+    pub turn : InTurn 0 leaf.stretches size
+    pub lines : HaveLineEnds s leaf.stretches
+    pub footnotes : AskFootnotesAlikeIn leaf
+
+  abbrev pub AreKeptButLabels : (size : ℕ) → List Segment → Type 0
+  AreKeptButLabels size [] = Unit {0}
+  AreKeptButLabels size (Given r ∷ others) = AreKeptButLabels size others
+  AreKeptButLabels size (Content leaf ∷ others) = IsKeptButLabels size leaf × AreKeptButLabels size others
+
+-- no question is about a label with a definition
+abbrev pub AreUndefined : (List ℕ → Option Reference) → List Exchange → Type 0
+AreUndefined e [] = Unit {0}
+AreUndefined e (x ∷ xs) = (e (fold x.question.reference) ≡ None) × AreUndefined e xs
+
+-- all definitions stay
+abbrev pub DefinitionsStay : (d e : List ℕ → Option Reference) → Type 0
+DefinitionsStay d e = (folded : List ℕ) (r : Reference) → d folded ≡ Some r → e folded ≡ Some r
 
 -- the definitions and the footnotes of a document, by folded labels
 abbrev pub definitions_of : BlockDocument → List ℕ → Option Reference

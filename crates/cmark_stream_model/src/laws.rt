@@ -21,7 +21,7 @@ ghost use Rattle.cmark_grammar.specs.References.{first_with, references};
 ghost use Rattle.cmark_grammar.specs.Rows.{Row, rows, rows_from, shown};
 ghost use Rattle.cmark_grammar.specs.SpanDocuments.{Left, Profile, Segment, ReadsAll, segments, footnote_labels, has_label, reader_of, at_start, IsReading};
 ghost use Rattle.cmark_inline_model.specs.PlannedAnswers.{AreByPlan};
-ghost use Rattle.cmark_stream_model.specs.Continued.{Agree, reader_with, AreKept, AskAlike, definitions_of, footnotes_of, with_more, with_limit_more};
+ghost use Rattle.cmark_stream_model.specs.Continued.{Agree, reader_with, AreKept, AreUndefined, AskAlike, AskFootnotesAlike, DefinitionsStay, definitions_of, footnotes_of, with_more, with_limit_more};
 ghost use Rattle.cmark_block_model.specs.Tails.{document_after};
 ghost use Rattle.cmark_stream_model.specs.Tails.{IsJoinedAt};
 ghost use Rattle.cmark_stream_model.specs.Growth.{is_blank, ends_whole, fed_before, open_after, Parts, blocks_at, IsCut, begins_apart, last_list, continues, may_continue, document_before, document_of_tail, ReadInTurn, are_resolved, HasNoMetadata, definition_or, is_outside_of_lists, IsJoined};
@@ -115,6 +115,17 @@ pub fn settled_events_stay()
     ensures { (profile : Profile) (front tail other : List ℕ) (d e : List ℕ → Option Reference) (f g : List ℕ → Bool)
         → (exchanges : List Exchange) (before after : Between) (events : List Ranged)
         → AskAlike profile (front ++ tail) d e f g (segments (document front profile.options profile.lookup))
+        → ReadsAll (reader_with profile (front ++ tail) d f) (IsNext exchanges) (segments (document front profile.options profile.lookup)) before events after
+        → ReadsAll (reader_with profile (front ++ other) e g) (IsNext exchanges) (segments (document front profile.options profile.lookup)) before events after }
+{}
+
+/// The bytes before a cut are read as the same events if no question that was asked there is about a label that has a definition now. So with
+/// a callback, only the labels of its questions matter: a label that was found keeps its definition. Footnotes must be the same.
+pub fn questions_decide_which_events_stay()
+    ensures { (profile : Profile) (front tail other : List ℕ) (d e : List ℕ → Option Reference) (f g : List ℕ → Bool)
+        → profile.has_callback ≡ true → DefinitionsStay d e
+        → (exchanges : List Exchange) → AreUndefined e exchanges → (before after : Between) (events : List Ranged)
+        → AskFootnotesAlike profile (front ++ tail) d f g (segments (document front profile.options profile.lookup))
         → ReadsAll (reader_with profile (front ++ tail) d f) (IsNext exchanges) (segments (document front profile.options profile.lookup)) before events after
         → ReadsAll (reader_with profile (front ++ other) e g) (IsNext exchanges) (segments (document front profile.options profile.lookup)) before events after }
 {}
