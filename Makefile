@@ -82,27 +82,27 @@ check-dist:
 
 web: bin/mdhtml bin/mdevents lib
 	tools/web
-	tests/web
-	tests/safe --browser
+	tests/bindings/web
+	tests/bindings/safe --browser
 
 safe: bin/lib/libpulldown_cmark.a
-	tests/safe
+	tests/bindings/safe
 
 fuzz: bin/lib/libpulldown_cmark.a
-	tests/fuzz 600
+	tests/bindings/fuzz 600
 
 test: edits gate programs beside
 	@tail -n 1 bin/gate.log
 
 # Faults that are found without a proof come first.
 edits:
-	tests/edits
-	tests/documents
+	tests/edits/syntax
+	tests/documents/check
 
 # The tests that need no proof run beside the gate, on the processors that it leaves idle.
 gate:
 	mkdir -p bin
-	nice -n 19 tests/unit > bin/unit.log 2>&1 & unit=$$!; \
+	nice -n 19 tests/library/run > bin/unit.log 2>&1 & unit=$$!; \
 	(rt ci; echo $$? > bin/gate.status) 2>&1 | tee bin/gate.log; \
 	wait $$unit; unit=$$?; cat bin/unit.log; \
 	test "$$(cat bin/gate.status) $$unit" = "0 0"
@@ -115,7 +115,7 @@ programs:
 
 # Edits that the prover has to refuse, over the libraries that are built.
 wrong:
-	tests/wrong
+	tests/edits/try
 
 # The tests over the gate's libraries and programs, as two jobs in parallel: one uses one processor, the other all of them.
 beside:
@@ -126,20 +126,20 @@ beside:
 
 # Tests of the built programs, for properties that the proofs do not cover.
 outside:
-	tests/entities
-	tests/refusals
-	tests/refused_calls
-	tests/rows
-	tests/hostile
-	tests/walks 2000 1
-	tests/inline_definitions 2000 1
-	tests/block_definitions 1000 1
-	tests/block_definitions 500 2 gfm tables footnotes tasklists definition-list heading-attributes yaml-metadata plus-metadata
-	tests/vectors
+	tests/programs/entities
+	tests/programs/out_of_memory
+	tests/library/refused_calls
+	tests/texts/rows
+	tests/texts/hostile
+	tests/texts/walks 2000 1
+	tests/grammar/check_inlines 2000 1
+	tests/grammar/check_blocks 1000 1
+	tests/grammar/check_blocks 500 2 gfm tables footnotes tasklists definition-list heading-attributes yaml-metadata plus-metadata
+	tests/texts/vectors
 
 # Tests of the installed files: the programs and their manual pages, and the library called from C and from Python.
 installed:
-	tests/program
-	tests/bindings
-	tests/examples
-	tests/dist
+	tests/programs/run
+	tests/bindings/run
+	tests/programs/examples
+	tests/programs/dist

@@ -1,6 +1,6 @@
 //! Reads texts with their HTML and their events from the file that PULLDOWN_CMARK_CASES names, and compares what this crate makes of them.
 //!
-//! `tests/bindings_rust.py` of the repository writes the file: the HTML and the events come from the proved programs. Each case has the
+//! `tests/bindings/bindings_rust.py` of the repository writes the file: the HTML and the events come from the proved programs. Each case has the
 //! bits of the options, and then the text, its HTML and the lines of its events, each after its length.
 
 use pulldown_cmark::{html, Event, Options, Parser};

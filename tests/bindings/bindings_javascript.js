@@ -1,0 +1,208 @@
+// The part of tests/bindings/bindings_javascript.py that runs in Node: the functions of one of the page's modules, on cases of standard input.
+//
+//     node bindings_javascript.js FOLDER MODULE
+//
+// FOLDER has pulldown_cmark.js and records.js, and MODULE is a file of WebAssembly. It writes JSON: the answers for the cases, and the faults.
+"use strict";
+const { createHash } = require("crypto");
+const { readFileSync } = require("fs");
+const [folder, module_] = process.argv.slice(2);
+const core = require(`${folder}/pulldown_cmark.js`), { recordsOf } = require(`${folder}/records.js`);
+const calls = core.callsOf(new WebAssembly.Instance(new WebAssembly.Module(readFileSync(module_)), {}));
+const { html, events, references, merged, render } = calls;
+const faults = [];
+
+const judge = (what, found, wanted) => {
+  const [a, b] = [found, wanted].map((it) => JSON.stringify(it));
+  if (a !== b) faults.push(`${what}: wanted ${b}, found ${a}`);
+};
+const isSame = (a, b) => Buffer.compare(a, b) === 0;
+
+/** The answers for a text with options. The ways to the same answer are compared here. */
+const answerFor = ([bits, text]) => {
+  const found = events(text, bits), all = [...found], plain = html(text, bits), bytes = new TextEncoder().encode(text), ofBytes = events(bytes, bits);
+  const what = `${JSON.stringify(text)} with ${bits}`;
+  judge(`the length of ${what}`, found.length, all.length);
+  judge(`the events by number of ${what}`, Array.from({ length: found.length }, (_, at) => found.at(at)), all);
+  judge(`the last event of ${what}`, found.at(-1), all[all.length - 1]);
+  judge(`no event after the last of ${what}`, found.at(found.length), undefined);
+  judge(`render of the records of ${what}`, render(found), plain);
+  judge(`render of the events of ${what}`, render(all), plain);
+  judge(`render of the merged events of ${what}`, render(merged(found)), plain);
+  judge(`the HTML of the bytes of ${what}`, html(bytes, bits), plain);
+  if (!isSame(recordsOf(ofBytes), ofBytes.records)) faults.push(`the records of the events of ${what} differ from those of the library`);
+  const sources = all.map(({ start, end }) => text.slice(start, end));
+  judge(`the ranges of ${what}`, Array.from(ofBytes, ({ start, end }) => Buffer.from(bytes.subarray(start, end)).toString()), sources);
+  const digest = createHash("sha256").update(ofBytes.records).digest("hex");
+  return { html: plain, safe: html(text, bits, { safe: true }), events: all, merged: [...merged(found)], digest };
+};
+
+/** The HTML of some of the events of a text, in another order. */
+const filtered = ([bits, text, numbers]) => {
+  const all = [...events(text, bits)];
+  return render(numbers.map((it) => all[it]));
+};
+
+/** The HTML of records, or the name of the error. */
+const renderedOrNot = (base64) => {
+  try {
+    return { html: render(Uint8Array.from(Buffer.from(base64, "base64"))) };
+  } catch (error) {
+    return { error: error.name };
+  }
+};
+
+/** What a call throws. */
+const thrown = (call) => {
+  try {
+    call();
+  } catch (error) {
+    return `${error.name}: ${error.message}`;
+  }
+  return "nothing";
+};
+
+const start = (value) => ({ name: "Start", value });
+const LINK = { name: "Link", linkType: "Inline", destUrl: "a", title: "", id: "" };
+// Calls and the errors that they throw.
+const WRONG = [
+  [() => html(1), "TypeError: Markdown is a string or a Uint8Array, not number"],
+  [() => html(null), "TypeError: Markdown is a string or a Uint8Array, not null"],
+  [() => events({}), "TypeError: Markdown is a string or a Uint8Array, not object"],
+  [() => references(), "TypeError: Markdown is a string or a Uint8Array, not undefined"],
+  [() => html(Uint8Array.of(97, 255)), "NotUtf8Error: the text is not UTF-8"],
+  [() => events(Uint8Array.of(97, 255)), "NotUtf8Error: the text is not UTF-8"],
+  [() => references(Uint8Array.of(97, 255)), "NotUtf8Error: the text is not UTF-8"],
+  [() => events(Uint8Array.of(97, 255), 0, { brokenLink: () => null }), "NotUtf8Error: the text is not UTF-8"],
+  [() => html("a\ud800b"), "NotUtf8Error: the text has half of a pair of surrogates"],
+  [() => events("\udc00"), "NotUtf8Error: the text has half of a pair of surrogates"],
+  [() => html("a", 1), "RangeError: there is no such set of options: 1"],
+  [() => events("a", 1 << 18), "RangeError: there is no such set of options: 262144"],
+  [() => events("a", -1), "RangeError: there is no such set of options: -1"],
+  [() => references("a", 2 ** 40), "RangeError: there is no such set of options: 1099511627776"],
+  [() => html("a", "2"), "TypeError: options are a number, joined by |"],
+  [() => html("a", 0.5), "TypeError: options are a number, joined by |"],
+  [() => html("a", 0, { expansionLimit: -1 }), "RangeError: a limit is at least 0"],
+  [() => html("a", 0, { safe: true, expansionLimit: 1 }), "RangeError: a call takes one of safe, expansionLimit and brokenLink"],
+  [() => html("a", 0, { safe: true, brokenLink: () => null }), "RangeError: a call takes one of safe, expansionLimit and brokenLink"],
+  [() => events("a", 0, { brokenLink: 1 }), "TypeError: brokenLink is no function"],
+  [() => html("[a]", 0, { brokenLink: () => "b" }), "MalformedError: the answer for a link is no object"],
+  [() => html("[a]", 0, { brokenLink: () => ({}) }), "MalformedError: the destination of the answer is undefined, not a string"],
+  [() => html("[a]", 0, { brokenLink: () => ({ destUrl: "b", title: 1 }) }), "MalformedError: the title of the answer is number, not a string"],
+  [() => html("[a]", 0, { brokenLink: () => { throw new EvalError("mine"); } }), "EvalError: mine"],
+  [() => render(1), "TypeError: events are an iterable object, or the bytes of records"],
+  [() => render(null), "TypeError: events are an iterable object, or the bytes of records"],
+  [() => render([null]), "MalformedError: event 0: null is no event"],
+  [() => render([{ name: "Rule", value: null }, { name: "Other" }]), 'MalformedError: event 1: there is no event "Other"'],
+  [() => render([{ name: null }]), 'MalformedError: event 0: there is no event ""'],
+  [() => render([{ name: "Text" }]), "MalformedError: event 0: the value of the event Text is null, not a string"],
+  [() => render([{ name: "Code", value: 1 }]), "MalformedError: event 0: the value of the event Code is number, not a string"],
+  [() => render([{ name: "Text", value: "\ud800" }]), 'MalformedError: event 0: "\\ud800" has half of a pair of surrogates'],
+  [() => render([{ name: "Rule", value: "a" }]), "MalformedError: event 0: the event Rule has no value"],
+  [() => render([{ name: "TaskListMarker", value: 1 }]), "MalformedError: event 0: there is no value of a task list marker 1"],
+  [() => render([{ name: "Rule", value: null, start: -1 }]), "MalformedError: event 0: a start is -1, not an integer from 0 to 2 ** 53 - 1"],
+  [() => render([{ name: "Rule", value: null, end: 0.5 }]), "MalformedError: event 0: an end is 0.5, not an integer from 0 to 2 ** 53 - 1"],
+  [() => render([{ name: "Start", value: "Paragraph" }]), "MalformedError: event 0: the value of the event Start is no tag"],
+  [() => render([{ name: "End", value: null }]), "MalformedError: event 0: the value of the event End is no tag"],
+  [() => render([start({ name: "Div" })]), 'MalformedError: event 0: there is no tag "Div"'],
+  [() => render([start({ name: "Heading", level: 7 })]), "MalformedError: event 0: there is no heading of the level 7"],
+  [() => render([{ name: "End", value: { name: "Heading", level: 0 } }]), "MalformedError: event 0: there is no heading of the level 0"],
+  [() => render([start({ name: "Heading", level: 1, classes: "a" })]), "MalformedError: event 0: the list of classes is no array"],
+  [() => render([start({ name: "Heading", level: 1, attrs: ["a"] })]), "MalformedError: event 0: an attribute is no array"],
+  [() => render([start({ name: "BlockQuote", kind: "Other" })]), 'MalformedError: event 0: there is no kind of a block quote "Other"'],
+  [() => render([start({ name: "CodeBlock" })]), "MalformedError: event 0: there is no kind of a code block undefined"],
+  [() => render([start({ name: "CodeBlock", kind: "Fenced" })]), "MalformedError: event 0: an info string is undefined, not a string"],
+  [() => render([start({ name: "List", firstNumber: -1 })]), "MalformedError: event 0: the first number of a list is -1, not an integer from 0 to 2 ** 53 - 1"],
+  [() => render([start({ name: "Table", alignments: ["Up"] })]), 'MalformedError: event 0: there is no alignment "Up"'],
+  [() => render([start({ ...LINK, linkType: "Other" })]), 'MalformedError: event 0: there is no link type "Other"'],
+  [() => render([start({ ...LINK, linkType: "WikiLink" })]), "MalformedError: event 0: there is no value of `hasPothole` undefined"],
+  [() => render([start({ ...LINK, title: undefined })]), "MalformedError: event 0: a title is undefined, not a string"],
+  [() => render([start({ name: "MetadataBlock", kind: null })]), "MalformedError: event 0: there is no kind of a metadata block null"],
+  [() => render(Uint8Array.of(1, 2)), "MalformedError: the bytes are not the records of events"],
+];
+
+/** Errors, and that a call after them works. */
+const tryErrors = () => {
+  for (const [call, wanted] of WRONG) judge(String(call).slice(6), thrown(call), wanted);
+  judge("a call after the errors", html("*a*"), "<p><em>a</em></p>\n");
+  for (const [error, base] of [["NotUtf8Error", TypeError], ["MalformedError", TypeError], ["OutOfMemoryError", RangeError]]) {
+    judge(`the class ${error}`, [typeof calls[error], calls[error].prototype instanceof base], ["function", true]);
+  }
+};
+
+// Events without a range and with few fields, changed and unbalanced ones, and their HTML.
+const MADE = [
+  [[], ""],
+  [[start({ name: "Paragraph" })], "<p>"],
+  [[{ name: "End", value: { name: "Paragraph" } }, { name: "End", value: { name: "Emphasis" } }], "</p>\n</em>"],
+  [[start({ name: "Heading", level: 2 }), { name: "Text", value: "<" }, { name: "End", value: { name: "Heading", level: 3 } }], "<h2>&lt;</h3>\n"],
+  [[start({ name: "Heading", level: 1, id: "i", classes: ["a", "b"], attrs: [["c", null], ["d", "e"]] })], '<h1 id="i" class="a b" c="" d="e">'],
+  [[start({ name: "List", firstNumber: 7 }), start({ name: "List" })], '<ol start="7">\n<ul>\n'],
+  [[start({ name: "CodeBlock", kind: "Fenced", info: "rust x" })], '<pre><code class="language-rust">'],
+  [[start({ ...LINK, destUrl: "a b", title: "c" }), { name: "SoftBreak" }], '<a href="a%20b" title="c">\n'],
+  [[{ name: "TaskListMarker", value: true }, { name: "Rule" }, { name: "HardBreak", value: null }], '<input disabled="" type="checkbox" checked=""/>\n<hr />\n<br />\n'],
+];
+
+/** Events that no text has. */
+const tryMade = () => {
+  const text = (value, begin) => ({ name: "Text", value, start: begin, end: begin + 1 }), rule = { name: "Rule", value: null, start: 0, end: 1 };
+  judge("merged texts", [...merged([text("a", 0), text("", 1), text("b", 2), rule, text("", 4), rule])], [{ ...text("ab", 0), end: 3 }, rule, text("", 4), rule]);
+  judge("merged texts that are empty", [...merged([text("", 0), text("", 1), rule, text("", 2), text("", 3)])], [rule]);
+  for (const [made, wanted] of MADE) judge(`render of ${JSON.stringify(made)}`, render(made), wanted);
+  const number = 100_000, nested = Array.from({ length: number }, () => start({ name: "BlockQuote" }));
+  judge("render of nested block quotes", render(nested), "<blockquote>\n".repeat(number));
+};
+
+/** Links without a definition, with a callback, and the definitions of a text. */
+const tryLinks = () => {
+  const text = "é [a] [b][] [c][d] [a]\n\n[e]: /e\n\n- [f]\n", asked = [];
+  const given = { a: { destUrl: "/a", title: "t" }, b: { destUrl: "/b" }, d: { destUrl: "/d" }, f: null };
+  const brokenLink = (link) => (asked.push(link), given[link.reference]);
+  const defined = `${text}\n[a]: /a 't'\n[b]: /b\n[d]: /d\n`;
+  judge("HTML with a callback", html(text, 0, { brokenLink }), html(defined));
+  judge("the ranges that are asked for", asked.map(({ start, end }) => text.slice(start, end)).sort(), ["[a]", "[a]", "[b]", "[c][d]", "[f]"]);
+  judge("the first question", asked[0], { linkType: "ShortcutUnknown", reference: "a", start: 2, end: 5 });
+  const linkTypes = Array.from(events(text, 0, { brokenLink }), (it) => it.value?.linkType).filter(Boolean);
+  judge("link types with a callback", linkTypes, ["ShortcutUnknown", "CollapsedUnknown", "ReferenceUnknown", "ShortcutUnknown"]);
+  judge("a callback that answers nothing", html(text, 0, { brokenLink: () => undefined }), html(text));
+  const unasked = () => faults.push("asked about a link that has a definition");
+  judge("a callback that is not asked", html("[e]\n\n[e]: /e", 0, { brokenLink: unasked }), '<p><a href="/e">e</a></p>\n');
+  const definitions = "é\n\n[b]: /b 'x'\n[A B]: <>\n[b]: /c\n";
+  judge("definitions", references(definitions), [
+    { label: "b", dest: "/b", title: "x", start: 3, end: 14 },
+    { label: "A B", dest: "", title: null, start: 15, end: 24 },
+  ]);
+  judge("definitions of bytes", references(new TextEncoder().encode(definitions)).map((it) => it.start), [4, 16]);
+  judge("no definitions", references("[a] [b](c)"), []);
+};
+
+/** The lines of events, and entities. */
+const tryTexts = () => {
+  const text = "é\r\n\r\n# b\r\n\rc\n\né *d*", found = events(text), bytes = new TextEncoder().encode(text), ofBytes = events(bytes);
+  const placesIn = (sequence) => [...sequence].filter((it) => it.name === "Start").map((it) => Object.values(sequence.placeOf(it)));
+  judge("lines and columns", placesIn(found), [[1, 1], [3, 1], [5, 1], [7, 1], [7, 3]]);
+  judge("lines and columns of bytes", placesIn(ofBytes), [[1, 1], [3, 1], [5, 1], [7, 1], [7, 4]]);
+  judge("an entity that is not one of eleven", html("&ouml;&copy;"), "<p>&amp;ouml;©</p>\n");
+  const ofOtherRealm = require("vm").runInNewContext("Uint8Array.of(42, 97, 42)");
+  judge("bytes of another realm", [html(ofOtherRealm), render(events(ofOtherRealm))], ["<p><em>a</em></p>\n", "<p><em>a</em></p>\n"]);
+  judge("no events", [events("").length, [...events("")], events("").at(0)], [0, [], undefined]);
+  judge("a text with a byte order mark", [...events("\ufeffa")].map((it) => it.value), [{ name: "Paragraph" }, "\ufeffa", { name: "Paragraph" }]);
+};
+
+/** The ways to the HTML of a text whose names of entities are not all known. */
+const entities = () => {
+  const text = "&ouml;&copy; [a]\n\n[a]: &ouml;&copy;\n", plain = html(text), [{ dest: destUrl }] = references(text);
+  judge("the HTML of events", render(events(text)), plain);
+  judge("the HTML with a callback", html(text, 0, { brokenLink: () => null }), plain);
+  judge("the safe HTML", html(text, 0, { safe: true }), plain);
+  judge("the definitions", render([start({ name: "Link", linkType: "Inline", destUrl, title: "", id: "" })]), plain.match(/<a.*?>/)[0]);
+  return plain;
+};
+
+const { cases, filters, damaged } = JSON.parse(readFileSync(0, "utf8"));
+tryErrors();
+tryMade();
+tryLinks();
+tryTexts();
+const answers = { cases: cases.map(answerFor), filters: filters.map(filtered), damaged: damaged.map(renderedOrNot), entities: entities(), version: calls.version() };
+process.stdout.write(JSON.stringify({ answers, faults }));

@@ -1,0 +1,176 @@
+"""Checks that each list of options in the repository agrees with the code's.
+
+The code's lists are the constants of crates/cmark_text_parts/src/options.rt, with their bits, and the flags of
+crates/mdhtml_settings/src/flags.rt. `faults` names each place that lacks an option, has one too many, or has other bits.
+"""
+import ast
+import functools
+import json
+import operator
+import pathlib
+import re
+
+ROOT = pathlib.Path(__file__).resolve().parent.parent.parent
+OPTIONS_RT = "crates/cmark_text_parts/src/options.rt"
+FLAGS_RT = "crates/mdhtml_settings/src/flags.rt"
+RUST = "bindings/rust/src/options.rs"
+# The flags of no option: the first is one of mdhtml only, the others are documented beside the flags.
+OTHER_FLAGS = {"safe", "entities", "help", "version"}
+
+
+def read(path):
+    """The text of a file, by its path from the top."""
+    return (ROOT / path).read_text(encoding="utf-8")
+
+
+def part(path, begin, end):
+    """The part of a file between two texts, of which the first one occurs once."""
+    text = read(path)
+    if text.count(begin) != 1:
+        raise ValueError(f"{path}: {begin!r} occurs {text.count(begin)} times")
+    return text.partition(begin)[2].partition(end)[0]
+
+
+def bits_in(sum_of_bits):
+    """The number that a sum such as `(1 << 9) | 4` is."""
+    return functools.reduce(operator.or_, (int(one) << int(by or 0) for one, by in re.findall(r"(\d+)(?:\s*<<\s*(\d+))?", sum_of_bits)))
+
+
+def constants():
+    """The options of the code, each name with its bits, and the bits of the constant for GitHub's rules."""
+    found = {name: bits_in(bits) for name, bits in re.findall(r"pub const (\w+): Options = Options\(([^;]*)\);", read(OPTIONS_RT))}
+    github = found.pop("GITHUB")
+    return {name.removeprefix("ENABLE_"): bits for name, bits in found.items()}, github
+
+
+def flags_of_code():
+    """The flags of the code in their order: the name of each, the name of its option, and its line of the help."""
+    return re.findall(r'name: "([\w-]+)",\s*option: Options::(?:ENABLE_)?(\w+),\s*help: "([^"]*)"', read(FLAGS_RT))
+
+
+def assigned(path, name):
+    """The value of a constant of a script; of a `dict(zip(FLAGS, values))` the list of values."""
+    for node in ast.parse(read(path)).body:
+        if isinstance(node, ast.Assign) and getattr(node.targets[0], "id", None) == name:
+            value = node.value
+            if isinstance(value, ast.Call) and getattr(value.func, "id", None) == "dict":
+                return list(ast.literal_eval(value.args[0].args[1]))
+            if isinstance(value, ast.Call):
+                return value.func.value.value.split()
+            return [ast.literal_eval(it) for it in value.keys] if isinstance(value, ast.Dict) else ast.literal_eval(value)
+    raise ValueError(f"{path} has no constant {name}")
+
+
+def differences(place, found, wanted):
+    """The options that a list lacks, has too many, or has with another value. Values are compared if both are dictionaries."""
+    for name in sorted(set(wanted) - set(found)):
+        yield place, f"it lacks the option {name}"
+    for name in sorted(set(found) - set(wanted)):
+        yield place, f"it has the option {name}, which the code does not have"
+    if isinstance(found, dict) and isinstance(wanted, dict):
+        for name in sorted(set(wanted) & set(found)):
+            if found[name] != wanted[name]:
+                yield place, f"it has {found[name]} for the option {name}, and the code has {wanted[name]}"
+
+
+def in_sources(bits, github, _flags):
+    """The lists in the code itself, in the definitions, and in the other languages."""
+    named = re.findall(r'name: "ENABLE_(\w+)",\s*value: Options::ENABLE_\1,', read(OPTIONS_RT))
+    yield from differences(f"{OPTIONS_RT}, NAMED", named, bits)
+    in_table = part(OPTIONS_RT, "ghost table", "[] }")
+    yield from differences(f"{OPTIONS_RT}, table", {name: int(it) for name, it in re.findall(r'"ENABLE_(\w+)", (\d+)', in_table)}, bits)
+    small = {name.lower(): it for name, it in bits.items()}
+    fields = re.findall(r"pub (\w+) : Bool", part("crates/cmark_grammar/specs/Options.antt", "record Options", "abbrev"))
+    yield from differences("crates/cmark_grammar/specs/Options.antt", fields, small)
+    for path, begin in (("crates/cmark_text_parts/specs/Shown.antt", "\nshown_options set = "), ("crates/pulldown_cmark_c/specs/Calls.antt", "\noptions_of set = ")):
+        of_bits = dict(re.findall(r"(\w+) = \w+ set (\d+);", part(path, begin, "}")))
+        yield from differences(path, {name: int(it) for name, it in of_bits.items()}, small)
+    places = {
+        "include/pulldown_cmark.h": ("enum pcm_options", "};", r"PCM_(\w+) = (\d+)"),
+        "bindings/python/pulldown_cmark/_library.py": ("class Options", "\n\n\n", r"([A-Z_]+) = ([1-9]\d*)"),
+        "web/pulldown_cmark.js": ("const OPTIONS", "};", r"([A-Z_]+): (\d+)"),
+    }
+    for path, (begin, end, form) in places.items():
+        yield from differences(path, {name: int(it) for name, it in re.findall(form, part(path, begin, end))}, bits)
+    typed = part("bindings/javascript/index.d.ts", "export declare const Options", ";")
+    yield from differences("bindings/javascript/index.d.ts", re.findall(r'"([A-Z_]+)"', typed), bits)
+    yield from in_rust(bits, github)
+
+
+def in_rust(bits, github):
+    """The lists of the Rust crate. It has no option for email autolinks, as pulldown-cmark has none: it always reads them."""
+    wanted = {name: it for name, it in bits.items() if name != "EMAIL_AUTOLINKS"}
+    of_rust = re.findall(r"const ENABLE_(\w+) = ([^;]+);", read(RUST))
+    yield from differences(RUST, {name: bits_in(it) for name, it in of_rust}, wanted)
+    names = re.findall(r"ENABLE_(\w+)", part(RUST, "pub const GITHUB: Options = ", ";"))
+    yield from differences(f"{RUST}, GITHUB", names, [name for name, it in wanted.items() if it & github == it])
+    if not bits_in(part(RUST, "const ALWAYS: u32 = ", ";")) & bits["EMAIL_AUTOLINKS"]:
+        yield RUST, "it does not always read email autolinks"
+
+
+def in_flags(bits, github, flags):
+    """The flags of the code are those of the options, and the constant for GitHub's rules is that of its flags."""
+    wanted = {**bits, "GITHUB": github}
+    yield from differences(FLAGS_RT, [option for _, option, _ in flags], wanted)
+    said = {name: int(it) for name, it in re.findall(r'codes "([\w-]+)", (\d+)', part("crates/mdhtml_settings/specs/Line.antt", "\nflags =", "\n\n"))}
+    yield from differences("crates/mdhtml_settings/specs/Line.antt", said, {name: wanted[option] for name, option, _ in flags})
+    short_for = next(told for name, _, told in flags if name == "github")
+    yield from differences(f"{FLAGS_RT}, help of github", re.findall(r"--([\w-]+)", short_for), github_flags(bits, github, flags))
+
+
+def github_flags(bits, github, flags):
+    """The flags that `--github` stands for."""
+    return [name for name, option, _ in flags if name != "github" and bits[option] & github == bits[option]]
+
+
+def in_documents(bits, github, flags):
+    """The tables of the documents and the manual pages."""
+    names = [name for name, _, _ in flags]
+    rows = re.findall(r"^\| `(?:ENABLE_)?(\w+)`[^|]*\| `--([\w-]+)` \| (\d+) \|$", read("docs/API.md"), re.M)
+    yield from differences("docs/API.md", {option: (flag, int(it)) for option, flag, it in rows},
+                           {option: (name, {**bits, "GITHUB": github}[option]) for name, option, _ in flags})
+    for path in ("README.md", "docs/PROGRAMS.md"):
+        first = " ".join(re.findall(r"^\| ([^|]*) \|", read(path), re.M))
+        yield from differences(path, set(re.findall(r"`--([\w-]+)", first)) - OTHER_FLAGS, names)
+    for page in ("share/man/man1/mdhtml.1", "share/man/man1/mdevents.1"):
+        text = read(page).replace("\\-", "-")
+        yield from differences(page, set(re.findall(r"^\.(?:B|BI|BR) (?:-\w \", \" )?--([\w-]+)$", text, re.M)) - OTHER_FLAGS, names)
+    for path, begin in (("docs/PROGRAMS.md", "\n| `--github` | "), ("share/man/man1/mdhtml.1", "\n.B \\-\\-github\n"), ("share/man/man1/mdevents.1", "\n.B \\-\\-github\n")):
+        told = part(path, begin, "\n").replace("\\-", "-")
+        yield from differences(f"{path}, --github", re.findall(r"--([\w-]+)", told), github_flags(bits, github, flags))
+
+
+def in_tests(bits, github, flags):
+    """The lists of the tests: each option is tried by itself, by a row, and by one of the two comparisons with the grammar in Python."""
+    names = [name for name, _, _ in flags if name != "github"]
+    of_flag = {name: bits[option] for name, option, _ in flags if name != "github"}
+    listed = assigned("tests/common/programs.py", "FLAGS")
+    yield from differences("tests/common/programs.py", dict(zip(listed, assigned("tests/common/programs.py", "BITS"))), of_flag)
+    yield from differences("tests/common/programs.py, GITHUB", assigned("tests/common/programs.py", "GITHUB"), github_flags(bits, github, flags))
+    for name in ("SHOWN_BY", "HELP_OF"):
+        lines = assigned("tests/programs/run", name)
+        if len(lines) != len(names):
+            yield "tests/programs/run", f"{name} has {len(lines)} values for {len(names)} options"
+    helps = {name: told for name, _, told in flags if name != "github"}
+    yield from differences("tests/programs/run, HELP_OF", dict(zip(listed, assigned("tests/programs/run", "HELP_OF"))), helps)
+    in_rows = {flag.removeprefix("--") for row in json.loads(read("tests/texts/rows.json")) for flag in row.get("flags", [])} - OTHER_FLAGS
+    yield from differences("tests/texts/rows.json", in_rows, [*names, "github"])
+    inline = [it.removeprefix("--") for it in assigned("tests/grammar/check_inlines", "FLAGS")]
+    block = assigned("tests/grammar/blocks/texts.py", "FRAGMENTS_OF")
+    yield from differences("tests/grammar/check_inlines and tests/grammar/blocks/texts.py", [*inline, *block], names)
+    without_old = part("Makefile", "tests/grammar/check_blocks 500 2 ", "\n").split()
+    yield from differences("Makefile, tests/grammar/check_blocks", without_old, [it for it in block if it != "old-footnotes"])
+    tested = read("tests/library/units/base/text.rs")
+    for call, wanted in (("Options::all()", functools.reduce(operator.or_, bits.values())), ("Options::GITHUB", github)):
+        if f"{call}.bits(), {wanted})" not in tested:
+            yield "tests/library/units/base/text.rs", f"it does not say that {call} has the bits {wanted}"
+
+
+def faults():
+    """Each place that does not agree with the code's lists, with what it says or lacks."""
+    (bits, github), flags = constants(), flags_of_code()
+    for lists in (in_sources, in_flags, in_documents, in_tests):
+        try:
+            yield from lists(bits, github, flags)
+        except ValueError as fault:
+            yield "tests/documents/option_lists.py", str(fault)
