@@ -12,7 +12,8 @@ use Rattle.cmark_text_parts.specs.declared.text.CowStr.{CowStr}
 use Rattle.cmark_text_parts.specs.declared.text.CowStr.TheVariants.{Borrowed}
 use Rattle.cmark_scan_parts.specs.Shown.{Part, cut_behind}
 use Rattle.cmark_text_parts.specs.Lending.{IsBorrowed}
-use Rattle.cmark_scan_parts.proofs.PartSteps.{puts, puts-more, puts-none, puts-done}
+use Rattle.cmark_scan_parts.specs.Steps.{puts}
+use Rattle.cmark_scan_parts.proofs.PartSteps.{puts-more, puts-none, puts-done}
 
 -- some byte is no white space
 abbrev pub has_words : List ℕ → Bool

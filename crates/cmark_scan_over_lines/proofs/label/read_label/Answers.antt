@@ -8,7 +8,7 @@ use Rattle.cmark_grammar.specs.LinkDefinitions.{characters}
 use Rattle.cmark_grammar.specs.LabelsOverLines.{label_prefix, up_to_bracket}
 use Rattle.cmark_scan_parts.specs.Shown.{Part}
 use Rattle.cmark_scan_parts.proofs.Lists.{rest_of}
-use Rattle.cmark_scan_parts.proofs.PartSteps.{puts}
+use Rattle.cmark_scan_parts.specs.Steps.{puts}
 use Rattle.cmark_scan_parts.proofs.Boundaries.{ascii_boundary, next_boundary}
 use Rattle.cmark_scan_over_lines.proofs.LabelSteps.{has_words, characters_more, words_more, label_fails, label_cut, label_ends, too_long, so_far, so_far-more, so_far-copied, byte-cut, label_onward, no_rest, rest_found, ok_borrowed}
 use Rattle.cmark_scan_over_lines.proofs.label.read_label.Goals as goal

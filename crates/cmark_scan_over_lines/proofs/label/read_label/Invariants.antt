@@ -3,7 +3,7 @@ use Rattle.std.specs.Str.{IsCharBoundary}
 use Rattle.cmark_grammar.specs.LinkDefinitions.{characters}
 use Rattle.cmark_grammar.specs.LabelsOverLines.{up_to_bracket}
 use Rattle.cmark_scan_over_lines.specs.Handled.{ForLabels}
-use Rattle.cmark_scan_parts.proofs.PartSteps.{puts}
+use Rattle.cmark_scan_parts.specs.Steps.{puts}
 use Rattle.cmark_scan_over_lines.proofs.LabelSteps.{has_words, so_far}
 use Rattle.cmark_scan_over_lines.proofs.label.read_label.Given as goal
 
