@@ -205,7 +205,7 @@ uint32_t pcm_version(void);
 
 /* The rest of this file are inline functions over some of the functions above. They are tested, not proved. A text of length 0 may be NULL. */
 
-/* The type of pcm_html, pcm_safe_html, pcm_events_json and pcm_events. */
+/* The type of pcm_html, pcm_safe_html, pcm_events_json, pcm_events and pcm_references. */
 typedef uint32_t (*pcm_call)(const uint8_t *, size_t, uint32_t, uint8_t *, size_t, size_t *);
 
 /* The length of the first buffer of pcm_answer, in bytes: times text_len and more, or text_len if that is too large for a size_t. */
@@ -274,6 +274,15 @@ static inline uint32_t pcm_records_alloc(const char *text, size_t text_len, uint
 {
     char *answer;
     uint32_t status = pcm_answer(pcm_events, text, text_len, options, &answer, size);
+    *records = (uint8_t *)answer;
+    return status;
+}
+
+/* Returns the flat records of pcm_references in memory of their own, as pcm_answer does. */
+static inline uint32_t pcm_references_alloc(const char *text, size_t text_len, uint32_t options, uint8_t **records, size_t *size)
+{
+    char *answer;
+    uint32_t status = pcm_answer(pcm_references, text, text_len, options, &answer, size);
     *records = (uint8_t *)answer;
     return status;
 }
