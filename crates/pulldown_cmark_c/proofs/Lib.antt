@@ -1,3 +1,4 @@
 pub mod AnswerSteps
 pub mod FlatSteps
+pub mod ItemSteps
 pub mod ReferenceSteps

@@ -6,7 +6,7 @@ use Rattle.cmark_flat_links.specs.Answering.{AnswersFrom}
 use Rattle.cmark_parser.specs.Parsing.{GivesRanged}
 use Rattle.cmark_text.specs.declared.event.Event.{Event}
 use Rattle.pulldown_cmark_c.proofs.AnswerSteps.{callback_ends, callback_stays, lent_some}
-use Rattle.pulldown_cmark_c.proofs.FlatSteps.{given_more, written_more}
+use Rattle.pulldown_cmark_c.proofs.ItemSteps.{given_more, written_more}
 use Rattle.pulldown_cmark_c.proofs.links.answered_of_rest.Goals as goal
 
 pub loop-item-preserved : goal.loop-item-preserved
