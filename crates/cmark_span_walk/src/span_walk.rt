@@ -53,9 +53,7 @@ pub struct SpanWalk<'input, 'e, E, F> {
     callback: F,
 }
 
-// `F` needs no `Drop` here. Each crate has an impl of its own for that bound, so with it the walk would be compiled once for each crate that
-// calls it, and functions that these copies share would not be inlined.
-impl<'input, 'e, E: EntityLookup, F: BrokenLinkCallback<'input>> SpanWalk<'input, 'e, E, F> {
+impl<'input, 'e, E: EntityLookup, F: BrokenLinkCallback<'input> + Drop> SpanWalk<'input, 'e, E, F> {
     ghost use Rattle.cmark_span_walk.specs.Walking.{BeforeLeaf, KeepsAround, EntersLeaf, Gives, GivesInLeaf, GivesNext, GivesSpan, GivesStart, IsCounted, IsReadBy, KeepsBehindLeaf, KeepsLeft, LeavesFewer, LeavesLeaf, NoEndIsNext, ReadsLeaf, ReadsSame, Remains, Stands, Stops, as_next, callback_of, definitions_of, events_left, expansion_left_of, footnotes_of, link_to_come, options_of, source_of, steps_of};
 
     /// A walk over what this walk over the text meets, which are fewer events and leaves than `budget`. `entities` says what the
